@@ -1,0 +1,10 @@
+//! Playing cards, slots whose card may be unknown, rows of both, and their spelling.
+#![tactic(auto)]
+
+mod card;
+mod memory;
+mod row;
+
+pub use card::{Card, Rank, Slot, Suit};
+pub use memory::Memory;
+pub use row::{CardRow, ROW_ENTRIES, SlotRow};
