@@ -1,1 +1,3 @@
 pub mod Filler
+pub mod Row
+pub mod Spelling

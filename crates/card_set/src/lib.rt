@@ -4,7 +4,9 @@
 mod card;
 mod memory;
 mod row;
+mod spelling;
 
 pub use card::{Card, Rank, Slot, Suit};
 pub use memory::Memory;
 pub use row::{CardRow, ROW_ENTRIES, SlotRow};
+pub use spelling::{CardFault, read_slots, slot_text};

@@ -1,11 +1,11 @@
 // A row has up to seven entries, and after them only the filler, so two rows with the same entries are one.
-ghost use Rattle.std.specs.Prelude.{◌≡◌, ℕ, ◌<◌, ◌≤◌, length, slice_get, Some};
+ghost use Rattle.std.specs.Prelude.{◌≡◌, ℕ, ◌+◌, ◌<◌, ◌≤◌, [], ◌∷◌, ◌++◌, length, slice_get, Some};
 ghost use Rattle.card_set.specs.Filler.{filler_card, filler_slot};
 
 use crate::card::{Card, Rank, Slot, Suit};
 
 /// How many entries a row has room for: the most cards that a seat ever holds.
-pub const ROW_ENTRIES: usize = 7;
+pub const ROW_ENTRIES: u8 = 7;
 
 /// Slots in order: the first `len` of `slots`. The other entries are unknown slots.
 #[derive(Clone, Copy, Debug, PartialEq, Eq)]
@@ -25,4 +25,69 @@ pub struct CardRow {
     ghost fits: { len ≤ 7 },
     ghost entries: { length cards ≡ 7 },
     ghost filled: { (k : ℕ) → len ≤ k → k < 7 → slice_get cards k ≡ Some filler_card },
+}
+
+impl SlotRow {
+    ghost use Rattle.card_set.specs.Row.{slots_of};
+
+    /// A row without slots.
+    pub fn new() -> Self
+        ensures { slots_of result ≡ [] }
+    {
+        SlotRow {
+            len: 0,
+            slots: [Slot::Unknown; 7],
+        }
+    }
+
+    /// Puts a slot after the others. Ask first that `len` is below `ROW_ENTRIES`.
+    pub fn push(&mut self, slot: Slot)
+        requires { self.old.len < ROW_ENTRIES }
+        ensures entries { slots_of self.new ≡ slots_of self.old ++ slot ∷ [] }
+        ensures longer { self.new.len ≡ self.old.len + 1 }
+    {
+        self.slots[self.len as usize] = slot;
+        self.len += 1;
+    }
+
+    /// The slots, in order.
+    pub fn as_slice(&self) -> &[Slot]
+        ensures { result.now ≡ slots_of self.now }
+    {
+        &self.slots[..self.len as usize]
+    }
+}
+
+impl CardRow {
+    ghost use Rattle.card_set.specs.Row.{cards_of};
+
+    /// A row without cards.
+    pub fn new() -> Self
+        ensures { cards_of result ≡ [] }
+    {
+        CardRow {
+            len: 0,
+            cards: [Card {
+                rank: Rank::Two,
+                suit: Suit::C,
+            }; 7],
+        }
+    }
+
+    /// Puts a card after the others. Ask first that `len` is below `ROW_ENTRIES`.
+    pub fn push(&mut self, card: Card)
+        requires { self.old.len < ROW_ENTRIES }
+        ensures entries { cards_of self.new ≡ cards_of self.old ++ card ∷ [] }
+        ensures longer { self.new.len ≡ self.old.len + 1 }
+    {
+        self.cards[self.len as usize] = card;
+        self.len += 1;
+    }
+
+    /// The cards, in order.
+    pub fn as_slice(&self) -> &[Card]
+        ensures { result.now ≡ cards_of self.now }
+    {
+        &self.cards[..self.len as usize]
+    }
 }
