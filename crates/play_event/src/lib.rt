@@ -1,0 +1,14 @@
+//! What is said of a hand: its setup, its rules, and the script of its events; and the rules of play.
+#![tactic(auto)]
+
+mod code;
+mod event;
+mod reason;
+mod script;
+mod setup;
+
+pub use code::Code;
+pub use event::{Event, Kind, Spelled};
+pub use reason::{Due, Illegal};
+pub use script::Script;
+pub use setup::{Reopen, Rules, Setup};
