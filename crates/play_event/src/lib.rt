@@ -3,12 +3,14 @@
 
 mod code;
 mod event;
+mod examples;
 mod reason;
 mod script;
 mod setup;
 
 pub use code::Code;
 pub use event::{Event, Kind, Spelled};
+pub use examples::hands_won_by_folds;
 pub use reason::{Due, Illegal};
 pub use script::Script;
 pub use setup::{Reopen, Rules, Setup};
