@@ -1,6 +1,8 @@
 -- What the rules say on the first street of no-limit hold'em.
-use Rattle.std.proofs.Common.{◌≡◌, ℕ, zero, suc, ◌+◌, ◌-◌, ◌≤◌, ◌<◌, Bool, true, false, ◌||◌, ◌==◌, nat_lt, Option, Some, List, [], ◌∷◌, ◌++◌, map, take, drop, length, refl, sym, ◌∙◌, ap, subst, arith}
-use Rattle.std.specs.List.{list_any}
+use Rattle.std.proofs.Common.{◌≡◌, ℕ, zero, suc, ◌+◌, ◌-◌, ◌≤◌, ◌<◌, Bool, true, false, ◌||◌, ◌==◌, nat_lt, Option, Some, None, find, List, [], ◌∷◌, ◌++◌, map, take, drop, length, refl, sym, ◌∙◌, ap, subst, arith}
+use Rattle.std.specs.List.{list_any, range_with_len}
+use Rattle.std.specs.Option.{option_or}
+use Rattle.std.proofs.lemmas.List.Folds.{find-append}
 use Rattle.std.proofs.Math.Bool.{or_assoc}
 use Rattle.card_set.specs.declared.card.Card.{Card}
 use Rattle.card_set.specs.declared.card.Slot.{Slot}
@@ -8,14 +10,16 @@ use Rattle.play_event.specs.declared.code.Code.{Code}
 use Rattle.play_event.specs.declared.code.Code.TheVariants as games
 use Rattle.play_event.specs.declared.setup.Setup.{Setup}
 use Rattle.play_event.specs.Games.{hole_cards_on, board_cards_on, street_count}
-use Rattle.play_event.specs.Past.{Past}
+use Rattle.chip_ledger.specs.Seat.{seats_of}
+use Rattle.play_event.specs.Past.{Past, Move, moves_on}
+use Rattle.play_event.specs.Mover.{mover, next_in_turn, seats_from}
 use Rattle.play_event.specs.Places.{Place, places_of, places_dealt, bears, in_deck}
 use Rattle.card_set.specs.Row.{slots_of}
 use Rattle.poker_cli.specs.declared.past.Step.{Step}
 use Rattle.poker_cli.specs.declared.past.Step.TheVariants as steps
 use Rattle.poker_cli.specs.Steps.{resolved_step, cards_dealt}
 use Rattle.play_event.specs.Seats.{all_seats}
-use Rattle.play_event.specs.Due.{deal_due, hole_cards_owed, board_cards_owed, board_cards_dealt}
+use Rattle.play_event.specs.Due.{has_to_move, deal_due, hole_cards_owed, board_cards_owed, board_cards_dealt}
 
 -- no board cards are owed on the first street
 board_owed : (code : Code) (dealt : ℕ) → code ≡ games.NT → board_cards_on code 1 - dealt ≡ 0
@@ -53,3 +57,22 @@ lies_now card step past before now earlier none dealt =
 -- the deck of no-limit hold'em has every card
 pub whole_deck : (code : Code) (card : Card) → code ≡ games.NT → in_deck code card ≡ true
 whole_deck code card game = let P : Code → Type 0 = λ c. in_deck c card ≡ true in subst P (sym game) refl
+
+-- the first seat in turn with a move to make is among those up to the last seat
+pub mover_before : (setup : Setup) (moves : List Move) (start seat : ℕ) → start ≡ next_in_turn setup 1 (moves_on 1 moves) → Some seat ≡ find (has_to_move setup moves 1) (range_with_len start (setup.stacks.seats + 1 - start)) → Some seat ≡ mover setup moves 1
+mover_before setup moves start seat is found =
+    let P : ℕ → Type 0 = λ from. Some seat ≡ find (has_to_move setup moves 1) (seats_from setup from) in
+    subst P is (
+    ap (λ o. option_or o (find (has_to_move setup moves 1) (range_with_len 1 (start - 1)))) found
+    ∙ sym (find-append (has_to_move setup moves 1) (range_with_len start (setup.stacks.seats + 1 - start)) (range_with_len 1 (start - 1)))
+    )
+
+-- or else among those from the first on
+pub mover_behind : (setup : Setup) (moves : List Move) (start : ℕ) (found : Option ℕ) → start ≡ next_in_turn setup 1 (moves_on 1 moves) → None ≡ find (has_to_move setup moves 1) (range_with_len start (setup.stacks.seats + 1 - start)) → found ≡ find (has_to_move setup moves 1) (seats_of (start - 1)) → found ≡ mover setup moves 1
+mover_behind setup moves start found is none later =
+    let P : ℕ → Type 0 = λ from. found ≡ find (has_to_move setup moves 1) (seats_from setup from) in
+    subst P is (
+    later
+    ∙ ap (λ o. option_or o (find (has_to_move setup moves 1) (range_with_len 1 (start - 1)))) none
+    ∙ sym (find-append (has_to_move setup moves 1) (range_with_len start (setup.stacks.seats + 1 - start)) (range_with_len 1 (start - 1)))
+    )

@@ -3,8 +3,11 @@
 
 pub mod chips;
 pub mod deals;
+pub mod finish;
 pub mod hand;
 pub mod past;
+pub mod raises;
+pub mod reasons;
 pub mod seats;
 pub mod turns;
 

@@ -1,5 +1,6 @@
 // Which seats are live and able, and what the price is, looked up in the setup and the steps.
-ghost use Rattle.std.specs.Prelude.{◌≡◌, ◌≤◌, map};
+ghost use Rattle.std.specs.Prelude.{◌≡◌, ◌≤◌, ◌+◌, ◌-◌, All, length, map};
+ghost use Rattle.std.specs.List.{range_with_len};
 ghost use Rattle.chip_ledger.specs.Seat.{seats_of};
 ghost use Rattle.play_event.specs.Seats as definition;
 ghost use Rattle.play_event.specs.Chips.{street_chips};
@@ -15,9 +16,22 @@ const SEATS: [u8; 10] = [1, 2, 3, 4, 5, 6, 7, 8, 9, 10];
 /// The numbers of so many seats.
 pub fn seats(count: u8) -> &'static [u8]
     requires { count ≤ 10 }
-    ensures { result.now ≡ seats_of count }
+    ensures numbers { result.now ≡ seats_of count }
+    ensures within { All (λ seat. seat ≤ 10) result.now }
+    ensures count { length result.now ≡ count }
 {
     &SEATS[..usize::from(count)]
+}
+
+/// The numbers of the seats from this one on, up to so many seats.
+#[tactic(auto, using(crate::proofs::SeatNumbers::seats_behind_least))]
+pub fn seats_from(count: u8, start: u8) -> &'static [u8]
+    requires seats { count ≤ 10 }
+    requires start { 1 ≤ start }
+    ensures { result.now ≡ range_with_len start (count + 1 - start) }
+{
+    let skipped = usize::from(start) - 1;
+    seats(count).split_at(skipped.min(usize::from(count))).1
 }
 
 /// The seat has not folded.

@@ -1,5 +1,5 @@
 // Whose turn it is on the first street, and what it may do, looked up in the setup and the steps.
-ghost use Rattle.std.specs.Prelude.{◌≡◌, ◌≤◌, ◌<◌, ◌-◌, ◌+◌, map, find, Option};
+ghost use Rattle.std.specs.Prelude.{◌≡◌, ◌≤◌, ◌<◌, ◌-◌, ◌+◌, map, find, reverse, unwrap_or, ◌==◌, All};
 ghost use Rattle.std.specs.List.{list_any};
 ghost use Rattle.chip_ledger.specs.SeatRow.{amount_of};
 ghost use Rattle.play_event.specs.Past.{moves_on};
@@ -100,11 +100,79 @@ fn greatest_amount(row: &SeatRow, seats: &[u8]) -> u64
 fn seat_after(setup: &Setup, seat: u8) -> u8
     requires { seat ≤ 10 }
     ensures value { result ≡ definition.seat_after setup.now seat }
-    ensures seat { result ≤ 11 }
+    ensures least { 1 ≤ result }
+    ensures most { result ≤ 11 }
 {
     if seat == setup.stacks.seats {
         1
     } else {
         seat + 1
+    }
+}
+
+/// The last of these seats whose blind is so great.
+fn last_with_blind(setup: &Setup, blind: u64, seats: &[u8]) -> u8
+    ensures value { result ≡ unwrap_or (find (λ seat. amount_of setup.now.blinds seat == blind) (reverse seats.now)) 0 }
+    ensures seat { All (λ seat. seat ≤ 10) seats.now → result ≤ 10 }
+{
+    match seats {
+        [] => 0,
+        [before @ .., last] => {
+            if chips::amount(&setup.blinds, *last) == blind {
+                *last
+            } else {
+                last_with_blind(setup, blind, before)
+            }
+        }
+    }
+}
+
+/// The last of the seats with the greatest blind.
+fn last_big_blind(setup: &Setup) -> u8
+    ensures value { result ≡ definition.last_big_blind setup.now }
+    ensures seat { result ≤ 10 }
+{
+    let seats = seats::seats(setup.stacks.seats);
+    last_with_blind(setup, greatest_amount(&setup.blinds, seats), seats)
+}
+
+/// Who opens the first street.
+fn opener(setup: &Setup) -> u8
+    ensures value { result ≡ definition.opener setup.now 1 }
+    ensures least { 1 ≤ result }
+    ensures most { result ≤ 11 }
+{
+    if setup.stacks.seats == 2 {
+        2
+    } else {
+        seat_after(setup, last_big_blind(setup))
+    }
+}
+
+/// The seat after the newest move, and before any move the opener.
+fn next_in_turn(setup: &Setup, past: &Past<'_>) -> u8
+    ensures value { result ≡ definition.next_in_turn setup.now 1 (moves_on 1 (moves_seen past.now)) }
+    ensures least { 1 ≤ result }
+    ensures most { result ≤ 11 }
+{
+    match past {
+        Past::Start => opener(setup),
+        Past::After(Step::Dealt { .. }, before) => next_in_turn(setup, before),
+        Past::After(Step::Folded { seat, .. } | Step::Raised { seat, .. }, _) => seat_after(
+            setup,
+            seat.number,
+        ),
+    }
+}
+
+/// Whose turn it is, if some seat has a move to make.
+pub fn mover(setup: &Setup, past: &Past<'_>) -> Option<u8>
+    requires { steps_seen past.now ≤ 300 }
+    ensures { result ≡ definition.mover setup.now (moves_seen past.now) 1 }
+{
+    let start = next_in_turn(setup, past);
+    match first_to_move(setup, past, seats::seats_from(setup.stacks.seats, start)) {
+        Some(seat) => Some(seat),
+        None => first_to_move(setup, past, seats::seats(start - 1)),
     }
 }

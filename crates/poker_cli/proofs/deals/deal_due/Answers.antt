@@ -10,5 +10,5 @@ returns c =
     let setup = c.args.setup.now in
     let past = past_seen c.args.past.now in
     c.lacks_cards.ensures
-    ∙ ap (list_any (λ seat. nat_lt 0 (hole_cards_owed setup past 1 seat))) c.seats.ensures
+    ∙ ap (list_any (λ seat. nat_lt 0 (hole_cards_owed setup past 1 seat))) c.seats.ensures.numbers
     ∙ sym (deal_due_first setup past c.requires.game)
