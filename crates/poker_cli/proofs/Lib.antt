@@ -1,3 +1,4 @@
 pub mod FirstStreet
+pub mod Playing
 pub mod SeatNumbers
 pub mod Turn

@@ -6,6 +6,7 @@ pub mod deals;
 pub mod finish;
 pub mod hand;
 pub mod past;
+pub mod play;
 pub mod raises;
 pub mod reasons;
 pub mod seats;
