@@ -1,5 +1,8 @@
 //! A writer of std is a sink that counts the writer's errors, and tells no bytes.
-ghost use Rattle.std.specs.Prelude.{◌≡◌, None};
+ghost use Rattle.std.specs.Prelude.{◌≡◌, ◌<◌, ◌≤◌, length, None, IfOk, OnErr, is_err, if◌then◌else◌};
+ghost use Rattle.std.specs.Io.{WritesAtMost};
+ghost use Rattle.std.specs.Io.KnownBytes.{WriteAppends};
+ghost use Rattle.host_io.specs.Faults.{counted_up, Rose};
 
 use crate::fault::{Failed, count_fault};
 use crate::sink::Sink;
@@ -26,11 +29,23 @@ impl<W: Write> StdSink<W> {
 }
 
 impl<W: Write> Sink for StdSink<W> {
+    ghost use Rattle.host_io.specs.StdSink.{inner_writer, error_count};
+
     ghost held = { λ _. None };
 
-    ghost faults = { λ sink. sink.faults };
+    ghost faults = { λ sink. error_count sink };
 
-    fn write(&mut self, bytes: &[u8]) -> Result<usize, Failed> {
+    fn write(&mut self, bytes: &[u8]) -> Result<usize, Failed>
+        ensures bound { WritesAtMost result bytes.now }
+        ensures some { IfOk result (λ count. 0 < length bytes.now → 0 < count) }
+        ensures bytes { WriteAppends None None result bytes.now }
+        ensures later { error_count self.old ≤ error_count self.new }
+        ensures failed { OnErr result (Rose (error_count self.old) (error_count self.new)) }
+
+        // What is taken goes to the writer, where the writer knows what it holds.
+        ensures passed_on { WriteAppends (W.contents (inner_writer self.old)) (W.contents (inner_writer self.new)) result bytes.now }
+        ensures counts { error_count self.new ≡ (if is_err result then counted_up (error_count self.old) else error_count self.old) }
+    {
         match self.inner.write(bytes) {
             Ok(count) if count > 0 || bytes.is_empty() => Ok(count),
             _ => Err(count_fault(&mut self.faults)),

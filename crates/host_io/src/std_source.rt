@@ -1,5 +1,8 @@
 //! A reader of std is a source that counts the reader's errors, and tells no bytes.
-ghost use Rattle.std.specs.Prelude.{◌≡◌, None};
+ghost use Rattle.std.specs.Prelude.{◌≡◌, ◌≤◌, None, OnErr, is_err, if◌then◌else◌};
+ghost use Rattle.std.specs.Io.{ReadsAtMost};
+ghost use Rattle.std.specs.Io.KnownBytes.{ReadConsumes};
+ghost use Rattle.host_io.specs.Faults.{counted_up, Rose};
 
 use crate::fault::{Failed, count_fault};
 use crate::source::Source;
@@ -25,11 +28,22 @@ impl<R: Read> StdSource<R> {
 }
 
 impl<R: Read> Source for StdSource<R> {
+    ghost use Rattle.host_io.specs.StdSource.{inner_reader, error_count};
+
     ghost left = { λ _. None };
 
-    ghost faults = { λ source. source.faults };
+    ghost faults = { λ source. error_count source };
 
-    fn read(&mut self, buf: &mut [u8]) -> Result<usize, Failed> {
+    fn read(&mut self, buf: &mut [u8]) -> Result<usize, Failed>
+        ensures bound { ReadsAtMost result buf.new }
+        ensures bytes { ReadConsumes None None result buf.new }
+        ensures later { error_count self.old ≤ error_count self.new }
+        ensures failed { OnErr result (Rose (error_count self.old) (error_count self.new)) }
+
+        // What is given is what the reader gives, where the reader knows it.
+        ensures passed_on { ReadConsumes (R.remaining (inner_reader self.old)) (R.remaining (inner_reader self.new)) result buf.new }
+        ensures counts { error_count self.new ≡ (if is_err result then counted_up (error_count self.old) else error_count self.old) }
+    {
         match self.inner.read(buf) {
             Ok(count) => Ok(count),
             Err(_) => Err(count_fault(&mut self.faults)),
