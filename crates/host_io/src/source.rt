@@ -4,7 +4,7 @@ ghost use Rattle.std.specs.Io.{ReadsAtMost};
 ghost use Rattle.std.specs.Io.KnownBytes.{ReadConsumes, IsAtEnd};
 ghost use Rattle.host_io.specs.Faults.{Rose};
 ghost use Rattle.host_io.specs.Bytes.{LosesAtMost, Loses};
-ghost use Rattle.host_io.specs.declared.source.InFault.TheVariants.{ReadFault, Memory};
+ghost use Rattle.host_io.specs.declared.source.InFault.TheVariants.{Memory};
 
 use crate::fault::Failed;
 use std::alloc::{AllocError, Global};
@@ -25,14 +25,6 @@ pub enum InFault {
     /// There was not enough memory for the bytes.
     #[error("out of memory")]
     Memory,
-}
-
-impl From<Failed> for InFault {
-    ghost from_gives = { λ _ fault. fault ≡ ReadFault };
-
-    fn from(_: Failed) -> Self {
-        InFault::ReadFault
-    }
 }
 
 impl From<AllocError> for InFault {
@@ -82,13 +74,11 @@ pub fn read_all<S: Source>(alloc: Global, source: &mut S, max: usize) -> Result<
         let room = max - all.len();
         // One byte more than there is room for, so that a longer input is seen.
         let asked = room.min(PIECE - 1) + 1;
-        let count = source.read(&mut piece[..asked])?;
-        if count == 0 {
-            return Ok(all);
+        match source.read(&mut piece[..asked]) {
+            Ok(0) => return Ok(all),
+            Ok(count) if count <= room => all.extend_from_slice(&piece[..count])?,
+            Ok(_) => return Err(InFault::TooLong),
+            Err(Failed) => return Err(InFault::ReadFault),
         }
-        if room < count {
-            return Err(InFault::TooLong);
-        }
-        all.extend_from_slice(&piece[..count])?;
     }
 }
