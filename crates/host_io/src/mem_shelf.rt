@@ -4,7 +4,7 @@ ghost use Rattle.std.specs.Option.{option_copied};
 ghost use Rattle.host_io.specs.Faults.{Rose};
 ghost use Rattle.host_io.specs.FaultPlan.{IsFresh, FailsNext, CountsCall};
 ghost use Rattle.host_io.specs.Shelf.{IsAnswer, has_failed};
-ghost use Rattle.host_io.specs.MemShelf.Files.{file_named};
+ghost use Rattle.host_io.specs.MemShelf.{file_named};
 
 use crate::fault_plan::FaultPlan;
 use crate::shelf::{Fetched, Shelf, ShelfFault};

@@ -62,8 +62,8 @@ pub fn read_all<S: Source>(alloc: Global, source: &mut S, max: usize) -> Result<
     ensures within { IfOk result (λ all. length all.items ≤ max) }
 
     ensures too_long { IsErrOf result InFault.TooLong → IfSome (S.left source.old) (λ left. max < length left) }
-    ensures left_too_long { IsErrOf result InFault.TooLong → Loses (max + 1) (S.left source.old) (S.left source.new) }
-    ensures left { LosesAtMost (max + 1) (S.left source.old) (S.left source.new) }
+    ensures taken_too_long { IsErrOf result InFault.TooLong → Loses (max + 1) (S.left source.old) (S.left source.new) }
+    ensures taken { LosesAtMost (max + 1) (S.left source.old) (S.left source.new) }
 
     ensures later { S.faults source.old ≤ S.faults source.new }
     ensures read_fault { IsErrOf result InFault.ReadFault → Rose (S.faults source.old) (S.faults source.new) }

@@ -1,3 +1,4 @@
+-- One more piece that the sink took makes a longer front of the bytes.
 use Rattle.std.proofs.Common.{arith}
 use Rattle.host_io.proofs.KnownBytes.{Appends-more}
 use Rattle.host_io.proofs.sink.write_all.Goals as goal

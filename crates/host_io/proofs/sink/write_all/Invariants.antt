@@ -1,3 +1,4 @@
+-- What was written so far is a front of the bytes, and the sink took it.
 use Rattle.std.proofs.Common.{◌≡◌, ◌≤◌, ◌-◌, length, take}
 use Rattle.std.specs.Io.KnownBytes.{Appends}
 use Rattle.host_io.proofs.sink.write_all.Given as goal

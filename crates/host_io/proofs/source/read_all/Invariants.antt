@@ -1,3 +1,4 @@
+-- What was read so far is within max, and is what the source gave.
 use Rattle.std.proofs.Common.{◌≤◌, ◌-◌, length}
 use Rattle.std.specs.Io.KnownBytes.{Consumes}
 use Rattle.host_io.proofs.source.read_all.Given as goal
