@@ -40,8 +40,9 @@ fn copy_from(bytes: &[u8], start: usize, buf: &mut [u8]) -> usize
     ensures count { result ≡ min (length buf.old) (length bytes.now - start) }
     ensures copied { drop start bytes.now ≡ take result buf.new ++ drop (start + result) bytes.now }
 {
-    let count = buf.len().min(bytes.len() - start);
-    buf[..count].copy_from_slice(&bytes[start..start + count]);
+    let left = &bytes[start..];
+    let count = buf.len().min(left.len());
+    buf[..count].copy_from_slice(&left[..count]);
     count
 }
 
