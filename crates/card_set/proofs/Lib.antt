@@ -1,2 +1,4 @@
+pub mod DeckLaws
 pub mod Read
+pub mod RowLaws
 pub mod Spelled

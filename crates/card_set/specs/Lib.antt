@@ -1,3 +1,4 @@
+pub mod Deck
 pub mod Filler
 pub mod Row
 pub mod Spelling

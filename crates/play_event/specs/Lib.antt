@@ -1,0 +1,17 @@
+pub mod Code
+pub mod Games
+pub mod Said
+pub mod Past
+pub mod Chips
+pub mod Seats
+pub mod Price
+pub mod Due
+pub mod Mover
+pub mod Amounts
+pub mod Raising
+pub mod Places
+pub mod Reasons
+pub mod Scripts
+pub mod Finish
+pub mod Rows
+pub mod Examples

@@ -1,0 +1,6 @@
+//! The program `handref`: a referee for recorded poker hands.
+#![tactic(auto)]
+
+pub mod hand;
+
+fn main() {}
