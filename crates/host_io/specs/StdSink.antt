@@ -6,6 +6,6 @@ use Rattle.host_io.specs.declared.std_sink.StdSink.{StdSink}
 abbrev pub inner_writer : {W : Type 0} → StdSink W → W
 inner_writer sink = sink.inner
 
--- how many errors the writer gave
-abbrev pub error_count : {W : Type 0} → StdSink W → ℕ
-error_count sink = sink.faults
+-- how often it failed: once for each error of the writer, and for each piece of which it took nothing
+abbrev pub fault_count : {W : Type 0} → StdSink W → ℕ
+fault_count sink = sink.faults

@@ -6,6 +6,6 @@ use Rattle.host_io.specs.declared.std_source.StdSource.{StdSource}
 abbrev pub inner_reader : {R : Type 0} → StdSource R → R
 inner_reader source = source.inner
 
--- how many errors the reader gave
-abbrev pub error_count : {R : Type 0} → StdSource R → ℕ
-error_count source = source.faults
+-- how often it failed: once for each error of the reader
+abbrev pub fault_count : {R : Type 0} → StdSource R → ℕ
+fault_count source = source.faults

@@ -54,7 +54,7 @@ pub trait Shelf {
     /// How often the shelf has failed. The count never falls.
     ghost faults: { Self → ℕ };
 
-    /// The bytes under a name, if there are at most `max`.
+    /// The bytes under a name, if there are at most `max`. No call changes what lies on the shelf.
     fn fetch(&mut self, alloc: Global, name: &str, max: usize) -> Result<Fetched, ShelfFault>
         ensures answer { IfOk result (λ fetched. IfSome (files self.old) (λ files. IsAnswer (files name.now) max fetched)) }
         ensures unchanged { files self.new ≡ files self.old }

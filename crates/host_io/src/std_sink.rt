@@ -17,34 +17,34 @@ pub struct StdSink<W: Write> {
 }
 
 impl<W: Write> StdSink<W> {
-    ghost use Rattle.host_io.specs.StdSink.{inner_writer, error_count};
+    ghost use Rattle.host_io.specs.StdSink.{inner_writer, fault_count};
 
     /// Wraps a writer.
     pub fn new(inner: W) -> StdSink<W>
         ensures inner { inner_writer result ≡ inner }
-        ensures faults { error_count result ≡ 0 }
+        ensures faults { fault_count result ≡ 0 }
     {
         StdSink { inner, faults: 0 }
     }
 }
 
 impl<W: Write> Sink for StdSink<W> {
-    ghost use Rattle.host_io.specs.StdSink.{inner_writer, error_count};
+    ghost use Rattle.host_io.specs.StdSink.{inner_writer, fault_count};
 
     ghost held = { λ _. None };
 
-    ghost faults = { λ sink. error_count sink };
+    ghost faults = { λ sink. fault_count sink };
 
     fn write(&mut self, bytes: &[u8]) -> Result<usize, Failed>
         ensures bound { WritesAtMost result bytes.now }
         ensures some { IfOk result (λ count. 0 < length bytes.now → 0 < count) }
         ensures bytes { WriteAppends None None result bytes.now }
-        ensures later { error_count self.old ≤ error_count self.new }
-        ensures failed { OnErr result (Rose (error_count self.old) (error_count self.new)) }
+        ensures later { fault_count self.old ≤ fault_count self.new }
+        ensures failed { OnErr result (Rose (fault_count self.old) (fault_count self.new)) }
 
         // What is taken goes to the writer, where the writer knows what it holds.
         ensures passed_on { WriteAppends (W.contents (inner_writer self.old)) (W.contents (inner_writer self.new)) result bytes.now }
-        ensures counts { error_count self.new ≡ (if is_err result then counted_up (error_count self.old) else error_count self.old) }
+        ensures counts { fault_count self.new ≡ (if is_err result then counted_up (fault_count self.old) else fault_count self.old) }
     {
         match self.inner.write(bytes) {
             Ok(count) if count > 0 || bytes.is_empty() => Ok(count),

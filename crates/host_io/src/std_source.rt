@@ -16,33 +16,33 @@ pub struct StdSource<R: Read> {
 }
 
 impl<R: Read> StdSource<R> {
-    ghost use Rattle.host_io.specs.StdSource.{inner_reader, error_count};
+    ghost use Rattle.host_io.specs.StdSource.{inner_reader, fault_count};
 
     /// Wraps a reader.
     pub fn new(inner: R) -> StdSource<R>
         ensures inner { inner_reader result ≡ inner }
-        ensures faults { error_count result ≡ 0 }
+        ensures faults { fault_count result ≡ 0 }
     {
         StdSource { inner, faults: 0 }
     }
 }
 
 impl<R: Read> Source for StdSource<R> {
-    ghost use Rattle.host_io.specs.StdSource.{inner_reader, error_count};
+    ghost use Rattle.host_io.specs.StdSource.{inner_reader, fault_count};
 
     ghost left = { λ _. None };
 
-    ghost faults = { λ source. error_count source };
+    ghost faults = { λ source. fault_count source };
 
     fn read(&mut self, buf: &mut [u8]) -> Result<usize, Failed>
         ensures bound { ReadsAtMost result buf.new }
         ensures bytes { ReadConsumes None None result buf.new }
-        ensures later { error_count self.old ≤ error_count self.new }
-        ensures failed { OnErr result (Rose (error_count self.old) (error_count self.new)) }
+        ensures later { fault_count self.old ≤ fault_count self.new }
+        ensures failed { OnErr result (Rose (fault_count self.old) (fault_count self.new)) }
 
         // What is given is what the reader gives, where the reader knows it.
         ensures passed_on { ReadConsumes (R.remaining (inner_reader self.old)) (R.remaining (inner_reader self.new)) result buf.new }
-        ensures counts { error_count self.new ≡ (if is_err result then counted_up (error_count self.old) else error_count self.old) }
+        ensures counts { fault_count self.new ≡ (if is_err result then counted_up (fault_count self.old) else fault_count self.old) }
     {
         match self.inner.read(buf) {
             Ok(count) => Ok(count),

@@ -48,6 +48,7 @@ fn sources_and_sinks_in_memory(rt: HostRuntime) -> Result<(), Fail> {
     let alloc = rt.alloc();
     let five = b"poker".to_vec(alloc)?;
     assert_eq!(rt; read_five(alloc, &[], 5), Ok(five));
+    // No run here makes a call 9.
     for (fail_at, max, fault) in [
         ([9], 4, InFault::TooLong),
         ([9], 0, InFault::TooLong),
