@@ -1,0 +1,2 @@
+pub mod FirstStreet
+pub mod SeatNumbers
