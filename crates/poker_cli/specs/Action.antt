@@ -41,7 +41,7 @@ seat_name seat = codes "p" ++ decimal seat
 
 -- the seat that a word names, in a hand with so many seats
 unfoldable pub seat_said : ℕ → List ℕ → Option ℕ
-seat_said seats word = find (λ seat. bytes_eq word (seat_name seat)) (seats_of 10) >>= λ seat. only_if (nat_le seat seats) seat
+seat_said seats word = find (λ seat. bytes_eq word (seat_name seat)) (seats_of seats)
 
 -- the amount that a word of digits says
 unfoldable pub amount_said : List ℕ → Option ℕ

@@ -1,6 +1,7 @@
 //! The program `handref`: a referee for recorded poker hands.
 #![tactic(auto)]
 
+pub mod action;
 pub mod hand;
 
 fn main() {}

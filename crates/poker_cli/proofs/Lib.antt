@@ -1,0 +1,4 @@
+pub mod AmountLaws
+pub mod CardLaws
+pub mod SeatLaws
+pub mod WordLaws
