@@ -1,5 +1,5 @@
 -- Laws of the words of a text: the first word, and what stands behind it.
-use Rattle.std.proofs.Common.{◌≡◌, ℕ, ◌+◌, ◌<◌, ◌≤◌, Bool, true, false, not, cond, nat_lt, List, [], ◌∷◌, length, get_or, take, drop, refl, ap, sym, ◌∙◌, arith, All, filter, take_all, inl, inr}
+use Rattle.std.proofs.Common.{◌≡◌, ℕ, ◌+◌, ◌<◌, ◌≤◌, ◌⊎◌, true, false, not, cond, nat_lt, List, [], ◌∷◌, length, get_or, take, drop, refl, ap, sym, ◌∙◌, arith, All, filter, take_all, inl, inr}
 use Rattle.std.specs.List.{slice_split, position_or_len, before_first, after_first}
 use Rattle.std.proofs.lemmas.Bool.{cases_lt, lt-ltb}
 use Rattle.std.proofs.lemmas.List.{length-take-le, drop_more, drop_all}
@@ -18,10 +18,11 @@ kept-cons part parts some = ap (λ b. cond b (part ∷ kept parts) (kept parts))
 pub words_of-space : (sign : ℕ) (text : List ℕ) → divides sign ≡ true → words_of (sign ∷ text) ≡ words_of text
 words_of-space sign text space = ap kept (slice_split-cons_yes divides sign text space)
 
--- a text that begins with another sign begins with a word
-pub begins_word : (text : List ℕ) → 0 < length text → divides (get_or text 0 0) ≡ false → 0 < position_or_len divides text
+-- a text that is not empty and begins with no space begins with a word
+pub begins_word : (text : List ℕ) → 0 < length text → (text ≡ []) ⊎ (divides (get_or text 0 0) ≡ false) → 0 < position_or_len divides text
 begins_word [] some begins = absurd (omega (arith, some))
-begins_word (sign ∷ text) some begins = rw begins (omega arith)
+begins_word (sign ∷ text) some (inl empty) = absurd (omega (arith, ap length empty))
+begins_word (sign ∷ text) some (inr begins) = rw begins (omega arith)
 
 before_space : (text : List ℕ) (len : ℕ) → len ≡ position_or_len divides text → 0 < len → len < length text → words_of text ≡ take len text ∷ words_of (drop len text)
 before_space text len is some inside =

@@ -51,21 +51,29 @@ amount_said word = only_if (nat_lt 0 (length word) && (list_all (λ sign. is_dig
 unfoldable pub cards_said : List ℕ → Option (List Slot)
 cards_said word = slots_spelled word >>= λ cards. only_if (nat_le 1 (length cards) && nat_le (length cards) 7) cards
 
--- what is said of the seat that a word names: a fold, a bet or raise to an amount, and a deal of hole cards
-unfoldable pub fold_said : ℕ → List ℕ → Option Said
-fold_said seats name = option_map (λ seat. said.Fold (Some seat)) (seat_said seats name)
+-- a fold: the name of a seat, and f
+unfoldable pub fold_said : ℕ → List ℕ → List ℕ → Option Said
+fold_said seats name verb = if bytes_eq verb (codes "f") then option_map (λ seat. said.Fold (Some seat)) (seat_said seats name) else None
 
-unfoldable pub raise_said : ℕ → List ℕ → List ℕ → Option Said
-raise_said seats name amount = seat_said seats name >>= λ seat. option_map (λ chips. said.Raise (Some seat) (spelled.To chips)) (amount_said amount)
+-- a bet or raise: the name of a seat, cbr, and the amount to which it goes
+unfoldable pub raise_said : ℕ → List ℕ → List ℕ → List ℕ → Option Said
+raise_said seats name verb amount =
+    if bytes_eq verb (codes "cbr")
+    then (seat_said seats name >>= λ seat. option_map (λ chips. said.Raise (Some seat) (spelled.To chips)) (amount_said amount))
+    else None
 
-unfoldable pub hole_said : ℕ → List ℕ → List ℕ → Option Said
-hole_said seats name cards = seat_said seats name >>= λ seat. option_map (said.Hole seat) (cards_said cards)
+-- a hole deal: d, dh, the name of a seat, and its cards
+unfoldable pub hole_said : ℕ → List ℕ → List ℕ → List ℕ → List ℕ → Option Said
+hole_said seats deal kind name cards =
+    if bytes_eq deal (codes "d") && bytes_eq kind (codes "dh")
+    then (seat_said seats name >>= λ seat. option_map (said.Hole seat) (cards_said cards))
+    else None
 
 -- what the words of an action say, in a hand with so many seats
 unfoldable pub words_say : ℕ → List (List ℕ) → Option Said
-words_say seats (name ∷ verb ∷ []) = if bytes_eq verb (codes "f") then fold_said seats name else None
-words_say seats (name ∷ verb ∷ amount ∷ []) = if bytes_eq verb (codes "cbr") then raise_said seats name amount else None
-words_say seats (deal ∷ hole ∷ name ∷ cards ∷ []) = if bytes_eq deal (codes "d") && bytes_eq hole (codes "dh") then hole_said seats name cards else None
+words_say seats (name ∷ verb ∷ []) = fold_said seats name verb
+words_say seats (name ∷ verb ∷ amount ∷ []) = raise_said seats name verb amount
+words_say seats (deal ∷ kind ∷ name ∷ cards ∷ []) = hole_said seats deal kind name cards
 words_say seats words = None
 
 -- what an action says; an action with a commentary has another form

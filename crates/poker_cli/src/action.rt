@@ -11,6 +11,7 @@ use chip_ledger::{MOST_CHIPS, Seat};
 use play_event::{Kind, Spelled};
 
 /// What an action says in a hand with so many seats, or `None` where it has another form.
+#[tactic(auto, unfolding(crate::specs::Action::action_said))]
 pub fn read_action(seats: u8, text: &str) -> Option<Kind>
     requires { seats ≤ 10 }
     ensures { option_map kind_said result ≡ action_said seats text.now }
@@ -23,6 +24,7 @@ pub fn read_action(seats: u8, text: &str) -> Option<Kind>
 }
 
 // What the words of an action say: two are a fold, three a bet or raise, and four a hole deal.
+#[tactic(auto, unfolding(crate::specs::Action::words_say))]
 fn read_words(seats: u8, text: &[u8]) -> Option<Kind>
     requires { seats ≤ 10 }
     ensures { option_map kind_said result ≡ words_say seats (words_of text.now) }
@@ -30,42 +32,39 @@ fn read_words(seats: u8, text: &[u8]) -> Option<Kind>
     let (first, rest) = next_word(text)?;
     let (second, rest) = next_word(rest)?;
     let Some((third, rest)) = next_word(rest) else {
-        return if is_word(second, "f") {
-            read_fold(seats, first)
-        } else {
-            None
-        };
+        return read_fold(seats, first, second);
     };
     let Some((fourth, rest)) = next_word(rest) else {
-        return if is_word(second, "cbr") {
-            read_raise(seats, first, third)
-        } else {
-            None
-        };
+        return read_raise(seats, first, second, third);
     };
-    if next_word(rest).is_none() && is_word(first, "d") && is_word(second, "dh") {
-        read_hole(seats, third, fourth)
-    } else {
-        None
+    match next_word(rest) {
+        None => read_hole(seats, first, second, third, fourth),
+        Some(_) => None,
     }
 }
 
 // A fold of the seat that a word names.
 #[tactic(auto, unfolding(crate::specs::Action::fold_said))]
-fn read_fold(seats: u8, name: &[u8]) -> Option<Kind>
+fn read_fold(seats: u8, name: &[u8], verb: &[u8]) -> Option<Kind>
     requires { seats ≤ 10 }
-    ensures { option_map kind_said result ≡ fold_said seats name.now }
+    ensures { option_map kind_said result ≡ fold_said seats name.now verb.now }
 {
+    if !is_word(verb, "f") {
+        return None;
+    }
     let seat = read_seat(seats, name)?;
     Some(Kind::Fold { actor: Some(seat) })
 }
 
 // A bet or raise of the seat that a word names, to an amount.
 #[tactic(auto, unfolding(crate::specs::Action::raise_said))]
-fn read_raise(seats: u8, name: &[u8], amount: &[u8]) -> Option<Kind>
+fn read_raise(seats: u8, name: &[u8], verb: &[u8], amount: &[u8]) -> Option<Kind>
     requires { seats ≤ 10 }
-    ensures { option_map kind_said result ≡ raise_said seats name.now amount.now }
+    ensures { option_map kind_said result ≡ raise_said seats name.now verb.now amount.now }
 {
+    if !is_word(verb, "cbr") {
+        return None;
+    }
     let seat = read_seat(seats, name)?;
     let amount = read_amount(amount)?;
     Some(Kind::Raise {
@@ -76,10 +75,16 @@ fn read_raise(seats: u8, name: &[u8], amount: &[u8]) -> Option<Kind>
 
 // Hole cards for the seat that a word names.
 #[tactic(auto, unfolding(crate::specs::Action::hole_said))]
-fn read_hole(seats: u8, name: &[u8], cards: &[u8]) -> Option<Kind>
+fn read_hole(seats: u8, deal: &[u8], kind: &[u8], name: &[u8], cards: &[u8]) -> Option<Kind>
     requires { seats ≤ 10 }
-    ensures { option_map kind_said result ≡ hole_said seats name.now cards.now }
+    ensures { option_map kind_said result ≡ hole_said seats deal.now kind.now name.now cards.now }
 {
+    if !is_word(deal, "d") {
+        return None;
+    }
+    if !is_word(kind, "dh") {
+        return None;
+    }
     let seat = read_seat(seats, name)?;
     let cards = read_cards(cards)?;
     Some(Kind::Hole { seat, cards })
@@ -93,7 +98,8 @@ fn next_word(text: &[u8]) -> Option<(&[u8], &[u8])>
     if text.is_empty() {
         return None;
     }
-    Some(text.split_at(word_len(text)))
+    let len = word_len(text);
+    Some(text.split_at(len))
 }
 
 // The text without the spaces that it begins with.
