@@ -1,8 +1,8 @@
 -- The first form of a document: one hand of no-limit hold'em for three or more seats, without antes, in few actions.
-use Rattle.std.specs.Prelude.{ℕ, ◌+◌, ◌==◌, Bool, true, false, ◌&&◌, ◌||◌, nat_le, bytes_eq, pos, if◌then◌else◌, List, [], ◌∷◌, length, filter, codes, Option, Some, None, IsTrue, refl}
+use Rattle.std.specs.Prelude.{ℕ, ◌+◌, ◌==◌, Bool, true, false, ◌&&◌, ◌||◌, nat_le, bytes_eq, ℤ, pos, negsuc, if◌then◌else◌, List, [], ◌∷◌, length, filter, codes, Option, Some, None, IsTrue, refl}
 use Rattle.std.specs.List.{list_any}
 use Rattle.std.specs.Option.{option_map}
-use Rattle.toml.specs.Data.{Data, integer, Items, no_items, item, Members, no_members, member, get_member, as_str, as_array}
+use Rattle.toml.specs.Data.{Data, integer, Items, no_items, item, Members, no_members, member, get_member, as_str, as_integer, as_array}
 use Rattle.chip_ledger.specs.declared.rows.SeatRow.{SeatRow}
 use Rattle.play_event.specs.declared.code.Code.TheVariants as games
 use Rattle.play_event.specs.declared.setup.Setup.{Setup}
@@ -20,15 +20,23 @@ abbrev pub is_passed_over : List ℕ → Bool
 is_passed_over [] = false
 is_passed_over (sign ∷ rest) = sign == 95
 
--- each key is one of the first form, or is passed over
+-- the key may stand in the first form
+unfoldable pub key_fits : List ℕ → Bool
+key_fits key = list_any (bytes_eq key) first_keys || is_passed_over key
+
+-- each key may stand in the first form
 abbrev pub keys_fit : Members → Bool
 keys_fit no_members = true
-keys_fit (member key value rest) = (list_any (bytes_eq key) first_keys || is_passed_over key) && keys_fit rest
+keys_fit (member key value rest) = key_fits key && keys_fit rest
+
+-- the number, if it goes from least to most
+abbrev pub kept_within : ℕ → ℕ → ℤ → Option ℕ
+kept_within least most (pos number) = only_if (nat_le least number && nat_le number most) number
+kept_within least most (negsuc number) = None
 
 -- a whole number from least to most
 unfoldable pub number_within : ℕ → ℕ → Data → Option ℕ
-number_within least most (integer (pos number)) = only_if (nat_le least number && nat_le number most) number
-number_within least most value = None
+number_within least most value = as_integer value >>= kept_within least most
 
 -- whole numbers from least to most
 abbrev pub numbers_within : ℕ → ℕ → Items → Option (List ℕ)
@@ -40,9 +48,13 @@ abbrev pub made_if : {A : Type 0} (test : Bool) → (IsTrue test → A) → Opti
 made_if true make = Some (make refl)
 made_if false make = None
 
+-- the row of two to ten amounts
+unfoldable pub seat_row : List ℕ → Option SeatRow
+seat_row amounts = made_if (fits_row amounts) (row_of amounts)
+
 -- a row of two to ten numbers from least to most
 unfoldable pub row_said : ℕ → ℕ → Data → Option SeatRow
-row_said least most value = as_array value >>= λ items. numbers_within least most items >>= λ amounts. made_if (fits_row amounts) (row_of amounts)
+row_said least most value = as_array value >>= numbers_within least most >>= seat_row
 
 -- the setup: stacks for three or more seats, no antes, blinds, and the least bet
 unfoldable pub setup_said : Members → Option Setup

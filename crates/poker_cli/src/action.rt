@@ -126,8 +126,8 @@ fn word_len(text: &[u8]) -> usize
     text.len()
 }
 
-// Whether the word is this one.
-fn is_word(word: &[u8], text: &str) -> bool
+/// Whether the word is this one.
+pub fn is_word(word: &[u8], text: &str) -> bool
     ensures { result ≡ bytes_eq word.now text.now }
 {
     word == text.as_bytes()

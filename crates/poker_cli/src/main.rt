@@ -2,6 +2,7 @@
 #![tactic(auto)]
 
 pub mod action;
+pub mod first_form;
 pub mod hand;
 
 fn main() {}
