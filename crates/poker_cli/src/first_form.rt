@@ -2,12 +2,12 @@
 ghost use Rattle.std.specs.Prelude.{◌≡◌, ◌≤◌, length, map, codes, bytes_eq, option_and_then, option_map, IfOk, Some};
 ghost use Rattle.toml.specs.Data.{as_str, get_member};
 ghost use Rattle.toml.specs.View.{items_view, table_view, view};
-ghost use Rattle.play_event.specs.Said.{kind_said};
+ghost use Rattle.play_event.specs.Said.{kind_said, said_of};
 ghost use Rattle.play_event.specs.Rows.{filled};
 ghost use Rattle.chip_ledger.specs.declared.rows.TheConstants.{MOST_AMOUNT};
 ghost use Rattle.poker_cli.specs.Action.{action_said};
 ghost use Rattle.poker_cli.specs.FirstForm.{events_from, first_form, key_fits, kept_within, keys_fit, number_within, numbers_within, raises_among, row_said, script_said, seat_row, setup_said};
-ghost use Rattle.poker_cli.specs.Hand.{numbered, told};
+ghost use Rattle.poker_cli.specs.Hand.{is_raise as is_raise_said, numbered, told};
 
 use crate::action::{is_word, read_action};
 use crate::hand::Hand;
@@ -238,9 +238,19 @@ fn count_raises(script: &Script) -> usize
 {
     let mut raises = 0;
     for index in 0..script.len() {
-        if let Kind::Raise { .. } = script.get(index).kind {
+        if is_raise(script.get(index)) {
             raises += 1;
         }
     }
     raises
+}
+
+// Whether the event is a raise.
+fn is_raise(event: Event) -> bool
+    ensures { result ≡ is_raise_said (said_of event) }
+{
+    match event.kind {
+        Kind::Raise { .. } => true,
+        _ => false,
+    }
 }
