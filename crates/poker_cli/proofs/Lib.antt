@@ -1,4 +1,6 @@
 pub mod AmountLaws
 pub mod CardLaws
+pub mod FilledRows
+pub mod ScriptLaws
 pub mod SeatLaws
 pub mod WordLaws
