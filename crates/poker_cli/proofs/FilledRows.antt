@@ -1,5 +1,5 @@
 -- Laws of the numbers that are read into a row, and of the zeros behind them.
-use Rattle.std.proofs.Common.{◌≡◌, ℕ, zero, suc, ◌+◌, ◌-◌, ◌<◌, ◌≤◌, Bool, true, false, ◌&&◌, nat_le, List, [], ◌∷◌, ◌++◌, length, map, take, drop, set, get_or, replicate, Option, Some, None, refl, sym, ap, ◌∙◌, arith, append_assoc, IsTrue, length-append, subst, ◌⊎◌, inl, inr, ℤ, pos, negsuc}
+use Rattle.std.proofs.Common.{◌≡◌, ℕ, zero, suc, ◌+◌, ◌-◌, ◌<◌, ◌≤◌, Bool, true, false, ◌&&◌, nat_le, List, [], ◌∷◌, ◌++◌, length, map, take, drop, set, get_or, replicate, Option, Some, None, refl, sym, ap, ◌∙◌, arith, append_assoc, IsTrue, length-append, subst, ◌⊎◌, inl, inr, ℤ, pos, negsuc, slice_index}
 use Rattle.std.specs.List.{list_all}
 use Rattle.std.specs.Option.{option_map}
 use Rattle.std.proofs.lemmas.Bool.{false≢true, and_parts, leb-true, le-leb, lt-leb}
@@ -153,3 +153,15 @@ fills_from least greatest values amounts (Some xs) are few some ten is =
 
 pub fills_row : (least greatest : ℕ) (values : List Value) (amounts : List ℕ) → greatest ≤ most → 2 ≤ length values → length values ≤ 10 → option_map filled (numbers_within least greatest (items_view values)) ≡ Some amounts → FillsRow least greatest values amounts
 fills_row least greatest values amounts few some ten is = fills_from least greatest values amounts (numbers_within least greatest (items_view values)) refl few some ten is
+
+-- amounts that fill a row keep what a row keeps
+pub record KeepRow (seats : ℕ) (amounts : List ℕ) : Type 0 where
+  pub full : length amounts ≡ 10
+  pub bounded : (k : ℕ) → slice_index amounts k ≤ most
+  pub filler : (k : ℕ) → seats ≤ k → slice_index amounts k ≡ 0
+
+pub keep_row : (least greatest : ℕ) (values : List Value) (amounts : List ℕ) → FillsRow least greatest values amounts → KeepRow (length values) amounts
+keep_row least greatest values amounts fills =
+    let row = row_of fills.numbers fills.fits in
+    let kept : KeepRow (length fills.numbers) (filled fills.numbers) = record { full = row.full; bounded = row.bounded; filler = row.filler } in
+    subst (λ (n : ℕ). KeepRow n amounts) fills.count (subst (KeepRow (length fills.numbers)) (sym fills.amounts_are) kept)
