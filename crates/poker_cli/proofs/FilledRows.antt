@@ -1,16 +1,16 @@
 -- Laws of the numbers that are read into a row, and of the zeros behind them.
-use Rattle.std.proofs.Common.{◌≡◌, ℕ, zero, suc, ◌+◌, ◌-◌, ◌<◌, ◌≤◌, Bool, true, false, ◌&&◌, nat_le, List, [], ◌∷◌, ◌++◌, length, map, take, drop, set, get_or, replicate, Option, Some, None, refl, sym, ap, ◌∙◌, arith, append_assoc, IsTrue, length-append, subst, ◌⊎◌, inl, inr, ℤ, pos, negsuc, slice_index}
+use Rattle.std.proofs.Common.{◌≡◌, ℕ, zero, suc, ◌+◌, ◌-◌, ◌<◌, ◌≤◌, Bool, true, false, ◌&&◌, nat_le, List, [], ◌∷◌, ◌++◌, length, take, drop, set, get_or, replicate, Option, Some, None, refl, sym, ap, ◌∙◌, arith, append_assoc, IsTrue, length-append, subst, ◌⊎◌, inl, inr, ℤ, pos, negsuc, slice_index}
 use Rattle.std.specs.List.{list_all}
 use Rattle.std.specs.Option.{option_map}
 use Rattle.std.proofs.lemmas.Bool.{false≢true, and_parts, leb-true, le-leb, lt-leb}
-use Rattle.std.proofs.lemmas.List.{take_more_set, length-take-le, length-set}
+use Rattle.std.proofs.lemmas.List.{take_more_set, length-take-le}
 use Rattle.toml.specs.Data.{Data, Items, no_items, item, as_integer}
 use Rattle.toml.specs.View.{view, items_view}
 use Rattle.toml.specs.declared.value.Value.{Value}
 use Rattle.toml.proofs.Views.{items_view-drop}
 use Rattle.chip_ledger.specs.declared.rows.SeatRow.{SeatRow}
 use Rattle.chip_ledger.proofs.Same.{seat_row_same}
-use Rattle.play_event.specs.Rows.{most, fits_row, filled, row_of, whole}
+use Rattle.play_event.specs.Rows.{most, fits_row, filled, row_of}
 use Rattle.poker_cli.specs.Action.{◌>>=◌, only_if}
 use Rattle.poker_cli.specs.FirstForm.{kept_within, number_within, numbers_within, made_if, seat_row}
 
@@ -165,3 +165,8 @@ keep_row least greatest values amounts fills =
     let row = row_of fills.numbers fills.fits in
     let kept : KeepRow (length fills.numbers) (filled fills.numbers) = record { full = row.full; bounded = row.bounded; filler = row.filler } in
     subst (λ (n : ℕ). KeepRow n amounts) fills.count (subst (KeepRow (length fills.numbers)) (sym fills.amounts_are) kept)
+
+-- a row with amounts that fill it is the row that the values say
+pub row_filled : (least greatest : ℕ) (values : List Value) (row : SeatRow) → FillsRow least greatest values row.amounts → row.seats ≡ length values → (numbers_within least greatest (items_view values) >>= seat_row) ≡ Some row
+row_filled least greatest values row fills seats =
+    ap (λ (found : Option (List ℕ)). found >>= seat_row) fills.are ∙ row_made fills.numbers row fills.fits (seats ∙ sym fills.count) fills.amounts_are

@@ -1,6 +1,6 @@
 -- Laws of the names of seats: p and one digit, or p10.
-use Rattle.std.proofs.Common.{◌≡◌, ℕ, ◌+◌, ◌-◌, ◌<◌, Bool, true, false, zero, suc, List, [], ◌∷◌, Some, find, refl, ap, ◌∙◌, arith, bytes_eq}
-use Rattle.std.specs.Fmt.{digits, decimal}
+use Rattle.std.proofs.Common.{◌≡◌, ℕ, ◌+◌, ◌-◌, ◌<◌, Bool, true, false, zero, suc, List, [], ◌∷◌, Some, find, refl, ap, arith}
+use Rattle.std.specs.Fmt.{digits}
 use Rattle.std.specs.List.{range_with_len}
 use Rattle.std.proofs.lemmas.Fmt.{decimal_digit}
 use Rattle.poker_cli.specs.Action.{seat_name}

@@ -1,6 +1,6 @@
 -- Laws of the words of a text: the first word, and what stands behind it.
 use Rattle.std.proofs.Common.{◌≡◌, ℕ, ◌+◌, ◌<◌, ◌≤◌, ◌⊎◌, true, false, not, cond, nat_lt, List, [], ◌∷◌, length, get_or, take, drop, refl, ap, sym, ◌∙◌, arith, All, filter, take_all, inl, inr}
-use Rattle.std.specs.List.{slice_split, position_or_len, before_first, after_first}
+use Rattle.std.specs.List.{slice_split, position_or_len}
 use Rattle.std.proofs.lemmas.Bool.{cases_lt, lt-ltb}
 use Rattle.std.proofs.lemmas.List.{length-take-le, drop_more, drop_all}
 use Rattle.std.proofs.lemmas.List.Sums.{prefix_len-le-length, fails_before_first, passes_at_first}

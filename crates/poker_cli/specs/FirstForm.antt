@@ -2,7 +2,7 @@
 use Rattle.std.specs.Prelude.{ℕ, ◌+◌, ◌==◌, Bool, true, false, ◌&&◌, ◌||◌, nat_le, bytes_eq, ℤ, pos, negsuc, if◌then◌else◌, List, [], ◌∷◌, length, filter, codes, Option, Some, None, IsTrue, refl}
 use Rattle.std.specs.List.{list_any}
 use Rattle.std.specs.Option.{option_map}
-use Rattle.toml.specs.Data.{Data, integer, Items, no_items, item, Members, no_members, member, get_member, as_str, as_integer, as_array}
+use Rattle.toml.specs.Data.{Data, Items, no_items, item, Members, no_members, member, get_member, as_str, as_integer, as_array}
 use Rattle.chip_ledger.specs.declared.rows.SeatRow.{SeatRow}
 use Rattle.play_event.specs.declared.code.Code.TheVariants as games
 use Rattle.play_event.specs.declared.setup.Setup.{Setup}
@@ -65,7 +65,7 @@ setup_said members = do
   blinds ← get_member (codes "blinds_or_straddles") members >>= row_said 0 most_chips
   least ← get_member (codes "min_bet") members >>= number_within 1 most_chips
   only_if (bytes_eq game (code_text games.NT) && (nat_le 3 stacks.seats && (antes.seats == stacks.seats && blinds.seats == stacks.seats)))
-    (record { code = games.NT; stacks = stacks; antes = antes; dead_antes = false; blinds = blinds; bring_in = 0; small_bet = 0; big_bet = 0; min_bet = least })
+      (record { code = games.NT; stacks = stacks; antes = antes; dead_antes = false; blinds = blinds; bring_in = 0; small_bet = 0; big_bet = 0; min_bet = least })
 
 -- the events of actions, of which the first has this number
 abbrev pub events_from : ℕ → ℕ → Items → Option (List Numbered)

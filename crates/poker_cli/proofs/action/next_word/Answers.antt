@@ -1,7 +1,6 @@
-use Rattle.std.proofs.Common.{◌≡◌, ◌∙◌, sym, arith, length, not, ◌<◌, List, ◌∷◌, ap, ℕ, refl}
+use Rattle.std.proofs.Common.{◌∙◌, sym, arith, length, not, ◌<◌, refl}
 use Rattle.std.proofs.lemmas.List.Sums.{prefix_len-le-length}
-use Rattle.std.specs.List.{position_or_len}
-use Rattle.poker_cli.specs.Action.{divides, words_of}
+use Rattle.poker_cli.specs.Action.{divides}
 use Rattle.poker_cli.proofs.WordLaws.{first_word, begins_word}
 use Rattle.poker_cli.proofs.action.next_word.Goals as goal
 

@@ -1,5 +1,4 @@
 use Rattle.std.proofs.Common.{arith}
-use Rattle.std.proofs.lemmas.Grind.{common_steps}
 use Rattle.poker_cli.proofs.ScriptLaws.{raises_from}
 use Rattle.poker_cli.proofs.first_form.count_raises.Goals as goal
 use Rattle.poker_cli.proofs.first_form.count_raises.Goals.{then-is_raise, else-is_raise}

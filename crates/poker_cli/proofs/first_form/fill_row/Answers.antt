@@ -1,7 +1,5 @@
-use Rattle.std.proofs.Common.{◌∙◌, ◌<◌, ◌⊎◌, ap, sym, arith, length, inl, inr}
-use Rattle.std.specs.Prelude.{option_and_then}
-use Rattle.poker_cli.specs.FirstForm.{seat_row}
-use Rattle.poker_cli.proofs.FilledRows.{no_row, fills_row, keep_row, row_made}
+use Rattle.std.proofs.Common.{◌<◌, ◌⊎◌, refl, sym, arith, length, inl, inr}
+use Rattle.poker_cli.proofs.FilledRows.{no_row, fills_row, keep_row, row_filled}
 use Rattle.poker_cli.proofs.first_form.fill_row.Goals as goal
 use Rattle.poker_cli.proofs.first_form.fill_row.Goals.{then-values-lt2-via-then-values-lt2, then-values-lt2-via-else-values-lt2+then-values-gt10}
 
@@ -20,4 +18,4 @@ invariant_of-result c =
 pub returns : goal.returns
 returns c =
     let fills = fills_row c.args.least c.args.most c.args.values.now c.in_ok-amounts.amounts (omega arith) (omega arith) (omega arith) (grind arith) in
-    sym (ap (option_and_then seat_row) fills.are ∙ row_made fills.numbers _ fills.fits (sym fills.count) fills.amounts_are)
+    sym (row_filled c.args.least c.args.most c.args.values.now _ fills refl)
