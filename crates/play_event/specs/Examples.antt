@@ -12,18 +12,13 @@ use Rattle.play_event.specs.declared.event.Spelled.TheVariants as spelled
 use Rattle.play_event.specs.declared.reason.Illegal.{Illegal}
 use Rattle.play_event.specs.declared.reason.Illegal.TheVariants as reasons
 use Rattle.play_event.specs.declared.setup.Setup.{Setup}
-use Rattle.play_event.specs.declared.setup.Rules.{Rules}
-use Rattle.play_event.specs.declared.setup.Reopen.TheVariants as reopen
 use Rattle.play_event.specs.Said.{Said, Hole, Fold, Call, Raise}
+use Rattle.play_event.specs.HistoryRules.{history_rules}
 use Rattle.play_event.specs.Rows.{row_of, fits_row}
 use Rattle.play_event.specs.Past.{moves_of}
 use Rattle.play_event.specs.Seats.{all_seats}
 use Rattle.play_event.specs.Finish.{finishing_stack}
 use Rattle.play_event.specs.Scripts.{why_at, first_illegal, ends_early, past_of}
-
--- the rules of the hand histories: betting reopens by a full raise, folds are free, and raises have no cap
-abbrev pub history_rules : Rules
-history_rules = record { reopen = reopen.Full; free_fold = true; caps = None }
 
 -- a hand of no-limit hold'em without antes, with these stacks and blinds
 abbrev pub no_limit : (stacks antes blinds : List ℕ) → IsTrue (fits_row stacks) → IsTrue (fits_row antes) → IsTrue (fits_row blinds) → ℕ → Setup

@@ -13,5 +13,6 @@ pub mod Places
 pub mod Reasons
 pub mod Scripts
 pub mod Finish
+pub mod HistoryRules
 pub mod Rows
 pub mod Examples

@@ -43,7 +43,16 @@ abbrev pub is_taken : Code → List Place → Slot → Bool
 is_taken code placed (slots.Known card) = not (in_deck code card) || list_any (λ place. bears card place.slot) placed
 is_taken code placed slots.Unknown = false
 
--- one of the cards is taken, where they are placed in order
-abbrev pub any_taken : Code → List Place → List Place → Bool
-any_taken code placed [] = false
-any_taken code placed (place ∷ rest) = is_taken code placed place.slot || any_taken code (placed ++ place ∷ []) rest
+-- the card of a slot stands again among others
+abbrev pub stands_again : Slot → List Slot → Bool
+stands_again (slots.Known card) others = list_any (bears card) others
+stands_again slots.Unknown others = false
+
+-- two of the slots bear one card
+abbrev pub has_repeat : List Slot → Bool
+has_repeat [] = false
+has_repeat (slot ∷ rest) = stands_again slot rest || has_repeat rest
+
+-- one of the cards may not be placed behind these places, or two of them are one card
+abbrev pub any_taken : Code → List Place → List Slot → Bool
+any_taken code placed cards = list_any (is_taken code placed) cards || has_repeat cards

@@ -1,5 +1,5 @@
 -- Who may bet or raise, and to which amounts. (No limit.)
-use Rattle.std.specs.Prelude.{ℕ, Bool, true, false, ◌+◌, ◌-◌, ◌&&◌, ◌||◌, ◌==◌, max, nat_lt, nat_le, not, if◌then◌else◌, List, [], ◌∷◌, length, filter, slice_index, Option, Some, None}
+use Rattle.std.specs.Prelude.{ℕ, Bool, true, false, ◌+◌, ◌-◌, ◌&&◌, ◌||◌, ◌==◌, max, nat_lt, nat_le, not, if◌then◌else◌, List, [], ◌∷◌, count_by, slice_index, Option, Some, None}
 use Rattle.std.specs.List.{list_any}
 use Rattle.play_event.specs.declared.setup.Setup.{Setup}
 use Rattle.play_event.specs.declared.setup.Rules.{Rules}
@@ -16,7 +16,7 @@ has_moved moves street seat = list_any (λ move. move.seat == seat) (moves_on st
 
 -- how many raises there were on this street
 abbrev pub raises_on : List Move → ℕ → ℕ
-raises_on moves street = length (filter (λ move. is_raise move.act) (moves_on street moves))
+raises_on moves street = count_by (λ move. is_raise move.act) (moves_on street moves)
 
 -- the raises of this street are fewer than its cap; a street past the fourth has none
 abbrev pub within_cap : Option (List ℕ) → List Move → ℕ → Bool

@@ -19,7 +19,7 @@ use Rattle.play_event.specs.Due.{turn, hole_cards_owed, board_cards_owed}
 use Rattle.play_event.specs.Mover.{mover}
 use Rattle.play_event.specs.Amounts.{call_target, raise_target}
 use Rattle.play_event.specs.Raising.{may_raise, is_legal_target, greatest_target}
-use Rattle.play_event.specs.Places.{places_of, places_dealt, any_taken}
+use Rattle.play_event.specs.Places.{places_of, any_taken}
 
 -- the first reason whose condition holds, if one does
 abbrev pub first_reason : List (Bool × Illegal) → Option Illegal
@@ -57,7 +57,7 @@ abbrev pub why_not_dealt : Setup → Past → ℕ → ℕ → List Slot → List
 why_not_dealt setup past street seat cards =
     (hole_cards_owed setup past street seat == 0, reasons.WrongSeat)
     ∷ ((length cards == 0) || nat_lt (hole_cards_owed setup past street seat) (length cards), reasons.WrongCount)
-    ∷ (any_taken setup.code (places_of past) (places_dealt (Some seat) street cards), reasons.CardTaken)
+    ∷ (any_taken setup.code (places_of past) cards, reasons.CardTaken)
     ∷ []
 
 -- why a seat may not fold

@@ -71,4 +71,4 @@ pub record IsFirstIllegal (setup : Setup) (rules : Rules) (script : List Said) (
 
 -- after the script a deal, a draw, a bring-in or a move is due
 abbrev pub ends_early : Setup → List Said → Bool
-ends_early setup script = is_unfinished (turn setup (past_of setup (reverse script))).1
+ends_early setup script = is_unfinished (turn setup (past_after setup script (length script))).1

@@ -1,5 +1,5 @@
 -- Which seats are still in the hand, and which of them still have chips.
-use Rattle.std.specs.Prelude.{ℕ, Bool, ◌&&◌, ◌==◌, not, nat_lt, List, filter, length}
+use Rattle.std.specs.Prelude.{ℕ, Bool, ◌&&◌, ◌==◌, not, nat_lt, List, count_by}
 use Rattle.std.specs.List.{list_any}
 use Rattle.chip_ledger.specs.Seat.{seats_of}
 use Rattle.play_event.specs.declared.setup.Setup.{Setup}
@@ -20,8 +20,8 @@ all_seats setup = seats_of setup.stacks.seats
 
 -- how many seats are live
 abbrev pub live_count : Setup → List Move → ℕ
-live_count setup moves = length (filter (is_live moves) (all_seats setup))
+live_count setup moves = count_by (is_live moves) (all_seats setup)
 
 -- how many seats are able
 abbrev pub able_count : Setup → List Move → ℕ
-able_count setup moves = length (filter (is_able setup moves) (all_seats setup))
+able_count setup moves = count_by (is_able setup moves) (all_seats setup)

@@ -3,6 +3,10 @@ pub mod CardLaws
 pub mod FilledRows
 pub mod FirstEvents
 pub mod FirstHands
+pub mod FirstStreet
+pub mod Playing
 pub mod ScriptLaws
 pub mod SeatLaws
+pub mod SeatNumbers
+pub mod Turn
 pub mod WordLaws

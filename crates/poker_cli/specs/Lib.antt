@@ -1,3 +1,9 @@
 pub mod Action
+pub mod Answer
 pub mod FirstForm
 pub mod Hand
+pub mod Outcome
+pub mod Stage
+pub mod Status
+pub mod Steps
+pub mod Verdict
