@@ -1,3 +1,7 @@
+pub mod Classes
+pub mod Different
 pub mod Filler
+pub mod Ranks
 pub mod Row
 pub mod Spelling
+pub mod UpCards
