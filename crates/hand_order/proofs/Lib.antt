@@ -1,0 +1,5 @@
+pub mod Chosen
+pub mod Digits
+pub mod Greatest
+pub mod Held
+pub mod Lawful

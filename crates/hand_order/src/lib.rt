@@ -1,0 +1,10 @@
+//! An order of hands gives each hand a score, and a holding is worth the greatest score of the choices it allows.
+#![tactic(auto)]
+
+mod best;
+mod order;
+mod ranks;
+
+pub use best::{Judge, Pick, best_choice, best_of};
+pub use order::{HandOrder, Score};
+pub use ranks::Ace;
