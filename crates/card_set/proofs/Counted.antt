@@ -45,7 +45,7 @@ times-cons height card cards h = sum_by-cons (λ c. cond (height c.rank == h) 1 
 
 -- no card has any height
 no_times : (height : Rank → ℕ) → sum_by (times height []) falling_heights ≡ 0
-unfolding times
+unfolding times falling_heights
 no_times height = refl
 
 -- the times of all heights are the cards
@@ -73,14 +73,14 @@ sum_by-values f (x ∷ xs) few =
     ∙ omega (arith, count_by-cons (λ x. f x == 4) x xs, count_by-cons (λ x. f x == 3) x xs, count_by-cons (λ x. f x == 2) x xs, count_by-cons (λ x. f x == 1) x xs)
 
 -- as many ranks occur so many times as heights do
-ranks_occurring-count : (height : Rank → ℕ) (cards : List Card) (n : ℕ) → ranks_occurring height cards n ≡ count_by (λ h. times height cards h == n) falling_heights
+pub ranks_occurring_count : (height : Rank → ℕ) (cards : List Card) (n : ℕ) → ranks_occurring height cards n ≡ count_by (λ h. times height cards h == n) falling_heights
 unfolding occurring
-ranks_occurring-count height cards n = length-filter (λ h. times height cards h == n) falling_heights
+ranks_occurring_count height cards n = length-filter (λ h. times height cards h == n) falling_heights
 
 -- where no rank occurs more than four times, the cards are those of the ranks that occur four times, three times, twice and once
 pub counted : (height : Rank → ℕ) → IsHeight height → (cards : List Card) → ((h : ℕ) → times height cards h ≤ 4) → length cards ≡ 4 * ranks_occurring height cards 4 + 3 * ranks_occurring height cards 3 + 2 * ranks_occurring height cards 2 + ranks_occurring height cards 1
 counted height is cards few =
-    omega (arith, all_times height is cards, sum_by-values (times height cards) falling_heights few, ranks_occurring-count height cards 4, ranks_occurring-count height cards 3, ranks_occurring-count height cards 2, ranks_occurring-count height cards 1)
+    omega (arith, all_times height is cards, sum_by-values (times height cards) falling_heights few, ranks_occurring_count height cards 4, ranks_occurring_count height cards 3, ranks_occurring_count height cards 2, ranks_occurring_count height cards 1)
 
 -- the list of ranks has the ranks that occur four times, three times, twice and once
 pub length-ranks_of : (height : Rank → ℕ) (cards : List Card) → length (ranks_of height cards) ≡ ranks_occurring height cards 4 + ranks_occurring height cards 3 + ranks_occurring height cards 2 + ranks_occurring height cards 1
@@ -199,13 +199,14 @@ once_in_suit height is (card ∷ rest) different suited h =
 -- where no rank occurs more than once, as many ranks as cards occur once
 pub all_once : (height : Rank → ℕ) → IsHeight height → (cards : List Card) → ((h : ℕ) → times height cards h ≤ 1) → (ranks_occurring height cards 4 ≡ 0) × (ranks_occurring height cards 3 ≡ 0) × (ranks_occurring height cards 2 ≡ 0) × (ranks_occurring height cards 1 ≡ length cards)
 all_once height is cards once =
-    let four = ranks_occurring-count height cards 4 ∙ count_by-none (times height cards) 4 falling_heights once (omega arith) in
-    let three = ranks_occurring-count height cards 3 ∙ count_by-none (times height cards) 3 falling_heights once (omega arith) in
-    let two = ranks_occurring-count height cards 2 ∙ count_by-none (times height cards) 2 falling_heights once (omega arith) in
+    let four = ranks_occurring_count height cards 4 ∙ count_by-none (times height cards) 4 falling_heights once (omega arith) in
+    let three = ranks_occurring_count height cards 3 ∙ count_by-none (times height cards) 3 falling_heights once (omega arith) in
+    let two = ranks_occurring_count height cards 2 ∙ count_by-none (times height cards) 2 falling_heights once (omega arith) in
     (four, three, two, omega (arith, counted height is cards (λ h. omega (arith, once h)), four, three, two))
 
 -- where the ace is the highest, each rank has one height, and is found by it
 high_ace-one : (rank : Rank) → sum_by (λ h. cond (high_ace rank == h) 1 0) falling_heights ≡ 1
+unfolding falling_heights
 high_ace-one ranks.Two = refl
 high_ace-one ranks.Three = refl
 high_ace-one ranks.Four = refl
@@ -240,6 +241,7 @@ IsHeight-high_ace = record { one = high_ace-one; back = high_ace-back }
 
 -- where the ace is the lowest, each rank has one height, and is found by it
 low_ace-one : (rank : Rank) → sum_by (λ h. cond (low_ace rank == h) 1 0) falling_heights ≡ 1
+unfolding falling_heights
 low_ace-one ranks.Two = refl
 low_ace-one ranks.Three = refl
 low_ace-one ranks.Four = refl
@@ -271,3 +273,18 @@ low_ace-back ranks.Ace = refl
 
 pub IsHeight-low_ace : IsHeight low_ace
 IsHeight-low_ace = record { one = low_ace-one; back = low_ace-back }
+
+-- an element has at most one of the values
+few_values : (value four three two one sum : ℕ) → four + three + two + one ≤ sum → cond (value == 4) 1 0 + four + (cond (value == 3) 1 0 + three) + (cond (value == 2) 1 0 + two) + (cond (value == 1) 1 0 + one) ≤ value + sum
+few_values value four three two one sum few = grind (arith, nat_tests)
+
+-- the elements with these values are at most the sum
+counts-le-sum : {X : Type 0} (f : X → ℕ) (xs : List X) → count_by (λ x. f x == 4) xs + count_by (λ x. f x == 3) xs + count_by (λ x. f x == 2) xs + count_by (λ x. f x == 1) xs ≤ sum_by f xs
+counts-le-sum f [] = omega arith
+counts-le-sum f (x ∷ xs) =
+    omega (arith, few_values (f x) (count_by (λ x. f x == 4) xs) (count_by (λ x. f x == 3) xs) (count_by (λ x. f x == 2) xs) (count_by (λ x. f x == 1) xs) (sum_by f xs) (counts-le-sum f xs), sum_by-cons f x xs, count_by-cons (λ x. f x == 4) x xs, count_by-cons (λ x. f x == 3) x xs, count_by-cons (λ x. f x == 2) x xs, count_by-cons (λ x. f x == 1) x xs)
+
+-- cards have at most as many different ranks
+pub ranks_of-le : (height : Rank → ℕ) → IsHeight height → (cards : List Card) → length (ranks_of height cards) ≤ length cards
+ranks_of-le height is cards =
+    omega (arith, length-ranks_of height cards, all_times height is cards, counts-le-sum (times height cards) falling_heights, ranks_occurring_count height cards 4, ranks_occurring_count height cards 3, ranks_occurring_count height cards 2, ranks_occurring_count height cards 1)

@@ -40,7 +40,7 @@ low_ace ranks.King = 13
 low_ace ranks.Ace = 1
 
 -- all heights, from the greatest
-abbrev pub falling_heights : List ℕ
+unfoldable pub falling_heights : List ℕ
 falling_heights = 14 ∷ 13 ∷ 12 ∷ 11 ∷ 10 ∷ 9 ∷ 8 ∷ 7 ∷ 6 ∷ 5 ∷ 4 ∷ 3 ∷ 2 ∷ 1 ∷ []
 
 -- how many of the cards have this height

@@ -3,3 +3,4 @@ pub mod Digits
 pub mod Greatest
 pub mod Held
 pub mod Lawful
+pub mod RankDigits

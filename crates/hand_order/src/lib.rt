@@ -7,4 +7,4 @@ mod ranks;
 
 pub use best::{Judge, Pick, best_choice, best_of};
 pub use order::{HandOrder, Score};
-pub use ranks::Ace;
+pub use ranks::{Ace, class_and_ranks, count_of_ranks};
