@@ -4,7 +4,11 @@
 mod best;
 mod order;
 mod ranks;
+mod row;
+mod straights;
 
 pub use best::{Judge, Pick, best_choice, best_of};
 pub use order::{HandOrder, Score};
-pub use ranks::{Ace, class_and_ranks, count_of_ranks};
+pub use ranks::{Ace, class_above, count_of_ranks, ranks_of};
+pub use row::RankRow;
+pub use straights::{LowStraight, is_flush};

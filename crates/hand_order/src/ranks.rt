@@ -1,10 +1,12 @@
 // The ranks of a hand make a number: a class above the heights, those that occur oftener first.
-ghost use Rattle.std.specs.Prelude.{◌≡◌, ℕ, ◌<◌, ◌≤◌, ◌^◌, length};
+ghost use Rattle.std.specs.Prelude.{◌≡◌, ℕ, ◌+◌, ◌<◌, ◌≤◌, ◌^◌, ◌++◌, length};
 ghost use Rattle.card_set.specs.Row.{cards_of};
 ghost use Rattle.card_set.specs.Ranks.{falling_heights, occurring, ranks_of, times};
 ghost use Rattle.hand_order.specs.Digits.{class_above, with_digits};
 ghost use Rattle.hand_order.specs.Height.{height_with};
+ghost use Rattle.hand_order.specs.Heights.{heights_of};
 
+use crate::row::RankRow;
 use card_set::{CardRow, Rank};
 
 /// Where the ace stands among the ranks.
@@ -62,39 +64,50 @@ pub fn count_of_ranks(cards: &CardRow, ace: Ace, occurrences: usize) -> usize
     heights.iter().filter(|height| times_of(cards, ace, **height) == occurrences).count()
 }
 
-// The number with the heights that occur so many times as further digits.
-fn with_occurring(value: u32, cards: &CardRow, ace: Ace, occurrences: usize) -> u32
-    requires { with_digits value (occurring (height_with ace) (cards_of cards.now) occurrences) < 2 ^ 32 }
-    ensures { result ≡ with_digits value (occurring (height_with ace) (cards_of cards.now) occurrences) }
+/// The different heights of the cards, first those that occur oftener, then the greater.
+pub fn ranks_of(cards: &CardRow, ace: Ace) -> RankRow
+    requires { length (cards_of cards.now) ≤ 5 }
+    ensures { heights_of result ≡ ranks_of (height_with ace) (cards_of cards.now) }
 {
-    let mut number = value;
+    let mut row = RankRow::new();
+    push_occurring(&mut row, cards, ace, 4);
+    push_occurring(&mut row, cards, ace, 3);
+    push_occurring(&mut row, cards, ace, 2);
+    push_occurring(&mut row, cards, ace, 1);
+    row
+}
+
+// Puts the heights that occur so many times after the others.
+fn push_occurring(row: &mut RankRow, cards: &CardRow, ace: Ace, occurrences: usize)
+    requires { length (heights_of row.old) + length (occurring (height_with ace) (cards_of cards.now) occurrences) ≤ 5 }
+    ensures { heights_of row.new ≡ heights_of row.old ++ occurring (height_with ace) (cards_of cards.now) occurrences }
+{
     let heights = all_heights();
     for height in heights {
         if times_of(cards, ace, height) == occurrences {
-            number = number * 16 + u32::from(height);
+            row.push(height);
         }
     }
-    number
 }
 
-// The number that the different heights make.
-fn number_of_ranks(cards: &CardRow, ace: Ace) -> u32
-    requires { length (cards_of cards.now) ≤ 5 }
-    ensures number { result ≡ with_digits 0 (ranks_of (height_with ace) (cards_of cards.now)) }
-    ensures below { result < 16 ^ 5 }
-{
-    let four = with_occurring(0, cards, ace, 4);
-    let three = with_occurring(four, cards, ace, 3);
-    let two = with_occurring(three, cards, ace, 2);
-    with_occurring(two, cards, ace, 1)
-}
-
-/// The number that a class makes above the ranks of the cards.
-/// Hands of one class compare by it as their ranks do: first those that occur oftener, then the higher.
-pub fn class_and_ranks(class: u32, cards: &CardRow, ace: Ace) -> u32
-    requires few { length (cards_of cards.now) ≤ 5 }
+/// The number that a class makes above these heights.
+/// Of one class and as many heights the number is less where the first height that differs is lower.
+pub fn class_above(class: u32, heights: &[u8]) -> u32
     requires class { class ≤ 15 }
-    ensures { result ≡ class_above class (ranks_of (height_with ace) (cards_of cards.now)) }
+    requires below { with_digits 0 heights.now < 16 ^ 5 }
+    ensures { result ≡ class_above class heights.now }
 {
-    class * 0x10_0000 + number_of_ranks(cards, ace)
+    class * 0x10_0000 + number_of(heights)
+}
+
+// The number with these digits to the base sixteen.
+fn number_of(digits: &[u8]) -> u32
+    requires { with_digits 0 digits.now < 16 ^ 5 }
+    ensures { result ≡ with_digits 0 digits.now }
+{
+    let mut number = 0;
+    for digit in digits {
+        number = number * 16 + u32::from(*digit);
+    }
+    number
 }
