@@ -193,8 +193,7 @@ pub once_in_suit : (height : Rank → ℕ) → IsHeight height → (cards : List
 once_in_suit height is [] different suited h = absurd (cc)
 once_in_suit height is (card ∷ rest) different suited h =
     let s = suit_place card.suit in
-    let all : list_all (λ other. suit_place other.suit == s) (card ∷ rest) ≡ true = both_true (eq-eqb s s refl) suited in
-    omega (arith, times_in_suit height (card ∷ rest) h s all, at_most_one (is_card height h s) (card ∷ rest) different (only_card height is h s))
+    omega (arith, times_in_suit height (card ∷ rest) h s suited, at_most_one (is_card height h s) (card ∷ rest) different (only_card height is h s))
 
 -- where no rank occurs more than once, as many ranks as cards occur once
 pub all_once : (height : Rank → ℕ) → IsHeight height → (cards : List Card) → ((h : ℕ) → times height cards h ≤ 1) → (ranks_occurring height cards 4 ≡ 0) × (ranks_occurring height cards 3 ≡ 0) × (ranks_occurring height cards 2 ≡ 0) × (ranks_occurring height cards 1 ≡ length cards)

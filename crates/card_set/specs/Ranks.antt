@@ -66,7 +66,7 @@ suit_place suits.D = 1
 suit_place suits.H = 2
 suit_place suits.S = 3
 
--- the cards are of one suit
+-- the cards are of one suit: each has that of the first
 abbrev pub one_suit : List Card → Bool
 one_suit [] = false
-one_suit (card ∷ rest) = list_all (λ other. suit_place other.suit == suit_place card.suit) rest
+one_suit (card ∷ rest) = list_all (λ other. suit_place other.suit == suit_place card.suit) (card ∷ rest)

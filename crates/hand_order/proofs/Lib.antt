@@ -4,3 +4,4 @@ pub mod Greatest
 pub mod Held
 pub mod Lawful
 pub mod RankDigits
+pub mod Shapes

@@ -37,10 +37,10 @@ fn place_of_suit(suit: Suit) -> u8
 pub fn is_flush(cards: &CardRow) -> bool
     ensures { result ≡ one_suit (cards_of cards.now) }
 {
-    match cards.as_slice() {
-        [] => false,
-        [first, rest @ ..] => are_of_suit(rest, first.suit),
+    if cards.len == 0 {
+        return false;
     }
+    are_of_suit(cards.as_slice(), cards.cards[0].suit)
 }
 
 // Whether each card is of the suit.

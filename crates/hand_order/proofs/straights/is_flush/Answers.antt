@@ -1,6 +1,16 @@
-use Rattle.std.proofs.Common.{sym, ◌∙◌}
+use Rattle.std.proofs.Common.{◌==◌, get_or, arith, sym, ap, ◌∙◌}
+use Rattle.std.specs.List.{list_all}
+use Rattle.card_set.specs.Filler.{filler_card}
+use Rattle.card_set.specs.Ranks.{suit_place}
 use Rattle.card_set.specs.Row.{cards_of}
+use Rattle.hand_order.proofs.Chosen.{no_suit, suit_of_first}
 use Rattle.hand_order.proofs.straights.is_flush.Goals as goal
 
-pub returns-in-len1-up : goal.returns-in-len1-up
-returns-in-len1-up c = let a = c.are_of_suit.ensures in let s = c.as_slice.ensures in let l = c.in-len1-up.len_at_least in ?
+pub returns-then-cards-eq0 : goal.returns-then-cards-eq0
+returns-then-cards-eq0 c = sym (no_suit c.args.cards.now c.if-cards-eq0.true)
+
+pub returns : goal.returns
+returns c =
+    c.are_of_suit.ensures
+    ∙ ap (list_all (λ other. suit_place other.suit == suit_place (get_or c.args.cards.now.cards 0 filler_card).suit)) c.as_slice.ensures
+    ∙ sym (suit_of_first c.args.cards.now (omega (arith, c.if-cards-eq0.false)))
