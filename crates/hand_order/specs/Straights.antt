@@ -1,8 +1,9 @@
 -- Straights and flushes, and the table of classes of the high orders.
-use Rattle.std.specs.Prelude.{◌==◌, ◌&&◌, ◌||◌, ℕ, ◌+◌, Bool, true, false, List, [], ◌∷◌, if◌then◌else◌}
+use Rattle.std.specs.Prelude.{◌==◌, ◌&&◌, ◌||◌, ℕ, ◌+◌, ◌-◌, Bool, true, false, List, [], ◌∷◌, if◌then◌else◌}
 use Rattle.card_set.specs.declared.card.Card.{Card}
 use Rattle.card_set.specs.Ranks.{high_ace, ranks_of, one_suit}
 use Rattle.card_set.specs.Classes.{four_of_a_kind, full_house, three_of_a_kind, two_pair, one_pair, no_pair, place, IsBelow}
+use Rattle.hand_order.specs.Digits.{class_above}
 use Rattle.hand_order.specs.declared.straights.LowStraight.{LowStraight}
 use Rattle.hand_order.specs.declared.straights.LowStraight.TheVariants as straights
 
@@ -11,11 +12,16 @@ abbrev pub is_run : List ℕ → Bool
 is_run (a ∷ b ∷ c ∷ d ∷ e ∷ []) = a == b + 1 && b == c + 1 && c == d + 1 && d == e + 1
 is_run _ = false
 
--- the straight that an ace begins: A2345, A6789 or none; each is listed with its ace first, then from its top
+-- the ranks after the ace in the straight that it begins: 5432, 9876 or none
+abbrev pub follow_ace : LowStraight → ℕ → ℕ → ℕ → ℕ → Bool
+follow_ace straights.FiveHigh b c d e = b == 5 && c == 4 && d == 3 && e == 2
+follow_ace straights.NineHigh b c d e = b == 9 && c == 8 && d == 7 && e == 6
+follow_ace straights.Nothing b c d e = false
+
+-- the straight that an ace begins
 abbrev pub is_low_straight : LowStraight → List ℕ → Bool
-is_low_straight straights.FiveHigh (a ∷ b ∷ c ∷ d ∷ e ∷ []) = a == 14 && b == 5 && c == 4 && d == 3 && e == 2
-is_low_straight straights.NineHigh (a ∷ b ∷ c ∷ d ∷ e ∷ []) = a == 14 && b == 9 && c == 8 && d == 7 && e == 6
-is_low_straight _ _ = false
+is_low_straight low (a ∷ b ∷ c ∷ d ∷ e ∷ []) = a == 14 && follow_ace low b c d e
+is_low_straight low _ = false
 
 -- five different ranks of consecutive heights, or the straight that an ace begins
 abbrev pub is_straight : LowStraight → List Card → Bool
@@ -49,3 +55,7 @@ high_class low cards =
 -- a hand is weaker in the high order, where an ace begins this straight or none
 abbrev pub IsWeakerHigh : LowStraight → List Card → List Card → Type 0
 IsWeakerHigh low a b = IsBelow (high_class low) (deciding_ranks low) a b
+
+-- the number of a hand in the high order: the better class is the higher, above the ranks that decide
+abbrev pub high_points : LowStraight → List Card → ℕ
+high_points low cards = class_above (8 - high_class low cards) (deciding_ranks low cards)

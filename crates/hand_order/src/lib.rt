@@ -2,13 +2,15 @@
 #![tactic(auto)]
 
 mod best;
+mod look;
 mod order;
 mod ranks;
 mod row;
 mod straights;
 
 pub use best::{Judge, Pick, best_choice, best_of};
+pub use look::{Look, high_number, look_at};
 pub use order::{HandOrder, Score};
 pub use ranks::{Ace, class_above, count_of_ranks, ranks_of};
 pub use row::RankRow;
-pub use straights::{LowStraight, is_flush};
+pub use straights::{LowStraight, deciding_of, is_flush, is_straight};

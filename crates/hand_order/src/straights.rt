@@ -1,13 +1,11 @@
 // Straights and flushes of five cards, and the number of a hand in the high order.
-ghost use Rattle.std.specs.Prelude.{◌≡◌, ◌==◌, ℕ, List, ◌-◌, ◌<◌, ◌^◌, length, ◌∷◌, []};
+ghost use Rattle.std.specs.Prelude.{◌≡◌, ◌==◌, ◌||◌, [], ◌∷◌, if◌then◌else◌};
 ghost use Rattle.std.specs.List.{list_all};
 ghost use Rattle.card_set.specs.Row.{cards_of};
-ghost use Rattle.card_set.specs.Different.{AllDifferent};
-ghost use Rattle.card_set.specs.Ranks.{high_ace, one_suit, ranks_of, suit_place};
-ghost use Rattle.hand_order.specs.Straights.{deciding_ranks, high_class, is_low_straight, is_run, is_straight, straight_top};
+ghost use Rattle.card_set.specs.Ranks.{one_suit, suit_place};
 ghost use Rattle.hand_order.specs.Heights.{heights_of};
+ghost use Rattle.hand_order.specs.Straights.{is_low_straight, is_run, straight_top};
 
-use crate::ranks::{Ace, ranks_of};
 use crate::row::RankRow;
 use card_set::{Card, CardRow, Suit};
 
@@ -82,4 +80,23 @@ fn top_of(heights: &[u8]) -> u8
         [a, b, ..] => if u16::from(*a) == u16::from(*b) + 1 { *a } else { *b },
         _ => 0,
     }
+}
+
+/// Whether the ranks of five cards are a straight, where the ace begins this one or none.
+pub fn is_straight(ranks: &RankRow, low: LowStraight) -> bool
+    ensures { result ≡ (is_run (heights_of ranks.now) || is_low_straight low (heights_of ranks.now)) }
+{
+    runs_down(ranks.as_slice()) || begins_with_ace(low, ranks.as_slice())
+}
+
+/// The ranks that decide within a class: the top of a straight alone, else all.
+pub fn deciding_of(ranks: RankRow, straight: bool) -> RankRow
+    ensures { heights_of result ≡ (if straight then straight_top (heights_of ranks) ∷ [] else heights_of ranks) }
+{
+    if !straight {
+        return ranks;
+    }
+    let mut top = RankRow::new();
+    top.push(top_of(ranks.as_slice()));
+    top
 }
