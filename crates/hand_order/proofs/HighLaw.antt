@@ -143,14 +143,14 @@ high_ordered low a b held_a held_b = ranked_law (high_class low) (deciding_ranks
 pub high_below : (low : LowStraight) (cards : List Card) → AreHeld 5 cards → high_points low cards < 16 ^ 6
 high_below low cards held = let below = decide_below low cards held.0 in omega arith
 
--- a class and a list that are seen of the cards make their number
-pub high_number_is : (low : LowStraight) (cards : List Card) (look : Look) (class : ℕ) (list : List ℕ) → IsLookOf look low cards → class ≡ 8 - place (high_table look.fours look.threes look.pairs look.straight look.flush) → list ≡ heights_of look.deciding → class_above class list ≡ high_points low cards
-unfolding high_class
-high_number_is low cards look class list is class_is list_is =
+-- a class by any table and a list that are seen of the cards make a number
+pub table_number_is : (table : ℕ → ℕ → ℕ → Bool → Bool → List Bool) (low : LowStraight) (cards : List Card) (look : Look) (class : ℕ) (list : List ℕ) → IsLookOf look low cards → class ≡ 8 - place (table look.fours look.threes look.pairs look.straight look.flush) → list ≡ heights_of look.deciding
+  → class_above class list ≡ class_above (8 - place (table (ranks_occurring high_ace cards 4) (ranks_occurring high_ace cards 3) (ranks_occurring high_ace cards 2) (is_straight low cards) (one_suit cards))) (deciding_ranks low cards)
+table_number_is table low cards look class list is class_is list_is =
     ap (λ (l : List ℕ). class_above class l) (list_is ∙ is.deciding)
     ∙ ap (λ (k : ℕ). class_above k (deciding_ranks low cards)) (class_is
-      ∙ ap (λ (k : ℕ). 8 - place (high_table k look.threes look.pairs look.straight look.flush)) is.fours
-      ∙ ap (λ (k : ℕ). 8 - place (high_table (ranks_occurring high_ace cards 4) k look.pairs look.straight look.flush)) is.threes
-      ∙ ap (λ (k : ℕ). 8 - place (high_table (ranks_occurring high_ace cards 4) (ranks_occurring high_ace cards 3) k look.straight look.flush)) is.pairs
-      ∙ ap (λ (k : Bool). 8 - place (high_table (ranks_occurring high_ace cards 4) (ranks_occurring high_ace cards 3) (ranks_occurring high_ace cards 2) k look.flush)) is.straight
-      ∙ ap (λ (k : Bool). 8 - place (high_table (ranks_occurring high_ace cards 4) (ranks_occurring high_ace cards 3) (ranks_occurring high_ace cards 2) (is_straight low cards) k)) is.flush)
+      ∙ ap (λ (k : ℕ). 8 - place (table k look.threes look.pairs look.straight look.flush)) is.fours
+      ∙ ap (λ (k : ℕ). 8 - place (table (ranks_occurring high_ace cards 4) k look.pairs look.straight look.flush)) is.threes
+      ∙ ap (λ (k : ℕ). 8 - place (table (ranks_occurring high_ace cards 4) (ranks_occurring high_ace cards 3) k look.straight look.flush)) is.pairs
+      ∙ ap (λ (k : Bool). 8 - place (table (ranks_occurring high_ace cards 4) (ranks_occurring high_ace cards 3) (ranks_occurring high_ace cards 2) k look.flush)) is.straight
+      ∙ ap (λ (k : Bool). 8 - place (table (ranks_occurring high_ace cards 4) (ranks_occurring high_ace cards 3) (ranks_occurring high_ace cards 2) (is_straight low cards) k)) is.flush)
