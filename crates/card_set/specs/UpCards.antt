@@ -1,8 +1,15 @@
 -- The orders of up-cards, one to four of them: straights and flushes do not count.
-use Rattle.std.specs.Prelude.{ℕ, List, [], ◌∷◌}
+use Rattle.std.specs.Prelude.{◌≤◌, ℕ, List, [], ◌∷◌, length}
 use Rattle.card_set.specs.declared.card.Card.{Card}
+use Rattle.card_set.specs.Different.{AllDifferent}
 use Rattle.card_set.specs.Ranks.{high_ace, low_ace, ranks_of}
 use Rattle.card_set.specs.Classes.{four_of_a_kind, full_house, three_of_a_kind, two_pair, one_pair, no_pair, place, IsBelow, IsBelowLow}
+
+-- one to four different cards
+pub record AreUpCards (cards : List Card) : Type 0 where
+  pub some : 1 ≤ length cards
+  pub few : length cards ≤ 4
+  pub different : AllDifferent cards
 
 -- the classes of high up-cards from the best: four, three, two pair, pair, high card
 unfoldable pub up_high_class : List Card → ℕ

@@ -81,3 +81,13 @@ beats_exactly held is_hand is_weaker points options others (Some most) (Some val
           let between = (lawful.ordered other.0 beats.best low.value high.value (are_others other.0 other.1.among) (are beats.best beats.is_best.among) low.is high.is).1 other.2 in
           omega arith
     ])
+
+-- an order in which each hand has a number is lawful where the numbers compare as the hands do
+pub lawful_by_numbers : (held : ℕ) (is_weaker : List Card → List Card → Type 0) (number : List Card → ℕ) → ((a b : List Card) → AreHeld held a → AreHeld held b → (number a < number b) ↔ is_weaker a b) → IsLawful held (λ cards. Unit {0}) is_weaker (λ cards. Some (number cards))
+lawful_by_numbers held is_weaker number law = record {
+  scored = λ cards are. (λ some. tt, λ hand. refl);
+  ordered = λ a b low high are_a are_b is_low is_high.
+    let low_is = same_Some (number a) low is_low in
+    let high_is = same_Some (number b) high is_high in
+    subst (λ (n : ℕ). (n < high) ↔ is_weaker a b) low_is (subst (λ (n : ℕ). (number a < n) ↔ is_weaker a b) high_is (law a b are_a are_b));
+}

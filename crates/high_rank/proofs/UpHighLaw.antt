@@ -3,13 +3,13 @@ use Rattle.std.proofs.Common.{◌≡◌, ℕ, ◌+◌, ◌-◌, ◌*◌, ◌^◌
 use Rattle.card_set.specs.declared.card.Card.{Card}
 use Rattle.card_set.specs.Classes.{place}
 use Rattle.card_set.specs.Ranks.{high_ace, ranks_occurring, ranks_of}
-use Rattle.card_set.specs.UpCards.{up_high_class, IsWeakerUpHigh}
+use Rattle.card_set.specs.UpCards.{AreUpCards, up_high_class, IsWeakerUpHigh}
 use Rattle.card_set.proofs.Counted.{IsHeight-high_ace}
 use Rattle.hand_order.specs.Digits.{class_above}
 use Rattle.hand_order.proofs.RankDigits.{AreDigits-ranks_of}
 use Rattle.hand_order.proofs.Ranked.{IsRanked, PlainSays, ranked_plain, ranked_law}
 use Rattle.hand_order.proofs.Shapes.{by_counts}
-use Rattle.high_rank.specs.UpHigh.{AreUpCards, up_high_points, up_high_table}
+use Rattle.high_rank.specs.UpHigh.{up_high_points, up_high_table}
 
 -- how many ranks fewer than the cards decide in each class
 abbrev pub up_missing : List ℕ

@@ -14,7 +14,7 @@ use Rattle.hand_order.proofs.Ranked.{IsRanked, ranked_law}
 use Rattle.hand_order.proofs.Shapes.{by_shape}
 use Rattle.high_rank.specs.High.{IsHand}
 use Rattle.high_rank.specs.ShortDeck.{short_class, short_table, IsWeaker, points}
-use Rattle.high_rank.specs.HighLaw.{lawful_by_numbers}
+use Rattle.hand_order.proofs.Lawful.{lawful_by_numbers}
 
 -- how many ranks fewer than the cards decide in each class
 abbrev pub short_missing : List ℕ

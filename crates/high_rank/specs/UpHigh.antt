@@ -1,16 +1,9 @@
 -- The number that up-cards make in the high order of up-cards.
-use Rattle.std.specs.Prelude.{◌==◌, ◌&&◌, ◌≤◌, ℕ, ◌-◌, Bool, List, [], ◌∷◌, length}
+use Rattle.std.specs.Prelude.{◌==◌, ◌&&◌, ℕ, ◌-◌, Bool, List, [], ◌∷◌}
 use Rattle.card_set.specs.declared.card.Card.{Card}
-use Rattle.card_set.specs.Different.{AllDifferent}
 use Rattle.card_set.specs.Ranks.{high_ace, ranks_of}
 use Rattle.card_set.specs.UpCards.{up_high_class}
 use Rattle.hand_order.specs.Digits.{class_above}
-
--- one to four different cards
-pub record AreUpCards (cards : List Card) : Type 0 where
-  pub some : 1 ≤ length cards
-  pub few : length cards ≤ 4
-  pub different : AllDifferent cards
 
 -- the number of their score
 abbrev pub up_high_points : List Card → ℕ

@@ -3,8 +3,8 @@ ghost use Rattle.std.specs.Prelude.{◌≡◌, ◌<◌, ℕ, ◌-◌, List, leng
 ghost use Rattle.card_set.specs.declared.card.Card.{Card};
 ghost use Rattle.card_set.specs.Classes.{place};
 ghost use Rattle.card_set.specs.Row.{cards_of};
-ghost use Rattle.card_set.specs.UpCards.{IsWeakerUpHigh};
-ghost use Rattle.high_rank.specs.UpHigh.{AreUpCards, up_high_points, up_high_table};
+ghost use Rattle.card_set.specs.UpCards.{AreUpCards, IsWeakerUpHigh};
+ghost use Rattle.high_rank.specs.UpHigh.{up_high_points, up_high_table};
 
 use card_set::CardRow;
 use hand_order::{Ace, Score, class_above, count_of_ranks, ranks_of};
