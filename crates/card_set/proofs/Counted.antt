@@ -25,7 +25,7 @@ sum_by-agree f g [] same = refl
 sum_by-agree f g (x ∷ xs) same = omega (arith, sum_by-cons f x xs, sum_by-cons g x xs, same x, sum_by-agree f g xs same)
 
 -- no card has this height
-times-none : (height : Rank → ℕ) (h : ℕ) → times height [] h ≡ 0
+pub times-none : (height : Rank → ℕ) (h : ℕ) → times height [] h ≡ 0
 unfolding times
 times-none height h = refl
 
@@ -39,7 +39,7 @@ pub record IsHeight (height : Rank → ℕ) : Type 0 where
   pub back : (rank : Rank) → rank_with height (height rank) ≡ rank
 
 -- one card more
-times-cons : (height : Rank → ℕ) (card : Card) (cards : List Card) (h : ℕ) → times height (card ∷ cards) h ≡ cond (height card.rank == h) 1 0 + times height cards h
+pub times-cons : (height : Rank → ℕ) (card : Card) (cards : List Card) (h : ℕ) → times height (card ∷ cards) h ≡ cond (height card.rank == h) 1 0 + times height cards h
 unfolding times
 times-cons height card cards h = sum_by-cons (λ c. cond (height c.rank == h) 1 0) card cards
 
@@ -96,7 +96,7 @@ count_by-yes : (p : Card → Bool) (card : Card) (rest : List Card) → p card �
 count_by-yes p card rest is = let b = ap {B = ℕ} (λ t. cond t 1 0) is in omega (arith, count_by-cons p card rest, b)
 
 -- a test passes or not
-passes_or_not : (b : Bool) → (b ≡ true) ⊎ (b ≡ false)
+pub passes_or_not : (b : Bool) → (b ≡ true) ⊎ (b ≡ false)
 passes_or_not true = inl refl
 passes_or_not false = inr refl
 

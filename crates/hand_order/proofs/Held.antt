@@ -9,7 +9,7 @@ use Rattle.hand_order.specs.declared.best.Pick.TheVariants as picks
 use Rattle.hand_order.specs.Choices.{choices, allowed, IsAmong, AreHeld, CanJoin, CanPick}
 
 -- a choice of two lists is one of the one or of the other
-IsAmong-cases : (x : List Card) (xs ys : List (List Card)) → IsAmong x (xs ++ ys) → IsAmong x xs ⊎ IsAmong x ys
+pub IsAmong-cases : (x : List Card) (xs ys : List (List Card)) → IsAmong x (xs ++ ys) → IsAmong x xs ⊎ IsAmong x ys
 IsAmong-cases x [] ys among = inr among
 IsAmong-cases x (y ∷ xs) ys (inl here) = inl (inl here)
 IsAmong-cases x (y ∷ xs) ys (inr there) = elim (IsAmong-cases x xs ys there) [ | inl left ↦ inl (inr left) | inr right ↦ inr right ]

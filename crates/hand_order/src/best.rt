@@ -121,8 +121,8 @@ pub fn best_choice<J: Judge>(judge: &J, cards: &CardRow, from: u8, chosen: CardR
     )
 }
 
-// The better of two scores, where none is the worst.
-fn better_score(first: Option<Score>, second: Option<Score>) -> Option<Score>
+/// The better of two scores, where none is the worst.
+pub fn better_score(first: Option<Score>, second: Option<Score>) -> Option<Score>
     ensures { option_map (λ s. s.value) result ≡ better (option_map (λ s. s.value) first) (option_map (λ s. s.value) second) }
 {
     match (first, second) {

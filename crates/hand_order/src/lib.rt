@@ -8,9 +8,9 @@ mod ranks;
 mod row;
 mod straights;
 
-pub use best::{Judge, Pick, best_choice, best_of};
+pub use best::{Judge, Pick, best_choice, best_of, better_score};
 pub use look::{Look, high_number, look_at};
 pub use order::{HandOrder, Score};
-pub use ranks::{Ace, class_above, count_of_ranks, ranks_of};
+pub use ranks::{Ace, class_above, count_of_ranks, height_of, ranks_of};
 pub use row::RankRow;
-pub use straights::{LowStraight, deciding_of, is_flush, is_straight};
+pub use straights::{LowStraight, deciding_of, is_flush, is_straight, place_of_suit};

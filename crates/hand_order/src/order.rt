@@ -38,5 +38,5 @@ pub trait HandOrder {
         ensures { option_map (λ s. s.value) result ≡ points (cards_of cards.now) };
 
     /// Points are there exactly for hands of the order, and less exactly for the weaker hand.
-    ghost lawful: { IsLawful HELD is_hand is_weaker points };
+    ghost lawful: { IsLawful (AreHeld HELD) is_hand is_weaker points };
 }

@@ -16,7 +16,8 @@ pub enum Ace {
     Low,
 }
 
-fn height_of(rank: Rank, ace: Ace) -> u8
+/// The height of a rank: 2 to 14, or 1 for an ace that is low.
+pub fn height_of(rank: Rank, ace: Ace) -> u8
     ensures { result ≡ height_with ace rank }
 {
     match rank {

@@ -20,7 +20,8 @@ pub enum LowStraight {
     Nothing,
 }
 
-fn place_of_suit(suit: Suit) -> u8
+/// The place of a suit in the order c, d, h, s. It tells suits apart, and orders no hands.
+pub fn place_of_suit(suit: Suit) -> u8
     ensures { result ≡ suit_place suit }
 {
     match suit {

@@ -36,5 +36,5 @@ short_ranked cards held = ranked_by short_table short_missing short_says straigh
 short_ordered : (a b : List Card) → AreHeld 5 a → AreHeld 5 b → (class_above (8 - short_class a) (deciding_ranks straights.NineHigh a) < class_above (8 - short_class b) (deciding_ranks straights.NineHigh b)) ↔ IsWeaker a b
 short_ordered a b held_a held_b = ranked_law short_class (deciding_ranks straights.NineHigh) short_missing 8 5 a b (short_ranked a held_a) (short_ranked b held_b)
 
-pub lawful_short_deck : IsLawful 5 IsHand IsWeaker points
-lawful_short_deck = lawful_by_numbers 5 IsWeaker (λ cards. class_above (8 - short_class cards) (deciding_ranks straights.NineHigh cards)) short_ordered
+pub lawful_short_deck : IsLawful (AreHeld 5) IsHand IsWeaker points
+lawful_short_deck = lawful_by_numbers (AreHeld 5) IsWeaker (λ cards. class_above (8 - short_class cards) (deciding_ranks straights.NineHigh cards)) short_ordered

@@ -45,11 +45,11 @@ low_ordered a b few same different_a different_b =
     ranked_low_law low_class (ranks_of low_ace) low_missing 5 (length b) a b (omega arith)
     (subst (λ (n : ℕ). IsRanked low_class (ranks_of low_ace) low_missing 5 n a) same (low_ranked a few different_a)) (low_ranked b (omega arith) different_b)
 
-pub lawful_razz : IsLawful 5 razz.IsHand razz.IsWeaker razz.points
-lawful_razz = lawful_by_numbers 5 razz.IsWeaker low_points (λ a b held_a held_b. low_ordered a b (omega (arith, held_a.0)) (held_a.0 ∙ sym held_b.0) held_a.1 held_b.1)
+pub lawful_razz : IsLawful (AreHeld 5) razz.IsHand razz.IsWeaker razz.points
+lawful_razz = lawful_by_numbers (AreHeld 5) razz.IsWeaker low_points (λ a b held_a held_b. low_ordered a b (omega (arith, held_a.0)) (held_a.0 ∙ sym held_b.0) held_a.1 held_b.1)
 
-pub lawful_deuce_seven : IsLawful 5 deuce.IsHand deuce.IsWeaker deuce.points
-lawful_deuce_seven = lawful_by_numbers 5 deuce.IsWeaker (λ cards. 16 ^ 6 - high_points straights.Nothing cards) (λ a b held_a held_b.
+pub lawful_deuce_seven : IsLawful (AreHeld 5) deuce.IsHand deuce.IsWeaker deuce.points
+lawful_deuce_seven = lawful_by_numbers (AreHeld 5) deuce.IsWeaker (λ cards. 16 ^ 6 - high_points straights.Nothing cards) (λ a b held_a held_b.
   let law = high_ordered straights.Nothing b a held_b held_a in
   let below_a = high_below straights.Nothing a held_a in
   let below_b = high_below straights.Nothing b held_b in
@@ -77,7 +77,7 @@ eight_ordered a b low high held_a held_b is_low is_high =
     (λ less. elim (law.0 (omega (arith, good_a.1, good_b.1))) [ | inl worse ↦ absurd (omega arith) | inr rest ↦ rest.1 ],
     λ weaker. let less = law.1 (inr (class_a ∙ sym class_b, weaker)) in omega (arith, good_a.1, good_b.1))
 
-pub lawful_eight_low : IsLawful 5 eight.IsHand eight.IsWeaker eight.points
+pub lawful_eight_low : IsLawful (AreHeld 5) eight.IsHand eight.IsWeaker eight.points
 lawful_eight_low = record {
   scored = λ cards are. points_there (eight.qualifies cards) (low_points cards);
   ordered = eight_ordered;
