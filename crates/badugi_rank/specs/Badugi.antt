@@ -3,7 +3,8 @@ use Rattle.std.specs.Prelude.{◌≡◌, ◌<◌, ◌==◌, ◌&&◌, ◌||◌, 
 use Rattle.std.specs.List.{list_all}
 use Rattle.card_set.specs.declared.card.Card.{Card}
 use Rattle.card_set.specs.Classes.{IsLower}
-use Rattle.card_set.specs.Ranks.{low_ace, ranks_of, suit_place}
+use Rattle.card_set.specs.Deck.{suits_before}
+use Rattle.card_set.specs.Ranks.{low_ace, ranks_of}
 use Rattle.hand_order.specs.Best.{Beats}
 use Rattle.hand_order.specs.Choices.{choices}
 use Rattle.hand_order.specs.Digits.{class_above}
@@ -11,7 +12,7 @@ use Rattle.hand_order.specs.Points.{greatest}
 
 -- two cards have a rank or a suit in common
 abbrev pub share : Card → Card → Bool
-share card other = low_ace other.rank == low_ace card.rank || suit_place other.suit == suit_place card.suit
+share card other = low_ace other.rank == low_ace card.rank || suits_before other.suit == suits_before card.suit
 
 -- all ranks and suits differ
 abbrev pub all_differ : List Card → Bool

@@ -6,7 +6,8 @@ use Rattle.std.proofs.lemmas.Option.{same_Some, cond_some}
 use Rattle.card_set.specs.declared.card.Card.{Card}
 use Rattle.card_set.specs.Classes.{IsBelowLow, IsLower}
 use Rattle.card_set.specs.Different.{AllDifferent}
-use Rattle.card_set.specs.Ranks.{low_ace, ranks_occurring, ranks_of, times, suit_place}
+use Rattle.card_set.specs.Deck.{suits_before}
+use Rattle.card_set.specs.Ranks.{low_ace, ranks_occurring, ranks_of, times}
 use Rattle.card_set.proofs.Counted.{IsHeight-low_ace, all_once, length-ranks_of, ranks_of-le, times-cons, times-none, passes_or_not}
 use Rattle.hand_order.specs.Best.{HasNoHand, IsBest, IsPointsOfBest, Beats, IsWorth}
 use Rattle.hand_order.specs.Choices.{choices, IsAmong, AreHeld}
@@ -33,7 +34,7 @@ lacks_rank : (card : Card) (rest : List Card) → list_all (λ other. not (share
 lacks_rank card [] lacks = times-none low_ace (low_ace card.rank)
 lacks_rank card (other ∷ rest) lacks =
     let parts = and_parts (not (share card other)) (list_all (λ other. not (share card other)) rest) lacks in
-    let apart = or_parts (low_ace other.rank == low_ace card.rank) (suit_place other.suit == suit_place card.suit) (not_true (share card other) parts.0) in
+    let apart = or_parts (low_ace other.rank == low_ace card.rank) (suits_before other.suit == suits_before card.suit) (not_true (share card other) parts.0) in
     let none = ap (λ (b : Bool). cond {A = ℕ} b 1 0) apart.0 in
     omega (arith, times-cons low_ace other rest (low_ace card.rank), none, lacks_rank card rest parts.1)
 

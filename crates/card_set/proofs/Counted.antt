@@ -10,8 +10,10 @@ use Rattle.card_set.specs.declared.card.Rank.{Rank}
 use Rattle.card_set.specs.declared.card.Rank.TheVariants as ranks
 use Rattle.card_set.specs.declared.card.Suit.{Suit}
 use Rattle.card_set.specs.declared.card.Suit.TheVariants as suits
-use Rattle.card_set.specs.Ranks.{high_ace, low_ace, falling_heights, times, occurring, ranks_occurring, ranks_of, suit_place, one_suit}
+use Rattle.card_set.specs.Deck.{suits_before}
+use Rattle.card_set.specs.Ranks.{high_ace, low_ace, falling_heights, times, occurring, ranks_occurring, ranks_of, one_suit}
 use Rattle.card_set.specs.Spelling.{all_ranks}
+use Rattle.card_set.proofs.DeckLaws.{suits_same}
 use Rattle.card_set.specs.Different.{Lacks, AllDifferent}
 
 -- a sum of sums is the sum of both
@@ -118,14 +120,6 @@ at_most_one p (card ∷ rest) different only =
       | inr fails ↦ omega (arith, count_by-no p card rest fails, at_most_one p rest different.1 only)
     ]
 
--- the place of a suit is below four, and no two suits share one
-suit_place-own : (first second : Suit) → suit_place first ≡ suit_place second → first ≡ second
-suit_place-own suits.C suits.C same = refl
-suit_place-own suits.D suits.D same = refl
-suit_place-own suits.H suits.H same = refl
-suit_place-own suits.S suits.S same = refl
-suit_place-own _ _ same = absurd (cc)
-
 abbrev card_of : Rank → Suit → Card
 card_of rank suit = record { rank = rank; suit = suit }
 
@@ -135,10 +129,10 @@ same_card first second rank suit = ap (λ (r : Rank). card_of r first.suit) rank
 
 -- a card of this height and this suit
 abbrev is_card : (Rank → ℕ) → ℕ → ℕ → Card → Bool
-is_card height h s card = height card.rank == h && suit_place card.suit == s
+is_card height h s card = height card.rank == h && suits_before card.suit == s
 
 -- a card has one suit
-in_one_suit : (b : Bool) (suit : Suit) → cond b 1 0 ≡ cond (b && suit_place suit == 0) 1 0 + cond (b && suit_place suit == 1) 1 0 + cond (b && suit_place suit == 2) 1 0 + cond (b && suit_place suit == 3) 1 0
+in_one_suit : (b : Bool) (suit : Suit) → cond b 1 0 ≡ cond (b && suits_before suit == 0) 1 0 + cond (b && suits_before suit == 1) 1 0 + cond (b && suits_before suit == 2) 1 0 + cond (b && suits_before suit == 3) 1 0
 in_one_suit false suit = refl
 in_one_suit true suits.C = refl
 in_one_suit true suits.D = refl
@@ -154,11 +148,11 @@ by_suits height (card ∷ rest) h =
 -- only one card has a height and a suit
 only_card : (height : Rank → ℕ) → IsHeight height → (h s : ℕ) (first second : Card) → is_card height h s first ≡ true → is_card height h s second ≡ true → first ≡ second
 only_card height is h s first second one other =
-    let a = and_parts (height first.rank == h) (suit_place first.suit == s) one in
-    let b = and_parts (height second.rank == h) (suit_place second.suit == s) other in
+    let a = and_parts (height first.rank == h) (suits_before first.suit == s) one in
+    let b = and_parts (height second.rank == h) (suits_before second.suit == s) other in
     same_card first second
     (sym (is.back first.rank) ∙ ap (rank_with height) (eqb-true (height first.rank) h a.0 ∙ sym (eqb-true (height second.rank) h b.0)) ∙ is.back second.rank)
-    (suit_place-own first.suit second.suit (eqb-true _ _ a.1 ∙ sym (eqb-true _ _ b.1)))
+    (suits_same first.suit second.suit (eqb-true _ _ a.1 ∙ sym (eqb-true _ _ b.1)))
 
 -- a rank occurs at most four times among different cards
 pub few_times : (height : Rank → ℕ) → IsHeight height → (cards : List Card) → AllDifferent cards → (h : ℕ) → times height cards h ≤ 4
@@ -181,18 +175,18 @@ count_by-none f n (x ∷ xs) once above =
     omega (arith, count_by-cons (λ x. f x == n) x xs, here, count_by-none f n xs once above)
 
 -- where all cards have a suit, those of a height are those of the height and the suit
-times_in_suit : (height : Rank → ℕ) (cards : List Card) (h s : ℕ) → list_all (λ card. suit_place card.suit == s) cards ≡ true → times height cards h ≡ count_by (is_card height h s) cards
+times_in_suit : (height : Rank → ℕ) (cards : List Card) (h s : ℕ) → list_all (λ card. suits_before card.suit == s) cards ≡ true → times height cards h ≡ count_by (is_card height h s) cards
 times_in_suit height [] h s all = times-none height h
 times_in_suit height (card ∷ rest) h s all =
-    let parts = and_parts (suit_place card.suit == s) (list_all (λ other. suit_place other.suit == s) rest) all in
-    let here = ap {B = ℕ} (λ b. cond b 1 0) (and_true (height card.rank == h) (suit_place card.suit == s) parts.0) in
+    let parts = and_parts (suits_before card.suit == s) (list_all (λ other. suits_before other.suit == s) rest) all in
+    let here = ap {B = ℕ} (λ b. cond b 1 0) (and_true (height card.rank == h) (suits_before card.suit == s) parts.0) in
     omega (arith, times-cons height card rest h, count_by-cons (is_card height h s) card rest, here, times_in_suit height rest h s parts.1)
 
 -- a rank occurs at most once among different cards of one suit
 pub once_in_suit : (height : Rank → ℕ) → IsHeight height → (cards : List Card) → AllDifferent cards → one_suit cards ≡ true → (h : ℕ) → times height cards h ≤ 1
 once_in_suit height is [] different suited h = absurd (cc)
 once_in_suit height is (card ∷ rest) different suited h =
-    let s = suit_place card.suit in
+    let s = suits_before card.suit in
     omega (arith, times_in_suit height (card ∷ rest) h s suited, at_most_one (is_card height h s) (card ∷ rest) different (only_card height is h s))
 
 -- where no rank occurs more than once, as many ranks as cards occur once

@@ -1,3 +1,5 @@
 pub mod Counted
+pub mod DeckLaws
 pub mod Read
+pub mod RowLaws
 pub mod Spelled

@@ -1,5 +1,5 @@
 -- A result that is a spelled row or a fault of the bytes is the only one.
-use Rattle.std.proofs.Common.{◌≡◌, ℕ, ◌≤◌, List, length, take, Result, Ok, Err, IfOk, IfErr, IsOkAnd, sym, ◌∙◌, ap, arith, length-take}
+use Rattle.std.proofs.Common.{◌≡◌, ℕ, ◌≤◌, List, length, Result, Ok, Err, IfOk, IfErr, IsOkAnd, sym, ◌∙◌, ap, arith, length-take}
 use Rattle.card_set.specs.declared.card.Slot.{Slot}
 use Rattle.card_set.specs.declared.row.SlotRow.{SlotRow}
 use Rattle.card_set.specs.declared.spelling.CardFault.{CardFault}

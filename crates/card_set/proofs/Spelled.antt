@@ -3,7 +3,6 @@ use Rattle.std.proofs.Common.{◌≡◌, ℕ, ◌+◌, ◌*◌, ◌%◌, ◌<◌
 use Rattle.std.specs.Option.{option_map}
 use Rattle.std.proofs.lemmas.Bool.{and_parts}
 use Rattle.std.proofs.lemmas.List.{take_more, drop_more}
-use Rattle.card_set.specs.declared.card.Card.{Card}
 use Rattle.card_set.specs.declared.card.Rank.{Rank}
 use Rattle.card_set.specs.declared.card.Rank.TheVariants as ranks
 use Rattle.card_set.specs.declared.card.Suit.{Suit}
@@ -277,8 +276,10 @@ pair_fault bytes before index fault bad read within pairs few = has_fault bytes 
   where
     first : ℕ
     first = get_or bytes (2 * index) 0
+
     second : ℕ
     second = get_or bytes (2 * index + 1) 0
+
     bad_pair : FirstBadPair bytes fault
     bad_pair = record {
       pairs = pairs;
@@ -288,9 +289,8 @@ pair_fault bytes before index fault bad read within pairs few = has_fault bytes 
       second = second;
       after = drop (2 * index + 1 + 1) bytes;
       stands =
-      sym (take-append-drop (2 * index) bytes)
-      ∙ ap (λ (l : List ℕ). l ++ drop (2 * index) bytes) read
-      ∙ ap (λ (l : List ℕ). spelling before ++ l) (drop_more bytes (2 * index) 0 (omega arith) ∙ ap (λ (l : List ℕ). first ∷ l) (drop_more bytes (2 * index + 1) 0 within));
+          sym (take-append-drop (2 * index) bytes)
+          ∙ ap (λ (l : List ℕ). l ++ drop (2 * index) bytes) read
+          ∙ ap (λ (l : List ℕ). spelling before ++ l) (drop_more bytes (2 * index) 0 (omega arith) ∙ ap (λ (l : List ℕ). first ∷ l) (drop_more bytes (2 * index + 1) 0 within));
       bad = bad;
     }
-

@@ -1,4 +1,5 @@
 pub mod Classes
+pub mod Deck
 pub mod Different
 pub mod Filler
 pub mod Ranks

@@ -4,8 +4,7 @@ use Rattle.std.specs.List.{list_all}
 use Rattle.card_set.specs.declared.card.Card.{Card}
 use Rattle.card_set.specs.declared.card.Rank.{Rank}
 use Rattle.card_set.specs.declared.card.Rank.TheVariants as ranks
-use Rattle.card_set.specs.declared.card.Suit.{Suit}
-use Rattle.card_set.specs.declared.card.Suit.TheVariants as suits
+use Rattle.card_set.specs.Deck.{suits_before}
 
 -- the height of a rank where the ace is the highest
 abbrev pub high_ace : Rank → ℕ
@@ -59,14 +58,7 @@ ranks_occurring height cards n = length (occurring height cards n)
 unfoldable pub ranks_of : (Rank → ℕ) → List Card → List ℕ
 ranks_of height cards = occurring height cards 4 ++ (occurring height cards 3 ++ (occurring height cards 2 ++ occurring height cards 1))
 
--- the place of a suit in the order c, d, h, s
-abbrev pub suit_place : Suit → ℕ
-suit_place suits.C = 0
-suit_place suits.D = 1
-suit_place suits.H = 2
-suit_place suits.S = 3
-
 -- the cards are of one suit: each has that of the first
 abbrev pub one_suit : List Card → Bool
 one_suit [] = false
-one_suit (card ∷ rest) = list_all (λ other. suit_place other.suit == suit_place card.suit) (card ∷ rest)
+one_suit (card ∷ rest) = list_all (λ other. suits_before other.suit == suits_before card.suit) (card ∷ rest)

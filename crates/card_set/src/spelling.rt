@@ -82,10 +82,18 @@ fn read_slot(first: u8, second: u8) -> Result<Slot, CardFault>
     ensures fault { IfErr result (PairFault first second) }
 {
     if first == b'?' {
-        return if second == b'?' { Ok(Slot::Unknown) } else { Err(CardFault::BadSuit) };
+        return if second == b'?' {
+            Ok(Slot::Unknown)
+        } else {
+            Err(CardFault::BadSuit)
+        };
     }
-    let Some(rank) = rank_of(first) else { return Err(CardFault::BadRank) };
-    let Some(suit) = suit_of(second) else { return Err(CardFault::BadSuit) };
+    let Some(rank) = rank_of(first) else {
+        return Err(CardFault::BadRank)
+    };
+    let Some(suit) = suit_of(second) else {
+        return Err(CardFault::BadSuit)
+    };
     Ok(Slot::Known(Card { rank, suit }))
 }
 
@@ -152,5 +160,64 @@ fn suit_of(letter: u8) -> Option<Suit>
         b'h' => Some(Suit::H),
         b's' => Some(Suit::S),
         _ => None,
+    }
+}
+
+#[cfg(test)]
+mod tests {
+    use super::*;
+
+    #[test]
+    fn spells_each_card_and_names_each_fault(rt: HostRuntime) {
+        let ranks = [
+            (Rank::Two, b'2'),
+            (Rank::Three, b'3'),
+            (Rank::Four, b'4'),
+            (Rank::Five, b'5'),
+            (Rank::Six, b'6'),
+            (Rank::Seven, b'7'),
+            (Rank::Eight, b'8'),
+            (Rank::Nine, b'9'),
+            (Rank::Ten, b'T'),
+            (Rank::Jack, b'J'),
+            (Rank::Queen, b'Q'),
+            (Rank::King, b'K'),
+            (Rank::Ace, b'A'),
+        ];
+        let suits = [
+            (Suit::C, b'c'),
+            (Suit::D, b'd'),
+            (Suit::H, b'h'),
+            (Suit::S, b's'),
+        ];
+        for (rank, first) in ranks {
+            for (suit, second) in suits {
+                let slot = Slot::Known(Card { rank, suit });
+                let mut row = SlotRow::new();
+                row.push(slot);
+                assert_eq!(rt; slot_text(slot), [first, second]);
+                assert_eq!(rt; read_slots(&[first, second]), Ok(row));
+            }
+        }
+        assert_eq!(rt; slot_text(Slot::Unknown), *b"??");
+        assert!(rt; read_slots(b"").is_ok());
+        assert!(rt; read_slots(b"2c????AsTdKhQs").is_ok());
+        let faults: [(&[u8], CardFault); 12] = [
+            (b"A", CardFault::OddLength),
+            (b"XhA", CardFault::OddLength),
+            (b"AhAhAhAhAhAhAhX", CardFault::OddLength),
+            (b"XhAhAhAhAhAhAhAh", CardFault::TooMany),
+            (b"Xh", CardFault::BadRank),
+            (b"1h", CardFault::BadRank),
+            (b"aH", CardFault::BadRank),
+            (b"AH", CardFault::BadSuit),
+            (b"?h", CardFault::BadSuit),
+            (b"A?", CardFault::BadSuit),
+            (b"AxXh", CardFault::BadSuit),
+            (b"AhXx", CardFault::BadRank),
+        ];
+        for (bytes, fault) in faults {
+            assert_eq!(rt; read_slots(bytes), Err(fault), "at {bytes:?}");
+        }
     }
 }

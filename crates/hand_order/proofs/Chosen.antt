@@ -4,7 +4,8 @@ use Rattle.std.proofs.lemmas.List.{drop_more, get_or-take, drop_all}
 use Rattle.card_set.specs.declared.card.Card.{Card}
 use Rattle.card_set.specs.declared.row.CardRow.{CardRow}
 use Rattle.std.specs.List.{list_all}
-use Rattle.card_set.specs.Ranks.{suit_place, one_suit}
+use Rattle.card_set.specs.Deck.{suits_before}
+use Rattle.card_set.specs.Ranks.{one_suit}
 use Rattle.card_set.specs.Row.{cards_of}
 use Rattle.card_set.specs.Filler.{filler_card}
 use Rattle.hand_order.specs.Choices.{choices, choices_of_both, IsAmong}
@@ -83,7 +84,7 @@ greatest_of_both points start n first m second none =
 pub no_suit : (row : CardRow) → row.len ≡ 0 → one_suit (cards_of row) ≡ false
 no_suit row none = ap one_suit (drop-past row 0 (omega arith))
 
-pub suit_of_first : (row : CardRow) → 0 < row.len → one_suit (cards_of row) ≡ list_all (λ other. suit_place other.suit == suit_place (get_or row.cards 0 filler_card).suit) (cards_of row)
+pub suit_of_first : (row : CardRow) → 0 < row.len → one_suit (cards_of row) ≡ list_all (λ other. suits_before other.suit == suits_before (get_or row.cards 0 filler_card).suit) (cards_of row)
 suit_of_first row some =
     let e = drop-row row 0 some in
-    ap one_suit e ∙ ap (list_all (λ other. suit_place other.suit == suit_place (get_or row.cards 0 filler_card).suit)) (sym e)
+    ap one_suit e ∙ ap (list_all (λ other. suits_before other.suit == suits_before (get_or row.cards 0 filler_card).suit)) (sym e)

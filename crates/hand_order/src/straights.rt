@@ -2,7 +2,8 @@
 ghost use Rattle.std.specs.Prelude.{◌≡◌, ◌==◌, ◌||◌, [], ◌∷◌, if◌then◌else◌};
 ghost use Rattle.std.specs.List.{list_all};
 ghost use Rattle.card_set.specs.Row.{cards_of};
-ghost use Rattle.card_set.specs.Ranks.{one_suit, suit_place};
+ghost use Rattle.card_set.specs.Deck.{suits_before};
+ghost use Rattle.card_set.specs.Ranks.{one_suit};
 ghost use Rattle.hand_order.specs.Heights.{heights_of};
 ghost use Rattle.hand_order.specs.Straights.{is_low_straight, is_run, straight_top};
 
@@ -22,7 +23,7 @@ pub enum LowStraight {
 
 /// The place of a suit in the order c, d, h, s. It tells suits apart, and orders no hands.
 pub fn place_of_suit(suit: Suit) -> u8
-    ensures { result ≡ suit_place suit }
+    ensures { result ≡ suits_before suit }
 {
     match suit {
         Suit::C => 0,
@@ -44,7 +45,7 @@ pub fn is_flush(cards: &CardRow) -> bool
 
 // Whether each card is of the suit.
 fn are_of_suit(cards: &[Card], suit: Suit) -> bool
-    ensures { result ≡ list_all (λ card. suit_place card.suit == suit_place suit) cards.now }
+    ensures { result ≡ list_all (λ card. suits_before card.suit == suits_before suit) cards.now }
 {
     cards.iter().all(|card| place_of_suit(card.suit) == place_of_suit(suit))
 }

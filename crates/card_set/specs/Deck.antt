@@ -1,0 +1,38 @@
+-- The cards in the order of the deck: by rank from the lowest, and then by suit c, d, h, s.
+use Rattle.std.specs.Prelude.{ℕ, Bool, ◌+◌, ◌*◌, ◌==◌}
+use Rattle.card_set.specs.declared.card.Card.{Card}
+use Rattle.card_set.specs.declared.card.Rank.{Rank}
+use Rattle.card_set.specs.declared.card.Rank.TheVariants as ranks
+use Rattle.card_set.specs.declared.card.Suit.{Suit}
+use Rattle.card_set.specs.declared.card.Suit.TheVariants as suits
+
+-- how many ranks are below this one
+abbrev pub ranks_below : Rank → ℕ
+ranks_below ranks.Two = 0
+ranks_below ranks.Three = 1
+ranks_below ranks.Four = 2
+ranks_below ranks.Five = 3
+ranks_below ranks.Six = 4
+ranks_below ranks.Seven = 5
+ranks_below ranks.Eight = 6
+ranks_below ranks.Nine = 7
+ranks_below ranks.Ten = 8
+ranks_below ranks.Jack = 9
+ranks_below ranks.Queen = 10
+ranks_below ranks.King = 11
+ranks_below ranks.Ace = 12
+
+-- how many suits stand before this one
+abbrev pub suits_before : Suit → ℕ
+suits_before suits.C = 0
+suits_before suits.D = 1
+suits_before suits.H = 2
+suits_before suits.S = 3
+
+-- the place of a card in the deck, from 0 to 51
+abbrev pub deck_place : Card → ℕ
+deck_place card = 4 * ranks_below card.rank + suits_before card.suit
+
+-- both are one card
+abbrev pub same_card : Card → Card → Bool
+same_card a b = deck_place a == deck_place b

@@ -1,0 +1,3 @@
+-- Lemmas on seats and rows.
+pub mod Seats
+pub mod Same

@@ -1,0 +1,7 @@
+-- The seats of a hand are numbered from 1.
+use Rattle.std.specs.Prelude.{ℕ, List}
+use Rattle.std.specs.List.{range_with_len}
+
+-- the seats of a hand with so many seats: the numbers from 1 on
+abbrev pub seats_of : ℕ → List ℕ
+seats_of seats = range_with_len 1 seats

@@ -1,0 +1,70 @@
+-- Each clause is computed.
+use Rattle.std.proofs.Common.{refl}
+use Rattle.play_event.specs.Due.{turn}
+use Rattle.play_event.specs.Reasons.{why}
+use Rattle.play_event.specs.Scripts.{with_event}
+use Rattle.play_event.proofs.examples.hands_won_by_folds.Goals as goal
+
+pub returns-clause-a_raise_and_two_folds : goal.returns-clause-a_raise_and_two_folds
+unfolding turn why with_event
+returns-clause-a_raise_and_two_folds c = refl
+
+pub returns-clause-it_is_complete : goal.returns-clause-it_is_complete
+unfolding turn why with_event
+returns-clause-it_is_complete c = refl
+
+pub returns-clause-it_ends_with : goal.returns-clause-it_ends_with
+unfolding turn why with_event
+returns-clause-it_ends_with c = refl
+
+pub returns-clause-deep_stacks : goal.returns-clause-deep_stacks
+unfolding turn why with_event
+returns-clause-deep_stacks c = refl
+
+pub returns-clause-cut_before_the_last_fold : goal.returns-clause-cut_before_the_last_fold
+unfolding turn why with_event
+returns-clause-cut_before_the_last_fold c = refl
+
+pub returns-clause-it_ends_early : goal.returns-clause-it_ends_early
+unfolding turn why with_event
+returns-clause-it_ends_early c = refl
+
+pub returns-clause-a_raise_to_three : goal.returns-clause-a_raise_to_three
+unfolding turn why with_event
+returns-clause-a_raise_to_three c = refl
+
+pub returns-clause-a_raise_to_four : goal.returns-clause-a_raise_to_four
+unfolding turn why with_event
+returns-clause-a_raise_to_four c = refl
+
+pub returns-clause-a_raise_above_the_stack : goal.returns-clause-a_raise_above_the_stack
+unfolding turn why with_event
+returns-clause-a_raise_above_the_stack c = refl
+
+pub returns-clause-a_fold_out_of_turn : goal.returns-clause-a_fold_out_of_turn
+unfolding turn why with_event
+returns-clause-a_fold_out_of_turn c = refl
+
+pub returns-clause-a_fold_after_the_end : goal.returns-clause-a_fold_after_the_end
+unfolding turn why with_event
+returns-clause-a_fold_after_the_end c = refl
+
+pub returns-clause-a_third_card : goal.returns-clause-a_third_card
+unfolding turn why with_event
+returns-clause-a_third_card c = refl
+
+pub returns-clause-a_seat_dealt_twice : goal.returns-clause-a_seat_dealt_twice
+unfolding turn why with_event
+returns-clause-a_seat_dealt_twice c = refl
+
+pub returns-clause-a_card_dealt_twice : goal.returns-clause-a_card_dealt_twice
+unfolding turn why with_event
+returns-clause-a_card_dealt_twice c = refl
+
+pub returns-clause-a_move_before_the_deals : goal.returns-clause-a_move_before_the_deals
+unfolding turn why with_event
+returns-clause-a_move_before_the_deals c = refl
+
+pub returns-clause-a_short_all_in : goal.returns-clause-a_short_all_in
+unfolding turn why with_event
+returns-clause-a_short_all_in c = refl

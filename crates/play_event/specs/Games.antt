@@ -1,0 +1,93 @@
+-- The eleven games: deck, limit, who opens, how many seats there may be, and the streets with their cards and bet sizes.
+use Rattle.std.specs.Prelude.{ℕ, ◌+◌, ◌-◌, Bool, true, false, List, [], ◌∷◌, length, slice_get}
+use Rattle.std.specs.Option.{option_map_or}
+use Rattle.play_event.specs.declared.code.Code.{Code}
+use Rattle.play_event.specs.declared.code.Code.TheVariants as games
+
+-- what bounds a raise
+pub data Limit : Type 0 where
+  Fixed : Limit
+  Pot : Limit
+  NoLimit : Limit
+
+-- who moves first: the seat after the blinds, the lowest up-card, or the highest
+pub data Opener : Type 0 where
+  Blinds : Opener
+  LowUp : Opener
+  HighUp : Opener
+
+-- the bet size of a street: the small bet, the big bet, or the least bet
+pub data Size : Type 0 where
+  Small : Size
+  Big : Size
+  Least : Size
+
+-- what a street deals to each live seat, face down and face up, what it deals to the board, whether it draws, and its bet size
+pub record Street : Type 0 where
+  pub down : ℕ
+  pub up : ℕ
+  pub board : ℕ
+  pub draws : Bool
+  pub size : Size
+
+-- a game
+pub record Game : Type 0 where
+  pub deck : ℕ
+  pub limit : Limit
+  pub opener : Opener
+  pub seats : ℕ
+  pub streets : List Street
+
+-- a street that deals so many hole cards
+abbrev pub hole_street : ℕ → Size → Street
+hole_street cards size = record { down = cards; up = 0; board = 0; draws = false; size = size }
+
+-- a street that deals so many cards to the board
+abbrev pub board_street : ℕ → Size → Street
+board_street cards size = record { down = 0; up = 0; board = cards; draws = false; size = size }
+
+-- a street on which each live seat draws
+abbrev pub draw_street : Size → Street
+draw_street size = record { down = 0; up = 0; board = 0; draws = true; size = size }
+
+-- a street of stud
+abbrev pub stud_street : ℕ → ℕ → Size → Street
+stud_street down up size = record { down = down; up = up; board = 0; draws = false; size = size }
+
+-- hold'em and Omaha: hole cards, then three, one and one on the board
+abbrev pub flop_streets : ℕ → Size → Size → List Street
+flop_streets cards early late = hole_street cards early ∷ board_street 3 early ∷ board_street 1 late ∷ board_street 1 late ∷ []
+
+-- stud: two down and one up, three times one up, and one down
+abbrev pub stud_streets : List Street
+stud_streets = stud_street 2 1 Small ∷ stud_street 0 1 Small ∷ stud_street 0 1 Big ∷ stud_street 0 1 Big ∷ stud_street 1 0 Big ∷ []
+
+-- three draws
+abbrev pub draw_streets : ℕ → List Street
+draw_streets cards = hole_street cards Small ∷ draw_street Small ∷ draw_street Big ∷ draw_street Big ∷ []
+
+-- the game with a code
+abbrev pub game_of : Code → Game
+game_of games.FT = record { deck = 52; limit = Fixed; opener = Blinds; seats = 10; streets = flop_streets 2 Small Big }
+game_of games.NT = record { deck = 52; limit = NoLimit; opener = Blinds; seats = 10; streets = flop_streets 2 Least Least }
+game_of games.NS = record { deck = 36; limit = NoLimit; opener = Blinds; seats = 10; streets = flop_streets 2 Least Least }
+game_of games.PO = record { deck = 52; limit = Pot; opener = Blinds; seats = 10; streets = flop_streets 4 Least Least }
+game_of games.FO8 = record { deck = 52; limit = Fixed; opener = Blinds; seats = 10; streets = flop_streets 4 Small Big }
+game_of games.F7S = record { deck = 52; limit = Fixed; opener = LowUp; seats = 7; streets = stud_streets }
+game_of games.F7S8 = record { deck = 52; limit = Fixed; opener = LowUp; seats = 7; streets = stud_streets }
+game_of games.FR = record { deck = 52; limit = Fixed; opener = HighUp; seats = 7; streets = stud_streets }
+game_of games.N2L1D = record { deck = 52; limit = NoLimit; opener = Blinds; seats = 6; streets = hole_street 5 Least ∷ draw_street Least ∷ [] }
+game_of games.F2L3D = record { deck = 52; limit = Fixed; opener = Blinds; seats = 6; streets = draw_streets 5 }
+game_of games.FB = record { deck = 52; limit = Fixed; opener = Blinds; seats = 6; streets = draw_streets 4 }
+
+-- what the street with this number, from 1, deals to each live seat
+abbrev pub hole_cards_on : Code → ℕ → ℕ
+hole_cards_on code street = option_map_or (λ s. s.down + s.up) (slice_get (game_of code).streets (street - 1)) 0
+
+-- what the street with this number deals to the board
+abbrev pub board_cards_on : Code → ℕ → ℕ
+board_cards_on code street = option_map_or (λ s. s.board) (slice_get (game_of code).streets (street - 1)) 0
+
+-- how many streets the game has
+abbrev pub street_count : Code → ℕ
+street_count code = length (game_of code).streets

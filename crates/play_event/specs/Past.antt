@@ -1,0 +1,74 @@
+-- The past of a hand is the list of its resolved events, the newest first. Nothing else is state.
+use Rattle.std.specs.Prelude.{ℕ, Bool, true, false, ◌==◌, List, [], ◌∷◌, filter}
+use Rattle.card_set.specs.declared.card.Card.{Card}
+use Rattle.card_set.specs.declared.card.Slot.{Slot}
+
+-- what a seat did with its turn
+pub data Act : Type 0 where
+  Folded : Act
+  Called : Act
+  Raised : Act
+  BroughtIn : Act
+
+-- a move, with the chips that its seat had put on the street before it and after it
+pub record Move : Type 0 where
+  pub street : ℕ
+  pub seat : ℕ
+  pub act : Act
+  pub from : ℕ
+  pub to : ℕ
+
+-- an event as it took place: on a street, and for a seat or the board
+pub data Resolved : Type 0 where
+  Dealt : (street seat : ℕ) → List Slot → Resolved
+  Boarded : (street : ℕ) → List Card → Resolved
+  Moved : Move → Resolved
+  Discarded : (street seat : ℕ) → List Slot → Resolved
+  Shown : (street seat : ℕ) → List Card → Resolved
+  Mucked : (street seat : ℕ) → Resolved
+
+-- the newest event first
+abbrev pub Past : Type 0
+Past = List Resolved
+
+-- the street of an event
+abbrev pub street_of : Resolved → ℕ
+street_of (Dealt street seat cards) = street
+street_of (Boarded street cards) = street
+street_of (Moved move) = move.street
+street_of (Discarded street seat cards) = street
+street_of (Shown street seat cards) = street
+street_of (Mucked street seat) = street
+
+-- the street of the newest event, and before any event the first
+abbrev pub newest_street : Past → ℕ
+newest_street [] = 1
+newest_street (event ∷ before) = street_of event
+
+-- the moves of a past
+abbrev pub moves_of : Past → List Move
+moves_of [] = []
+moves_of (Moved move ∷ before) = move ∷ moves_of before
+moves_of (Dealt street seat cards ∷ before) = moves_of before
+moves_of (Boarded street cards ∷ before) = moves_of before
+moves_of (Discarded street seat cards ∷ before) = moves_of before
+moves_of (Shown street seat cards ∷ before) = moves_of before
+moves_of (Mucked street seat ∷ before) = moves_of before
+
+-- the moves of one street
+abbrev pub moves_on : ℕ → List Move → List Move
+moves_on street moves = filter (λ move. move.street == street) moves
+
+-- the move is a fold
+abbrev pub is_fold : Act → Bool
+is_fold Folded = true
+is_fold Called = false
+is_fold Raised = false
+is_fold BroughtIn = false
+
+-- the move is a bet or raise
+abbrev pub is_raise : Act → Bool
+is_raise Raised = true
+is_raise Folded = false
+is_raise Called = false
+is_raise BroughtIn = false

@@ -1,0 +1,74 @@
+-- A script as it took place: the past after each of its events, its first illegal event, and whether it ends early.
+use Rattle.std.specs.Prelude.{◌≡◌, ℕ, ◌+◌, ◌<◌, Bool, List, [], ◌∷◌, length, take, reverse, find, slice_get, Option, Some, None, option_and_then, is_some, min}
+use Rattle.std.specs.List.{range_with_len}
+use Rattle.play_event.specs.declared.reason.Illegal.{Illegal}
+use Rattle.play_event.specs.declared.setup.Setup.{Setup}
+use Rattle.play_event.specs.declared.setup.Rules.{Rules}
+use Rattle.play_event.specs.Said as said
+use Rattle.play_event.specs.Said.{Said}
+use Rattle.play_event.specs.Past as past
+use Rattle.play_event.specs.Past.{Past, Resolved, Move, Act, moves_of}
+use Rattle.play_event.specs.Chips.{street_chips, all_in}
+use Rattle.play_event.specs.Due.{turn, is_unfinished}
+use Rattle.play_event.specs.Mover.{mover}
+use Rattle.play_event.specs.Amounts.{call_target, raise_target}
+use Rattle.play_event.specs.Reasons.{why, actor_of}
+
+-- a move of a seat to a target
+abbrev pub move_to : Setup → List Move → ℕ → ℕ → Act → ℕ → Resolved
+move_to setup moves street seat act target =
+    past.Moved (record { street = street; seat = seat; act = act; from = street_chips setup moves street seat; to = target })
+
+-- an event as it takes place on a street, after these moves
+abbrev pub resolved_on : Setup → List Move → ℕ → Said → Resolved
+resolved_on setup moves street (said.Hole seat cards) = past.Dealt street seat cards
+resolved_on setup moves street (said.Board cards) = past.Boarded street cards
+resolved_on setup moves street (said.Fold named) =
+    let seat = actor_of named (mover setup moves street) in
+    move_to setup moves street seat past.Folded (street_chips setup moves street seat)
+resolved_on setup moves street (said.Call named stated) =
+    let seat = actor_of named (mover setup moves street) in
+    move_to setup moves street seat past.Called (call_target setup moves street seat)
+resolved_on setup moves street (said.Raise named amount) =
+    let seat = actor_of named (mover setup moves street) in
+    move_to setup moves street seat past.Raised (raise_target setup moves street seat amount)
+resolved_on setup moves street (said.BringIn named) =
+    let seat = actor_of named (mover setup moves street) in
+    move_to setup moves street seat past.BroughtIn (min setup.bring_in (all_in setup moves street seat))
+resolved_on setup moves street (said.Discard seat cards) = past.Discarded street seat cards
+resolved_on setup moves street (said.Show seat cards) = past.Shown street seat cards
+resolved_on setup moves street (said.Muck seat) = past.Mucked street seat
+
+-- the past with one event more
+unfoldable pub with_event : Setup → Said → Past → Past
+with_event setup event before = resolved_on setup (moves_of before) (turn setup before).0 event ∷ before
+
+-- the past of events, the newest first
+abbrev pub past_of : Setup → List Said → Past
+past_of setup [] = []
+past_of setup (event ∷ before) = with_event setup event (past_of setup before)
+
+-- the past of a script's first events, so many of them
+abbrev pub past_after : Setup → List Said → ℕ → Past
+past_after setup script count = past_of setup (reverse (take count script))
+
+-- why the event at an index, from 0, is illegal after those before it, if it is
+abbrev pub why_at : Setup → Rules → List Said → ℕ → Option Illegal
+why_at setup rules script index = option_and_then (why setup rules (past_after setup script index)) (slice_get script index)
+
+-- the index of the first illegal event, if there is one
+abbrev pub first_illegal : Setup → Rules → List Said → Option ℕ
+first_illegal setup rules script = find (λ index. is_some (why_at setup rules script index)) (range_with_len 0 (length script))
+
+-- each event is legal after those before it
+abbrev pub IsLegal : Setup → Rules → List Said → Type 0
+IsLegal setup rules script = (index : ℕ) → index < length script → why_at setup rules script index ≡ None
+
+-- the events before this one are legal, and this one is illegal for the reason
+pub record IsFirstIllegal (setup : Setup) (rules : Rules) (script : List Said) (index : ℕ) (reason : Illegal) : Type 0 where
+  pub legal_before : (earlier : ℕ) → earlier < index → why_at setup rules script earlier ≡ None
+  pub illegal : why_at setup rules script index ≡ Some reason
+
+-- after the script a deal, a draw, a bring-in or a move is due
+abbrev pub ends_early : Setup → List Said → Bool
+ends_early setup script = is_unfinished (turn setup (past_after setup script (length script))).1

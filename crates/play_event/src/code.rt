@@ -1,0 +1,73 @@
+// Eleven games are known, each by its code.
+ghost use Rattle.std.specs.Prelude.{◌≡◌, IfSome, IfNone};
+ghost use Rattle.play_event.specs.declared.code.Code.{Code};
+ghost use Rattle.play_event.specs.Code.{code_text};
+
+/// The code of a game, as the Poker Hand History format has it.
+#[derive(Clone, Copy, Debug, PartialEq, Eq, Hash)]
+pub enum Code {
+    /// Fixed-limit Texas hold'em.
+    FT,
+    /// No-limit Texas hold'em.
+    NT,
+    /// No-limit short-deck hold'em.
+    NS,
+    /// Pot-limit Omaha.
+    PO,
+    /// Fixed-limit Omaha eight-or-better, spelled `FO/8`.
+    FO8,
+    /// Fixed-limit seven card stud.
+    F7S,
+    /// Fixed-limit seven card stud eight-or-better, spelled `F7S/8`.
+    F7S8,
+    /// Fixed-limit razz.
+    FR,
+    /// No-limit deuce-to-seven single draw.
+    N2L1D,
+    /// Fixed-limit deuce-to-seven triple draw.
+    F2L3D,
+    /// Fixed-limit badugi.
+    FB,
+}
+
+impl Code {
+    /// The game with this code, or `None` where the text is none of the eleven.
+    pub fn read(text: &str) -> Option<Code>
+        ensures read { IfSome result (λ code. code_text code ≡ text.now) }
+        ensures none { IfNone result ((code : Code) → code_text code ≡ text.now → ⊥) }
+    {
+        match text.as_bytes() {
+            b"FT" => Some(Code::FT),
+            b"NT" => Some(Code::NT),
+            b"NS" => Some(Code::NS),
+            b"PO" => Some(Code::PO),
+            b"FO/8" => Some(Code::FO8),
+            b"F7S" => Some(Code::F7S),
+            b"F7S/8" => Some(Code::F7S8),
+            b"FR" => Some(Code::FR),
+            b"N2L1D" => Some(Code::N2L1D),
+            b"F2L3D" => Some(Code::F2L3D),
+            b"FB" => Some(Code::FB),
+            _ => None,
+        }
+    }
+
+    /// The code as it is spelled.
+    pub fn text(self) -> &'static str
+        ensures { result.now ≡ code_text self }
+    {
+        match self {
+            Code::FT => "FT",
+            Code::NT => "NT",
+            Code::NS => "NS",
+            Code::PO => "PO",
+            Code::FO8 => "FO/8",
+            Code::F7S => "F7S",
+            Code::F7S8 => "F7S/8",
+            Code::FR => "FR",
+            Code::N2L1D => "N2L1D",
+            Code::F2L3D => "F2L3D",
+            Code::FB => "FB",
+        }
+    }
+}

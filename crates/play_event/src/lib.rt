@@ -1,0 +1,16 @@
+//! What is said of a hand: its setup, its rules, and the script of its events; and the rules of play.
+#![tactic(auto)]
+
+mod code;
+mod event;
+mod examples;
+mod reason;
+mod script;
+mod setup;
+
+pub use code::Code;
+pub use event::{Event, Kind, Spelled};
+pub use examples::hands_won_by_folds;
+pub use reason::{Due, Illegal};
+pub use script::Script;
+pub use setup::{Reopen, Rules, Setup};

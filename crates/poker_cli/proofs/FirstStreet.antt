@@ -1,0 +1,78 @@
+-- What the rules say on the first street of no-limit hold'em.
+use Rattle.std.proofs.Common.{◌≡◌, ℕ, zero, suc, ◌+◌, ◌-◌, ◌≤◌, ◌<◌, Bool, true, false, ◌||◌, ◌==◌, nat_lt, Option, Some, None, find, List, [], ◌∷◌, ◌++◌, map, take, drop, length, refl, sym, ◌∙◌, ap, subst, arith}
+use Rattle.std.specs.List.{list_any, range_with_len}
+use Rattle.std.specs.Option.{option_or}
+use Rattle.std.proofs.lemmas.List.Folds.{find-append}
+use Rattle.std.proofs.Math.Bool.{or_assoc}
+use Rattle.card_set.specs.declared.card.Card.{Card}
+use Rattle.card_set.specs.declared.card.Slot.{Slot}
+use Rattle.play_event.specs.declared.code.Code.{Code}
+use Rattle.play_event.specs.declared.code.Code.TheVariants as games
+use Rattle.play_event.specs.declared.setup.Setup.{Setup}
+use Rattle.play_event.specs.Games.{hole_cards_on, board_cards_on, street_count}
+use Rattle.chip_ledger.specs.Seat.{seats_of}
+use Rattle.play_event.specs.Past.{Past, Move, moves_on}
+use Rattle.play_event.specs.Mover.{mover, next_in_turn, seats_from}
+use Rattle.play_event.specs.Places.{Place, places_of, places_dealt, bears, in_deck}
+use Rattle.card_set.specs.Row.{slots_of}
+use Rattle.poker_cli.specs.declared.past.Step.{Step}
+use Rattle.poker_cli.specs.declared.past.Step.TheVariants as steps
+use Rattle.poker_cli.specs.Steps.{resolved_step, cards_dealt}
+use Rattle.play_event.specs.Seats.{all_seats}
+use Rattle.play_event.specs.Due.{has_to_move, deal_due, hole_cards_owed, board_cards_owed, board_cards_dealt}
+
+-- no board cards are owed on the first street
+board_owed : (code : Code) (dealt : ℕ) → code ≡ games.NT → board_cards_on code 1 - dealt ≡ 0
+board_owed code dealt game =
+    let P : Code → Type 0 = λ c. board_cards_on c 1 - dealt ≡ 0 in
+    subst P (sym game) (omega arith)
+
+or_false : (b : Bool) → (b || false) ≡ b
+or_false true = refl
+or_false false = refl
+
+-- a deal is due on the first street where some live seat lacks hole cards
+pub deal_due_first : (setup : Setup) (past : Past) → setup.code ≡ games.NT → deal_due setup past 1 ≡ list_any (λ seat. nat_lt 0 (hole_cards_owed setup past 1 seat)) (all_seats setup)
+deal_due_first setup past game =
+    ap (λ (n : ℕ). list_any (λ seat. nat_lt 0 (hole_cards_owed setup past 1 seat)) (all_seats setup) || nat_lt 0 n) (board_owed setup.code (board_cards_dealt past 1) game)
+    ∙ or_false (list_any (λ seat. nat_lt 0 (hole_cards_owed setup past 1 seat)) (all_seats setup))
+
+-- a card lies among cards that were just dealt, or among those before
+pub on_table_after : (card : Card) (places : List Place) (owner : Option ℕ) (street : ℕ) (cards : List Slot) → list_any (λ place. bears card place.slot) (places ++ places_dealt owner street cards) ≡ (list_any (λ place. bears card place.slot) places || list_any (bears card) cards)
+on_table_after card [] owner street [] = refl
+on_table_after card [] owner street (slot ∷ rest) = ap (λ b. bears card slot || b) (on_table_after card [] owner street rest)
+on_table_after card (place ∷ places) owner street cards = ap (λ b. bears card place.slot || b) (on_table_after card places owner street cards) ∙ sym (or_assoc (bears card place.slot) (list_any (λ other. bears card other.slot) places) (list_any (bears card) cards))
+
+-- a card lies on the table after a step where it lay there before, or the step dealt it
+on_table_with : (card : Card) (step : Step) (before : Past) → list_any (λ place. bears card place.slot) (places_of (resolved_step step ∷ before)) ≡ (list_any (λ place. bears card place.slot) (places_of before) || list_any (bears card) (cards_dealt step))
+on_table_with card (steps.Dealt seat cards) before = on_table_after card (places_of before) (Some seat.number) 1 (slots_of cards)
+on_table_with card (steps.Folded seat chips) before = sym (or_false (list_any (λ place. bears card place.slot) (places_of before)))
+on_table_with card (steps.Raised seat from to) before = sym (or_false (list_any (λ place. bears card place.slot) (places_of before)))
+
+-- a card that did not lie there before lies there where the step dealt it
+pub lies_now : (card : Card) (step : Step) (past : Past) (before now : Bool) → before ≡ list_any (λ place. bears card place.slot) (places_of past) → before ≡ false → now ≡ list_any (bears card) (cards_dealt step) → now ≡ list_any (λ place. bears card place.slot) (places_of (resolved_step step ∷ past))
+lies_now card step past before now earlier none dealt =
+    dealt ∙ ap (λ b. b || list_any (bears card) (cards_dealt step)) (sym none ∙ earlier) ∙ sym (on_table_with card step past)
+
+-- the deck of no-limit hold'em has every card
+pub whole_deck : (code : Code) (card : Card) → code ≡ games.NT → in_deck code card ≡ true
+whole_deck code card game = let P : Code → Type 0 = λ c. in_deck c card ≡ true in subst P (sym game) refl
+
+-- the first seat in turn with a move to make is among those up to the last seat
+pub mover_before : (setup : Setup) (moves : List Move) (start seat : ℕ) → start ≡ next_in_turn setup 1 (moves_on 1 moves) → Some seat ≡ find (has_to_move setup moves 1) (range_with_len start (setup.stacks.seats + 1 - start)) → Some seat ≡ mover setup moves 1
+mover_before setup moves start seat is found =
+    let P : ℕ → Type 0 = λ from. Some seat ≡ find (has_to_move setup moves 1) (seats_from setup from) in
+    subst P is (
+    ap (λ o. option_or o (find (has_to_move setup moves 1) (range_with_len 1 (start - 1)))) found
+    ∙ sym (find-append (has_to_move setup moves 1) (range_with_len start (setup.stacks.seats + 1 - start)) (range_with_len 1 (start - 1)))
+    )
+
+-- or else among those from the first on
+pub mover_behind : (setup : Setup) (moves : List Move) (start : ℕ) (found : Option ℕ) → start ≡ next_in_turn setup 1 (moves_on 1 moves) → None ≡ find (has_to_move setup moves 1) (range_with_len start (setup.stacks.seats + 1 - start)) → found ≡ find (has_to_move setup moves 1) (seats_of (start - 1)) → found ≡ mover setup moves 1
+mover_behind setup moves start found is none later =
+    let P : ℕ → Type 0 = λ from. found ≡ find (has_to_move setup moves 1) (seats_from setup from) in
+    subst P is (
+    later
+    ∙ ap (λ o. option_or o (find (has_to_move setup moves 1) (range_with_len 1 (start - 1)))) none
+    ∙ sym (find-append (has_to_move setup moves 1) (range_with_len start (setup.stacks.seats + 1 - start)) (range_with_len 1 (start - 1)))
+    )

@@ -1,0 +1,3 @@
+pub mod FirstStreet
+pub mod SeatNumbers
+pub mod Turn

@@ -1,0 +1,64 @@
+-- What is due while the first street lasts.
+use Rattle.std.proofs.Common.{◌≡◌, ℕ, ◌+◌, ◌-◌, Bool, true, false, ◌≤◌, List, [], ◌∷◌, refl, sym, ◌∙◌, ap, Option, Some, None, nat_le, unwrap_or, if◌then◌else◌}
+use Rattle.std.specs.Option.{option_map}
+use Rattle.play_event.specs.declared.code.Code.{Code}
+use Rattle.play_event.specs.declared.code.Code.TheVariants as games
+use Rattle.play_event.specs.declared.reason.Due.{Due}
+use Rattle.play_event.specs.declared.reason.Due.TheVariants as dues
+use Rattle.play_event.specs.declared.reason.Illegal.TheVariants as reasons
+use Rattle.play_event.specs.declared.setup.Setup.{Setup}
+use Rattle.play_event.specs.Games.{street_count}
+use Rattle.play_event.specs.Past as past
+use Rattle.play_event.specs.Past.{newest_street, moves_of}
+use Rattle.play_event.specs.Said.{Said}
+use Rattle.play_event.specs.Seats.{live_count}
+use Rattle.play_event.specs.Due.{turn, due_on, first_due, found_or, deal_due, move_due}
+use Rattle.play_event.specs.HistoryRules.{history_rules}
+use Rattle.play_event.specs.Reasons.{why, first_reason, all_reasons}
+use Rattle.poker_cli.specs.declared.past.Past.{Past, Start, After'}
+use Rattle.poker_cli.specs.declared.past.Step.TheVariants as steps
+use Rattle.poker_cli.specs.Steps.{past_seen}
+
+-- each step is of the first street
+pub newest_is_first : (played : Past) → newest_street (past_seen played) ≡ 1
+newest_is_first Start = refl
+newest_is_first (After' (steps.Dealt seat cards) p before) = refl
+newest_is_first (After' (steps.Folded seat chips) p before) = refl
+newest_is_first (After' (steps.Raised seat from to) p before) = refl
+
+-- with one live seat nothing is due
+pub turn_over : (setup : Setup) (before : past.Past) → nat_le (live_count setup (moves_of before)) 1 ≡ true → turn setup before ≡ (newest_street before, dues.Over)
+unfolding turn
+turn_over setup before over =
+    ap (λ b. if b then (newest_street before, dues.Over) else unwrap_or (first_due (due_on setup before) (street_count setup.code + 1 - newest_street before) (newest_street before)) (street_count setup.code, dues.Show)) over
+
+-- what is due on the first street comes first
+pub turn_on_first : (setup : Setup) (before : past.Past) (now : Due) → setup.code ≡ games.NT → newest_street before ≡ 1 → nat_le (live_count setup (moves_of before)) 1 ≡ false → due_on setup before 1 ≡ Some now → turn setup before ≡ (1, now)
+unfolding turn
+turn_on_first setup before now game newest more is_due =
+    ap (λ b. if b then (newest_street before, dues.Over) else unwrap_or (first_due (due_on setup before) (street_count setup.code + 1 - newest_street before) (newest_street before)) (street_count setup.code, dues.Show)) more
+    ∙ ap (λ c. unwrap_or (first_due (due_on setup before) (street_count c + 1 - newest_street before) (newest_street before)) (street_count c, dues.Show)) game
+    ∙ ap (λ n. unwrap_or (first_due (due_on setup before) (5 - n) n) (4, dues.Show)) newest
+    ∙ ap (λ o. unwrap_or (found_or (option_map (λ due. (1, due)) o) (first_due (due_on setup before) 3 2)) (4, dues.Show)) is_due
+
+-- a deal comes before the moves
+pub due_deal : (setup : Setup) (before : past.Past) → deal_due setup before 1 ≡ true → due_on setup before 1 ≡ Some (dues.Deal 1)
+due_deal setup before deal =
+    ap (λ b. if b then Some (dues.Deal 1) else (if move_due setup (moves_of before) 1 then Some dues.Move else None)) deal
+
+-- then come the moves
+pub due_move : (setup : Setup) (before : past.Past) → deal_due setup before 1 ≡ false → move_due setup (moves_of before) 1 ≡ true → due_on setup before 1 ≡ Some dues.Move
+due_move setup before deal move =
+    ap (λ b. if b then Some (dues.Deal 1) else (if move_due setup (moves_of before) 1 then Some dues.Move else None)) deal
+    ∙ ap (λ b. if b then Some dues.Move else None) move
+
+-- an event after the end is refused for that
+pub why_over : (setup : Setup) (before : past.Past) (event : Said) → nat_le (live_count setup (moves_of before)) 1 ≡ true → why setup history_rules before event ≡ Some reasons.HandOver
+unfolding why
+why_over setup before event over = ap (λ now. first_reason (all_reasons setup history_rules before now event)) (turn_over setup before over)
+
+-- while something is due on the first street, an event is refused by what that is
+pub why_on_first : (setup : Setup) (before : past.Past) (event : Said) (now : Due) → setup.code ≡ games.NT → newest_street before ≡ 1 → nat_le (live_count setup (moves_of before)) 1 ≡ false → due_on setup before 1 ≡ Some now → why setup history_rules before event ≡ first_reason (all_reasons setup history_rules before (1, now) event)
+unfolding why
+why_on_first setup before event now game newest more is_due =
+    ap (λ t. first_reason (all_reasons setup history_rules before t event)) (turn_on_first setup before now game newest more is_due)
