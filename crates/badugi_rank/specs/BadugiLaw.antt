@@ -96,9 +96,10 @@ choice_ordered : (a b : List Card) (low high : ℕ) → AreFew a → AreFew b �
 choice_ordered a b low high few_a few_b is_low is_high =
     let is_a = choice_value a low is_low in
     let is_b = choice_value b high is_high in
-    let law = ranked_low_law missing_cards (ranks_of low_ace) rainbow_missing 4 4 a b (omega arith) (rainbow_ranked a few_a is_a.0) (rainbow_ranked b few_b is_b.0) in
-    (λ less. elim (law.0 (omega (arith, is_a.1, is_b.1))) [ | inl worse ↦ inl (omega arith) | inr rest ↦ let e = rest.0 in inr (omega arith, rest.1) ],
-    λ worse. let less = law.1 (elim worse [ | inl fewer ↦ inl (omega arith) | inr rest ↦ let e = rest.0 in inr (omega arith, rest.1) ]) in omega (arith, is_a.1, is_b.1))
+    let law = ranked_low_law missing_cards (ranks_of low_ace) rainbow_missing 4 4 a b (omega arith) (rainbow_ranked a few_a is_a.0) (rainbow_ranked b few_b is_b.0) in (
+      λ less. elim (law.0 (omega (arith, is_a.1, is_b.1))) [ inl worse ↦ inl (omega arith) | inr rest ↦ let e = rest.0 in inr (omega arith, rest.1) ],
+      λ worse. let less = law.1 (elim worse [ inl fewer ↦ inl (omega arith) | inr rest ↦ let e = rest.0 in inr (omega arith, rest.1) ]) in omega (arith, is_a.1, is_b.1),
+    )
 
 -- choices are ordered by their numbers
 pub lawful_choices : IsLawful AreFew IsRainbow IsWorse choice_points

@@ -1,5 +1,6 @@
 //! The order of badugi.
 #![tactic(auto)]
+
 ghost use Rattle.std.specs.Prelude.{◌≡◌, ◌≤◌, ◌==◌, not};
 ghost use Rattle.std.specs.List.{list_all};
 ghost use Rattle.std.specs.Option.{option_map};
@@ -9,8 +10,10 @@ ghost use Rattle.hand_order.specs.Choices.{choices};
 ghost use Rattle.hand_order.specs.Points.{greatest};
 ghost use Rattle.badugi_rank.specs.Badugi.{all_differ, choice_points, share};
 
-use card_set::{Card, CardRow};
-use hand_order::{Ace, HandOrder, Judge, Score, best_choice, better_score, class_above, height_of, place_of_suit, ranks_of};
+use card_set::{Card, CardRow, place_of_suit};
+use hand_order::{
+    Ace, HandOrder, Judge, Score, best_choice, better_score, class_above, height_of, ranks_of,
+};
 
 /// The order of badugi, over any four cards: the largest choice whose ranks and suits all differ,
 /// and of as many cards the lower ranks, from the top down.
@@ -96,5 +99,6 @@ fn shares_none(card: &Card, others: &[Card]) -> bool
 fn have_common(card: &Card, other: &Card) -> bool
     ensures { result ≡ share card.now other.now }
 {
-    height_of(other.rank, Ace::Low) == height_of(card.rank, Ace::Low) || place_of_suit(other.suit) == place_of_suit(card.suit)
+    height_of(other.rank, Ace::Low) == height_of(card.rank, Ace::Low)
+        || place_of_suit(other.suit) == place_of_suit(card.suit)
 }

@@ -63,7 +63,7 @@ weighed : (value four three two one sum : ℕ) → value ≤ 4 → sum ≡ 4 * f
 weighed value four three two one sum few is = grind (arith, nat_tests)
 
 -- a count, one element more
-count_by-cons : {X : Type 0} (p : X → Bool) (x : X) (xs : List X) → count_by p (x ∷ xs) ≡ cond (p x) 1 0 + count_by p xs
+pub count_by-cons : {X : Type 0} (p : X → Bool) (x : X) (xs : List X) → count_by p (x ∷ xs) ≡ cond (p x) 1 0 + count_by p xs
 count_by-cons p x xs = sum_by-cons (λ x. cond (p x) 1 0) x xs
 
 -- a sum is read from how many elements have each value

@@ -1,3 +1,4 @@
+pub mod CardSet
 pub mod Classes
 pub mod Deck
 pub mod Different

@@ -1,7 +1,8 @@
 // A set of cards has each of the 52 cards once or not at all.
-ghost use Rattle.std.specs.Prelude.{◌≡◌, ℕ, length};
+ghost use Rattle.std.specs.Prelude.{◌≡◌, ◌≤◌, length, count_by};
 
-use crate::card::{Card, Rank, Suit};
+use crate::card::Card;
+use crate::deck::place_in_deck;
 
 /// A set of cards.
 #[derive(Clone, Copy, Debug, PartialEq, Eq)]
@@ -26,7 +27,7 @@ impl CardSet {
     pub fn has(&self, card: Card) -> bool
         ensures { result ≡ is_in self.now card }
     {
-        self.flags[place_of(card)]
+        self.flags[usize::from(place_in_deck(card))]
     }
 
     /// Puts the card into the set; one that is in it stays.
@@ -34,7 +35,7 @@ impl CardSet {
         ensures inside { is_in self.new card ≡ true }
         ensures others { (other : Card) → other ≢ card → is_in self.new other ≡ is_in self.old other }
     {
-        self.flags[place_of(card)] = true;
+        self.flags[usize::from(place_in_deck(card))] = true;
     }
 
     /// Takes the card out of the set; one that is not in it stays out.
@@ -42,21 +43,21 @@ impl CardSet {
         ensures outside { is_in self.new card ≡ false }
         ensures others { (other : Card) → other ≢ card → is_in self.new other ≡ is_in self.old other }
     {
-        self.flags[place_of(card)] = false;
+        self.flags[usize::from(place_in_deck(card))] = false;
     }
 
     /// How many cards are in the set.
     pub fn len(&self) -> u8
         ensures { result ≡ count_of self.now }
     {
-        self.flags.iter().filter(|flag| **flag).count() as u8
+        count_true(&self.flags) as u8
     }
 }
 
-// The place of a card among the 52.
-fn place_of(card: Card) -> usize
-    ensures place { result ≡ card_place card }
-    ensures within { result < 52 }
+// How many of the flags are true.
+fn count_true(flags: &[bool]) -> usize
+    ensures number { result ≡ count_by (λ flag. flag) flags.now }
+    ensures within { result ≤ length flags.now }
 {
-    place_of_suit(card.suit) * 13 + place_of_rank(card.rank)
+    flags.iter().filter(|flag| **flag).count()
 }

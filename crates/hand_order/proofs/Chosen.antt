@@ -76,8 +76,8 @@ drop-past row at past = drop_all at (cards_of row) (omega (arith, length-take ro
 pub greatest_of_both : (points : List Card → Option ℕ) (start : List Card) (n : ℕ) (first : List Card) (m : ℕ) (second : List Card) → start ≡ [] → greatest (λ chosen. greatest (λ more. points ((start ++ chosen) ++ more)) (choices m second)) (choices n first) ≡ greatest points (choices_of_both n first m second)
 greatest_of_both points start n first m second none =
     greatest-agree (λ chosen. greatest (λ more. points ((start ++ chosen) ++ more)) (choices m second)) (λ chosen. greatest points (map (λ others. chosen ++ others) (choices m second))) (choices n first) (λ chosen.
-      ap (λ (l : List Card). greatest (λ more. points ((l ++ chosen) ++ more)) (choices m second)) none
-      ∙ sym (greatest-map points (λ others. chosen ++ others) (choices m second)))
+    ap (λ (l : List Card). greatest (λ more. points ((l ++ chosen) ++ more)) (choices m second)) none
+    ∙ sym (greatest-map points (λ others. chosen ++ others) (choices m second)))
     ∙ sym (greatest-flat_map points (λ chosen. map (λ others. chosen ++ others) (choices m second)) (choices n first))
 
 -- a row without cards is of no suit, and another is of one where all its cards have the suit of the first

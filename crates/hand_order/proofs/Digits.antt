@@ -43,24 +43,25 @@ same_before value [] (y ∷ ys) same digits others = absurd (omega arith)
 same_before value (x ∷ xs) [] same digits others = absurd (omega arith)
 same_before value (x ∷ xs) (y ∷ ys) same digits others =
     let left = with_digits-cons value x xs in
-    let right = with_digits-cons value y ys in
-    (λ less. elim (cases_lt x y) [
-      | inl lower ↦ inl lower
-      | inr above ↦ elim (cases_lt y x) [
-        | inl higher ↦ absurd (omega (arith, after_less (value * 16 + y) (value * 16 + x) ys xs (omega arith) (omega arith) others.1 digits.1))
-        | inr below ↦
-            let equal : x ≡ y = omega arith in
-            let moved = ap (λ (n : ℕ). with_digits (value * 16 + n) ys) equal in
-            inr (equal, (same_before (value * 16 + x) xs ys (omega arith) digits.1 others.1).0 (omega arith))
-      ]
-    ],
-    λ lower. elim lower [
-      | inl first ↦ omega (arith, after_less (value * 16 + x) (value * 16 + y) xs ys (omega arith) (omega arith) digits.1 others.1)
-      | inr rest ↦
-          let moved = ap (λ (n : ℕ). with_digits (value * 16 + n) ys) rest.0 in
-          let later = (same_before (value * 16 + x) xs ys (omega arith) digits.1 others.1).1 rest.1 in
-          omega arith
-    ])
+    let right = with_digits-cons value y ys in (
+      λ less. elim (cases_lt x y) [
+        | inl lower ↦ inl lower
+        | inr above ↦ elim (cases_lt y x) [
+          | inl higher ↦ absurd (omega (arith, after_less (value * 16 + y) (value * 16 + x) ys xs (omega arith) (omega arith) others.1 digits.1))
+          | inr below ↦
+              let equal : x ≡ y = omega arith in
+              let moved = ap (λ (n : ℕ). with_digits (value * 16 + n) ys) equal in
+              inr (equal, (same_before (value * 16 + x) xs ys (omega arith) digits.1 others.1).0 (omega arith))
+        ]
+      ],
+      λ lower. elim lower [
+        | inl first ↦ omega (arith, after_less (value * 16 + x) (value * 16 + y) xs ys (omega arith) (omega arith) digits.1 others.1)
+        | inr rest ↦
+            let moved = ap (λ (n : ℕ). with_digits (value * 16 + n) ys) rest.0 in
+            let later = (same_before (value * 16 + x) xs ys (omega arith) digits.1 others.1).1 rest.1 in
+            omega arith
+      ],
+    )
 
 -- five digits make a number below the sixth place
 pub number_below : (xs : List ℕ) → length xs ≤ 5 → AreDigits xs → with_digits 0 xs < 16 ^ 5
@@ -77,17 +78,18 @@ number_below (a ∷ b ∷ c ∷ d ∷ e ∷ f ∷ rest) few digits = absurd (ome
 pub class_first : (class other : ℕ) (xs ys : List ℕ) → length xs ≤ 5 → length ys ≤ 5 → AreDigits xs → AreDigits ys → (class ≡ other → length xs ≡ length ys) → (class_above class xs < class_above other ys) ↔ ((class < other) ⊎ ((class ≡ other) × IsLower xs ys))
 class_first class other xs ys few few_others digits others same =
     let below = number_below xs few digits in
-    let below_other = number_below ys few_others others in
-    (λ less. elim (cases_lt class other) [
-      | inl lower ↦ inl lower
-      | inr above ↦
-          let equal : class ≡ other = omega arith in
-          inr (equal, (same_before 0 xs ys (same equal) digits others).0 (omega arith))
-    ],
-    λ below_it. elim below_it [
-      | inl lower ↦ omega arith
-      | inr rest ↦
-          let equal = rest.0 in
-          let lower = (same_before 0 xs ys (same rest.0) digits others).1 rest.1 in
-          omega arith
-    ])
+    let below_other = number_below ys few_others others in (
+      λ less. elim (cases_lt class other) [
+        | inl lower ↦ inl lower
+        | inr above ↦
+            let equal : class ≡ other = omega arith in
+            inr (equal, (same_before 0 xs ys (same equal) digits others).0 (omega arith))
+      ],
+      λ below_it. elim below_it [
+        | inl lower ↦ omega arith
+        | inr rest ↦
+            let equal = rest.0 in
+            let lower = (same_before 0 xs ys (same rest.0) digits others).1 rest.1 in
+            omega arith
+      ],
+    )

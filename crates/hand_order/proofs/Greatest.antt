@@ -97,13 +97,13 @@ larger points x xs first rest is says (inr less) = record {
   choice = x;
   among = inl refl;
   pointed = is ∙ ap (λ (n : ℕ). Some n) (omega arith);
-  most = λ other value among pointed. elim among [ | inl here ↦ omega (arith, same_points points other x value first here is pointed) | inr there ↦ omega (arith, says.most other value there pointed) ];
+  most = λ other value among pointed. elim among [ inl here ↦ omega (arith, same_points points other x value first here is pointed) | inr there ↦ omega (arith, says.most other value there pointed) ];
 }
 larger points x xs first rest is says (inl less) = record {
   choice = says.choice;
   among = inr says.among;
   pointed = says.pointed ∙ ap (λ (n : ℕ). Some n) (omega arith);
-  most = λ other value among pointed. elim among [ | inl here ↦ omega (arith, same_points points other x value first here is pointed) | inr there ↦ omega (arith, says.most other value there pointed) ];
+  most = λ other value among pointed. elim among [ inl here ↦ omega (arith, same_points points other x value first here is pointed) | inr there ↦ omega (arith, says.most other value there pointed) ];
 }
 
 -- one choice more
@@ -113,13 +113,13 @@ says-cons points x xs None (Some rest) is says = record {
   choice = says.choice;
   among = inr says.among;
   pointed = says.pointed;
-  most = λ other less among pointed. elim among [ | inl here ↦ absurd (none_some points other x less here is pointed) | inr there ↦ says.most other less there pointed ];
+  most = λ other less among pointed. elim among [ inl here ↦ absurd (none_some points other x less here is pointed) | inr there ↦ says.most other less there pointed ];
 }
 says-cons points x xs (Some first) None is says = record {
   choice = x;
   among = inl refl;
   pointed = is;
-  most = λ other less among pointed. elim among [ | inl here ↦ same_points points other x less first here is pointed | inr there ↦ absurd (none_same points other less (says other there) pointed) ];
+  most = λ other less among pointed. elim among [ inl here ↦ same_points points other x less first here is pointed | inr there ↦ absurd (none_same points other less (says other there) pointed) ];
 }
 says-cons points x xs (Some first) (Some rest) is says = larger points x xs first rest is says (cases_lt first rest)
 

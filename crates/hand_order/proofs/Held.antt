@@ -12,7 +12,7 @@ use Rattle.hand_order.specs.Choices.{choices, allowed, IsAmong, AreHeld, CanJoin
 pub IsAmong-cases : (x : List Card) (xs ys : List (List Card)) → IsAmong x (xs ++ ys) → IsAmong x xs ⊎ IsAmong x ys
 IsAmong-cases x [] ys among = inr among
 IsAmong-cases x (y ∷ xs) ys (inl here) = inl (inl here)
-IsAmong-cases x (y ∷ xs) ys (inr there) = elim (IsAmong-cases x xs ys there) [ | inl left ↦ inl (inr left) | inr right ↦ inr right ]
+IsAmong-cases x (y ∷ xs) ys (inr there) = elim (IsAmong-cases x xs ys there) [ inl left ↦ inl (inr left) | inr right ↦ inr right ]
 
 -- a choice that is made from another
 pub record IsMade (f : List Card → List Card) (x : List Card) (xs : List (List Card)) : Type 0 where
@@ -108,10 +108,11 @@ apart_chosen m (x ∷ xs) ys more among apart = (every_chosen (λ other. x ≢ o
 -- choices of two lists together are held
 pub held_both : (n m : ℕ) (first second chosen others : List Card) → AllDifferent (first ++ second) → IsAmong chosen (choices n first) → IsAmong others (choices m second) → AreHeld (n + m) (chosen ++ others)
 held_both n m first second chosen others different one other =
-    let parts = different_parts first second different in
-    (omega (arith, length-append chosen others, length_chosen n first chosen one, length_chosen m second others other),
-    different_both chosen others (different_chosen n first chosen one parts.0) (different_chosen m second others other parts.1)
-    (every_chosen (λ card. Lacks card others) n first chosen one (apart_chosen m first second others other parts.2)))
+    let parts = different_parts first second different in (
+      omega (arith, length-append chosen others, length_chosen n first chosen one, length_chosen m second others other),
+      different_both chosen others (different_chosen n first chosen one parts.0) (different_chosen m second others other parts.1)
+          (every_chosen (λ card. Lacks card others) n first chosen one (apart_chosen m first second others other parts.2)),
+    )
 
 -- choices that follow no card are held
 pub held_start : (held n : ℕ) (start cards more : List Card) → held ≡ n → start ≡ [] → AllDifferent cards → IsAmong more (choices n cards) → AreHeld held (start ++ more)

@@ -26,9 +26,9 @@ top_is_digit [] digits = omega arith
 top_is_digit (a ∷ []) digits = omega arith
 top_is_digit (a ∷ b ∷ rest) digits = one_of (a == b + 1)
   where
-  one_of : (test : Bool) → cond test a b < 16
-  one_of true = digits.0
-  one_of false = digits.1.0
+    one_of : (test : Bool) → cond test a b < 16
+    one_of true = digits.0
+    one_of false = digits.1.0
 
 -- a straight has five ranks
 run_of_five : (ranks : List ℕ) → is_run ranks ≡ true → length ranks ≡ 5
@@ -50,7 +50,7 @@ low_of_five low (a ∷ b ∷ c ∷ d ∷ e ∷ []) is = refl
 low_of_five low (a ∷ b ∷ c ∷ d ∷ e ∷ f ∷ rest) is = absurd (cc)
 
 straight_of_five : (low : LowStraight) (ranks : List ℕ) → (is_run ranks || is_low_straight low ranks) ≡ true → length ranks ≡ 5
-straight_of_five low ranks is = elim (or_cases (is_run ranks) (is_low_straight low ranks) is) [ | inl run ↦ run_of_five ranks run | inr begun ↦ low_of_five low ranks begun ]
+straight_of_five low ranks is = elim (or_cases (is_run ranks) (is_low_straight low ranks) is) [ inl run ↦ run_of_five ranks run | inr begun ↦ low_of_five low ranks begun ]
 
 -- the ranks of five different cards
 pub record IsFive (cards : List Card) : Type 0 where
@@ -71,17 +71,17 @@ decide_count : (low : LowStraight) (cards : List Card) → length (deciding_rank
 unfolding deciding_ranks
 decide_count low cards = by_test (is_straight low cards)
   where
-  by_test : (test : Bool) → length {A = ℕ} (cond test (straight_top (ranks_of high_ace cards) ∷ []) (ranks_of high_ace cards)) ≡ cond test 1 (length (ranks_of high_ace cards))
-  by_test true = refl
-  by_test false = refl
+    by_test : (test : Bool) → length {A = ℕ} (cond test (straight_top (ranks_of high_ace cards) ∷ []) (ranks_of high_ace cards)) ≡ cond test 1 (length (ranks_of high_ace cards))
+    by_test true = refl
+    by_test false = refl
 
 decide_digits : (low : LowStraight) (cards : List Card) → AreDigits (deciding_ranks low cards)
 unfolding deciding_ranks
 decide_digits low cards = by_test (is_straight low cards)
   where
-  by_test : (test : Bool) → AreDigits (cond test (straight_top (ranks_of high_ace cards) ∷ []) (ranks_of high_ace cards))
-  by_test true = (top_is_digit (ranks_of high_ace cards) (AreDigits-ranks_of high_ace cards), tt)
-  by_test false = AreDigits-ranks_of high_ace cards
+    by_test : (test : Bool) → AreDigits (cond test (straight_top (ranks_of high_ace cards) ∷ []) (ranks_of high_ace cards))
+    by_test true = (top_is_digit (ranks_of high_ace cards) (AreDigits-ranks_of high_ace cards), tt)
+    by_test false = AreDigits-ranks_of high_ace cards
 
 few_decide : (low : LowStraight) (cards : List Card) → length cards ≡ 5 → length (deciding_ranks low cards) ≤ 5
 few_decide low cards five =
@@ -89,9 +89,9 @@ few_decide low cards five =
     let count = decide_count low cards in
     by_test (is_straight low cards) count
   where
-  by_test : (test : Bool) → length (deciding_ranks low cards) ≡ cond test 1 (length (ranks_of high_ace cards)) → length (deciding_ranks low cards) ≤ 5
-  by_test true count = omega (arith, count)
-  by_test false count = omega (arith, count, ranks_of-le high_ace IsHeight-high_ace cards, five)
+    by_test : (test : Bool) → length (deciding_ranks low cards) ≡ cond test 1 (length (ranks_of high_ace cards)) → length (deciding_ranks low cards) ≤ 5
+    by_test true count = omega (arith, count)
+    by_test false count = omega (arith, count, ranks_of-le high_ace IsHeight-high_ace cards, five)
 
 -- the number of the ranks that decide is below the sixth place
 pub decide_below : (low : LowStraight) (cards : List Card) → length cards ≡ 5 → with_digits 0 (deciding_ranks low cards) < 16 ^ 5
@@ -103,16 +103,16 @@ TableSays table missing four three two one straight flush = (place (table four t
 
 -- a hand of five different cards is ranked by a table that says so of each way in which ranks occur
 pub ranked_by : (table : ℕ → ℕ → ℕ → Bool → Bool → List Bool) (missing : List ℕ) → ((four three two one : ℕ) (straight flush : Bool) → 4 * four + 3 * three + 2 * two + one ≡ 5 → (straight ≡ true → four + three + two + one ≡ 5) → (flush ≡ true → four + three + two + one ≡ 5) → TableSays table missing four three two one straight flush)
-  → (low : LowStraight) (class : List Card → ℕ) (cards : List Card) → AreHeld 5 cards → class cards ≡ place (table (ranks_occurring high_ace cards 4) (ranks_occurring high_ace cards 3) (ranks_occurring high_ace cards 2) (is_straight low cards) (one_suit cards)) → IsRanked class (deciding_ranks low) missing 8 5 cards
+    → (low : LowStraight) (class : List Card → ℕ) (cards : List Card) → AreHeld 5 cards → class cards ≡ place (table (ranks_occurring high_ace cards 4) (ranks_occurring high_ace cards 3) (ranks_occurring high_ace cards 2) (is_straight low cards) (one_suit cards)) → IsRanked class (deciding_ranks low) missing 8 5 cards
 ranked_by table missing every low class cards held is =
     let five = five_cards cards held in
     let says = every (ranks_occurring high_ace cards 4) (ranks_occurring high_ace cards 3) (ranks_occurring high_ace cards 2) (ranks_occurring high_ace cards 1) (is_straight low cards) (one_suit cards) five.all (straights_of_five low cards) five.flushes in
     record {
       within = omega (arith, is, says.0);
       long =
-        ap (λ (n : ℕ). n + get_or missing (class cards) 0) (decide_count low cards ∙ ap (λ (n : ℕ). cond (is_straight low cards) 1 n) (length-ranks_of high_ace cards))
-        ∙ ap (λ (n : ℕ). cond (is_straight low cards) 1 (ranks_occurring high_ace cards 4 + ranks_occurring high_ace cards 3 + ranks_occurring high_ace cards 2 + ranks_occurring high_ace cards 1) + get_or missing n 0) is
-        ∙ says.1;
+          ap (λ (n : ℕ). n + get_or missing (class cards) 0) (decide_count low cards ∙ ap (λ (n : ℕ). cond (is_straight low cards) 1 n) (length-ranks_of high_ace cards))
+          ∙ ap (λ (n : ℕ). cond (is_straight low cards) 1 (ranks_occurring high_ace cards 4 + ranks_occurring high_ace cards 3 + ranks_occurring high_ace cards 2 + ranks_occurring high_ace cards 1) + get_or missing n 0) is
+          ∙ says.1;
       few = few_decide low cards held.0;
       digits = decide_digits low cards;
     }
@@ -124,11 +124,11 @@ high_missing = 4 ∷ 3 ∷ 3 ∷ 0 ∷ 4 ∷ 2 ∷ 2 ∷ 1 ∷ 0 ∷ []
 high_says : (four three two one : ℕ) (straight flush : Bool) → 4 * four + 3 * three + 2 * two + one ≡ 5 → (straight ≡ true → four + three + two + one ≡ 5) → (flush ≡ true → four + three + two + one ≡ 5) → TableSays high_table high_missing four three two one straight flush
 high_says four three two one = by_shape (TableSays high_table high_missing) (omega arith, refl) (omega arith, refl) (omega arith, refl) (omega arith, refl) (omega arith, refl) singles four three two one
   where
-  singles : (straight flush : Bool) → TableSays high_table high_missing 0 0 0 5 straight flush
-  singles true true = (omega arith, refl)
-  singles true false = (omega arith, refl)
-  singles false true = (omega arith, refl)
-  singles false false = (omega arith, refl)
+    singles : (straight flush : Bool) → TableSays high_table high_missing 0 0 0 5 straight flush
+    singles true true = (omega arith, refl)
+    singles true false = (omega arith, refl)
+    singles false true = (omega arith, refl)
+    singles false false = (omega arith, refl)
 
 -- hands of the high order are ranked
 pub high_ranked : (low : LowStraight) (cards : List Card) → AreHeld 5 cards → IsRanked (high_class low) (deciding_ranks low) high_missing 8 5 cards
@@ -145,12 +145,12 @@ high_below low cards held = let below = decide_below low cards held.0 in omega a
 
 -- a class by any table and a list that are seen of the cards make a number
 pub table_number_is : (table : ℕ → ℕ → ℕ → Bool → Bool → List Bool) (low : LowStraight) (cards : List Card) (look : Look) (class : ℕ) (list : List ℕ) → IsLookOf look low cards → class ≡ 8 - place (table look.fours look.threes look.pairs look.straight look.flush) → list ≡ heights_of look.deciding
-  → class_above class list ≡ class_above (8 - place (table (ranks_occurring high_ace cards 4) (ranks_occurring high_ace cards 3) (ranks_occurring high_ace cards 2) (is_straight low cards) (one_suit cards))) (deciding_ranks low cards)
+    → class_above class list ≡ class_above (8 - place (table (ranks_occurring high_ace cards 4) (ranks_occurring high_ace cards 3) (ranks_occurring high_ace cards 2) (is_straight low cards) (one_suit cards))) (deciding_ranks low cards)
 table_number_is table low cards look class list is class_is list_is =
     ap (λ (l : List ℕ). class_above class l) (list_is ∙ is.deciding)
     ∙ ap (λ (k : ℕ). class_above k (deciding_ranks low cards)) (class_is
-      ∙ ap (λ (k : ℕ). 8 - place (table k look.threes look.pairs look.straight look.flush)) is.fours
-      ∙ ap (λ (k : ℕ). 8 - place (table (ranks_occurring high_ace cards 4) k look.pairs look.straight look.flush)) is.threes
-      ∙ ap (λ (k : ℕ). 8 - place (table (ranks_occurring high_ace cards 4) (ranks_occurring high_ace cards 3) k look.straight look.flush)) is.pairs
-      ∙ ap (λ (k : Bool). 8 - place (table (ranks_occurring high_ace cards 4) (ranks_occurring high_ace cards 3) (ranks_occurring high_ace cards 2) k look.flush)) is.straight
-      ∙ ap (λ (k : Bool). 8 - place (table (ranks_occurring high_ace cards 4) (ranks_occurring high_ace cards 3) (ranks_occurring high_ace cards 2) (is_straight low cards) k)) is.flush)
+    ∙ ap (λ (k : ℕ). 8 - place (table k look.threes look.pairs look.straight look.flush)) is.fours
+    ∙ ap (λ (k : ℕ). 8 - place (table (ranks_occurring high_ace cards 4) k look.pairs look.straight look.flush)) is.threes
+    ∙ ap (λ (k : ℕ). 8 - place (table (ranks_occurring high_ace cards 4) (ranks_occurring high_ace cards 3) k look.straight look.flush)) is.pairs
+    ∙ ap (λ (k : Bool). 8 - place (table (ranks_occurring high_ace cards 4) (ranks_occurring high_ace cards 3) (ranks_occurring high_ace cards 2) k look.flush)) is.straight
+    ∙ ap (λ (k : Bool). 8 - place (table (ranks_occurring high_ace cards 4) (ranks_occurring high_ace cards 3) (ranks_occurring high_ace cards 2) (is_straight low cards) k)) is.flush)

@@ -39,10 +39,10 @@ points_of_best looks_at is_hand is_weaker points options value lawful are most =
     among = most.among;
     hand = (lawful.scored most.choice (are most.choice most.among)).0 (ap is_some most.pointed);
     unbeaten = λ other among hand weaker.
-      let p = pointed looks_at is_hand is_weaker points lawful other (are other among) hand in
-      let above = (lawful.ordered most.choice other value p.value (are most.choice most.among) (are other among) most.pointed p.is).1 weaker in
-      let below = most.most other p.value among p.is in
-      absurd (omega arith);
+        let p = pointed looks_at is_hand is_weaker points lawful other (are other among) hand in
+        let above = (lawful.ordered most.choice other value p.value (are most.choice most.among) (are other among) most.pointed p.is).1 weaker in
+        let below = most.most other p.value among p.is in
+        absurd (omega arith);
   };
   pointed = most.pointed;
 }
@@ -70,26 +70,27 @@ beats_exactly looks_at is_hand is_weaker points options others None None lawful 
 beats_exactly looks_at is_hand is_weaker points options others None (Some value) lawful are are_others none other = (λ less. absurd less, λ beats. none beats.best beats.is_best.among beats.is_best.hand)
 beats_exactly looks_at is_hand is_weaker points options others (Some value) None lawful are are_others ours no_others = (λ less. record { best = ours.best; is_best = ours.is_best; over = inl no_others }, λ beats. tt)
 beats_exactly looks_at is_hand is_weaker points options others (Some most) (Some value) lawful are are_others ours theirs = (
-    λ less. record { best = ours.best; is_best = ours.is_best; over = inr (theirs.best, theirs.is_best, (lawful.ordered theirs.best ours.best value most (are_others theirs.best theirs.is_best.among) (are ours.best ours.is_best.among) theirs.pointed ours.pointed).0 less) },
-    λ beats. elim beats.over [
-      | inl none ↦ absurd (none theirs.best theirs.is_best.among theirs.is_best.hand)
-      | inr other ↦
-          let high = pointed looks_at is_hand is_weaker points lawful beats.best (are beats.best beats.is_best.among) beats.is_best.hand in
-          let low = pointed looks_at is_hand is_weaker points lawful other.0 (are_others other.0 other.1.among) other.1.hand in
-          let above = best_most looks_at is_hand is_weaker points options ours.best beats.best most high.value lawful are ours.is_best beats.is_best.among beats.is_best.hand ours.pointed high.is in
-          let below = best_most looks_at is_hand is_weaker points others other.0 theirs.best low.value value lawful are_others other.1 theirs.is_best.among theirs.is_best.hand low.is theirs.pointed in
-          let between = (lawful.ordered other.0 beats.best low.value high.value (are_others other.0 other.1.among) (are beats.best beats.is_best.among) low.is high.is).1 other.2 in
-          omega arith
-    ])
+  λ less. record { best = ours.best; is_best = ours.is_best; over = inr (theirs.best, theirs.is_best, (lawful.ordered theirs.best ours.best value most (are_others theirs.best theirs.is_best.among) (are ours.best ours.is_best.among) theirs.pointed ours.pointed).0 less) },
+  λ beats. elim beats.over [
+    | inl none ↦ absurd (none theirs.best theirs.is_best.among theirs.is_best.hand)
+    | inr other ↦
+        let high = pointed looks_at is_hand is_weaker points lawful beats.best (are beats.best beats.is_best.among) beats.is_best.hand in
+        let low = pointed looks_at is_hand is_weaker points lawful other.0 (are_others other.0 other.1.among) other.1.hand in
+        let above = best_most looks_at is_hand is_weaker points options ours.best beats.best most high.value lawful are ours.is_best beats.is_best.among beats.is_best.hand ours.pointed high.is in
+        let below = best_most looks_at is_hand is_weaker points others other.0 theirs.best low.value value lawful are_others other.1 theirs.is_best.among theirs.is_best.hand low.is theirs.pointed in
+        let between = (lawful.ordered other.0 beats.best low.value high.value (are_others other.0 other.1.among) (are beats.best beats.is_best.among) low.is high.is).1 other.2 in
+        omega arith
+  ],
+)
 
 -- an order in which each hand has a number is lawful where the numbers compare as the hands do
 pub lawful_by_numbers : (looks_at : List Card → Type 0) (is_weaker : List Card → List Card → Type 0) (number : List Card → ℕ) → ((a b : List Card) → looks_at a → looks_at b → (number a < number b) ↔ is_weaker a b) → IsLawful looks_at (λ cards. Unit {0}) is_weaker (λ cards. Some (number cards))
 lawful_by_numbers looks_at is_weaker number law = record {
   scored = λ cards are. (λ some. tt, λ hand. refl);
   ordered = λ a b low high are_a are_b is_low is_high.
-    let low_is = same_Some (number a) low is_low in
-    let high_is = same_Some (number b) high is_high in
-    subst (λ (n : ℕ). (n < high) ↔ is_weaker a b) low_is (subst (λ (n : ℕ). (number a < n) ↔ is_weaker a b) high_is (law a b are_a are_b));
+      let low_is = same_Some (number a) low is_low in
+      let high_is = same_Some (number b) high is_high in
+      subst (λ (n : ℕ). (n < high) ↔ is_weaker a b) low_is (subst (λ (n : ℕ). (number a < n) ↔ is_weaker a b) high_is (law a b are_a are_b));
 }
 
 -- the greatest points of choices are what the choices are worth

@@ -26,15 +26,16 @@ as_many class list missing last total a b is_a is_b same =
 -- where high ranks are good
 pub ranked_law : (class : List Card → ℕ) (list : List Card → List ℕ) (missing : List ℕ) (last total : ℕ) (a b : List Card) → IsRanked class list missing last total a → IsRanked class list missing last total b → (class_above (last - class a) (list a) < class_above (last - class b) (list b)) ↔ IsBelow class list a b
 ranked_law class list missing last total a b is_a is_b =
-    let law = class_first (last - class a) (last - class b) (list a) (list b) is_a.few is_b.few is_a.digits is_b.digits (λ equal. as_many class list missing last total a b is_a is_b (omega (arith, is_a.within, is_b.within))) in
-    (λ less. elim (law.0 less) [
-      | inl lower ↦ inl (omega arith)
-      | inr rest ↦ let e = rest.0 in inr (omega (arith, is_a.within, is_b.within), rest.1)
-    ],
-    λ below. law.1 (elim below [
-      | inl worse ↦ inl (omega (arith, is_a.within, is_b.within))
-      | inr rest ↦ let e = rest.0 in inr (omega arith, rest.1)
-    ]))
+    let law = class_first (last - class a) (last - class b) (list a) (list b) is_a.few is_b.few is_a.digits is_b.digits (λ equal. as_many class list missing last total a b is_a is_b (omega (arith, is_a.within, is_b.within))) in (
+      λ less. elim (law.0 less) [
+        | inl lower ↦ inl (omega arith)
+        | inr rest ↦ let e = rest.0 in inr (omega (arith, is_a.within, is_b.within), rest.1)
+      ],
+      λ below. law.1 (elim below [
+        | inl worse ↦ inl (omega (arith, is_a.within, is_b.within))
+        | inr rest ↦ let e = rest.0 in inr (omega arith, rest.1)
+      ]),
+    )
 
 -- a number with a low class is below the seventh place
 pub ranked_below : (class : List Card → ℕ) (list : List Card → List ℕ) (missing : List ℕ) (last total : ℕ) (cards : List Card) → IsRanked class list missing last total cards → last ≤ 8 → class_above (class cards) (list cards) < 16 ^ 6
@@ -45,9 +46,10 @@ pub ranked_low_law : (class : List Card → ℕ) (list : List Card → List ℕ)
 ranked_low_law class list missing last total a b few is_a is_b =
     let law = class_first (class b) (class a) (list b) (list a) is_b.few is_a.few is_b.digits is_a.digits (λ equal. as_many class list missing last total b a is_b is_a equal) in
     let below_a = ranked_below class list missing last total a is_a few in
-    let below_b = ranked_below class list missing last total b is_b few in
-    (λ less. elim (law.0 (omega arith)) [ | inl worse ↦ inl worse | inr rest ↦ inr (sym rest.0, rest.1) ],
-    λ below. let greater = law.1 (elim below [ | inl worse ↦ inl worse | inr rest ↦ inr (sym rest.0, rest.1) ]) in omega arith)
+    let below_b = ranked_below class list missing last total b is_b few in (
+      λ less. elim (law.0 (omega arith)) [ inl worse ↦ inl worse | inr rest ↦ inr (sym rest.0, rest.1) ],
+      λ below. let greater = law.1 (elim below [ inl worse ↦ inl worse | inr rest ↦ inr (sym rest.0, rest.1) ]) in omega arith,
+    )
 
 -- what a table of classes without straights and flushes says of its hands
 abbrev pub PlainSays : (ℕ → ℕ → ℕ → List Bool) → List ℕ → ℕ → ℕ → ℕ → ℕ → ℕ → ℕ → Type 0
@@ -55,7 +57,7 @@ PlainSays table missing last most four three two one = 4 * four + 3 * three + 2 
 
 -- hands are ranked by a table that says so of each way in which ranks occur
 pub ranked_plain : (table : ℕ → ℕ → ℕ → List Bool) (missing : List ℕ) (last most : ℕ) → ((four three two one : ℕ) → PlainSays table missing last most four three two one)
-  → (height : Rank → ℕ) → IsHeight height → ((cards : List Card) → AreDigits (ranks_of height cards)) → (class : List Card → ℕ) (cards : List Card) → most ≤ 5 → length cards ≤ most → AllDifferent cards → class cards ≡ place (table (ranks_occurring height cards 4) (ranks_occurring height cards 3) (ranks_occurring height cards 2)) → IsRanked class (ranks_of height) missing last (length cards) cards
+    → (height : Rank → ℕ) → IsHeight height → ((cards : List Card) → AreDigits (ranks_of height cards)) → (class : List Card → ℕ) (cards : List Card) → most ≤ 5 → length cards ≤ most → AllDifferent cards → class cards ≡ place (table (ranks_occurring height cards 4) (ranks_occurring height cards 3) (ranks_occurring height cards 2)) → IsRanked class (ranks_of height) missing last (length cards) cards
 ranked_plain table missing last most every height is_height digits class cards most_few few different is =
     let all = counted height is_height cards (few_times height is_height cards different) in
     let says = every (ranks_occurring height cards 4) (ranks_occurring height cards 3) (ranks_occurring height cards 2) (ranks_occurring height cards 1) (omega arith) in

@@ -28,7 +28,7 @@ by_shape P quads full trips pairs pair none four three two one straight flush fi
     (λ singles straight flush five straights flushes. subst (λ (n : ℕ). P 0 0 0 n straight flush) (omega arith) (none straight flush))
     four three two one (omega arith) straight flush five straights flushes
   where
-  plain : (P : ℕ → ℕ → ℕ → ℕ → Bool → Bool → Type 0) (four three two one : ℕ) → P four three two one false false → four + three + two + one < 5 → 4 * four + 3 * three + 2 * two + one ≡ 5 → (singles : ℕ) → OfFive P four three two singles
-  plain P four three two one holds few five singles false false all straights flushes = subst (λ (n : ℕ). P four three two n false false) (omega arith) holds
-  plain P four three two one holds few five singles true flush all straights flushes = absurd (omega (arith, straights refl))
-  plain P four three two one holds few five singles false true all straights flushes = absurd (omega (arith, flushes refl))
+    plain : (P : ℕ → ℕ → ℕ → ℕ → Bool → Bool → Type 0) (four three two one : ℕ) → P four three two one false false → four + three + two + one < 5 → 4 * four + 3 * three + 2 * two + one ≡ 5 → (singles : ℕ) → OfFive P four three two singles
+    plain P four three two one holds few five singles false false all straights flushes = subst (λ (n : ℕ). P four three two n false false) (omega arith) holds
+    plain P four three two one holds few five singles true flush all straights flushes = absurd (omega (arith, straights refl))
+    plain P four three two one holds few five singles false true all straights flushes = absurd (omega (arith, flushes refl))

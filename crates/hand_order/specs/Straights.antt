@@ -40,16 +40,16 @@ deciding_ranks low cards = if is_straight low cards then straight_top (ranks_of 
 unfoldable pub high_class : LowStraight → List Card → ℕ
 high_class low cards =
     place (
-      (is_straight low cards && one_suit cards)
-      ∷ four_of_a_kind high_ace cards
-      ∷ full_house high_ace cards
-      ∷ one_suit cards
-      ∷ is_straight low cards
-      ∷ three_of_a_kind high_ace cards
-      ∷ two_pair high_ace cards
-      ∷ one_pair high_ace cards
-      ∷ no_pair high_ace cards
-      ∷ []
+    (is_straight low cards && one_suit cards)
+    ∷ four_of_a_kind high_ace cards
+    ∷ full_house high_ace cards
+    ∷ one_suit cards
+    ∷ is_straight low cards
+    ∷ three_of_a_kind high_ace cards
+    ∷ two_pair high_ace cards
+    ∷ one_pair high_ace cards
+    ∷ no_pair high_ace cards
+    ∷ []
     )
 
 -- a hand is weaker in the high order, where an ace begins this straight or none

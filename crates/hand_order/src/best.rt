@@ -100,7 +100,13 @@ pub trait Judge {
 }
 
 /// The best that can be had with `chosen` and `need` of the cards from place `from` on.
-pub fn best_choice<J: Judge>(judge: &J, cards: &CardRow, from: u8, chosen: CardRow, need: u8) -> Option<Score>
+pub fn best_choice<J: Judge>(
+    judge: &J,
+    cards: &CardRow,
+    from: u8,
+    chosen: CardRow,
+    need: u8,
+) -> Option<Score>
     requires room { chosen.len + need ≤ 7 }
     requires accepted { (more : List Card) → IsAmong more (choices need (drop from (cards_of cards.now)))
         → J.accepts judge.now (cards_of chosen ++ more) }

@@ -53,7 +53,11 @@ fn all_heights() -> [u8; 14]
 fn times_of(cards: &CardRow, ace: Ace, height: u8) -> usize
     ensures { result ≡ times (height_with ace) (cards_of cards.now) height }
 {
-    cards.as_slice().iter().filter(|card| height_of(card.rank, ace) == height).count()
+    cards
+        .as_slice()
+        .iter()
+        .filter(|card| height_of(card.rank, ace) == height)
+        .count()
 }
 
 /// How many ranks occur so many times among the cards.
@@ -62,7 +66,10 @@ pub fn count_of_ranks(cards: &CardRow, ace: Ace, occurrences: usize) -> usize
     ensures { result ≡ length (occurring (height_with ace) (cards_of cards.now) occurrences) }
 {
     let heights = all_heights();
-    heights.iter().filter(|height| times_of(cards, ace, **height) == occurrences).count()
+    heights
+        .iter()
+        .filter(|height| times_of(cards, ace, **height) == occurrences)
+        .count()
 }
 
 /// The different heights of the cards, first those that occur oftener, then the greater.

@@ -8,7 +8,7 @@ ghost use Rattle.hand_order.specs.Heights.{heights_of};
 ghost use Rattle.hand_order.specs.Straights.{is_low_straight, is_run, straight_top};
 
 use crate::row::RankRow;
-use card_set::{Card, CardRow, Suit};
+use card_set::{Card, CardRow, Suit, place_of_suit};
 
 /// Which straight the ace begins, beside the one that it ends.
 #[derive(Clone, Copy, Debug, PartialEq, Eq)]
@@ -19,18 +19,6 @@ pub enum LowStraight {
     NineHigh,
     /// None: the ace is always high.
     Nothing,
-}
-
-/// The place of a suit in the order c, d, h, s. It tells suits apart, and orders no hands.
-pub fn place_of_suit(suit: Suit) -> u8
-    ensures { result ≡ suits_before suit }
-{
-    match suit {
-        Suit::C => 0,
-        Suit::D => 1,
-        Suit::H => 2,
-        Suit::S => 3,
-    }
 }
 
 /// Whether the cards are of one suit.
@@ -47,7 +35,9 @@ pub fn is_flush(cards: &CardRow) -> bool
 fn are_of_suit(cards: &[Card], suit: Suit) -> bool
     ensures { result ≡ list_all (λ card. suits_before card.suit == suits_before suit) cards.now }
 {
-    cards.iter().all(|card| place_of_suit(card.suit) == place_of_suit(suit))
+    cards
+        .iter()
+        .all(|card| place_of_suit(card.suit) == place_of_suit(suit))
 }
 
 // Five heights, each one above the next.
@@ -55,7 +45,10 @@ fn runs_down(heights: &[u8]) -> bool
     ensures { result ≡ is_run heights.now }
 {
     match heights {
-        [a, b, c, d, e] => u16::from(*a) == u16::from(*b) + 1 && u16::from(*b) == u16::from(*c) + 1 && u16::from(*c) == u16::from(*d) + 1 && u16::from(*d) == u16::from(*e) + 1,
+        [a, b, c, d, e] => u16::from(*a) == u16::from(*b) + 1
+            && u16::from(*b) == u16::from(*c) + 1
+            && u16::from(*c) == u16::from(*d) + 1
+            && u16::from(*d) == u16::from(*e) + 1,
         _ => false,
     }
 }
@@ -79,7 +72,11 @@ fn top_of(heights: &[u8]) -> u8
     ensures { result ≡ straight_top heights.now }
 {
     match heights {
-        [a, b, ..] => if u16::from(*a) == u16::from(*b) + 1 { *a } else { *b },
+        [a, b, ..] => if u16::from(*a) == u16::from(*b) + 1 {
+            *a
+        } else {
+            *b
+        },
         _ => 0,
     }
 }

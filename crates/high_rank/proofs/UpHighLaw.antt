@@ -40,6 +40,6 @@ unfolding up_high_class
 up_number_is cards fours threes pairs class list is_fours is_threes is_pairs is_class is_list =
     ap (λ (l : List ℕ). class_above class l) is_list
     ∙ ap (λ (k : ℕ). class_above k (ranks_of high_ace cards)) (is_class
-      ∙ ap (λ (k : ℕ). 4 - place (up_high_table k threes pairs)) is_fours
-      ∙ ap (λ (k : ℕ). 4 - place (up_high_table (ranks_occurring high_ace cards 4) k pairs)) is_threes
-      ∙ ap (λ (k : ℕ). 4 - place (up_high_table (ranks_occurring high_ace cards 4) (ranks_occurring high_ace cards 3) k)) is_pairs)
+    ∙ ap (λ (k : ℕ). 4 - place (up_high_table k threes pairs)) is_fours
+    ∙ ap (λ (k : ℕ). 4 - place (up_high_table (ranks_occurring high_ace cards 4) k pairs)) is_threes
+    ∙ ap (λ (k : ℕ). 4 - place (up_high_table (ranks_occurring high_ace cards 4) (ranks_occurring high_ace cards 3) k)) is_pairs)

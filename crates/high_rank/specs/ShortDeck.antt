@@ -11,16 +11,16 @@ use Rattle.hand_order.specs.Straights.{is_straight, deciding_ranks}
 unfoldable pub short_class : List Card → ℕ
 short_class cards =
     place (
-      (is_straight straights.NineHigh cards && one_suit cards)
-      ∷ four_of_a_kind high_ace cards
-      ∷ one_suit cards
-      ∷ full_house high_ace cards
-      ∷ is_straight straights.NineHigh cards
-      ∷ three_of_a_kind high_ace cards
-      ∷ two_pair high_ace cards
-      ∷ one_pair high_ace cards
-      ∷ no_pair high_ace cards
-      ∷ []
+    (is_straight straights.NineHigh cards && one_suit cards)
+    ∷ four_of_a_kind high_ace cards
+    ∷ one_suit cards
+    ∷ full_house high_ace cards
+    ∷ is_straight straights.NineHigh cards
+    ∷ three_of_a_kind high_ace cards
+    ∷ two_pair high_ace cards
+    ∷ one_pair high_ace cards
+    ∷ no_pair high_ace cards
+    ∷ []
     )
 
 -- a hand of five cards is weaker than another

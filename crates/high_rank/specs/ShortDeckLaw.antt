@@ -23,11 +23,11 @@ short_missing = 4 ∷ 3 ∷ 0 ∷ 3 ∷ 4 ∷ 2 ∷ 2 ∷ 1 ∷ 0 ∷ []
 short_says : (four three two one : ℕ) (straight flush : Bool) → 4 * four + 3 * three + 2 * two + one ≡ 5 → (straight ≡ true → four + three + two + one ≡ 5) → (flush ≡ true → four + three + two + one ≡ 5) → TableSays short_table short_missing four three two one straight flush
 short_says four three two one = by_shape (TableSays short_table short_missing) (omega arith, refl) (omega arith, refl) (omega arith, refl) (omega arith, refl) (omega arith, refl) singles four three two one
   where
-  singles : (straight flush : Bool) → TableSays short_table short_missing 0 0 0 5 straight flush
-  singles true true = (omega arith, refl)
-  singles true false = (omega arith, refl)
-  singles false true = (omega arith, refl)
-  singles false false = (omega arith, refl)
+    singles : (straight flush : Bool) → TableSays short_table short_missing 0 0 0 5 straight flush
+    singles true true = (omega arith, refl)
+    singles true false = (omega arith, refl)
+    singles false true = (omega arith, refl)
+    singles false false = (omega arith, refl)
 
 pub short_ranked : (cards : List Card) → AreHeld 5 cards → IsRanked short_class (deciding_ranks straights.NineHigh) short_missing 8 5 cards
 unfolding short_class

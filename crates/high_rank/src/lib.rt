@@ -5,6 +5,6 @@ mod short_deck;
 mod up_cards;
 mod whole_deck;
 
-pub use whole_deck::High;
 pub use short_deck::ShortDeckHigh;
 pub use up_cards::up_high;
+pub use whole_deck::High;

@@ -50,10 +50,10 @@ lawful_razz = lawful_by_numbers (AreHeld 5) razz.IsWeaker low_points (λ a b hel
 
 pub lawful_deuce_seven : IsLawful (AreHeld 5) deuce.IsHand deuce.IsWeaker deuce.points
 lawful_deuce_seven = lawful_by_numbers (AreHeld 5) deuce.IsWeaker (λ cards. 16 ^ 6 - high_points straights.Nothing cards) (λ a b held_a held_b.
-  let law = high_ordered straights.Nothing b a held_b held_a in
-  let below_a = high_below straights.Nothing a held_a in
-  let below_b = high_below straights.Nothing b held_b in
-  (λ less. law.0 (omega arith), λ weaker. let greater = law.1 weaker in omega arith))
+    let law = high_ordered straights.Nothing b a held_b held_a in
+    let below_a = high_below straights.Nothing a held_a in
+    let below_b = high_below straights.Nothing b held_b in
+    (λ less. law.0 (omega arith), λ weaker. let greater = law.1 weaker in omega arith))
 
 -- cards without a pair have the best class
 best_class : (cards : List Card) → no_pair low_ace cards ≡ true → low_class cards ≡ 0
@@ -73,9 +73,10 @@ eight_ordered a b low high held_a held_b is_low is_high =
     let good_b = qualified_points b high is_high in
     let class_a = best_class a (and_parts (no_pair low_ace a) (list_all (λ card. nat_le (low_ace card.rank) 8) a) good_a.0).0 in
     let class_b = best_class b (and_parts (no_pair low_ace b) (list_all (λ card. nat_le (low_ace card.rank) 8) b) good_b.0).0 in
-    let law = low_ordered a b (omega (arith, held_a.0)) (held_a.0 ∙ sym held_b.0) held_a.1 held_b.1 in
-    (λ less. elim (law.0 (omega (arith, good_a.1, good_b.1))) [ | inl worse ↦ absurd (omega arith) | inr rest ↦ rest.1 ],
-    λ weaker. let less = law.1 (inr (class_a ∙ sym class_b, weaker)) in omega (arith, good_a.1, good_b.1))
+    let law = low_ordered a b (omega (arith, held_a.0)) (held_a.0 ∙ sym held_b.0) held_a.1 held_b.1 in (
+      λ less. elim (law.0 (omega (arith, good_a.1, good_b.1))) [ inl worse ↦ absurd (omega arith) | inr rest ↦ rest.1 ],
+      λ weaker. let less = law.1 (inr (class_a ∙ sym class_b, weaker)) in omega (arith, good_a.1, good_b.1),
+    )
 
 pub lawful_eight_low : IsLawful (AreHeld 5) eight.IsHand eight.IsWeaker eight.points
 lawful_eight_low = record {

@@ -54,7 +54,11 @@ impl HandOrder for EightLow {
     const HELD: u8 = 5;
 
     fn score(cards: &CardRow) -> Option<Score> {
-        if is_qualified(cards) { Some(low_score(cards)) } else { None }
+        if is_qualified(cards) {
+            Some(low_score(cards))
+        } else {
+            None
+        }
     }
 
     ghost lawful = { lawful_eight_low };
@@ -81,7 +85,14 @@ fn is_low(rank: Rank) -> bool
     ensures { result ≡ nat_le (low_ace rank) 8 }
 {
     match rank {
-        Rank::Ace | Rank::Two | Rank::Three | Rank::Four | Rank::Five | Rank::Six | Rank::Seven | Rank::Eight => true,
+        Rank::Ace
+        | Rank::Two
+        | Rank::Three
+        | Rank::Four
+        | Rank::Five
+        | Rank::Six
+        | Rank::Seven
+        | Rank::Eight => true,
         Rank::Nine | Rank::Ten | Rank::Jack | Rank::Queen | Rank::King => false,
     }
 }

@@ -25,17 +25,31 @@ returns-then-from-cards g t c =
 pub best_choice-requires : goal.best_choice-requires
 best_choice-requires g t c κs within =
     let left = drop-row c.args.cards.now c.args.from (omega arith) in
-    let longer = c.push.ensures.longer in
-    (search rules, (within, (omega arith,
-    accepted_with (g.J.Judge.accepts c.args.judge.now) (cards_of c.args.chosen) (cards_of c.push.new.self) (drop (c.args.from + 1) (cards_of c.args.cards.now)) (get_or c.args.cards.now.cards c.args.from filler_card) c.args.need (omega arith) c.push.ensures.entries
-    (rw left at c.requires.accepted))))
+    let longer = c.push.ensures.longer in (
+      search rules,
+      (
+        within,
+        (
+          omega arith,
+          accepted_with (g.J.Judge.accepts c.args.judge.now) (cards_of c.args.chosen) (cards_of c.push.new.self) (drop (c.args.from + 1) (cards_of c.args.cards.now)) (get_or c.args.cards.now.cards c.args.from filler_card) c.args.need (omega arith) c.push.ensures.entries
+              (rw left at c.requires.accepted),
+        ),
+      ),
+    )
 
 pub best_choice-requires-2 : goal.best_choice-requires-2
 best_choice-requires-2 g t c κs within =
-    let left = drop-row c.args.cards.now c.args.from (omega arith) in
-    (search rules, (within, (c.requires.room,
-    accepted_without (g.J.Judge.accepts c.args.judge.now) (cards_of c.args.chosen) (drop (c.args.from + 1) (cards_of c.args.cards.now)) (get_or c.args.cards.now.cards c.args.from filler_card) c.args.need (omega arith)
-    (rw left at c.requires.accepted))))
+    let left = drop-row c.args.cards.now c.args.from (omega arith) in (
+      search rules,
+      (
+        within,
+        (
+          c.requires.room,
+          accepted_without (g.J.Judge.accepts c.args.judge.now) (cards_of c.args.chosen) (drop (c.args.from + 1) (cards_of c.args.cards.now)) (get_or c.args.cards.now.cards c.args.from filler_card) c.args.need (omega arith)
+              (rw left at c.requires.accepted),
+        ),
+      ),
+    )
 
 pub returns : goal.returns
 returns g t c =
