@@ -2,10 +2,12 @@
 #![tactic(auto)]
 
 pub mod numbers;
+pub mod pots;
 pub mod rows;
 pub mod sums;
 
 pub use numbers::{Chips, MOST_CHIPS, Seat};
+pub use pots::{Pot, PotRow, ShareRow};
 pub use rows::{LiveRow, MOST_AMOUNT, SeatRow};
 pub use sums::total;
 
