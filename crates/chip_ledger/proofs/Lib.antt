@@ -4,3 +4,8 @@ pub mod Same
 pub mod Fillers
 pub mod SameEntries
 pub mod PotExamples
+pub mod Different
+pub mod Lists
+pub mod PotLevels
+pub mod PotSums
+pub mod PotSeats

@@ -1,6 +1,6 @@
 -- The pots of a hand: what is returned, the levels at which chips are cut, and who may win each pot.
 use Rattle.std.specs.Prelude.{ℕ, ◌+◌, ◌-◌, ◌==◌, ◌&&◌, ◌||◌, Bool, not, if◌then◌else◌, List, [], ◌∷◌, min, max, nat_lt, nat_le, map, filter, fold, sum_by}
-use Rattle.std.specs.List.{list_all}
+use Rattle.std.specs.List.{list_all, list_any}
 
 -- a seat at the end of a hand: its number, the chips that it put and that count, and whether it is live
 pub record Stake : Type 0 where
@@ -12,6 +12,10 @@ pub record Stake : Type 0 where
 pub record PlainPot : Type 0 where
   pub chips : ℕ
   pub eligible : List ℕ
+
+-- whether a seat may win a pot
+abbrev pub may_win : PlainPot → ℕ → Bool
+may_win pot seat = list_any (λ n. n == seat) pot.eligible
 
 -- the chips of a seat that count: what it put, but for its ante where antes are dead
 abbrev pub counted : Bool → ℕ → ℕ → ℕ
