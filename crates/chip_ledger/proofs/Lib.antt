@@ -9,3 +9,5 @@ pub mod Lists
 pub mod PotLevels
 pub mod PotSums
 pub mod PotSeats
+pub mod Stakes
+pub mod StakeRows

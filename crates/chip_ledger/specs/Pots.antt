@@ -100,8 +100,11 @@ pots_at stakes dead (first ∷ rest) =
     then with_dead dead (layers stakes 0 (first ∷ rest))
     else record { chips = dead; eligible = reaching stakes 0 } ∷ layers stakes 0 (first ∷ rest)
 
--- the pots of a hand from its stakes and dead chips, the lowest first, without empty ones
+-- the pots that have chips
+abbrev pub with_chips : List PlainPot → List PlainPot
+with_chips pots = filter (λ pot. nat_lt 0 pot.chips) pots
+
+-- the pots of a hand from its stakes and dead chips, the lowest first
 unfoldable pub pots_of : List Stake → ℕ → List PlainPot
 pots_of stakes dead =
-    let left = after_return stakes in
-    filter (λ pot. nat_lt 0 pot.chips) (pots_at left dead (levels left))
+    let left = after_return stakes in with_chips (pots_at left dead (levels left))

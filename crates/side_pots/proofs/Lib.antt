@@ -1,0 +1,1 @@
+-- Lemmas on the stakes of the first seats.
