@@ -189,3 +189,26 @@ pub first_above-with_number : (b : ℕ) (ys : List ℕ) (x : ℕ)
 first_above-with_number b [] x = front (nat_lt b x) x []
 first_above-with_number b (y ∷ ys) x =
     first_placed b x y ys (with_number ys x) (x == y) (nat_lt x y) (eqb-true x y) (λ _. ltb-true x y) (above_from_tests x y) (first_above-with_number b ys x)
+
+length_placed : (x y : ℕ) (ys placed : List ℕ) (same less : Bool)
+    → length placed ≤ length ys + 1
+    → length (cond same (y ∷ ys) (cond less (x ∷ y ∷ ys) (y ∷ placed))) ≤ length (y ∷ ys) + 1
+length_placed x y ys placed true less h = omega arith
+length_placed x y ys placed false true h = omega arith
+length_placed x y ys placed false false h = omega arith
+
+length-with_number : (ys : List ℕ) (x : ℕ) → length (with_number ys x) ≤ length ys + 1
+length-with_number [] x = omega arith
+length-with_number (y ∷ ys) x =
+    length_placed x y ys (with_number ys x) (x == y) (nat_lt x y) (length-with_number ys x)
+
+length_added : (ys xs : List ℕ) → length (fold with_number ys xs) ≤ length ys + length xs
+length_added ys [] = omega arith
+length_added ys (x ∷ xs) =
+    let h = length_added (with_number ys x) xs in
+    let k = length-with_number ys x in
+    omega arith
+
+-- there are at most as many different numbers as numbers
+pub length-different : (xs : List ℕ) → length (different xs) ≤ length xs
+length-different xs = let h = length_added [] xs in omega arith

@@ -11,3 +11,5 @@ pub mod PotSums
 pub mod PotSeats
 pub mod Stakes
 pub mod StakeRows
+pub mod Flags
+pub mod PlainPots

@@ -1,19 +1,21 @@
 -- The levels of some stakes are exactly the chips above 0 of live seats, and they rise.
-use Rattle.std.proofs.Common.{◌≡◌, ℕ, ◌<◌, ◌≤◌, Bool, true, false, ◌&&◌, ◌||◌, ◌==◌, List, [], ◌∷◌, refl, sym, ap, ◌∙◌, arith, nat_lt, nat_le, map, filter}
+use Rattle.std.proofs.Common.{◌≡◌, ℕ, ◌<◌, ◌≤◌, Bool, true, false, ◌&&◌, ◌||◌, ◌==◌, List, [], ◌∷◌, refl, sym, ap, ◌∙◌, arith, nat_lt, nat_le, length, map, filter, count_by}
 use Rattle.std.specs.List.{list_any}
 use Rattle.std.proofs.lemmas.Bool.{ltb-true, eqb-true, le-leb, eq-eqb, and_parts, and_from, or_left}
 use Rattle.std.proofs.lemmas.Bool.Decides.{nat_tests}
+use Rattle.std.proofs.lemmas.List.{length-map}
+use Rattle.std.proofs.lemmas.List.Sums.{count_by-le-length, length-filter}
 use Rattle.std.proofs.lemmas.List.Elements.{All-map, All-weaker, filter_passes}
 use Rattle.chip_ledger.specs.Pots.{Stake, levels}
 use Rattle.chip_ledger.proofs.Lists.{list_any-map, list_any-filter, list_any-same, list_any-weaker, list_any-from_nothing}
-use Rattle.chip_ledger.proofs.Different.{Rising, Rising-different, list_any-different}
+use Rattle.chip_ledger.proofs.Different.{Rising, Rising-different, length-different, list_any-different}
 
 -- a seat whose chips make a level
 abbrev pub makes_level : Stake → Bool
 makes_level s = s.live && nat_lt 0 s.chips
 
-chips : Stake → ℕ
-chips s = s.chips
+
+
 
 -- a test passes at a level exactly where it passes at the chips above 0 of a live seat
 pub list_any-levels : (p : ℕ → Bool) (stakes : List Stake)
@@ -55,3 +57,15 @@ level_reached b x rest stakes e =
         let same = eqb-true s.chips x parts.1 in
         and_from s.live (nat_le x s.chips) (and_parts s.live (nat_lt 0 s.chips) parts.0).0 (le-leb x s.chips (omega arith)) in
     list_any-weaker (λ s. makes_level s && (s.chips == x)) (λ (s : Stake). s.live && nat_le x s.chips) reaches stakes (sym (list_any-levels (λ y. y == x) stakes) ∙ among)
+
+-- there are at most as many levels as seats
+pub length-levels : (stakes : List Stake) → length (levels stakes) ≤ length stakes
+unfolding levels
+length-levels stakes =
+    let chips : Stake → ℕ = λ s. s.chips in
+    let live = filter makes_level stakes in
+    let a = length-different (map chips live) in
+    let b = length-map live chips in
+    let c : length live ≡ count_by makes_level stakes = length-filter makes_level stakes in
+    let d = count_by-le-length makes_level stakes in
+    omega arith

@@ -1,7 +1,7 @@
 -- What the stakes of two rows are, read from the rows.
-use Rattle.std.proofs.Common.{◌≡◌, ◌≢◌, ℕ, ◌-◌, ◌≤◌, Bool, true, false, ◌&&◌, cond, List, [], ◌∷◌, refl, sym, ap, ◌∙◌, subst, nat_le, map, filter, sum_by}
+use Rattle.std.proofs.Common.{◌≡◌, ◌≢◌, ℕ, ◌-◌, ◌≤◌, Bool, true, false, ◌&&◌, cond, List, [], ◌∷◌, refl, sym, ap, ◌∙◌, arith, nat_le, map, filter, sum_by}
 use Rattle.std.specs.List.{list_any}
-use Rattle.std.proofs.lemmas.Bool.{true_from_ne_false, or_parts}
+use Rattle.std.proofs.lemmas.Bool.{le-leb, true_from_ne_false, or_parts}
 use Rattle.chip_ledger.specs.declared.rows.LiveRow.{LiveRow}
 use Rattle.chip_ledger.specs.declared.rows.SeatRow.{SeatRow}
 use Rattle.chip_ledger.specs.LiveRow.{flag_of, flagged}
@@ -24,6 +24,10 @@ seats_kept : (puts : SeatRow) (live : LiveRow) (q : Stake → Bool) (ns : List �
 seats_kept puts live q [] = refl
 seats_kept puts live q (n ∷ ns) =
     kept_seat puts live q n (filter (λ m. q (stake_of puts live m)) ns) (filter q (map (stake_of puts live) ns)) (q (stake_of puts live n)) (seats_kept puts live q ns)
+
+and_zero : (b : Bool) (n : ℕ) → b ≡ (b && nat_le 0 n)
+and_zero true n = sym (le-leb 0 n (omega arith))
+and_zero false n = refl
 
 -- a row of flags that says of each seat whether it is live and reaches a level
 pub flagged-reaching : (row : LiveRow) (puts : SeatRow) (live : LiveRow) (level : ℕ)
@@ -77,3 +81,10 @@ live_stake puts live seats some =
     let any : list_any (flag_of live) (seats_of live.seats) ≡ true =
         true_from_ne_false (list_any (flag_of live) (seats_of live.seats)) (λ none. some (nothing_kept (flag_of live) (seats_of live.seats) none)) in
     list_any-map (λ (s : Stake). s.live) (stake_of puts live) (seats_of puts.seats) ∙ ap (λ n. list_any (flag_of live) (seats_of n)) (sym seats) ∙ any
+
+-- the live seats are those that reach level 0
+pub flagged-live : (puts : SeatRow) (live : LiveRow)
+    → live.seats ≡ puts.seats
+    → flagged live ≡ reaching (stakes_of puts live) 0
+flagged-live puts live seats =
+    flagged-reaching live puts live 0 seats (λ n low high. and_zero (flag_of live n) (amount_of puts n))

@@ -1,1 +1,2 @@
--- Lemmas on the stakes of the first seats.
+-- Lemmas on the levels that are still to be cut.
+pub mod Cutting
