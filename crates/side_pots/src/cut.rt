@@ -29,8 +29,8 @@ fn add_layers(row: &mut PotRow, left: &SeatRow, live: &LiveRow, dead: u64)
     requires bounded { dead ≤ MOST_AMOUNT }
     ensures pots { let stakes = stakes_of left.now live.now in
         map plain (pots_in row.new)
-            ≡ map plain (pots_in row.old)
-                ++ with_chips (with_dead dead (layers stakes 0 (levels stakes))) }
+        ≡ map plain (pots_in row.old)
+        ++ with_chips (with_dead dead (layers stakes 0 (levels stakes))) }
     ensures seats { All (λ pot. pot.eligible.seats ≡ left.now.seats) (pots_in row.old)
         → All (λ pot. pot.eligible.seats ≡ left.now.seats) (pots_in row.new) }
     ensures returned { row.new.returned ≡ row.old.returned }
@@ -58,13 +58,25 @@ pub fn cut(left: &SeatRow, dead: u64, live: &LiveRow, returned: SeatRow) -> PotR
     let mut row = PotRow::new(returned);
     let Some(first) = next_level(left, live, 0) else {
         let chips = total(left) + dead;
-        add_pot(&mut row, Pot { chips, eligible: *live });
+        add_pot(
+            &mut row,
+            Pot {
+                chips,
+                eligible: *live,
+            },
+        );
         return row;
     };
     if every_live_seat_reaches(left, live, first) {
         add_layers(&mut row, left, live, dead);
     } else {
-        add_pot(&mut row, Pot { chips: dead, eligible: *live });
+        add_pot(
+            &mut row,
+            Pot {
+                chips: dead,
+                eligible: *live,
+            },
+        );
         add_layers(&mut row, left, live, 0);
     }
     row

@@ -31,7 +31,8 @@ fn returned_to(puts: &SeatRow, live: &LiveRow, seat: Seat) -> u64
     ensures within { result ≤ amount_of puts.now seat.number }
 {
     if live.get(seat) {
-        puts.get(seat).saturating_sub(greatest_of_others(puts, seat))
+        puts.get(seat)
+            .saturating_sub(greatest_of_others(puts, seat))
     } else {
         0
     }

@@ -15,7 +15,7 @@ returns-in_default-clause-pots c =
     let stakes = stakes_of left live in
     let pot : Pot = record { chips = c.total.result + c.args.dead; eligible = live } in
     let sum : c.total.result + c.args.dead ≡ stake_chips stakes + c.args.dead =
-        ap (λ n. n + c.args.dead) (c.total.ensures.sum ∙ sym (stake_chips-stakes_of left live)) in
+    ap (λ n. n + c.args.dead) (c.total.ensures.sum ∙ sym (stake_chips-stakes_of left live)) in
     let is = plain_pot-live left live (c.total.result + c.args.dead) (stake_chips stakes + c.args.dead) sum c.requires.seats in
     let rule = pots_at-no_level stakes c.args.dead (sym c.next_level.ensures ∙ c.in_default.is) in
     plain-added (pots_in c.new-row.result) (pots_in c.add_pot.new.row) pot c.add_pot.ensures.pots ∙ ap (λ ps. map plain ps ++ with_chips (plain pot ∷ [])) c.new-row.ensures.pots ∙ ap (λ p. with_chips (p ∷ [])) is ∙ ap with_chips (sym rule)
