@@ -1,9 +1,8 @@
 -- The different numbers of a list rise, and are exactly its numbers.
-use Rattle.std.proofs.Common.{◌≡◌, ℕ, ◌+◌, ◌<◌, ◌≤◌, Bool, true, false, not, ◌||◌, ◌==◌, cond, List, [], ◌∷◌, ◌++◌, zero, suc, length, refl, sym, ap, ◌∙◌, subst, arith, nat_lt, filter, fold, Some, None, Option, min, slice_get, ⊎_elim}
+use Rattle.std.proofs.Common.{◌≡◌, ℕ, ◌+◌, ◌<◌, ◌≤◌, Bool, true, false, ◌||◌, ◌==◌, cond, List, [], ◌∷◌, length, refl, sym, ap, ◌∙◌, subst, arith, nat_lt, filter, fold, Some, Option, min, slice_get, ⊎_elim}
 use Rattle.std.specs.Bool.{⊤}
 use Rattle.std.specs.Option.{option_map_or}
 use Rattle.std.specs.List.{list_any, All}
-use Rattle.std.specs.List.Sorted.{IsStrictlyIncreasing}
 use Rattle.std.proofs.lemmas.Bool.{ltb-true, eqb-true, lt-ltb, le-ltb, cases_lt}
 use Rattle.std.proofs.lemmas.List.Elements.{All-head, All-tail}
 use Rattle.std.proofs.lemmas.Bool.Decides.{nat_tests}
@@ -47,7 +46,9 @@ any_added : (p : ℕ → Bool) (ys xs : List ℕ)
     → list_any p (fold with_number ys xs) ≡ (list_any p xs || list_any p ys)
 any_added p ys [] = refl
 any_added p ys (x ∷ xs) =
-    any_added p (with_number ys x) xs ∙ ap (λ b. list_any p xs || b) (list_any-with_number p ys x) ∙ or_regroup (list_any p xs) (p x) (list_any p ys)
+    any_added p (with_number ys x) xs
+    ∙ ap (λ b. list_any p xs || b) (list_any-with_number p ys x)
+    ∙ or_regroup (list_any p xs) (p x) (list_any p ys)
 
 or_none : (b : Bool) → (b || false) ≡ b
 or_none true = refl
@@ -71,8 +72,10 @@ rising_placed : (low x y : ℕ) (ys placed : List ℕ) (same less : Bool)
     → (y + 1 ≤ x → Rising (y + 1) placed)
     → Rising low (cond same (y ∷ ys) (cond less (x ∷ y ∷ ys) (y ∷ placed)))
 rising_placed low x y ys placed true less e l g b r ih = r
-rising_placed low x y ys placed false true e l g b r ih = let h : x < y = l refl refl in (b, (omega arith, r.1))
-rising_placed low x y ys placed false false e l g b r ih = let h : y < x = g refl refl in (r.0, ih (omega arith))
+rising_placed low x y ys placed false true e l g b r ih = let h : x < y =
+    l refl refl in (b, (omega arith, r.1))
+rising_placed low x y ys placed false false e l g b r ih = let h : y < x =
+    g refl refl in (r.0, ih (omega arith))
 
 above_from_tests : (x y : ℕ) → (x == y) ≡ false → nat_lt x y ≡ false → y < x
 above_from_tests x y e l = grind (arith, nat_tests)
@@ -83,7 +86,8 @@ Rising-with_number : (low : ℕ) (ys : List ℕ) (x : ℕ)
     → Rising low (with_number ys x)
 Rising-with_number low [] x b r = (b, tt)
 Rising-with_number low (y ∷ ys) x b r =
-    rising_placed low x y ys (with_number ys x) (x == y) (nat_lt x y) (eqb-true x y) (λ _. ltb-true x y) (above_from_tests x y) b r (λ h. Rising-with_number (y + 1) ys x h r.1)
+    rising_placed low x y ys (with_number ys x) (x == y) (nat_lt x y) (eqb-true x y) (λ _. ltb-true x y)
+    (above_from_tests x y) b r (λ h. Rising-with_number (y + 1) ys x h r.1)
 
 rising_added : (low : ℕ) (ys xs : List ℕ)
     → All (λ x. low ≤ x) xs
@@ -91,7 +95,8 @@ rising_added : (low : ℕ) (ys xs : List ℕ)
     → Rising low (fold with_number ys xs)
 rising_added low ys [] h r = r
 rising_added low ys (x ∷ xs) h r =
-    rising_added low (with_number ys x) xs (All-tail (λ x. low ≤ x) x xs h) (Rising-with_number low ys x (All-head (λ x. low ≤ x) x xs h) r)
+    rising_added low (with_number ys x) xs (All-tail (λ x. low ≤ x) x xs h)
+    (Rising-with_number low ys x (All-head (λ x. low ≤ x) x xs h) r)
 
 -- the different numbers of a list rise from a number that none is below
 pub Rising-different : (low : ℕ) (xs : List ℕ)
@@ -123,13 +128,13 @@ above_first b low x [] rest r e = cc
 above_first b low x (z ∷ zs) rest r e =
     ⊎_elim
     (λ (h : b < z).
-      let f : z ∷ filter (nat_lt b) zs ≡ x ∷ rest = sym (filter-above b z zs h) ∙ e in
-      let same : z ≡ x = cc in
-      let tail : filter (nat_lt b) zs ≡ rest = cc in
-      (omega arith, filter-not_above x z zs (omega arith) ∙ filter-Rising x (z + 1) zs (omega arith) r.1 ∙ sym (filter-Rising b (z + 1) zs (omega arith) r.1) ∙ tail))
+    let f : z ∷ filter (nat_lt b) zs ≡ x ∷ rest = sym (filter-above b z zs h) ∙ e in
+    let same : z ≡ x = cc in
+    let tail : filter (nat_lt b) zs ≡ rest = cc in
+    (omega arith, filter-not_above x z zs (omega arith) ∙ filter-Rising x (z + 1) zs (omega arith) r.1 ∙ sym (filter-Rising b (z + 1) zs (omega arith) r.1) ∙ tail))
     (λ (h : z ≤ b).
-      let further = above_first b (z + 1) x zs rest r.1 (sym (filter-not_above b z zs h) ∙ e) in
-      (further.0, filter-not_above x z zs (omega arith) ∙ further.1))
+    let further = above_first b (z + 1) x zs rest r.1 (sym (filter-not_above b z zs h) ∙ e) in
+    (further.0, filter-not_above x z zs (omega arith) ∙ further.1))
     (cases_lt b z)
 
 -- the lesser of a number and one that may be there
@@ -149,7 +154,8 @@ front true y xs = refl
 front false y xs = refl
 
 -- the three places by the tests of both numbers
-near_same : (c : Bool) (y : ℕ) (o : Option ℕ) → cond c (Some y) o ≡ cond c (Some (lesser y (cond c (Some y) o))) (cond c (Some y) o)
+near_same : (c : Bool) (y : ℕ) (o : Option ℕ)
+    → cond c (Some y) o ≡ cond c (Some (lesser y (cond c (Some y) o))) (cond c (Some y) o)
 near_same true y o = let e : y ≡ min y y = omega arith in ap Some e
 near_same false y o = refl
 
@@ -160,7 +166,8 @@ near_before b x y true false o l h = let e : false ≡ true = h refl in cc
 near_before b x y false d o l h = refl
 
 near_after : (x y : ℕ) (c d : Bool) (o : Option ℕ) → y < x → (d ≡ true → c ≡ true)
-    → cond d (Some y) (cond c (Some (lesser x o)) o) ≡ cond c (Some (lesser x (cond d (Some y) o))) (cond d (Some y) o)
+    → cond d (Some y) (cond c (Some (lesser x o)) o)
+    ≡ cond c (Some (lesser x (cond d (Some y) o))) (cond d (Some y) o)
 near_after x y true true o l h = let e : y ≡ min x y = omega arith in ap Some e
 near_after x y true false o l h = refl
 near_after x y false true o l h = let e : false ≡ true = h refl in cc
@@ -171,7 +178,8 @@ first_placed : (b x y : ℕ) (ys placed : List ℕ) (same less : Bool)
     → (same ≡ false → less ≡ true → x < y)
     → (same ≡ false → less ≡ false → y < x)
     → first_above b placed ≡ nearer b x (first_above b ys)
-    → first_above b (cond same (y ∷ ys) (cond less (x ∷ y ∷ ys) (y ∷ placed))) ≡ nearer b x (first_above b (y ∷ ys))
+    → first_above b (cond same (y ∷ ys) (cond less (x ∷ y ∷ ys) (y ∷ placed)))
+    ≡ nearer b x (first_above b (y ∷ ys))
 first_placed b x y ys placed true less e l g ih =
     let f = front (nat_lt b y) y (filter (nat_lt b) ys) in
     let P : ℕ → Type 0 = λ z. first_above b (y ∷ ys) ≡ nearer b z (first_above b (y ∷ ys)) in
@@ -179,16 +187,19 @@ first_placed b x y ys placed true less e l g ih =
 first_placed b x y ys placed false true e l g ih =
     let f = front (nat_lt b y) y (filter (nat_lt b) ys) in
     let h : x < y = l refl refl in
-    rw (front (nat_lt b x) x (filter (nat_lt b) (y ∷ ys)), f) (near_before b x y (nat_lt b x) (nat_lt b y) (first_above b ys) h (λ t. lt-ltb b y (omega (arith, ltb-true b x t))))
+    rw (front (nat_lt b x) x (filter (nat_lt b) (y ∷ ys)), f)
+    (near_before b x y (nat_lt b x) (nat_lt b y) (first_above b ys) h (λ t. lt-ltb b y (omega (arith, ltb-true b x t))))
 first_placed b x y ys placed false false e l g ih =
     let h : y < x = g refl refl in
-    rw (front (nat_lt b y) y (filter (nat_lt b) placed), front (nat_lt b y) y (filter (nat_lt b) ys), ih) (near_after x y (nat_lt b x) (nat_lt b y) (first_above b ys) h (λ t. lt-ltb b x (omega (arith, ltb-true b y t))))
+    rw (front (nat_lt b y) y (filter (nat_lt b) placed), front (nat_lt b y) y (filter (nat_lt b) ys), ih)
+    (near_after x y (nat_lt b x) (nat_lt b y) (first_above b ys) h (λ t. lt-ltb b x (omega (arith, ltb-true b y t))))
 
 pub first_above-with_number : (b : ℕ) (ys : List ℕ) (x : ℕ)
     → first_above b (with_number ys x) ≡ nearer b x (first_above b ys)
 first_above-with_number b [] x = front (nat_lt b x) x []
 first_above-with_number b (y ∷ ys) x =
-    first_placed b x y ys (with_number ys x) (x == y) (nat_lt x y) (eqb-true x y) (λ _. ltb-true x y) (above_from_tests x y) (first_above-with_number b ys x)
+    first_placed b x y ys (with_number ys x) (x == y) (nat_lt x y) (eqb-true x y) (λ _. ltb-true x y)
+    (above_from_tests x y) (first_above-with_number b ys x)
 
 length_placed : (x y : ℕ) (ys placed : List ℕ) (same less : Bool)
     → length placed ≤ length ys + 1

@@ -37,7 +37,8 @@ pub list_any-weaker : {X : Type 0} (p q : X → Bool)
     → list_any q xs ≡ true
 list_any-weaker p q h [] e = e
 list_any-weaker p q h (x ∷ xs) e =
-    ⊎_elim (λ t. or_left (q x) (list_any q xs) (h x t)) (λ t. or_right (q x) (list_any q xs) (list_any-weaker p q h xs t)) (or_cases (p x) (list_any p xs) e)
+    ⊎_elim (λ t. or_left (q x) (list_any q xs) (h x t))
+    (λ t. or_right (q x) (list_any q xs) (list_any-weaker p q h xs t)) (or_cases (p x) (list_any p xs) e)
 
 none_kept : {X : Type 0} (x : X) (ys : List X) (kept rest : Bool)
     → (ys ≡ [] → rest ≡ false)
@@ -58,7 +59,9 @@ pub sum_by-map : {X Y : Type 0} (f : Y → ℕ) (g : X → Y) (xs : List X)
     → sum_by f (map g xs) ≡ sum_by (λ x. f (g x)) xs
 sum_by-map f g [] = refl
 sum_by-map f g (x ∷ xs) =
-    sum_by-cons f (g x) (map g xs) ∙ ap (λ n. f (g x) + n) (sum_by-map f g xs) ∙ sym (sum_by-cons (λ y. f (g y)) x xs)
+    sum_by-cons f (g x) (map g xs)
+    ∙ ap (λ n. f (g x) + n) (sum_by-map f g xs)
+    ∙ sym (sum_by-cons (λ y. f (g y)) x xs)
 
 pub sum_by-plus : {X : Type 0} (f g : X → ℕ) (xs : List X)
     → sum_by (λ x. f x + g x) xs ≡ sum_by f xs + sum_by g xs

@@ -1,5 +1,5 @@
 -- What holds of the pots of the definition holds of the pots of rows that stand for them.
-use Rattle.std.proofs.Common.{◌≡◌, ℕ, ◌<◌, ◌≤◌, true, List, length, get_or, sym, subst, arith, map}
+use Rattle.std.proofs.Common.{◌≡◌, ℕ, ◌≤◌, true, List, get_or, sym, subst, arith, map}
 use Rattle.std.specs.List.{All, AllPairs}
 use Rattle.std.proofs.lemmas.List.{get_or-map, length-map}
 use Rattle.chip_ledger.specs.declared.pots.Pot.{Pot}
@@ -28,12 +28,16 @@ AllPairs-plain R pots by_rule e h i j d before inside =
     let each : AllPairs R (map plain pots) = subst (AllPairs R) (sym e) h in
     let low = get_or-map plain pots i d (plain d) (omega arith) in
     let high = get_or-map plain pots j d (plain d) inside in
-    subst (λ p. R p (plain (get_or pots j d))) low (subst (λ p. R (get_or (map plain pots) i (plain d)) p) high (each i j (plain d) before (omega arith)))
+    subst (λ p. R p (plain (get_or pots j d))) low
+    (subst (λ p. R (get_or (map plain pots) i (plain d)) p) high (each i j (plain d) before (omega arith)))
 
 -- who may win a pot is flagged in its row
 pub flag-from_may_win : (pot : Pot) (n : ℕ) → may_win (plain pot) n ≡ true → flag_of pot.eligible n ≡ true
 flag-from_may_win pot n h = flag-from_flagged pot.eligible n h
 
 -- a flagged seat may win the pot
-pub may_win-from_flag : (pot : Pot) (n : ℕ) → 1 ≤ n → flag_of pot.eligible n ≡ true → may_win (plain pot) n ≡ true
+pub may_win-from_flag : (pot : Pot) (n : ℕ)
+    → 1 ≤ n
+    → flag_of pot.eligible n ≡ true
+    → may_win (plain pot) n ≡ true
 may_win-from_flag pot n low h = flagged-from_flag pot.eligible n low h

@@ -1,5 +1,5 @@
 -- Pots of small hands, as the definition computes them.
-use Rattle.std.specs.Prelude.{◌≡◌, ℕ, Bool, true, false, List, [], ◌∷◌, map, refl}
+use Rattle.std.specs.Prelude.{◌≡◌, ℕ, true, false, List, [], ◌∷◌, map, refl}
 use Rattle.chip_ledger.specs.Pots.{Stake, PlainPot, counted, returned, pots_of, after_return, levels, layers, pots_at}
 
 abbrev in_hand : ℕ → ℕ → Stake
@@ -23,14 +23,19 @@ three_levels : Makes (in_hand 1 100 ∷ in_hand 2 300 ∷ in_hand 3 500 ∷ [])
 unfolding pots_of after_return levels layers pots_at
 three_levels = record { made = refl; given_back = refl }
 
-all_in_on_the_turn : Makes (in_hand 1 (counted false 1125600 500) ∷ folded 2 (counted false 2500 500) ∷ in_hand 3 (counted false 553500 500) ∷ [])
+all_in_on_the_turn : Makes
+    (in_hand 1 (counted false 1125600 500)
+    ∷ folded 2 (counted false 2500 500)
+    ∷ in_hand 3 (counted false 553500 500)
+    ∷ [])
     0
     (pot 1109500 (1 ∷ 3 ∷ []) ∷ [])
     (572100 ∷ 0 ∷ 0 ∷ [])
 unfolding pots_of after_return levels layers pots_at
 all_in_on_the_turn = record { made = refl; given_back = refl }
 
-two_folds_and_dead_antes : Makes (folded 1 (counted false 1 0) ∷ in_hand 2 (counted true 4 2) ∷ folded 3 0 ∷ [])
+two_folds_and_dead_antes : Makes
+    (folded 1 (counted false 1 0) ∷ in_hand 2 (counted true 4 2) ∷ folded 3 0 ∷ [])
     2
     (pot 4 (2 ∷ []) ∷ [])
     (0 ∷ 1 ∷ 0 ∷ [])
@@ -76,9 +81,29 @@ no_chips : Makes (in_hand 1 0 ∷ in_hand 2 0 ∷ []) 0 [] (0 ∷ 0 ∷ [])
 unfolding pots_of after_return levels layers pots_at
 no_chips = record { made = refl; given_back = refl }
 
-ten_levels : Makes (in_hand 1 1 ∷ in_hand 2 2 ∷ in_hand 3 3 ∷ in_hand 4 4 ∷ in_hand 5 5 ∷ in_hand 6 6 ∷ in_hand 7 7 ∷ in_hand 8 8 ∷ in_hand 9 9 ∷ in_hand 10 10 ∷ [])
+ten_levels : Makes
+    (in_hand 1 1
+    ∷ in_hand 2 2
+    ∷ in_hand 3 3
+    ∷ in_hand 4 4
+    ∷ in_hand 5 5
+    ∷ in_hand 6 6
+    ∷ in_hand 7 7
+    ∷ in_hand 8 8
+    ∷ in_hand 9 9
+    ∷ in_hand 10 10
+    ∷ [])
     10
-    (pot 20 (1 ∷ 2 ∷ 3 ∷ 4 ∷ 5 ∷ 6 ∷ 7 ∷ 8 ∷ 9 ∷ 10 ∷ []) ∷ pot 9 (2 ∷ 3 ∷ 4 ∷ 5 ∷ 6 ∷ 7 ∷ 8 ∷ 9 ∷ 10 ∷ []) ∷ pot 8 (3 ∷ 4 ∷ 5 ∷ 6 ∷ 7 ∷ 8 ∷ 9 ∷ 10 ∷ []) ∷ pot 7 (4 ∷ 5 ∷ 6 ∷ 7 ∷ 8 ∷ 9 ∷ 10 ∷ []) ∷ pot 6 (5 ∷ 6 ∷ 7 ∷ 8 ∷ 9 ∷ 10 ∷ []) ∷ pot 5 (6 ∷ 7 ∷ 8 ∷ 9 ∷ 10 ∷ []) ∷ pot 4 (7 ∷ 8 ∷ 9 ∷ 10 ∷ []) ∷ pot 3 (8 ∷ 9 ∷ 10 ∷ []) ∷ pot 2 (9 ∷ 10 ∷ []) ∷ [])
+    (pot 20 (1 ∷ 2 ∷ 3 ∷ 4 ∷ 5 ∷ 6 ∷ 7 ∷ 8 ∷ 9 ∷ 10 ∷ [])
+    ∷ pot 9 (2 ∷ 3 ∷ 4 ∷ 5 ∷ 6 ∷ 7 ∷ 8 ∷ 9 ∷ 10 ∷ [])
+    ∷ pot 8 (3 ∷ 4 ∷ 5 ∷ 6 ∷ 7 ∷ 8 ∷ 9 ∷ 10 ∷ [])
+    ∷ pot 7 (4 ∷ 5 ∷ 6 ∷ 7 ∷ 8 ∷ 9 ∷ 10 ∷ [])
+    ∷ pot 6 (5 ∷ 6 ∷ 7 ∷ 8 ∷ 9 ∷ 10 ∷ [])
+    ∷ pot 5 (6 ∷ 7 ∷ 8 ∷ 9 ∷ 10 ∷ [])
+    ∷ pot 4 (7 ∷ 8 ∷ 9 ∷ 10 ∷ [])
+    ∷ pot 3 (8 ∷ 9 ∷ 10 ∷ [])
+    ∷ pot 2 (9 ∷ 10 ∷ [])
+    ∷ [])
     (0 ∷ 0 ∷ 0 ∷ 0 ∷ 0 ∷ 0 ∷ 0 ∷ 0 ∷ 0 ∷ 1 ∷ [])
 unfolding pots_of after_return levels layers pots_at
 ten_levels = record { made = refl; given_back = refl }

@@ -33,11 +33,12 @@ same_places : {X : Type 0} (filler : X) (m n : ℕ) (xs ys : List X)
 same_places {X} filler m n xs ys p q e =
     let same : m ≡ n = same_count filler m n xs ys p q e in
     same_lists xs ys (p.full ∙ sym q.full) (λ k d inside.
-      ⊎_elim
-      (λ (l : k < m). sym (get_or-take m xs k d l) ∙ ap (λ zs. get_or zs k d) e ∙ get_or-take n ys k d (omega arith))
-      (λ (l : m ≤ k).
-        get_or_from_slice_get xs k filler d (p.past k l (omega arith)) ∙ sym (get_or_from_slice_get ys k filler d (q.past k (omega arith) (omega arith))))
-      (cases_lt k m))
+    ⊎_elim
+    (λ (l : k < m). sym (get_or-take m xs k d l) ∙ ap (λ zs. get_or zs k d) e ∙ get_or-take n ys k d (omega arith))
+    (λ (l : m ≤ k).
+    get_or_from_slice_get xs k filler d (p.past k l (omega arith))
+    ∙ sym (get_or_from_slice_get ys k filler d (q.past k (omega arith) (omega arith))))
+    (cases_lt k m))
 
 pot_places : (row : PotRow) → Places no_pot row.count row.pots
 pot_places row = record { most = row.most; full = row.full; past = row.filler }
@@ -63,15 +64,19 @@ pub pot_row_same : (a b : PotRow)
     → a ≡ b
 unfolding pot_row pot_places
 pot_row_same a b n e r =
-    let P : ℕ → List Pot → SeatRow → Type 0 = λ n pots back. (p : Places no_pot n pots) → a ≡ pot_row n pots back p in
+    let P : ℕ → List Pot → SeatRow → Type 0 =
+    λ n pots back. (p : Places no_pot n pots) → a ≡ pot_row n pots back p in
     let here : P a.count a.pots a.returned =
-        λ p. ap (pot_row a.count a.pots a.returned) (pot_places-prop a.count a.pots (pot_places a) p) in
-    subst (λ back. P b.count b.pots back) r (subst (λ pots. P b.count pots a.returned) e (subst (λ n. P n a.pots a.returned) n here)) (pot_places b)
+    λ p. ap (pot_row a.count a.pots a.returned) (pot_places-prop a.count a.pots (pot_places a) p) in
+    subst (λ back. P b.count b.pots back) r
+    (subst (λ pots. P b.count pots a.returned) e (subst (λ n. P n a.pots a.returned) n here))
+    (pot_places b)
 
 -- rows with the same pots and returns are equal
 pub pot_row_same_by_pots : (a b : PotRow) → pots_in a ≡ pots_in b → a.returned ≡ b.returned → a ≡ b
 pot_row_same_by_pots a b e r =
-    pot_row_same a b (same_count no_pot a.count b.count a.pots b.pots (pot_places a) (pot_places b) e) (same_places no_pot a.count b.count a.pots b.pots (pot_places a) (pot_places b) e) r
+    pot_row_same a b (same_count no_pot a.count b.count a.pots b.pots (pot_places a) (pot_places b) e)
+    (same_places no_pot a.count b.count a.pots b.pots (pot_places a) (pot_places b) e) r
 
 share_places : (row : ShareRow) → Places no_amounts row.count row.shares
 share_places row = record { most = row.most; full = row.full; past = row.filler }
@@ -86,12 +91,15 @@ share_row n shares p =
 pub share_row_same : (a b : ShareRow) → a.count ≡ b.count → a.shares ≡ b.shares → a ≡ b
 unfolding share_row share_places
 share_row_same a b n e =
-    let P : ℕ → List SeatRow → Type 0 = λ n shares. (p : Places no_amounts n shares) → a ≡ share_row n shares p in
+    let P : ℕ → List SeatRow → Type 0 =
+    λ n shares. (p : Places no_amounts n shares) → a ≡ share_row n shares p in
     let here : P a.count a.shares =
-        λ p. ap (share_row a.count a.shares) (share_places-prop a.count a.shares (share_places a) p) in
+    λ p. ap (share_row a.count a.shares) (share_places-prop a.count a.shares (share_places a) p) in
     subst (λ shares. P b.count shares) e (subst (λ n. P n a.shares) n here) (share_places b)
 
 -- rows with the same shares are equal
 pub share_row_same_by_shares : (a b : ShareRow) → shares_in a ≡ shares_in b → a ≡ b
 share_row_same_by_shares a b e =
-    share_row_same a b (same_count no_amounts a.count b.count a.shares b.shares (share_places a) (share_places b) e) (same_places no_amounts a.count b.count a.shares b.shares (share_places a) (share_places b) e)
+    share_row_same a b
+    (same_count no_amounts a.count b.count a.shares b.shares (share_places a) (share_places b) e)
+    (same_places no_amounts a.count b.count a.shares b.shares (share_places a) (share_places b) e)

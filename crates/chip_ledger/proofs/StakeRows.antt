@@ -2,6 +2,7 @@
 use Rattle.std.proofs.Common.{◌≡◌, ◌≢◌, ℕ, ◌-◌, ◌≤◌, Bool, true, false, ◌&&◌, cond, List, [], ◌∷◌, refl, sym, ap, ◌∙◌, arith, nat_le, map, filter, sum_by}
 use Rattle.std.specs.List.{list_any}
 use Rattle.std.proofs.lemmas.Bool.{le-leb, true_from_ne_false, or_parts}
+use Rattle.std.proofs.lemmas.Simd.{map-map}
 use Rattle.chip_ledger.specs.declared.rows.LiveRow.{LiveRow}
 use Rattle.chip_ledger.specs.declared.rows.SeatRow.{SeatRow}
 use Rattle.chip_ledger.specs.LiveRow.{flag_of, flagged}
@@ -13,17 +14,20 @@ use Rattle.chip_ledger.proofs.Lists.{list_any-map, sum_by-map}
 use Rattle.chip_ledger.proofs.PotSums.{stake_chips}
 use Rattle.chip_ledger.proofs.Seats.{filter-seats, map-seats, sum-seats}
 
-kept_seat : (puts : SeatRow) (live : LiveRow) (q : Stake → Bool) (n : ℕ) (ns : List ℕ) (ss : List Stake) (keeps : Bool)
+kept_seat : (puts : SeatRow) (live : LiveRow) (n : ℕ) (ns : List ℕ) (ss : List Stake)
+    (keeps : Bool)
     → map (λ (s : Stake). s.seat) ss ≡ ns
     → map (λ (s : Stake). s.seat) (cond keeps (stake_of puts live n ∷ ss) ss) ≡ cond keeps (n ∷ ns) ns
-kept_seat puts live q n ns ss true e = ap (λ ms. n ∷ ms) e
-kept_seat puts live q n ns ss false e = e
+kept_seat puts live n ns ss true e = ap (λ ms. n ∷ ms) e
+kept_seat puts live n ns ss false e = e
 
 seats_kept : (puts : SeatRow) (live : LiveRow) (q : Stake → Bool) (ns : List ℕ)
-    → map (λ (s : Stake). s.seat) (filter q (map (stake_of puts live) ns)) ≡ filter (λ n. q (stake_of puts live n)) ns
+    → map (λ (s : Stake). s.seat) (filter q (map (stake_of puts live) ns))
+    ≡ filter (λ n. q (stake_of puts live n)) ns
 seats_kept puts live q [] = refl
 seats_kept puts live q (n ∷ ns) =
-    kept_seat puts live q n (filter (λ m. q (stake_of puts live m)) ns) (filter q (map (stake_of puts live) ns)) (q (stake_of puts live n)) (seats_kept puts live q ns)
+    kept_seat puts live n (filter (λ m. q (stake_of puts live m)) ns)
+    (filter q (map (stake_of puts live) ns)) (q (stake_of puts live n)) (seats_kept puts live q ns)
 
 and_zero : (b : Bool) (n : ℕ) → b ≡ (b && nat_le 0 n)
 and_zero true n = sym (le-leb 0 n (omega arith))
@@ -35,11 +39,9 @@ pub flagged-reaching : (row : LiveRow) (puts : SeatRow) (live : LiveRow) (level 
     → ((n : ℕ) → 1 ≤ n → n ≤ puts.seats → flag_of row n ≡ (flag_of live n && nat_le level (amount_of puts n)))
     → flagged row ≡ reaching (stakes_of puts live) level
 flagged-reaching row puts live level seats h =
-    ap (λ n. filter (flag_of row) (seats_of n)) seats ∙ filter-seats (flag_of row) (λ n. flag_of live n && nat_le level (amount_of puts n)) puts.seats h ∙ sym (seats_kept puts live (λ s. s.live && nat_le level s.chips) (seats_of puts.seats))
-
-map-map : {X Y Z : Type 0} (f : Y → Z) (g : X → Y) (xs : List X) → map f (map g xs) ≡ map (λ x. f (g x)) xs
-map-map f g [] = refl
-map-map f g (x ∷ xs) = ap (λ ys. f (g x) ∷ ys) (map-map f g xs)
+    ap (λ n. filter (flag_of row) (seats_of n)) seats
+    ∙ filter-seats (flag_of row) (λ n. flag_of live n && nat_le level (amount_of puts n)) puts.seats h
+    ∙ sym (seats_kept puts live (λ s. s.live && nat_le level s.chips) (seats_of puts.seats))
 
 -- what is left of each seat's chips are the stakes after the return
 pub stakes_of-after_return : (puts back left : SeatRow) (live : LiveRow)
@@ -51,11 +53,16 @@ unfolding after_return
 stakes_of-after_return puts back left live seats given rest =
     let stakes = stakes_of puts live in
     let left_of : ℕ → ℕ → Stake = λ n chips. record { seat = n; chips = chips; live = flag_of live n } in
-    ap (λ n. map (stake_of left live) (seats_of n)) seats ∙ map-seats (stake_of left live) (λ n. kept stakes (stake_of puts live n)) puts.seats (λ n low high. ap (left_of n) (rest n low high ∙ ap (λ b. amount_of puts n - b) (given n low high))) ∙ sym (map-map (kept stakes) (stake_of puts live) (seats_of puts.seats))
+    ap (λ n. map (stake_of left live) (seats_of n)) seats
+    ∙ map-seats (stake_of left live) (λ n. kept stakes (stake_of puts live n)) puts.seats
+    (λ n low high. ap (left_of n) (rest n low high ∙ ap (λ b. amount_of puts n - b) (given n low high)))
+    ∙ sym (map-map (kept stakes) (stake_of puts live) (seats_of puts.seats))
 
 -- all chips of the stakes are the total of the row
-pub stake_chips-stakes_of : (puts : SeatRow) (live : LiveRow) → stake_chips (stakes_of puts live) ≡ total_of puts
-stake_chips-stakes_of puts live = sum_by-map (λ (s : Stake). s.chips) (stake_of puts live) (seats_of puts.seats)
+pub stake_chips-stakes_of : (puts : SeatRow) (live : LiveRow)
+    → stake_chips (stakes_of puts live) ≡ total_of puts
+stake_chips-stakes_of puts live =
+    sum_by-map (λ (s : Stake). s.chips) (stake_of puts live) (seats_of puts.seats)
 
 -- the total of what each seat gets back
 pub returned-total : (puts back : SeatRow) (live : LiveRow)
@@ -64,7 +71,9 @@ pub returned-total : (puts back : SeatRow) (live : LiveRow)
     → sum_by (returned (stakes_of puts live)) (stakes_of puts live) ≡ total_of back
 returned-total puts back live seats given =
     let stakes = stakes_of puts live in
-    sum_by-map (returned stakes) (stake_of puts live) (seats_of puts.seats) ∙ sym (sum-seats (amount_of back) (λ n. returned stakes (stake_of puts live n)) puts.seats given) ∙ ap (λ n. sum_by (amount_of back) (seats_of n)) (sym seats)
+    sum_by-map (returned stakes) (stake_of puts live) (seats_of puts.seats)
+    ∙ sym (sum-seats (amount_of back) (λ n. returned stakes (stake_of puts live n)) puts.seats given)
+    ∙ ap (λ n. sum_by (amount_of back) (seats_of n)) (sym seats)
 
 nothing_kept : (p : ℕ → Bool) (ns : List ℕ) → list_any p ns ≡ false → filter p ns ≡ []
 nothing_kept p [] e = refl
@@ -79,8 +88,11 @@ pub live_stake : (puts : SeatRow) (live : LiveRow)
     → list_any (λ (s : Stake). s.live) (stakes_of puts live) ≡ true
 live_stake puts live seats some =
     let any : list_any (flag_of live) (seats_of live.seats) ≡ true =
-        true_from_ne_false (list_any (flag_of live) (seats_of live.seats)) (λ none. some (nothing_kept (flag_of live) (seats_of live.seats) none)) in
-    list_any-map (λ (s : Stake). s.live) (stake_of puts live) (seats_of puts.seats) ∙ ap (λ n. list_any (flag_of live) (seats_of n)) (sym seats) ∙ any
+    true_from_ne_false (list_any (flag_of live) (seats_of live.seats))
+    (λ none. some (nothing_kept (flag_of live) (seats_of live.seats) none)) in
+    list_any-map (λ (s : Stake). s.live) (stake_of puts live) (seats_of puts.seats)
+    ∙ ap (λ n. list_any (flag_of live) (seats_of n)) (sym seats)
+    ∙ any
 
 -- the live seats are those that reach level 0
 pub flagged-live : (puts : SeatRow) (live : LiveRow)

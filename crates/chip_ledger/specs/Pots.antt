@@ -1,5 +1,5 @@
 -- The pots of a hand: what is returned, the levels at which chips are cut, and who may win each pot.
-use Rattle.std.specs.Prelude.{ℕ, ◌+◌, ◌-◌, ◌==◌, ◌&&◌, ◌||◌, Bool, not, if◌then◌else◌, List, [], ◌∷◌, min, max, nat_lt, nat_le, map, filter, fold, sum_by}
+use Rattle.std.specs.Prelude.{ℕ, ◌+◌, ◌-◌, ◌==◌, ◌&&◌, ◌||◌, Bool, not, if◌then◌else◌, List, [], ◌∷◌, min, max, nat_lt, nat_le, map, filter, fold, sum, sum_by}
 use Rattle.std.specs.List.{list_all, list_any}
 
 -- a seat at the end of a hand: its number, the chips that it put and that count, and whether it is live
@@ -20,6 +20,10 @@ may_win pot seat = list_any (λ n. n == seat) pot.eligible
 -- the chips of a seat that count: what it put, but for its ante where antes are dead
 abbrev pub counted : Bool → ℕ → ℕ → ℕ
 counted dead_antes put ante = if dead_antes then put - ante else put
+
+-- the dead chips of a hand: the antes of all seats, where antes are dead
+abbrev pub dead_chips : Bool → List ℕ → ℕ
+dead_chips dead_antes antes = if dead_antes then sum antes else 0
 
 -- the greatest of some numbers, and 0 where there is none
 abbrev pub greatest : List ℕ → ℕ

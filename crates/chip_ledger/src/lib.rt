@@ -45,6 +45,15 @@ mod tests {
         let mut live = LiveRow::new(10);
         live.set(last, true);
         assert_eq!(rt; [live.get(first), live.get(last)], [false, true]);
+        assert_eq!(rt; [live.any(), LiveRow::new(2).any()], [true, false]);
+
+        let mut shares = ShareRow::new();
+        shares.push(row);
+        assert_eq!(rt; shares.count, 1);
+        assert_eq!(rt;
+            [shares.shares[0], shares.shares[1]],
+            [row, SeatRow::new(2)]
+        );
         Ok(())
     }
 }

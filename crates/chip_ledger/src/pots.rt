@@ -37,6 +37,7 @@ impl PotRow {
     /// A row without pots, with what is returned.
     pub fn new(returned: SeatRow) -> Self
         ensures pots { pots_in result ≡ [] }
+        ensures count { result.count ≡ 0 }
         ensures returned { result.returned ≡ returned }
     {
         let pot = empty_pot();
@@ -80,7 +81,8 @@ impl ShareRow {
 
     /// A row without shares.
     pub fn new() -> Self
-        ensures { shares_in result ≡ [] }
+        ensures shares { shares_in result ≡ [] }
+        ensures count { result.count ≡ 0 }
     {
         let amounts = empty_amounts();
         ShareRow {

@@ -1,5 +1,5 @@
 -- The levels are the chips of live seats, in the words of lists.
-use Rattle.std.proofs.Common.{◌≡◌, ◌↔◌, ℕ, ◌+◌, ◌<◌, ◌≤◌, Bool, true, ◌&&◌, ◌==◌, List, [], ◌∷◌, length, get_or, nat_lt, refl, sym, ap, ◌∙◌, subst, arith}
+use Rattle.std.proofs.Common.{◌≡◌, ℕ, ◌+◌, ◌<◌, true, ◌&&◌, ◌==◌, List, [], ◌∷◌, get_or, nat_lt, sym, ◌∙◌, arith}
 use Rattle.std.specs.List.{All, AllPairs, Any, Contains, list_any}
 use Rattle.std.proofs.lemmas.Bool.{and_from, and_parts, eq-eqb, eqb-true, lt-ltb, ltb-true}
 use Rattle.std.proofs.lemmas.List.{get_or_default}
@@ -13,7 +13,8 @@ use Rattle.side_pots.specs.Levels.{AreLevels}
 
 all_above : (x low : ℕ) (ys : List ℕ) → x < low → Rising low ys → All (λ y. x < y) ys
 all_above x low [] l r = All-nil (λ y. x < y)
-all_above x low (y ∷ ys) l r = All-cons (λ z. x < z) y ys (omega arith) (all_above x (y + 1) ys (omega arith) r.1)
+all_above x low (y ∷ ys) l r =
+    All-cons (λ z. x < z) y ys (omega arith) (all_above x (y + 1) ys (omega arith) r.1)
 
 pairs_rise : (low : ℕ) (xs : List ℕ) → Rising low xs → AllPairs (λ x y. x < y) xs
 pairs_rise low [] r = λ i j d before inside. absurd (omega arith)
@@ -52,7 +53,8 @@ any_from_chips : (stakes : List Stake) (x : ℕ)
     → list_any (λ s. makes_level s && (s.chips == x)) stakes ≡ true
 any_from_chips stakes x (some, (k, s, inside, at, (is_live, same))) =
     let level = and_from s.live (nat_lt 0 s.chips) is_live (lt-ltb 0 s.chips (omega arith)) in
-    list_any-from_Any (λ s. makes_level s && (s.chips == x)) stakes (k, s, inside, at, and_from (makes_level s) (s.chips == x) level (eq-eqb s.chips x same))
+    list_any-from_Any (λ s. makes_level s && (s.chips == x)) stakes
+    (k, s, inside, at, and_from (makes_level s) (s.chips == x) level (eq-eqb s.chips x same))
 
 pub levels-AreLevels : (stakes : List Stake) → AreLevels stakes (levels stakes)
 levels-AreLevels stakes =

@@ -10,9 +10,11 @@ abbrev pub invariant-loop-level : goal.invariant-loop-level
 invariant-loop-level l =
     let stakes = stakes_of l.left l.live in
     record {
-      cut : map plain (pots_in l.row) ++ left_to_cut stakes l.below l.unplaced ≡ map plain (pots_in l.initial.row) ++ left_to_cut stakes 0 l.dead;
+      cut : map plain (pots_in l.row) ++ left_to_cut stakes l.below l.unplaced
+          ≡ map plain (pots_in l.initial.row) ++ left_to_cut stakes 0 l.dead;
       room : l.row.count + length (levels_above stakes l.below) ≤ l.left.seats + 1;
-      seats : All (λ pot. pot.eligible.seats ≡ l.left.seats) (pots_in l.initial.row) → All (λ pot. pot.eligible.seats ≡ l.left.seats) (pots_in l.row);
+      seats : All (λ pot. pot.eligible.seats ≡ l.left.seats) (pots_in l.initial.row)
+          → All (λ pot. pot.eligible.seats ≡ l.left.seats) (pots_in l.row);
       returned : l.row.returned ≡ l.initial.row.returned;
       bounded : l.unplaced ≤ MOST_AMOUNT;
     }

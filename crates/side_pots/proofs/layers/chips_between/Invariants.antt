@@ -8,4 +8,5 @@ use Rattle.side_pots.proofs.layers.chips_between.Given as goal
 
 abbrev pub invariant-loop-index : goal.invariant-loop-index
 invariant-loop-index l =
-    ((live : LiveRow) → l.chips ≡ between (stakes_upto l.left live l.index) l.below l.level) × (l.chips ≤ l.index * MOST_AMOUNT)
+    ((live : LiveRow) → l.chips ≡ between (stakes_upto l.left live l.index) l.below l.level)
+    × (l.chips ≤ l.index * MOST_AMOUNT)

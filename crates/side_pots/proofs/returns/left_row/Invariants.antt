@@ -5,4 +5,5 @@ use Rattle.side_pots.proofs.returns.left_row.Given as goal
 
 abbrev pub invariant-loop-index : goal.invariant-loop-index
 invariant-loop-index l =
-    (l.row.seats ≡ l.puts.seats) × ((n : ℕ) → 1 ≤ n → n ≤ l.index → amount_of l.row n ≡ amount_of l.puts n - amount_of l.returned n)
+    (l.row.seats ≡ l.puts.seats)
+    × ((n : ℕ) → 1 ≤ n → n ≤ l.index → amount_of l.row n ≡ amount_of l.puts n - amount_of l.returned n)
