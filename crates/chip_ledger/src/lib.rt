@@ -17,7 +17,7 @@ mod tests {
     use std::test::Fail;
 
     #[test]
-    fn ends_of_the_ranges(rt: HostRuntime) -> Result<(), Fail> {
+    fn ranges_and_rows(rt: HostRuntime) -> Result<(), Fail> {
         for (number, seated) in [(0, false), (1, true), (10, true), (11, false), (255, false)] {
             let found = Seat::new(number).map(Seat::number);
             assert_eq!(rt; found, seated.then_some(number), "seat {number}");
