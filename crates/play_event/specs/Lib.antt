@@ -1,5 +1,6 @@
 pub mod Code
 pub mod Games
+pub mod Streets
 pub mod Said
 pub mod Past
 pub mod Chips
@@ -8,6 +9,7 @@ pub mod Price
 pub mod Due
 pub mod Mover
 pub mod Amounts
+pub mod Targets
 pub mod Raising
 pub mod Places
 pub mod Reasons

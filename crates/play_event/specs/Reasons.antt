@@ -18,7 +18,8 @@ use Rattle.play_event.specs.Price.{owed}
 use Rattle.play_event.specs.Due.{turn, hole_cards_owed, board_cards_owed}
 use Rattle.play_event.specs.Mover.{mover}
 use Rattle.play_event.specs.Amounts.{call_target, raise_target}
-use Rattle.play_event.specs.Raising.{may_raise, is_legal_target, greatest_target}
+use Rattle.play_event.specs.Targets.{is_legal_target, greatest_target}
+use Rattle.play_event.specs.Raising.{may_raise}
 use Rattle.play_event.specs.Places.{places_of, any_taken}
 
 -- the first reason whose condition holds, if one does
@@ -79,8 +80,8 @@ why_not_call setup moves street seat (Some stated) =
 abbrev pub why_not_raise : Setup → Rules → List Move → ℕ → ℕ → ℕ → List (Bool × Illegal)
 why_not_raise setup rules moves street seat target =
     (not (may_raise setup rules moves street seat), reasons.RaiseClosed)
-    ∷ (not (is_legal_target setup rules moves street seat target) && nat_lt target (greatest_target setup rules moves street seat), reasons.RaiseTooSmall)
-    ∷ (nat_lt (greatest_target setup rules moves street seat) target, reasons.RaiseTooBig)
+    ∷ (not (is_legal_target rules.reopen setup moves street seat target) && nat_lt target (greatest_target setup moves street seat), reasons.RaiseTooSmall)
+    ∷ (nat_lt (greatest_target setup moves street seat) target, reasons.RaiseTooBig)
     ∷ []
 
 -- why a move may not be made by the seat that is named

@@ -1,5 +1,5 @@
 -- A script as it took place: the past after each of its events, its first illegal event, and whether it ends early.
-use Rattle.std.specs.Prelude.{◌≡◌, ℕ, ◌+◌, ◌<◌, Bool, List, [], ◌∷◌, length, take, reverse, find, slice_get, Option, Some, None, option_and_then, is_some, min}
+use Rattle.std.specs.Prelude.{◌≡◌, ℕ, ◌+◌, ◌<◌, Bool, List, [], ◌∷◌, length, take, reverse, find, slice_get, Option, Some, None, option_and_then, is_some}
 use Rattle.std.specs.List.{range_with_len}
 use Rattle.play_event.specs.declared.reason.Illegal.{Illegal}
 use Rattle.play_event.specs.declared.setup.Setup.{Setup}
@@ -8,10 +8,10 @@ use Rattle.play_event.specs.Said as said
 use Rattle.play_event.specs.Said.{Said}
 use Rattle.play_event.specs.Past as past
 use Rattle.play_event.specs.Past.{Past, Resolved, Move, Act, moves_of}
-use Rattle.play_event.specs.Chips.{street_chips, all_in}
+use Rattle.play_event.specs.Chips.{street_chips}
 use Rattle.play_event.specs.Due.{turn, is_unfinished}
 use Rattle.play_event.specs.Mover.{mover}
-use Rattle.play_event.specs.Amounts.{call_target, raise_target}
+use Rattle.play_event.specs.Amounts.{call_target, raise_target, bring_in_target}
 use Rattle.play_event.specs.Reasons.{why, actor_of}
 
 -- a move of a seat to a target
@@ -34,7 +34,7 @@ resolved_on setup moves street (said.Raise named amount) =
     move_to setup moves street seat past.Raised (raise_target setup moves street seat amount)
 resolved_on setup moves street (said.BringIn named) =
     let seat = actor_of named (mover setup moves street) in
-    move_to setup moves street seat past.BroughtIn (min setup.bring_in (all_in setup moves street seat))
+    move_to setup moves street seat past.BroughtIn (bring_in_target setup moves street seat)
 resolved_on setup moves street (said.Discard seat cards) = past.Discarded street seat cards
 resolved_on setup moves street (said.Show seat cards) = past.Shown street seat cards
 resolved_on setup moves street (said.Muck seat) = past.Mucked street seat

@@ -56,7 +56,8 @@ fn against_fold(setup: &Setup, past: &Past<'_>, named: u8) -> Option<Illegal>
 
 /// The first reason against a raise of the seat to a target.
 fn against_target(setup: &Setup, past: &Past<'_>, seat: u8, target: u64) -> Option<Illegal>
-    requires { steps_seen past.now ≤ 300 }
+    requires game { setup.now.code ≡ games.NT }
+    requires few { steps_seen past.now ≤ 300 }
     ensures { result ≡ definition.first_reason (definition.why_not_raise setup.now history_rules (moves_seen past.now) 1 seat target) }
 {
     let greatest = chips::all_in(setup, past, seat);
@@ -73,7 +74,8 @@ fn against_target(setup: &Setup, past: &Past<'_>, seat: u8, target: u64) -> Opti
 
 /// The first reason against a raise of the named seat.
 fn against_raise(setup: &Setup, past: &Past<'_>, named: u8, amount: u64) -> Option<Illegal>
-    requires { steps_seen past.now ≤ 300 }
+    requires game { setup.now.code ≡ games.NT }
+    requires few { steps_seen past.now ≤ 300 }
     ensures { result ≡ definition.first_reason (definition.reasons_of_kind setup.now history_rules (past_seen past.now) 1 (said.Raise (Some named) (spelled.To amount))) }
 {
     if other_seat(named, turns::mover(setup, past)) {
@@ -97,6 +99,7 @@ pub fn against_in_deal(setup: &Setup, past: &Past<'_>, kind: &Kind) -> Option<Il
 
 /// The first reason against an event where a move is due.
 pub fn against_in_betting(setup: &Setup, past: &Past<'_>, kind: &Kind) -> Option<Illegal>
+    requires game { setup.now.code ≡ games.NT }
     requires few { steps_seen past.now ≤ 300 }
     requires event { IsFirstEvent setup.now.stacks.seats (said.kind_said kind.now) }
     ensures { result ≡ definition.first_reason (definition.all_reasons setup.now history_rules (past_seen past.now) (1, dues.Move) (said.kind_said kind.now)) }
