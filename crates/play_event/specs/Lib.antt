@@ -6,6 +6,8 @@ pub mod Past
 pub mod Chips
 pub mod Seats
 pub mod Price
+pub mod Dealing
+pub mod Showing
 pub mod Due
 pub mod Mover
 pub mod Amounts

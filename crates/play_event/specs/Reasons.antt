@@ -15,7 +15,8 @@ use Rattle.play_event.specs.Said.{Said}
 use Rattle.play_event.specs.Past.{Past, Move, moves_of}
 use Rattle.play_event.specs.Chips.{street_chips}
 use Rattle.play_event.specs.Price.{owed}
-use Rattle.play_event.specs.Due.{turn, hole_cards_owed, board_cards_owed}
+use Rattle.play_event.specs.Dealing.{hole_cards_owed}
+use Rattle.play_event.specs.Due.{turn}
 use Rattle.play_event.specs.Mover.{mover}
 use Rattle.play_event.specs.Amounts.{call_target, raise_target}
 use Rattle.play_event.specs.Targets.{is_legal_target, greatest_target}

@@ -1,5 +1,5 @@
 -- What the rules say on the first street of no-limit hold'em.
-use Rattle.std.proofs.Common.{◌≡◌, ℕ, zero, suc, ◌+◌, ◌-◌, ◌≤◌, ◌<◌, Bool, true, false, ◌||◌, ◌==◌, nat_lt, Option, Some, None, find, List, [], ◌∷◌, ◌++◌, map, take, drop, length, refl, sym, ◌∙◌, ap, subst, arith}
+use Rattle.std.proofs.Common.{◌≡◌, ℕ, zero, suc, ◌+◌, ◌-◌, ◌≤◌, ◌<◌, Bool, true, false, ◌||◌, ◌&&◌, ◌==◌, not, nat_lt, nat_le, is_some, Option, Some, None, find, List, [], ◌∷◌, ◌++◌, map, take, drop, length, refl, sym, ◌∙◌, ap, subst, arith}
 use Rattle.std.specs.List.{list_any, range_with_len}
 use Rattle.std.specs.Option.{option_or}
 use Rattle.std.proofs.lemmas.List.Folds.{find-append}
@@ -19,7 +19,10 @@ use Rattle.poker_cli.specs.declared.past.Step.{Step}
 use Rattle.poker_cli.specs.declared.past.Step.TheVariants as steps
 use Rattle.poker_cli.specs.Steps.{resolved_step, cards_dealt}
 use Rattle.play_event.specs.Seats.{all_seats}
-use Rattle.play_event.specs.Due.{has_to_move, deal_due, hole_cards_owed, board_cards_owed, board_cards_dealt}
+use Rattle.play_event.specs.Dealing.{deal_due, hole_cards_owed, board_cards_owed, board_cards_dealt, draw_due, next_to_draw, replacements_owed}
+use Rattle.play_event.specs.Streets.{draws_on, is_stud}
+use Rattle.play_event.specs.Seats.{able_count}
+use Rattle.play_event.specs.Due.{has_to_move, bring_in_due, opens_betting}
 
 -- no board cards are owed on the first street
 board_owed : (code : Code) (dealt : ℕ) → code ≡ games.NT → board_cards_on code 1 - dealt ≡ 0
@@ -36,6 +39,16 @@ pub deal_due_first : (setup : Setup) (past : Past) → setup.code ≡ games.NT �
 deal_due_first setup past game =
     ap (λ (n : ℕ). list_any (λ seat. nat_lt 0 (hole_cards_owed setup past 1 seat)) (all_seats setup) || nat_lt 0 n) (board_owed setup.code (board_cards_dealt past 1) game)
     ∙ or_false (list_any (λ seat. nat_lt 0 (hole_cards_owed setup past 1 seat)) (all_seats setup))
+
+-- nothing is drawn on the first street
+pub no_draw : (setup : Setup) (past : Past) → setup.code ≡ games.NT → draw_due setup past 1 ≡ false
+no_draw setup past game =
+    ap (λ c. draws_on c 1 && (is_some (next_to_draw setup past 1) || list_any (λ seat. nat_lt 0 (replacements_owed past 1 seat)) (all_seats setup))) game
+
+-- no bring-in opens it
+pub no_bring_in : (setup : Setup) (moves : List Move) → setup.code ≡ games.NT → bring_in_due setup moves 1 ≡ false
+no_bring_in setup moves game =
+    ap (λ c. is_stud c && (1 == 1) && nat_le 2 (able_count setup moves) && not (list_any (λ move. opens_betting move.act) (moves_on 1 moves))) game
 
 -- a card lies among cards that were just dealt, or among those before
 pub on_table_after : (card : Card) (places : List Place) (owner : Option ℕ) (street : ℕ) (cards : List Slot) → list_any (λ place. bears card place.slot) (places ++ places_dealt owner street cards) ≡ (list_any (λ place. bears card place.slot) places || list_any (bears card) cards)

@@ -3,7 +3,7 @@ ghost use Rattle.std.specs.Prelude.{◌≡◌, ◌+◌, ◌*◌, ◌≤◌, ◌<
 ghost use Rattle.std.specs.List.{list_any};
 ghost use Rattle.card_set.specs.Deck.{same_card};
 ghost use Rattle.play_event.specs.declared.code.Code.TheVariants as games;
-ghost use Rattle.play_event.specs.Due as definition;
+ghost use Rattle.play_event.specs.Dealing as definition;
 ghost use Rattle.play_event.specs.Places.{places_of, bears, is_taken, stands_again, has_repeat, any_taken};
 ghost use Rattle.poker_cli.specs.Steps.{past_seen, steps_seen, cards_dealt};
 
