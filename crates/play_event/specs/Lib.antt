@@ -9,11 +9,17 @@ pub mod Price
 pub mod Dealing
 pub mod Showing
 pub mod Due
+pub mod Openers
 pub mod Mover
 pub mod Amounts
 pub mod Targets
 pub mod Raising
 pub mod Places
+pub mod Naming
+pub mod Table
+pub mod Taken
+pub mod CardReasons
+pub mod MoveReasons
 pub mod Reasons
 pub mod Scripts
 pub mod Finish

@@ -23,7 +23,7 @@ use Rattle.poker_cli.specs.declared.past.Step.{Step}
 use Rattle.poker_cli.specs.declared.play.Stage.{Stage}
 use Rattle.poker_cli.specs.declared.play.Stage.TheVariants as stages
 use Rattle.poker_cli.specs.declared.hand.Hand.{Hand}
-use Rattle.poker_cli.specs.Hand.{Numbered, Told, numbered, told}
+use Rattle.poker_cli.specs.Hand.{Numbered, Told, numbered, told, IsFirstEvent}
 use Rattle.poker_cli.specs.Outcome.{ended_at}
 use Rattle.poker_cli.specs.Stage.{IsStage}
 use Rattle.poker_cli.specs.Steps.{past_seen, resolved_step}
@@ -111,10 +111,10 @@ past_more setup events count event is =
     ∙ ap (λ e. past_of setup (e ∷ reverse (take count events))) (get_or_from_slice_get events count event event is)
 
 -- a step on the first street
-step_more : (setup : Setup) (events : List Said) (count : ℕ) (before : past.Past) (event : Said) (after : past.Resolved) → before ≡ past_after setup events count → slice_get events count ≡ Some event → (turn setup before).0 ≡ 1 → after ≡ resolved_on setup (moves_of before) 1 event → after ∷ before ≡ past_after setup events (count + 1)
+step_more : (setup : Setup) (events : List Said) (count : ℕ) (before : past.Past) (event : Said) (after : past.Resolved) → before ≡ past_after setup events count → slice_get events count ≡ Some event → (turn setup before).0 ≡ 1 → after ≡ resolved_on setup before 1 event → after ∷ before ≡ past_after setup events (count + 1)
 unfolding with_event
 step_more setup events count before event after seen is first resolved =
-    ap (λ e. e ∷ before) (resolved ∙ ap (λ n. resolved_on setup (moves_of before) n event) (sym first))
+    ap (λ e. e ∷ before) (resolved ∙ ap (λ n. resolved_on setup before n event) (sym first))
     ∙ ap (with_event setup event) seen
     ∙ sym (past_more setup events count event is)
 
@@ -180,12 +180,12 @@ some_is_none : {A : Type 0} {x : A} → Some x ≡ None → ⊥
 some_is_none is = cc
 
 -- a legal event takes place on the first street
-on_first : (setup : Setup) (played : Past) (stage : Stage) (event : Said) → setup.code ≡ games.NT → IsStage setup (past_seen played) stage → why setup history_rules (past_seen played) event ≡ None → (turn setup (past_seen played)).0 ≡ 1
-on_first setup played stages.Over event game is legal = absurd (some_is_none (sym (why_over setup (past_seen played) event is) ∙ legal))
-on_first setup played stages.Dealing event game is legal = ap (λ t. t.0) (turn_on_first setup (past_seen played) (dues.Deal 1) game (newest_is_first played) is.0 (due_deal setup (past_seen played) is.1))
-on_first setup played stages.Betting event game is legal = ap (λ t. t.0) (turn_on_first setup (past_seen played) dues.Move game (newest_is_first played) is.0 (due_move setup (past_seen played) game is.1 is.2))
+on_first : (setup : Setup) (played : Past) (stage : Stage) (event : Said) → setup.code ≡ games.NT → IsFirstEvent setup.stacks.seats event → IsStage setup (past_seen played) stage → why setup history_rules (past_seen played) event ≡ None → (turn setup (past_seen played)).0 ≡ 1
+on_first setup played stages.Over event game first is legal = absurd (some_is_none (sym (why_over setup (past_seen played) event first is) ∙ legal))
+on_first setup played stages.Dealing event game first is legal = ap (λ t. t.0) (turn_on_first setup (past_seen played) (dues.Deal 1) game (newest_is_first played) is.0 (due_deal setup (past_seen played) is.1))
+on_first setup played stages.Betting event game first is legal = ap (λ t. t.0) (turn_on_first setup (past_seen played) dues.Move game (newest_is_first played) is.0 (due_move setup (past_seen played) game is.1 is.2))
 
 -- the past after a step is that after one event more
-pub played_more : (hand : Hand) (count : ℕ) (played : Past) (stage : Stage) (event : Event) (found : Option Illegal) (after : past.Resolved) → hand.setup.code ≡ games.NT → past_seen played ≡ past_after hand.setup (events_of (map numbered hand.script)) count → IsStage hand.setup (past_seen played) stage → slice_get hand.script count ≡ Some event → found ≡ why hand.setup history_rules (past_seen played) (said_of event) → found ≡ None → after ≡ resolved_on hand.setup (moves_of (past_seen played)) 1 (said_of event) → after ∷ past_seen played ≡ past_after hand.setup (events_of (map numbered hand.script)) (count + 1)
-played_more hand count played stage event found after game seen is at against none resolved =
-    step_more hand.setup (events_of (map numbered hand.script)) count (past_seen played) (said_of event) after seen (said_at hand.script count event at) (on_first hand.setup played stage (said_of event) game is (sym against ∙ none)) resolved
+pub played_more : (hand : Hand) (count : ℕ) (played : Past) (stage : Stage) (event : Event) (found : Option Illegal) (after : past.Resolved) → hand.setup.code ≡ games.NT → IsFirstEvent hand.setup.stacks.seats (said_of event) → past_seen played ≡ past_after hand.setup (events_of (map numbered hand.script)) count → IsStage hand.setup (past_seen played) stage → slice_get hand.script count ≡ Some event → found ≡ why hand.setup history_rules (past_seen played) (said_of event) → found ≡ None → after ≡ resolved_on hand.setup (past_seen played) 1 (said_of event) → after ∷ past_seen played ≡ past_after hand.setup (events_of (map numbered hand.script)) (count + 1)
+played_more hand count played stage event found after game first seen is at against none resolved =
+    step_more hand.setup (events_of (map numbered hand.script)) count (past_seen played) (said_of event) after seen (said_at hand.script count event at) (on_first hand.setup played stage (said_of event) game first is (sym against ∙ none)) resolved

@@ -1,5 +1,5 @@
 -- What is due while the first street lasts.
-use Rattle.std.proofs.Common.{◌≡◌, ℕ, ◌+◌, ◌-◌, Bool, true, false, ◌≤◌, List, [], ◌∷◌, refl, sym, ◌∙◌, ap, Option, Some, None, nat_le, unwrap_or, if◌then◌else◌}
+use Rattle.std.proofs.Common.{◌≡◌, ℕ, ◌+◌, ◌-◌, Bool, true, false, ◌≤◌, List, [], ◌∷◌, refl, sym, ◌∙◌, ap, Option, Some, None, nat_le, not, unwrap_or, if◌then◌else◌}
 use Rattle.std.specs.Option.{option_map}
 use Rattle.play_event.specs.declared.code.Code.{Code}
 use Rattle.play_event.specs.declared.code.Code.TheVariants as games
@@ -11,12 +11,14 @@ use Rattle.play_event.specs.declared.setup.Setup.{Setup}
 use Rattle.play_event.specs.Games.{street_count}
 use Rattle.play_event.specs.Past as past
 use Rattle.play_event.specs.Past.{newest_street, moves_of}
+use Rattle.play_event.specs.Said as said
 use Rattle.play_event.specs.Said.{Said}
 use Rattle.play_event.specs.Seats.{live_count}
 use Rattle.play_event.specs.Dealing.{deal_due, draw_due}
 use Rattle.play_event.specs.Due.{turn, due_on, first_due, found_or, bring_in_due, move_due, showdown}
 use Rattle.play_event.specs.HistoryRules.{history_rules}
-use Rattle.play_event.specs.Reasons.{why, first_reason, all_reasons}
+use Rattle.play_event.specs.Reasons.{why, first_reason, all_reasons, later_reasons, may_come, is_first_show}
+use Rattle.poker_cli.specs.Hand.{IsFirstEvent}
 use Rattle.poker_cli.specs.declared.past.Past.{Past, Start, After'}
 use Rattle.poker_cli.specs.declared.past.Step.TheVariants as steps
 use Rattle.poker_cli.specs.declared.play.Stage.{Stage}
@@ -74,10 +76,25 @@ pub due_nothing : (setup : Setup) (before : past.Past) → setup.code ≡ games.
 due_nothing setup before game deal move =
     due_without_deal setup before game deal ∙ ap (due_by false false false) move
 
+-- hands of the first form show and muck nothing
+no_show : (setup : Setup) (before : past.Past) (event : Said) → IsFirstEvent setup.stacks.seats event → is_first_show setup before event ≡ false
+no_show setup before (said.Show seat cards) first = absurd first
+no_show setup before (said.Muck seat) first = absurd first
+no_show setup before (said.Hole seat cards) first = refl
+no_show setup before (said.Board cards) first = refl
+no_show setup before (said.Fold named) first = refl
+no_show setup before (said.Call named stated) first = refl
+no_show setup before (said.Raise named amount) first = refl
+no_show setup before (said.BringIn named) first = refl
+no_show setup before (said.Discard seat cards) first = refl
+
 -- an event after the end is refused for that
-pub why_over : (setup : Setup) (before : past.Past) (event : Said) → nat_le (live_count setup (moves_of before)) 1 ≡ true → why setup history_rules before event ≡ Some reasons.HandOver
+pub why_over : (setup : Setup) (before : past.Past) (event : Said) → IsFirstEvent setup.stacks.seats event → nat_le (live_count setup (moves_of before)) 1 ≡ true → why setup history_rules before event ≡ Some reasons.HandOver
 unfolding why
-why_over setup before event over = ap (λ now. first_reason (all_reasons setup history_rules before now event)) (turn_over setup before over)
+why_over setup before event first over =
+    let over_now : past.Past → Bool → Option Illegal = λ p shows. if not shows then Some reasons.HandOver else first_reason ((not (may_come setup before (newest_street before, dues.Over) event), reasons.WrongKind) ∷ later_reasons setup history_rules before (newest_street before) event) in
+    ap (λ now. first_reason (all_reasons setup history_rules before now event)) (turn_over setup before over)
+    ∙ ap (over_now before) (no_show setup before event first)
 
 -- while something is due on the first street, an event is refused by what that is
 pub why_on_first : (setup : Setup) (before : past.Past) (event : Said) (now : Due) → setup.code ≡ games.NT → newest_street before ≡ 1 → nat_le (live_count setup (moves_of before)) 1 ≡ false → due_on setup before 1 ≡ Some now → why setup history_rules before event ≡ first_reason (all_reasons setup history_rules before (1, now) event)
@@ -91,7 +108,7 @@ refusal_at setup before event stages.Over = Some reasons.HandOver
 refusal_at setup before event stages.Dealing = first_reason (all_reasons setup history_rules before (1, dues.Deal 1) event)
 refusal_at setup before event stages.Betting = first_reason (all_reasons setup history_rules before (1, dues.Move) event)
 
-pub why_stage : (setup : Setup) (played : Past) (event : Said) (stage : Stage) → setup.code ≡ games.NT → IsStage setup (past_seen played) stage → why setup history_rules (past_seen played) event ≡ refusal_at setup (past_seen played) event stage
-why_stage setup played event stages.Over game is = why_over setup (past_seen played) event is
-why_stage setup played event stages.Dealing game is = why_on_first setup (past_seen played) event (dues.Deal 1) game (newest_is_first played) is.0 (due_deal setup (past_seen played) is.1)
-why_stage setup played event stages.Betting game is = why_on_first setup (past_seen played) event dues.Move game (newest_is_first played) is.0 (due_move setup (past_seen played) game is.1 is.2)
+pub why_stage : (setup : Setup) (played : Past) (event : Said) (stage : Stage) → setup.code ≡ games.NT → IsFirstEvent setup.stacks.seats event → IsStage setup (past_seen played) stage → why setup history_rules (past_seen played) event ≡ refusal_at setup (past_seen played) event stage
+why_stage setup played event stages.Over game first is = why_over setup (past_seen played) event first is
+why_stage setup played event stages.Dealing game first is = why_on_first setup (past_seen played) event (dues.Deal 1) game (newest_is_first played) is.0 (due_deal setup (past_seen played) is.1)
+why_stage setup played event stages.Betting game first is = why_on_first setup (past_seen played) event dues.Move game (newest_is_first played) is.0 (due_move setup (past_seen played) game is.1 is.2)

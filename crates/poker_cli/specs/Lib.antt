@@ -1,6 +1,7 @@
 pub mod Action
 pub mod Answer
 pub mod FirstForm
+pub mod FirstReasons
 pub mod Hand
 pub mod Outcome
 pub mod Stage

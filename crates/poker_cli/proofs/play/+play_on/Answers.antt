@@ -34,7 +34,7 @@ play_on-requires t c =
           omega (arith, within),
           (
             omega (arith, c.requires.counted),
-            played_more c.args.hand.now c.args.index c.args.past.now c.in-Some.stage c.get-event.result c.against.result (resolved_step c.step_of-step.result) c.requires.first.game c.requires.played c.in-Some.ensures c.get-event.ensures c.against.ensures c.in_default-against.is c.step_of-step.ensures,
+            played_more c.args.hand.now c.args.index c.args.past.now c.in-Some.stage c.get-event.result c.against.result (resolved_step c.step_of-step.result) c.requires.first.game (c.requires.first.events c.args.index (numbered c.get-event.result) (event_at c.args.hand.now.script c.args.index c.get-event.result c.get-event.ensures)).0 c.requires.played c.in-Some.ensures c.get-event.ensures c.against.ensures c.in_default-against.is c.step_of-step.ensures,
           ),
         ),
       ),
