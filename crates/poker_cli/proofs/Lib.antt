@@ -5,7 +5,6 @@ pub mod Documents
 pub mod FilledRows
 pub mod FirstEvents
 pub mod FirstHands
-pub mod FirstReasons
 pub mod FirstStreet
 pub mod Playing
 pub mod ScriptLaws
