@@ -26,3 +26,6 @@ pub mod Finish
 pub mod HistoryRules
 pub mod Rows
 pub mod Examples
+pub mod CardNames
+pub mod Written
+pub mod WorkedHands

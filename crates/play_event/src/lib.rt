@@ -7,6 +7,7 @@ mod examples;
 mod reason;
 mod script;
 mod setup;
+mod worked_hands;
 
 pub use code::Code;
 pub use event::{Event, Kind, Spelled};
@@ -14,3 +15,4 @@ pub use examples::hands_won_by_folds;
 pub use reason::{Due, Illegal};
 pub use script::Script;
 pub use setup::{Reopen, Rules, Setup};
+pub use worked_hands::worked_raises;
