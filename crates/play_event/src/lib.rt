@@ -15,4 +15,4 @@ pub use examples::hands_won_by_folds;
 pub use reason::{Due, Illegal};
 pub use script::Script;
 pub use setup::{Reopen, Rules, Setup};
-pub use worked_hands::worked_raises;
+pub use worked_hands::{worked_cards, worked_ends, worked_raises};
