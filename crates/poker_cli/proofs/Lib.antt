@@ -1,5 +1,7 @@
 pub mod AmountLaws
+pub mod Answering
 pub mod CardLaws
+pub mod Documents
 pub mod FilledRows
 pub mod FirstEvents
 pub mod FirstHands

@@ -5,5 +5,8 @@ pub mod Hand
 pub mod Outcome
 pub mod Stage
 pub mod Status
+pub mod Told
 pub mod Steps
+pub mod Run
 pub mod Verdict
+pub mod Words

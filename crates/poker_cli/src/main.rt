@@ -12,6 +12,7 @@ pub mod past;
 pub mod play;
 pub mod raises;
 pub mod reasons;
+pub mod run;
 pub mod seats;
 pub mod status;
 pub mod text;

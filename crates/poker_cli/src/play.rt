@@ -98,7 +98,7 @@ pub enum Outcome {
     Beyond,
     /// An event is illegal: its index from 0, the number of its action, and why.
     Refused {
-        index: usize,
+        index: u32,
         at: u32,
         reason: Illegal,
     },
@@ -136,7 +136,7 @@ fn play_on(alloc: Global, hand: &Hand, index: usize, past: &Past<'_>) -> Result<
     let event = hand.script.get(index);
     if let Some(reason) = against(&hand.setup, past, stage, &event.kind) {
         return Ok(Outcome::Refused {
-            index,
+            index: index as u32,
             at: event.at,
             reason,
         });

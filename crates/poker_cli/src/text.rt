@@ -1,5 +1,5 @@
 // The printed lines of an answer.
-ghost use Rattle.std.specs.Prelude.{◌≡◌, ◌+◌, ◌<◌, ◌^◌, IfOk, OnOk, string_bytes, ◌++◌};
+ghost use Rattle.std.specs.Prelude.{◌≡◌, IfOk, OnOk, string_bytes, ◌++◌};
 ghost use Rattle.poker_cli.specs.Answer.{reason_text as reason_said, refused_line as refused_said, early_line as early_said, stacks_text, legal_lines as legal_said};
 
 use card_set::Memory;
@@ -30,11 +30,10 @@ fn reason_text(alloc: Global, reason: Illegal) -> Result<String, Memory>
 }
 
 /// The line of a refused event.
-pub fn refused_line(alloc: Global, index: usize, at: u32, reason: Illegal) -> Result<String, Memory>
-    requires { index + 1 < 2 ^ 64 }
+pub fn refused_line(alloc: Global, index: u32, at: u32, reason: Illegal) -> Result<String, Memory>
     ensures { IfOk result (λ line. string_bytes line ≡ refused_said index at reason) }
 {
-    let event = index + 1;
+    let event = u64::from(index) + 1;
     let why = reason_text(alloc, reason)?;
     let why = why.as_str();
     Ok(format!(in alloc; "refused: hand 1: event {event}, action {at}: {why}\n")?)

@@ -1,4 +1,5 @@
 use Rattle.std.proofs.Common.{arith, ap, sym, ◌∙◌}
+use Rattle.std.proofs.lemmas.List.{length-map}
 use Rattle.std.proofs.lemmas.Option.{slice_get_within}
 use Rattle.poker_cli.specs.Hand.{numbered}
 use Rattle.poker_cli.specs.Outcome.{verdict_of}
@@ -42,3 +43,6 @@ play_on-requires t c =
 pub returns : goal.returns
 returns t c =
     along c.play_on.result (λ outcome is. verdict_later c.args.hand.now c.args.index c.args.past.now c.in-Some.stage c.get-event.result c.against.result (verdict_of outcome) c.requires.played c.in-Some.ensures c.get-event.ensures c.against.ensures c.in_default-against.is is) c.play_on.ensures
+
+pub overflow_cast-result : goal.overflow_cast-result
+overflow_cast-result t c = omega (arith, c.requires.first.few, length-map c.args.hand.now.script numbered)
