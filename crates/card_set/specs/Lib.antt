@@ -1,4 +1,9 @@
+pub mod CardSet
+pub mod Classes
 pub mod Deck
+pub mod Different
 pub mod Filler
+pub mod Ranks
 pub mod Row
 pub mod Spelling
+pub mod UpCards

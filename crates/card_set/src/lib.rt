@@ -2,11 +2,15 @@
 #![tactic(auto)]
 
 mod card;
+mod deck;
 mod memory;
 mod row;
+mod set;
 mod spelling;
 
 pub use card::{Card, Rank, Slot, Suit};
+pub use deck::{place_in_deck, place_of_rank, place_of_suit};
 pub use memory::Memory;
 pub use row::{CardRow, ROW_ENTRIES, SlotRow};
+pub use set::CardSet;
 pub use spelling::{CardFault, read_slots, slot_text};

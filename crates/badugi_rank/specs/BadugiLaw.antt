@@ -1,0 +1,156 @@
+-- The order of badugi is lawful.
+use Rattle.std.proofs.Common.{◌≡◌, ◌≢◌, ℕ, zero, suc, ◌+◌, ◌-◌, ◌*◌, ◌^◌, ◌<◌, ◌≤◌, ◌==◌, ◌&&◌, ◌||◌, not, Bool, true, false, cond, List, [], ◌∷◌, ◌++◌, length, count_by, get_or, Option, Some, None, IsSome, ◌⊎◌, inl, inr, ◌↔◌, refl, sym, ◌∙◌, ap, subst, arith, eq-eqb, eqb-true}
+use Rattle.std.specs.List.{list_all}
+use Rattle.std.proofs.lemmas.Bool.{and_parts, or_parts}
+use Rattle.std.proofs.lemmas.Option.{same_Some, cond_some}
+use Rattle.card_set.specs.declared.card.Card.{Card}
+use Rattle.card_set.specs.Classes.{IsBelowLow, IsLower}
+use Rattle.card_set.specs.Different.{AllDifferent}
+use Rattle.card_set.specs.Deck.{suits_before}
+use Rattle.card_set.specs.Ranks.{low_ace, ranks_occurring, ranks_of, times}
+use Rattle.card_set.proofs.Counted.{IsHeight-low_ace, all_once, length-ranks_of, ranks_of-le, times-cons, times-none, passes_or_not}
+use Rattle.hand_order.specs.Best.{HasNoHand, IsBest, IsPointsOfBest, Beats, IsWorth}
+use Rattle.hand_order.specs.Choices.{choices, IsAmong, AreHeld}
+use Rattle.hand_order.specs.Digits.{class_above}
+use Rattle.hand_order.specs.Order.{IsLawful}
+use Rattle.hand_order.specs.Points.{greatest}
+use Rattle.hand_order.proofs.Greatest.{Says, says_greatest, IsAmong-right}
+use Rattle.hand_order.proofs.Held.{held_chosen, IsAmong-cases}
+use Rattle.hand_order.proofs.Lawful.{worth_greatest, beats_exactly}
+use Rattle.hand_order.proofs.RankDigits.{AreDigits-ranks_of}
+use Rattle.hand_order.proofs.Ranked.{IsRanked, ranked_low_law}
+use Rattle.badugi_rank.specs.Badugi.{share, all_differ, IsRainbow, IsWorse, candidates, IsHand, IsWeaker, choice_points, points}
+
+-- at most four cards
+abbrev pub AreFew : List Card → Type 0
+AreFew chosen = length chosen ≤ 4
+
+not_true : (b : Bool) → not b ≡ true → b ≡ false
+not_true false is = refl
+not_true true is = absurd (cc)
+
+-- no card of a rank that other cards lack
+lacks_rank : (card : Card) (rest : List Card) → list_all (λ other. not (share card other)) rest ≡ true → times low_ace rest (low_ace card.rank) ≡ 0
+lacks_rank card [] lacks = times-none low_ace (low_ace card.rank)
+lacks_rank card (other ∷ rest) lacks =
+    let parts = and_parts (not (share card other)) (list_all (λ other. not (share card other)) rest) lacks in
+    let apart = or_parts (low_ace other.rank == low_ace card.rank) (suits_before other.suit == suits_before card.suit) (not_true (share card other) parts.0) in
+    let none = ap (λ (b : Bool). cond {A = ℕ} b 1 0) apart.0 in
+    omega (arith, times-cons low_ace other rest (low_ace card.rank), none, lacks_rank card rest parts.1)
+
+-- no rank occurs twice where all differ
+once_each : (chosen : List Card) → all_differ chosen ≡ true → (h : ℕ) → times low_ace chosen h ≤ 1
+once_each [] differ h = omega (arith, times-none low_ace h)
+once_each (card ∷ rest) differ h =
+    let parts = and_parts (list_all (λ other. not (share card other)) rest) (all_differ rest) differ in
+    elim (passes_or_not (low_ace card.rank == h)) [
+      | inl same ↦
+          let one = ap (λ (b : Bool). cond {A = ℕ} b 1 0) same in
+          let none = sym (ap (times low_ace rest) (eqb-true (low_ace card.rank) h same)) ∙ lacks_rank card rest parts.0 in
+          omega (arith, times-cons low_ace card rest h, one, none)
+      | inr other ↦
+          let none = ap (λ (b : Bool). cond {A = ℕ} b 1 0) other in
+          omega (arith, times-cons low_ace card rest h, none, once_each rest parts.1 h)
+    ]
+
+-- as many ranks as cards decide
+rainbow_ranks : (chosen : List Card) → all_differ chosen ≡ true → length (ranks_of low_ace chosen) ≡ length chosen
+rainbow_ranks chosen differ =
+    let once = all_once low_ace IsHeight-low_ace chosen (once_each chosen differ) in
+    omega (arith, length-ranks_of low_ace chosen, once.0, once.1, once.2, once.3)
+
+-- cards that a choice lacks of four
+abbrev pub missing_cards : List Card → ℕ
+missing_cards chosen = 4 - length chosen
+
+rainbow_missing : List ℕ
+rainbow_missing = 0 ∷ 1 ∷ 2 ∷ 3 ∷ 4 ∷ []
+
+missing_of : (n : ℕ) → n ≤ 4 → n + get_or rainbow_missing (4 - n) 0 ≡ 4
+unfolding rainbow_missing
+missing_of zero few = refl
+missing_of (suc zero) few = refl
+missing_of (suc (suc zero)) few = refl
+missing_of (suc (suc (suc zero))) few = refl
+missing_of (suc (suc (suc (suc zero)))) few = refl
+missing_of (suc (suc (suc (suc (suc n))))) few = absurd (omega arith)
+
+rainbow_ranked : (chosen : List Card) → AreFew chosen → all_differ chosen ≡ true → IsRanked missing_cards (ranks_of low_ace) rainbow_missing 4 4 chosen
+rainbow_ranked chosen few differ =
+    let same = rainbow_ranks chosen differ in
+    record {
+      within = omega arith;
+      long = omega (arith, same, missing_of (length chosen) few);
+      few = omega (arith, same);
+      digits = AreDigits-ranks_of low_ace chosen;
+    }
+
+choice_value : (chosen : List Card) (value : ℕ) → choice_points chosen ≡ Some value → (all_differ chosen ≡ true) × (16 ^ 6 - class_above (4 - length chosen) (ranks_of low_ace chosen) ≡ value)
+choice_value chosen value is = cond_some (all_differ chosen) (16 ^ 6 - class_above (4 - length chosen) (ranks_of low_ace chosen)) value is
+
+points_there : (test : Bool) (value : ℕ) → IsSome (cond test (Some value) None) ↔ (test ≡ true)
+points_there true value = (λ some. refl, λ is. refl)
+points_there false value = (λ some. some, λ is. is)
+
+choice_ordered : (a b : List Card) (low high : ℕ) → AreFew a → AreFew b → choice_points a ≡ Some low → choice_points b ≡ Some high → (low < high) ↔ IsWorse a b
+choice_ordered a b low high few_a few_b is_low is_high =
+    let is_a = choice_value a low is_low in
+    let is_b = choice_value b high is_high in
+    let law = ranked_low_law missing_cards (ranks_of low_ace) rainbow_missing 4 4 a b (omega arith) (rainbow_ranked a few_a is_a.0) (rainbow_ranked b few_b is_b.0) in (
+      λ less. elim (law.0 (omega (arith, is_a.1, is_b.1))) [ inl worse ↦ inl (omega arith) | inr rest ↦ let e = rest.0 in inr (omega arith, rest.1) ],
+      λ worse. let less = law.1 (elim worse [ inl fewer ↦ inl (omega arith) | inr rest ↦ let e = rest.0 in inr (omega arith, rest.1) ]) in omega (arith, is_a.1, is_b.1),
+    )
+
+-- choices are ordered by their numbers
+pub lawful_choices : IsLawful AreFew IsRainbow IsWorse choice_points
+lawful_choices = record {
+  scored = λ chosen few. points_there (all_differ chosen) (16 ^ 6 - class_above (4 - length chosen) (ranks_of low_ace chosen));
+  ordered = choice_ordered;
+}
+
+-- the choices of a hand have at most four cards
+pub few_chosen : (cards chosen : List Card) → AllDifferent cards → IsAmong chosen (candidates cards) → AreFew chosen
+unfolding candidates
+few_chosen cards chosen different among =
+    elim (IsAmong-cases chosen (choices 4 cards) (choices 3 cards ++ (choices 2 cards ++ choices 1 cards)) among) [
+      | inl four ↦ omega (arith, (held_chosen 4 cards chosen different four).0)
+      | inr fewer ↦ elim (IsAmong-cases chosen (choices 3 cards) (choices 2 cards ++ choices 1 cards) fewer) [
+        | inl three ↦ omega (arith, (held_chosen 3 cards chosen different three).0)
+        | inr least ↦ elim (IsAmong-cases chosen (choices 2 cards) (choices 1 cards) least) [
+          | inl two ↦ omega (arith, (held_chosen 2 cards chosen different two).0)
+          | inr one ↦ omega (arith, (held_chosen 1 cards chosen different one).0)
+        ]
+      ]
+    ]
+
+-- a hand is worth its best choice
+worth_hand : (cards : List Card) (worth : Option ℕ) → AreHeld 4 cards → points cards ≡ worth → IsWorth IsRainbow IsWorse choice_points (candidates cards) worth
+worth_hand cards worth held is = worth_greatest AreFew IsRainbow IsWorse choice_points (candidates cards) worth lawful_choices (λ choice among. few_chosen cards choice held.1 among) (sym is)
+
+hand_ordered : (a b : List Card) (low high : ℕ) → AreHeld 4 a → AreHeld 4 b → points a ≡ Some low → points b ≡ Some high → (low < high) ↔ IsWeaker a b
+hand_ordered a b low high held_a held_b is_low is_high =
+    beats_exactly AreFew IsRainbow IsWorse choice_points (candidates b) (candidates a) (Some high) (Some low) lawful_choices
+    (λ choice among. few_chosen b choice held_b.1 among) (λ choice among. few_chosen a choice held_a.1 among)
+    (worth_hand b (Some high) held_b is_high) (worth_hand a (Some low) held_a is_low)
+
+-- each hand has a choice of one card
+one_chosen : (card : Card) (rest : List Card) → IsAmong (card ∷ []) (candidates (card ∷ rest))
+unfolding candidates choices
+one_chosen card rest =
+    IsAmong-right (card ∷ []) (choices 4 (card ∷ rest)) (choices 3 (card ∷ rest) ++ (choices 2 (card ∷ rest) ++ choices 1 (card ∷ rest)))
+    (IsAmong-right (card ∷ []) (choices 3 (card ∷ rest)) (choices 2 (card ∷ rest) ++ choices 1 (card ∷ rest))
+    (IsAmong-right (card ∷ []) (choices 2 (card ∷ rest)) (choices 1 (card ∷ rest)) (inl refl)))
+
+some_points : (cards : List Card) (worth : Option ℕ) → AreHeld 4 cards → points cards ≡ worth → IsSome worth
+some_points cards (Some value) held is = refl
+some_points [] None held is = absurd (omega (arith, held.0))
+some_points (card ∷ rest) None held is =
+    let none = subst (Says choice_points (candidates (card ∷ rest))) is (says_greatest choice_points (candidates (card ∷ rest))) in
+    let no_points : choice_points (card ∷ []) ≡ None = none (card ∷ []) (one_chosen card rest) in
+    absurd (cc)
+
+pub lawful_badugi : IsLawful (AreHeld 4) IsHand IsWeaker points
+lawful_badugi = record {
+  scored = λ cards held. (λ some. tt, λ hand. some_points cards (points cards) held refl);
+  ordered = hand_ordered;
+}

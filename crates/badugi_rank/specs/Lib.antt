@@ -1,0 +1,2 @@
+pub mod Badugi
+pub mod BadugiLaw

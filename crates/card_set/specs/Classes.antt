@@ -1,0 +1,49 @@
+-- The classes of hands by how often their ranks occur, and how a table of classes orders hands.
+use Rattle.std.specs.Prelude.{◌≡◌, ◌<◌, ◌==◌, ◌&&◌, ℕ, ◌+◌, Bool, true, false, ◌⊎◌, List, [], ◌∷◌}
+use Rattle.card_set.specs.declared.card.Card.{Card}
+use Rattle.card_set.specs.declared.card.Rank.{Rank}
+use Rattle.card_set.specs.Ranks.{ranks_occurring}
+
+-- one rank occurs four times
+abbrev pub four_of_a_kind : (Rank → ℕ) → List Card → Bool
+four_of_a_kind height cards = ranks_occurring height cards 4 == 1
+
+-- one rank occurs three times and another twice
+abbrev pub full_house : (Rank → ℕ) → List Card → Bool
+full_house height cards = ranks_occurring height cards 3 == 1 && ranks_occurring height cards 2 == 1
+
+-- one rank occurs three times and none twice
+abbrev pub three_of_a_kind : (Rank → ℕ) → List Card → Bool
+three_of_a_kind height cards = ranks_occurring height cards 3 == 1 && ranks_occurring height cards 2 == 0
+
+-- two ranks occur twice
+abbrev pub two_pair : (Rank → ℕ) → List Card → Bool
+two_pair height cards = ranks_occurring height cards 2 == 2
+
+-- one rank occurs twice and none three times
+abbrev pub one_pair : (Rank → ℕ) → List Card → Bool
+one_pair height cards = ranks_occurring height cards 2 == 1 && ranks_occurring height cards 3 == 0
+
+-- no rank occurs more than once
+abbrev pub no_pair : (Rank → ℕ) → List Card → Bool
+no_pair height cards = ranks_occurring height cards 4 == 0 && ranks_occurring height cards 3 == 0 && ranks_occurring height cards 2 == 0
+
+-- how many classes of a table, whose first is the best, stand before the first that a hand has
+abbrev pub place : List Bool → ℕ
+place [] = 0
+place (true ∷ rest) = 0
+place (false ∷ rest) = 1 + place rest
+
+-- at the first place where the lists differ the left one is lower
+abbrev pub IsLower : List ℕ → List ℕ → Type 0
+IsLower [] ys = ⊥
+IsLower (x ∷ xs) [] = ⊥
+IsLower (x ∷ xs) (y ∷ ys) = (x < y) ⊎ ((x ≡ y) × IsLower xs ys)
+
+-- a hand is below another by a table of classes and a list of ranks: its class is worse, or it is the same and the first rank that differs is lower
+abbrev pub IsBelow : (List Card → ℕ) → (List Card → List ℕ) → List Card → List Card → Type 0
+IsBelow class list a b = (class b < class a) ⊎ ((class a ≡ class b) × IsLower (list a) (list b))
+
+-- the same where low ranks are good: its class is worse, or it is the same and the first rank that differs is higher
+abbrev pub IsBelowLow : (List Card → ℕ) → (List Card → List ℕ) → List Card → List Card → Type 0
+IsBelowLow class list a b = (class b < class a) ⊎ ((class a ≡ class b) × IsLower (list b) (list a))

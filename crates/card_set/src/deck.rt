@@ -1,0 +1,48 @@
+// Each card has a place in the deck: by rank from the lowest, and then by suit c, d, h, s.
+ghost use Rattle.std.specs.Prelude.{◌≡◌, ◌<◌};
+ghost use Rattle.card_set.specs.Deck.{deck_place, ranks_below, suits_before};
+
+use crate::card::{Card, Rank, Suit};
+
+/// The place of a card in the deck, from 0 to 51.
+pub fn place_in_deck(card: Card) -> u8
+    ensures place { result ≡ deck_place card }
+    ensures within { result < 52 }
+{
+    4 * place_of_rank(card.rank) + place_of_suit(card.suit)
+}
+
+/// How many ranks are below this one, the ace the highest.
+pub fn place_of_rank(rank: Rank) -> u8
+    ensures place { result ≡ ranks_below rank }
+    ensures within { result < 13 }
+{
+    match rank {
+        Rank::Two => 0,
+        Rank::Three => 1,
+        Rank::Four => 2,
+        Rank::Five => 3,
+        Rank::Six => 4,
+        Rank::Seven => 5,
+        Rank::Eight => 6,
+        Rank::Nine => 7,
+        Rank::Ten => 8,
+        Rank::Jack => 9,
+        Rank::Queen => 10,
+        Rank::King => 11,
+        Rank::Ace => 12,
+    }
+}
+
+/// How many suits stand before this one. It tells suits apart; they order no hands.
+pub fn place_of_suit(suit: Suit) -> u8
+    ensures place { result ≡ suits_before suit }
+    ensures within { result < 4 }
+{
+    match suit {
+        Suit::C => 0,
+        Suit::D => 1,
+        Suit::H => 2,
+        Suit::S => 3,
+    }
+}

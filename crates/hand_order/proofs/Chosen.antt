@@ -1,0 +1,90 @@
+-- One card more is chosen, or left.
+use Rattle.std.proofs.Common.{◌≡◌, ◌==◌, false, ℕ, zero, suc, ◌+◌, ◌-◌, ◌<◌, ◌≤◌, List, [], ◌∷◌, ◌++◌, map, length, take, drop, get_or, length-take, Option, Some, None, ◌⊎◌, inl, inr, refl, sym, ◌∙◌, ap, subst, arith, append_assoc, append-nil}
+use Rattle.std.proofs.lemmas.List.{drop_more, get_or-take, drop_all}
+use Rattle.card_set.specs.declared.card.Card.{Card}
+use Rattle.card_set.specs.declared.row.CardRow.{CardRow}
+use Rattle.std.specs.List.{list_all}
+use Rattle.card_set.specs.Deck.{suits_before}
+use Rattle.card_set.specs.Ranks.{one_suit}
+use Rattle.card_set.specs.Row.{cards_of}
+use Rattle.card_set.specs.Filler.{filler_card}
+use Rattle.hand_order.specs.Choices.{choices, choices_of_both, IsAmong}
+use Rattle.hand_order.specs.Points.{better, greatest}
+use Rattle.hand_order.proofs.Greatest.{greatest-append, greatest-map, greatest-one, greatest-none, greatest-agree, greatest-flat_map, IsAmong-left, IsAmong-right, IsAmong-map}
+
+-- the choices with the first card and those without it
+choices-cons : (need : ℕ) (card : Card) (rest : List Card) → 0 < need → choices need (card ∷ rest) ≡ map (λ chosen. card ∷ chosen) (choices (need - 1) rest) ++ choices need rest
+unfolding choices
+choices-cons zero card rest some = absurd (omega arith)
+choices-cons (suc n) card rest some = let e : suc n - 1 ≡ n = omega arith in rw e refl
+
+-- the greatest of the choices with the first card, and of those without it
+pub greatest-step : (worth : List Card → Option ℕ) (chosen with rest : List Card) (card : Card) (need : ℕ) → 0 < need → with ≡ chosen ++ card ∷ [] → greatest (λ more. worth (chosen ++ more)) (choices need (card ∷ rest)) ≡ better (greatest (λ more. worth (with ++ more)) (choices (need - 1) rest)) (greatest (λ more. worth (chosen ++ more)) (choices need rest))
+greatest-step worth chosen with rest card need some is =
+    ap (greatest (λ more. worth (chosen ++ more))) (choices-cons need card rest some)
+    ∙ greatest-append (λ more. worth (chosen ++ more)) (map (λ others. card ∷ others) (choices (need - 1) rest)) (choices need rest)
+    ∙ ap (λ (first : Option ℕ). better first (greatest (λ more. worth (chosen ++ more)) (choices need rest)))
+    (greatest-map (λ more. worth (chosen ++ more)) (λ others. card ∷ others) (choices (need - 1) rest)
+    ∙ greatest-agree (λ others. worth (chosen ++ card ∷ others)) (λ more. worth (with ++ more)) (choices (need - 1) rest) (λ others. ap worth (sym (append_assoc chosen (card ∷ []) others) ∙ ap (λ (l : List Card). l ++ others) (sym is))))
+
+-- what is accepted of all choices is accepted of those with the first card
+pub accepted_with : (accepts : List Card → Type 0) (chosen with rest : List Card) (card : Card) (need : ℕ) → 0 < need → with ≡ chosen ++ card ∷ [] → ((more : List Card) → IsAmong more (choices need (card ∷ rest)) → accepts (chosen ++ more)) → (more : List Card) → IsAmong more (choices (need - 1) rest) → accepts (with ++ more)
+accepted_with accepts chosen with rest card need some is all more among =
+    subst accepts (sym (append_assoc chosen (card ∷ []) more) ∙ ap (λ (l : List Card). l ++ more) (sym is))
+    (all (card ∷ more) (subst (IsAmong (card ∷ more)) (sym (choices-cons need card rest some)) (IsAmong-left (card ∷ more) (map (λ others. card ∷ others) (choices (need - 1) rest)) (choices need rest) (IsAmong-map (λ others. card ∷ others) more (choices (need - 1) rest) among))))
+
+-- and of those without it
+pub accepted_without : (accepts : List Card → Type 0) (chosen rest : List Card) (card : Card) (need : ℕ) → 0 < need → ((more : List Card) → IsAmong more (choices need (card ∷ rest)) → accepts (chosen ++ more)) → (more : List Card) → IsAmong more (choices need rest) → accepts (chosen ++ more)
+accepted_without accepts chosen rest card need some all more among =
+    all more (subst (IsAmong more) (sym (choices-cons need card rest some)) (IsAmong-right more (map (λ others. card ∷ others) (choices (need - 1) rest)) (choices need rest) among))
+
+-- nothing more is needed
+pub greatest-zero : (worth : List Card → Option ℕ) (chosen rest : List Card) → greatest (λ more. worth (chosen ++ more)) (choices 0 rest) ≡ worth chosen
+unfolding choices
+greatest-zero worth chosen rest = greatest-one (λ more. worth (chosen ++ more)) [] ∙ ap worth (append-nil chosen)
+
+pub accepted_zero : (accepts : List Card → Type 0) (chosen rest : List Card) → ((more : List Card) → IsAmong more (choices 0 rest) → accepts (chosen ++ more)) → accepts chosen
+unfolding choices
+accepted_zero accepts chosen rest all = subst accepts (append-nil chosen) (all [] (inl refl))
+
+-- no card is left
+pub greatest-empty : (worth : List Card → Option ℕ) (need : ℕ) → 0 < need → greatest worth (choices need []) ≡ None
+unfolding choices
+greatest-empty worth zero some = absurd (omega arith)
+greatest-empty worth (suc n) some = greatest-none worth
+
+-- the card at a place of a row, and those after it
+pub drop-row : (row : CardRow) (at : ℕ) → at < row.len → drop at (cards_of row) ≡ get_or row.cards at filler_card ∷ drop (at + 1) (cards_of row)
+drop-row row at within =
+    drop_more (cards_of row) at filler_card (omega (arith, length-take row.len row.cards, row.entries, row.fits))
+    ∙ ap (λ (card : Card). card ∷ drop (at + 1) (cards_of row)) (get_or-take row.len row.cards at filler_card within)
+
+-- the better of the best with a card and of the best without it is the best
+pub best_step : (worth : List Card → Option ℕ) (chosen with deck : List Card) (card : Card) (at need : ℕ) (best first second : Option ℕ) → 0 < need → with ≡ chosen ++ card ∷ [] → drop at deck ≡ card ∷ drop (at + 1) deck → best ≡ better first second → first ≡ greatest (λ more. worth (with ++ more)) (choices (need - 1) (drop (at + 1) deck)) → second ≡ greatest (λ more. worth (chosen ++ more)) (choices need (drop (at + 1) deck)) → best ≡ greatest (λ more. worth (chosen ++ more)) (choices need (drop at deck))
+best_step worth chosen with deck card at need best first second some is left better_is first_is second_is =
+    better_is
+    ∙ ap (λ (o : Option ℕ). better o second) first_is
+    ∙ ap (λ (o : Option ℕ). better (greatest (λ more. worth (with ++ more)) (choices (need - 1) (drop (at + 1) deck))) o) second_is
+    ∙ sym (greatest-step worth chosen with (drop (at + 1) deck) card need some is)
+    ∙ ap (λ (l : List Card). greatest (λ more. worth (chosen ++ more)) (choices need l)) (sym left)
+
+-- past the last card none is left
+pub drop-past : (row : CardRow) (at : ℕ) → row.len ≤ at → drop at (cards_of row) ≡ []
+drop-past row at past = drop_all at (cards_of row) (omega (arith, length-take row.len row.cards, row.entries, row.fits))
+
+-- the best of the best of each is the best of all
+pub greatest_of_both : (points : List Card → Option ℕ) (start : List Card) (n : ℕ) (first : List Card) (m : ℕ) (second : List Card) → start ≡ [] → greatest (λ chosen. greatest (λ more. points ((start ++ chosen) ++ more)) (choices m second)) (choices n first) ≡ greatest points (choices_of_both n first m second)
+greatest_of_both points start n first m second none =
+    greatest-agree (λ chosen. greatest (λ more. points ((start ++ chosen) ++ more)) (choices m second)) (λ chosen. greatest points (map (λ others. chosen ++ others) (choices m second))) (choices n first) (λ chosen.
+    ap (λ (l : List Card). greatest (λ more. points ((l ++ chosen) ++ more)) (choices m second)) none
+    ∙ sym (greatest-map points (λ others. chosen ++ others) (choices m second)))
+    ∙ sym (greatest-flat_map points (λ chosen. map (λ others. chosen ++ others) (choices m second)) (choices n first))
+
+-- a row without cards is of no suit, and another is of one where all its cards have the suit of the first
+pub no_suit : (row : CardRow) → row.len ≡ 0 → one_suit (cards_of row) ≡ false
+no_suit row none = ap one_suit (drop-past row 0 (omega arith))
+
+pub suit_of_first : (row : CardRow) → 0 < row.len → one_suit (cards_of row) ≡ list_all (λ other. suits_before other.suit == suits_before (get_or row.cards 0 filler_card).suit) (cards_of row)
+suit_of_first row some =
+    let e = drop-row row 0 some in
+    ap one_suit e ∙ ap (list_all (λ other. suits_before other.suit == suits_before (get_or row.cards 0 filler_card).suit)) (sym e)

@@ -1,0 +1,9 @@
+pub mod Chosen
+pub mod Digits
+pub mod Greatest
+pub mod Held
+pub mod HighLaw
+pub mod Lawful
+pub mod RankDigits
+pub mod Ranked
+pub mod Shapes

@@ -1,0 +1,16 @@
+use Rattle.std.proofs.Common.{sym, ◌∙◌}
+use Rattle.card_set.specs.Row.{cards_of}
+use Rattle.hand_order.proofs.Held.{different_parts}
+use Rattle.hand_order.proofs.Greatest.{greatest-one}
+use Rattle.hand_order.proofs.best.greatest_score.Goals as goal
+
+pub score-requires : goal.score-requires
+score-requires g c =
+    let e = c.in-AllHeld.is in
+    let parts = different_parts (cards_of c.args.hole.now) (cards_of c.args.board.now) c.requires.different in
+    (rw e at c.requires.usable, parts.0)
+
+pub returns-in-AllHeld : goal.returns-in-AllHeld
+returns-in-AllHeld g c =
+    let e = c.in-AllHeld.is in
+    rw e (c.score.ensures ∙ sym (greatest-one g.O.HandOrder.points (cards_of c.args.hole.now)))

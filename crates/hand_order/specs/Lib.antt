@@ -1,0 +1,10 @@
+pub mod Best
+pub mod Choices
+pub mod Digits
+pub mod Height
+pub mod Heights
+pub mod Look
+pub mod Order
+pub mod Points
+pub mod Straights
+pub mod Tables

@@ -1,0 +1,175 @@
+// The best of a holding is the greatest score of the choices that its pick allows.
+ghost use Rattle.std.specs.Prelude.{◌≡◌, ℕ, ◌+◌, ◌≤◌, List, ◌++◌, drop, length, Option, IfSome, IfNone};
+ghost use Rattle.std.specs.Option.{option_map};
+ghost use Rattle.card_set.specs.declared.card.Card.{Card};
+ghost use Rattle.card_set.specs.Row.{cards_of};
+ghost use Rattle.card_set.specs.Different.{AllDifferent};
+ghost use Rattle.hand_order.specs.Choices.{AreHeld, CanJoin, CanPick, IsAmong, allowed, choices, choices_of_both};
+ghost use Rattle.hand_order.specs.Best.{HasNoHand, IsPointsOfBest};
+ghost use Rattle.hand_order.specs.Points.{better, greatest};
+
+use crate::order::{HandOrder, Score};
+use card_set::CardRow;
+use std::marker::PhantomData;
+
+/// Which choices of cards a holding allows.
+#[derive(Clone, Copy, Debug, PartialEq, Eq)]
+pub enum Pick {
+    /// Any five cards of hole and board together.
+    AnyFive,
+    /// Exactly two hole cards and three board cards.
+    TwoAndThree,
+    /// All hole cards.
+    AllHeld,
+}
+
+/// The score of the best choice that the pick allows, none where no choice is a hand of the order.
+/// `AnyFive` takes five to seven cards, `TwoAndThree` at least two hole and three board cards,
+/// and `AllHeld` as many hole cards as a hand of the order has.
+pub fn best_of<O: HandOrder>(hole: &CardRow, board: &CardRow, pick: Pick) -> Option<Score>
+    requires usable { CanPick O.HELD pick (cards_of hole.now) (cards_of board.now) }
+    requires different { AllDifferent (cards_of hole.now ++ cards_of board.now) }
+    ensures none { IfNone result (HasNoHand O.is_hand (allowed pick (cards_of hole.now) (cards_of board.now))) }
+    ensures best { IfSome result (λ score. IsPointsOfBest O.is_hand O.is_weaker O.points
+        (allowed pick (cards_of hole.now) (cards_of board.now)) score.value) }
+{
+    greatest_score::<O>(hole, board, pick)
+}
+
+// The greatest score of the choices.
+fn greatest_score<O: HandOrder>(hole: &CardRow, board: &CardRow, pick: Pick) -> Option<Score>
+    requires usable { CanPick O.HELD pick (cards_of hole.now) (cards_of board.now) }
+    requires different { AllDifferent (cards_of hole.now ++ cards_of board.now) }
+    ensures { option_map (λ s. s.value) result
+        ≡ greatest O.points (allowed pick (cards_of hole.now) (cards_of board.now)) }
+{
+    match pick {
+        Pick::AnyFive => any_five::<O>(hole, board),
+        Pick::TwoAndThree => two_and_three::<O>(hole, board),
+        Pick::AllHeld => O::score(hole),
+    }
+}
+
+fn any_five<O: HandOrder>(hole: &CardRow, board: &CardRow) -> Option<Score>
+    requires held { O.HELD ≡ 5 }
+    requires room { length (cards_of hole.now) + length (cards_of board.now) ≤ 7 }
+    requires different { AllDifferent (cards_of hole.now ++ cards_of board.now) }
+    ensures { option_map (λ s. s.value) result ≡ greatest O.points (choices 5 (cards_of hole.now ++ cards_of board.now)) }
+{
+    let judge = ByOrder::<O> { order: PhantomData };
+    best_choice(&judge, &joined(hole, board), 0, CardRow::new(), 5)
+}
+
+fn two_and_three<O: HandOrder>(hole: &CardRow, board: &CardRow) -> Option<Score>
+    requires held { O.HELD ≡ 5 }
+    requires different { AllDifferent (cards_of hole.now ++ cards_of board.now) }
+    ensures { option_map (λ s. s.value) result
+        ≡ greatest O.points (choices_of_both 2 (cards_of hole.now) 3 (cards_of board.now)) }
+{
+    let judge = WithBoard::<O> {
+        board: *board,
+        order: PhantomData,
+    };
+    best_choice(&judge, hole, 0, CardRow::new(), 2)
+}
+
+// The cards of the first row, then those of the second.
+fn joined(first: &CardRow, second: &CardRow) -> CardRow
+    requires { length (cards_of first.now) + length (cards_of second.now) ≤ 7 }
+    ensures { cards_of result ≡ cards_of first.now ++ cards_of second.now }
+{
+    let mut row = *first;
+    for card in second.as_slice() {
+        row.push(*card);
+    }
+    row
+}
+
+/// What a choice is worth.
+pub trait Judge {
+    /// Which choices it can judge.
+    ghost accepts: { Self → List Card → Type 0 };
+
+    /// What a choice is worth, if anything.
+    ghost worth: { Self → List Card → Option ℕ };
+
+    /// What the chosen cards are worth.
+    fn judge(&self, chosen: &CardRow) -> Option<Score>
+        requires { accepts self.now (cards_of chosen.now) }
+        ensures { option_map (λ s. s.value) result ≡ worth self.now (cards_of chosen.now) };
+}
+
+/// The best that can be had with `chosen` and `need` of the cards from place `from` on.
+pub fn best_choice<J: Judge>(
+    judge: &J,
+    cards: &CardRow,
+    from: u8,
+    chosen: CardRow,
+    need: u8,
+) -> Option<Score>
+    requires room { chosen.len + need ≤ 7 }
+    requires accepted { (more : List Card) → IsAmong more (choices need (drop from (cards_of cards.now)))
+        → J.accepts judge.now (cards_of chosen ++ more) }
+    ensures { option_map (λ s. s.value) result
+        ≡ greatest (λ more. J.worth judge.now (cards_of chosen ++ more)) (choices need (drop from (cards_of cards.now))) }
+{
+    if need == 0 {
+        return judge.judge(&chosen);
+    }
+    if from >= cards.len {
+        return None;
+    }
+    let mut with = chosen;
+    with.push(cards.cards[from as usize]);
+    better_score(
+        best_choice(judge, cards, from + 1, with, need - 1),
+        best_choice(judge, cards, from + 1, chosen, need),
+    )
+}
+
+/// The better of two scores, where none is the worst.
+pub fn better_score(first: Option<Score>, second: Option<Score>) -> Option<Score>
+    ensures { option_map (λ s. s.value) result ≡ better (option_map (λ s. s.value) first) (option_map (λ s. s.value) second) }
+{
+    match (first, second) {
+        (None, _) => second,
+        (Some(_), None) => first,
+        (Some(x), Some(y)) => Some(Score {
+            value: x.value.max(y.value),
+        }),
+    }
+}
+
+// Judges a whole hand by its score.
+#[derive(Drop)]
+struct ByOrder<O: HandOrder> {
+    order: PhantomData<O>,
+}
+
+impl<O: HandOrder> Judge for ByOrder<O> {
+    ghost accepts = { λ judge cards. AreHeld O.HELD cards };
+
+    ghost worth = { λ judge cards. O.points cards };
+
+    fn judge(&self, chosen: &CardRow) -> Option<Score> {
+        O::score(chosen)
+    }
+}
+
+// Judges hole cards by the best hand that they make with three cards of the board.
+#[derive(Drop)]
+struct WithBoard<O: HandOrder> {
+    board: CardRow,
+    order: PhantomData<O>,
+}
+
+impl<O: HandOrder> Judge for WithBoard<O> {
+    ghost accepts = { λ judge cards. CanJoin O.HELD cards (cards_of judge.board) };
+
+    ghost worth = { λ judge cards. greatest (λ more. O.points (cards ++ more)) (choices 3 (cards_of judge.board)) };
+
+    fn judge(&self, chosen: &CardRow) -> Option<Score> {
+        let judge = ByOrder::<O> { order: PhantomData };
+        best_choice(&judge, &self.board, 0, *chosen, 3)
+    }
+}

@@ -1,0 +1,16 @@
+//! An order of hands gives each hand a score, and a holding is worth the greatest score of the choices it allows.
+#![tactic(auto)]
+
+mod best;
+mod look;
+mod order;
+mod ranks;
+mod row;
+mod straights;
+
+pub use best::{Judge, Pick, best_choice, best_of, better_score};
+pub use look::{Look, high_number, look_at};
+pub use order::{HandOrder, Score};
+pub use ranks::{Ace, class_above, count_of_ranks, height_of, ranks_of};
+pub use row::RankRow;
+pub use straights::{LowStraight, deciding_of, is_flush, is_straight};

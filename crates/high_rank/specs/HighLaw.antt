@@ -1,0 +1,14 @@
+-- The high order is lawful.
+use Rattle.std.proofs.Common.{◌≡◌, ℕ, ◌<◌, List, Option, Some, ◌↔◌, refl, sym, ◌∙◌, ap, subst}
+use Rattle.std.proofs.lemmas.Option.{same_Some}
+use Rattle.card_set.specs.declared.card.Card.{Card}
+use Rattle.hand_order.specs.declared.straights.LowStraight.TheVariants as straights
+use Rattle.hand_order.specs.Choices.{AreHeld}
+use Rattle.hand_order.specs.Order.{IsLawful}
+use Rattle.hand_order.specs.Straights.{high_points}
+use Rattle.hand_order.proofs.HighLaw.{high_ordered}
+use Rattle.hand_order.proofs.Lawful.{lawful_by_numbers}
+use Rattle.high_rank.specs.High.{IsHand, IsWeaker, points}
+
+pub lawful_high : IsLawful (AreHeld 5) IsHand IsWeaker points
+lawful_high = lawful_by_numbers (AreHeld 5) IsWeaker (high_points straights.FiveHigh) (high_ordered straights.FiveHigh)

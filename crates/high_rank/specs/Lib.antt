@@ -1,0 +1,5 @@
+pub mod High
+pub mod HighLaw
+pub mod ShortDeck
+pub mod ShortDeckLaw
+pub mod UpHigh

@@ -1,0 +1,44 @@
+// The high order of up-cards: straights and flushes do not count.
+ghost use Rattle.std.specs.Prelude.{◌≡◌, ◌<◌, ℕ, ◌-◌, List, length, ◌↔◌};
+ghost use Rattle.card_set.specs.declared.card.Card.{Card};
+ghost use Rattle.card_set.specs.Classes.{place};
+ghost use Rattle.card_set.specs.Row.{cards_of};
+ghost use Rattle.card_set.specs.UpCards.{AreUpCards, IsWeakerUpHigh};
+ghost use Rattle.high_rank.specs.UpHigh.{up_high_points, up_high_table};
+
+use card_set::CardRow;
+use hand_order::{Ace, Score, class_above, count_of_ranks, ranks_of};
+
+/// How good the up-cards are where high cards are good: four, three, two pair, pair, high card, then the ranks.
+/// It compares up-cards with as many others.
+pub fn up_high(cards: &CardRow) -> Score
+    requires { AreUpCards (cards_of cards.now) }
+    ensures number { result.value ≡ up_high_points (cards_of cards.now) }
+    ensures ordered { (other : List Card) → AreUpCards other → length other ≡ length (cards_of cards.now)
+        → ((up_high_points other < result.value) ↔ IsWeakerUpHigh other (cards_of cards.now)) }
+{
+    let fours = count_of_ranks(cards, Ace::High, 4);
+    let threes = count_of_ranks(cards, Ace::High, 3);
+    let pairs = count_of_ranks(cards, Ace::High, 2);
+    let ranks = ranks_of(cards, Ace::High);
+    Score {
+        value: class_above(up_class(fours, threes, pairs), ranks.as_slice()),
+    }
+}
+
+// The classes of up-cards, the best with the greatest number.
+fn up_class(fours: usize, threes: usize, pairs: usize) -> u32
+    ensures { result ≡ 4 - place (up_high_table fours threes pairs) }
+{
+    if fours == 1 {
+        4
+    } else if threes == 1 && pairs == 0 {
+        3
+    } else if pairs == 2 {
+        2
+    } else if pairs == 1 && threes == 0 {
+        1
+    } else {
+        0
+    }
+}

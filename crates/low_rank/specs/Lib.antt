@@ -1,0 +1,5 @@
+pub mod DeuceSeven
+pub mod EightLow
+pub mod Low
+pub mod LowLaw
+pub mod Razz

@@ -1,0 +1,10 @@
+//! The low orders: eight-or-better, razz, deuce-to-seven, and the low order of up-cards.
+#![tactic(auto)]
+
+mod deuce;
+mod low;
+mod orders;
+
+pub use deuce::DeuceSeven;
+pub use low::up_low;
+pub use orders::{EightLow, RazzLow};

@@ -1,0 +1,57 @@
+// Where low cards are good, a score is what the class and the ranks leave of the greatest number.
+ghost use Rattle.std.specs.Prelude.{◌≡◌, ◌<◌, ◌≤◌, ℕ, ◌-◌, List, length, ◌↔◌};
+ghost use Rattle.card_set.specs.declared.card.Card.{Card};
+ghost use Rattle.card_set.specs.Classes.{place};
+ghost use Rattle.card_set.specs.Different.{AllDifferent};
+ghost use Rattle.card_set.specs.Row.{cards_of};
+ghost use Rattle.card_set.specs.UpCards.{AreUpCards, IsWeakerLow};
+ghost use Rattle.low_rank.specs.Low.{low_points, low_table};
+
+use card_set::CardRow;
+use hand_order::{Ace, Score, class_above, count_of_ranks, ranks_of};
+
+/// How good the up-cards are where low cards are good, the ace low: no pair, pair, two pair, three, four, then the ranks.
+/// It compares up-cards with as many others.
+pub fn up_low(cards: &CardRow) -> Score
+    requires { AreUpCards (cards_of cards.now) }
+    ensures number { result.value ≡ low_points (cards_of cards.now) }
+    ensures ordered { (other : List Card) → AreUpCards other → length other ≡ length (cards_of cards.now)
+        → ((low_points other < result.value) ↔ IsWeakerLow other (cards_of cards.now)) }
+{
+    low_score(cards)
+}
+
+/// The score of at most five cards where low cards are good.
+pub fn low_score(cards: &CardRow) -> Score
+    requires few { length (cards_of cards.now) ≤ 5 }
+    requires different { AllDifferent (cards_of cards.now) }
+    ensures { result.value ≡ low_points (cards_of cards.now) }
+{
+    let fours = count_of_ranks(cards, Ace::Low, 4);
+    let threes = count_of_ranks(cards, Ace::Low, 3);
+    let pairs = count_of_ranks(cards, Ace::Low, 2);
+    let ranks = ranks_of(cards, Ace::Low);
+    Score {
+        value: 0x100_0000 - class_above(class_of(fours, threes, pairs), ranks.as_slice()),
+    }
+}
+
+// The classes of low cards, the best with the least number.
+fn class_of(fours: usize, threes: usize, pairs: usize) -> u32
+    requires { place (low_table fours threes pairs) ≤ 5 }
+    ensures { result ≡ place (low_table fours threes pairs) }
+{
+    if fours == 0 && threes == 0 && pairs == 0 {
+        0
+    } else if pairs == 1 && threes == 0 {
+        1
+    } else if pairs == 2 {
+        2
+    } else if threes == 1 && pairs == 0 {
+        3
+    } else if threes == 1 && pairs == 1 {
+        4
+    } else {
+        5
+    }
+}
