@@ -1,13 +1,10 @@
 //! The program `handref`: a referee for recorded poker hands.
 #![tactic(auto)]
 
-pub mod action;
 pub mod answer;
 pub mod chips;
 pub mod deals;
 pub mod finish;
-pub mod first_form;
-pub mod hand;
 pub mod past;
 pub mod play;
 pub mod raises;
