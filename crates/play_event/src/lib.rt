@@ -7,6 +7,8 @@ mod examples;
 mod reason;
 mod script;
 mod setup;
+#[cfg(test)]
+mod tests;
 
 pub use code::Code;
 pub use event::{Event, Kind, Spelled};
