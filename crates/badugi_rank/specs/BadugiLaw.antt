@@ -1,19 +1,17 @@
 -- The order of badugi is lawful.
-use Rattle.std.proofs.Common.{◌≡◌, ◌≢◌, ℕ, zero, suc, ◌+◌, ◌-◌, ◌*◌, ◌^◌, ◌<◌, ◌≤◌, ◌==◌, ◌&&◌, ◌||◌, not, Bool, true, false, cond, List, [], ◌∷◌, ◌++◌, length, count_by, get_or, Option, Some, None, IsSome, ◌⊎◌, inl, inr, ◌↔◌, refl, sym, ◌∙◌, ap, subst, arith, eq-eqb, eqb-true}
+use Rattle.std.proofs.Common.{◌≡◌, ℕ, zero, suc, ◌+◌, ◌-◌, ◌^◌, ◌<◌, ◌≤◌, ◌==◌, not, Bool, true, false, cond, List, [], ◌∷◌, ◌++◌, length, get_or, Option, Some, None, IsSome, inl, inr, ◌↔◌, refl, sym, ◌∙◌, ap, subst, arith, eqb-true}
 use Rattle.std.specs.List.{list_all}
 use Rattle.std.proofs.lemmas.Bool.{and_parts, or_parts}
-use Rattle.std.proofs.lemmas.Option.{same_Some, cond_some}
+use Rattle.std.proofs.lemmas.Option.{cond_some}
 use Rattle.card_set.specs.declared.card.Card.{Card}
-use Rattle.card_set.specs.Classes.{IsBelowLow, IsLower}
 use Rattle.card_set.specs.Different.{AllDifferent}
 use Rattle.card_set.specs.Deck.{suits_before}
-use Rattle.card_set.specs.Ranks.{low_ace, ranks_occurring, ranks_of, times}
-use Rattle.card_set.proofs.Counted.{IsHeight-low_ace, all_once, length-ranks_of, ranks_of-le, times-cons, times-none, passes_or_not}
-use Rattle.hand_order.specs.Best.{HasNoHand, IsBest, IsPointsOfBest, Beats, IsWorth}
+use Rattle.card_set.specs.Ranks.{low_ace, ranks_of, times}
+use Rattle.card_set.proofs.Counted.{IsHeight-low_ace, all_once, length-ranks_of, times-cons, times-none, passes_or_not}
+use Rattle.hand_order.specs.Best.{IsWorth}
 use Rattle.hand_order.specs.Choices.{choices, IsAmong, AreHeld}
 use Rattle.hand_order.specs.Digits.{class_above}
 use Rattle.hand_order.specs.Order.{IsLawful}
-use Rattle.hand_order.specs.Points.{greatest}
 use Rattle.hand_order.proofs.Greatest.{Says, says_greatest, IsAmong-right}
 use Rattle.hand_order.proofs.Held.{held_chosen, IsAmong-cases}
 use Rattle.hand_order.proofs.Lawful.{worth_greatest, beats_exactly}

@@ -1,19 +1,19 @@
 -- The three low orders are lawful.
-use Rattle.std.proofs.Common.{◌≡◌, ℕ, ◌+◌, ◌-◌, ◌*◌, ◌^◌, ◌<◌, ◌≤◌, ◌&&◌, Bool, true, false, cond, List, [], ◌∷◌, length, Option, Some, None, IsSome, ◌⊎◌, inl, inr, ◌↔◌, refl, sym, ◌∙◌, ap, subst, arith}
+use Rattle.std.proofs.Common.{◌≡◌, ℕ, ◌-◌, ◌^◌, ◌<◌, ◌≤◌, Bool, true, false, cond, List, [], ◌∷◌, length, Some, None, IsSome, inl, inr, ◌↔◌, refl, sym, ◌∙◌, ap, subst, arith}
 use Rattle.std.specs.List.{list_all}
 use Rattle.std.specs.Prelude.{nat_le}
 use Rattle.std.proofs.lemmas.Bool.{and_parts}
-use Rattle.std.proofs.lemmas.Option.{same_Some, cond_some}
+use Rattle.std.proofs.lemmas.Option.{cond_some}
 use Rattle.card_set.specs.declared.card.Card.{Card}
-use Rattle.card_set.specs.Classes.{place, no_pair, one_pair, two_pair, three_of_a_kind, full_house, four_of_a_kind, IsBelowLow, IsLower}
+use Rattle.card_set.specs.Classes.{place, no_pair, one_pair, two_pair, three_of_a_kind, full_house, four_of_a_kind}
 use Rattle.card_set.specs.Different.{AllDifferent}
-use Rattle.card_set.specs.Ranks.{low_ace, ranks_occurring, ranks_of}
+use Rattle.card_set.specs.Ranks.{low_ace, ranks_of}
 use Rattle.card_set.specs.UpCards.{low_class, IsWeakerLow}
 use Rattle.card_set.proofs.Counted.{IsHeight-low_ace}
 use Rattle.hand_order.specs.declared.straights.LowStraight.TheVariants as straights
 use Rattle.hand_order.specs.Choices.{AreHeld}
 use Rattle.hand_order.specs.Order.{IsLawful}
-use Rattle.hand_order.specs.Straights.{IsWeakerHigh, high_points}
+use Rattle.hand_order.specs.Straights.{high_points}
 use Rattle.hand_order.proofs.HighLaw.{high_ordered, high_below}
 use Rattle.hand_order.proofs.Lawful.{lawful_by_numbers}
 use Rattle.hand_order.proofs.RankDigits.{AreDigits-ranks_of}
