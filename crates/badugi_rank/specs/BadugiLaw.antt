@@ -14,7 +14,7 @@ use Rattle.hand_order.specs.Digits.{class_above}
 use Rattle.hand_order.specs.Order.{IsLawful}
 use Rattle.hand_order.proofs.Greatest.{Says, says_greatest, IsAmong-right}
 use Rattle.hand_order.proofs.Held.{held_chosen, IsAmong-cases}
-use Rattle.hand_order.proofs.Lawful.{worth_greatest, beats_exactly}
+use Rattle.hand_order.proofs.Lawful.{worth_greatest, beats_exactly, lawful_by_order}
 use Rattle.hand_order.proofs.RankDigits.{AreDigits-ranks_of}
 use Rattle.hand_order.proofs.Ranked.{IsRanked, ranked_low_law}
 use Rattle.badugi_rank.specs.Badugi.{share, all_differ, IsRainbow, IsWorse, candidates, IsHand, IsWeaker, choice_points, points}
@@ -101,10 +101,7 @@ choice_ordered a b low high few_a few_b is_low is_high =
 
 -- choices are ordered by their numbers
 pub lawful_choices : IsLawful AreFew IsRainbow IsWorse choice_points
-lawful_choices = record {
-  scored = λ chosen few. points_there (all_differ chosen) (16 ^ 6 - class_above (4 - length chosen) (ranks_of low_ace chosen));
-  ordered = choice_ordered;
-}
+lawful_choices = lawful_by_order AreFew IsRainbow IsWorse choice_points (λ chosen few. points_there (all_differ chosen) (16 ^ 6 - class_above (4 - length chosen) (ranks_of low_ace chosen))) choice_ordered
 
 -- the choices of a hand have at most four cards
 pub few_chosen : (cards chosen : List Card) → AllDifferent cards → IsAmong chosen (candidates cards) → AreFew chosen
@@ -148,7 +145,4 @@ some_points (card ∷ rest) None held is =
     absurd (cc)
 
 pub lawful_badugi : IsLawful (AreHeld 4) IsHand IsWeaker points
-lawful_badugi = record {
-  scored = λ cards held. (λ some. tt, λ hand. some_points cards (points cards) held refl);
-  ordered = hand_ordered;
-}
+lawful_badugi = lawful_by_order (AreHeld 4) IsHand IsWeaker points (λ cards held. (λ some. tt, λ hand. some_points cards (points cards) held refl)) hand_ordered

@@ -15,7 +15,7 @@ use Rattle.hand_order.specs.Choices.{AreHeld}
 use Rattle.hand_order.specs.Order.{IsLawful}
 use Rattle.hand_order.specs.Straights.{high_points}
 use Rattle.hand_order.proofs.HighLaw.{high_ordered, high_below}
-use Rattle.hand_order.proofs.Lawful.{lawful_by_numbers}
+use Rattle.hand_order.proofs.Lawful.{lawful_by_numbers, lawful_by_order}
 use Rattle.hand_order.proofs.RankDigits.{AreDigits-ranks_of}
 use Rattle.hand_order.proofs.Ranked.{IsRanked, PlainSays, ranked_plain, ranked_low_law}
 use Rattle.hand_order.proofs.Shapes.{by_counts}
@@ -79,7 +79,4 @@ eight_ordered a b low high held_a held_b is_low is_high =
     )
 
 pub lawful_eight_low : IsLawful (AreHeld 5) eight.IsHand eight.IsWeaker eight.points
-lawful_eight_low = record {
-  scored = λ cards are. points_there (eight.qualifies cards) (low_points cards);
-  ordered = eight_ordered;
-}
+lawful_eight_low = lawful_by_order (AreHeld 5) eight.IsHand eight.IsWeaker eight.points (λ cards are. points_there (eight.qualifies cards) (low_points cards)) eight_ordered
