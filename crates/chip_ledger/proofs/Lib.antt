@@ -1,3 +1,15 @@
 -- Lemmas on seats and rows.
 pub mod Seats
 pub mod Same
+pub mod Fillers
+pub mod SameEntries
+pub mod PotExamples
+pub mod Different
+pub mod Lists
+pub mod PotLevels
+pub mod PotSums
+pub mod PotSeats
+pub mod Stakes
+pub mod StakeRows
+pub mod Flags
+pub mod PlainPots

@@ -19,7 +19,8 @@ seat_same a b e =
     λ n. (f : 1 ≤ n) (l : n ≤ 10) → a ≡ record { number = n; first = f; last = l } in
     let here : P a.number =
     λ f l.
-    ap (λ h. record a { first = h }) (le_prop a.first f) ∙ ap (λ h. record { number = a.number; first = f; last = h }) (le_prop a.last l) in
+    ap (λ h. record a { first = h }) (le_prop a.first f)
+    ∙ ap (λ h. record { number = a.number; first = f; last = h }) (le_prop a.last l) in
     subst P e here b.first b.last
 
 pub chips_same : (a b : Chips) → a.number ≡ b.number → a ≡ b
@@ -92,7 +93,8 @@ pub seat_row_same_by_seats : (a b : SeatRow)
     → a ≡ b
 seat_row_same_by_seats a b s h =
     let filler : (k : ℕ) → a.seats ≤ k → slice_index b.amounts k ≡ 0 = λ k l. b.filler k (omega arith) in
-    seat_row_same a b s (ext_get_or 0 a.amounts b.amounts (a.full ∙ sym b.full) (λ k _. by_seats 0 a.amounts b.amounts a.seats h a.filler filler k))
+    seat_row_same a b s
+    (ext_get_or 0 a.amounts b.amounts (a.full ∙ sym b.full) (λ k _. by_seats 0 a.amounts b.amounts a.seats h a.filler filler k))
 
 -- what a row of flags keeps
 record KeptFlags (n : ℕ) (bs : List Bool) : Type 0 where
@@ -133,5 +135,7 @@ pub live_row_same_by_seats : (a b : LiveRow)
     → ((n : ℕ) → 1 ≤ n → n ≤ a.seats → flag_of a n ≡ flag_of b n)
     → a ≡ b
 live_row_same_by_seats a b s h =
-    let filler : (k : ℕ) → a.seats ≤ k → slice_index_or b.flags k false ≡ false = λ k l. b.filler k (omega arith) in
-    live_row_same a b s (ext_get_or false a.flags b.flags (a.full ∙ sym b.full) (λ k _. by_seats false a.flags b.flags a.seats h a.filler filler k))
+    let filler : (k : ℕ) → a.seats ≤ k → slice_index_or b.flags k false ≡ false =
+    λ k l. b.filler k (omega arith) in
+    live_row_same a b s
+    (ext_get_or false a.flags b.flags (a.full ∙ sym b.full) (λ k _. by_seats false a.flags b.flags a.seats h a.filler filler k))

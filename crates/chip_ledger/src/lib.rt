@@ -2,10 +2,12 @@
 #![tactic(auto)]
 
 pub mod numbers;
+pub mod pots;
 pub mod rows;
 pub mod sums;
 
 pub use numbers::{Chips, MOST_CHIPS, Seat};
+pub use pots::{Pot, PotRow, ShareRow};
 pub use rows::{LiveRow, MOST_AMOUNT, SeatRow};
 pub use sums::total;
 
@@ -15,7 +17,7 @@ mod tests {
     use std::test::Fail;
 
     #[test]
-    fn ends_of_the_ranges(rt: HostRuntime) -> Result<(), Fail> {
+    fn ranges_and_rows(rt: HostRuntime) -> Result<(), Fail> {
         for (number, seated) in [(0, false), (1, true), (10, true), (11, false), (255, false)] {
             let found = Seat::new(number).map(Seat::number);
             assert_eq!(rt; found, seated.then_some(number), "seat {number}");
@@ -43,6 +45,15 @@ mod tests {
         let mut live = LiveRow::new(10);
         live.set(last, true);
         assert_eq!(rt; [live.get(first), live.get(last)], [false, true]);
+        assert_eq!(rt; [live.any(), LiveRow::new(2).any()], [true, false]);
+
+        let mut shares = ShareRow::new();
+        shares.push(row);
+        assert_eq!(rt; shares.count, 1);
+        assert_eq!(rt;
+            [shares.shares[0], shares.shares[1]],
+            [row, SeatRow::new(2)]
+        );
         Ok(())
     }
 }

@@ -1,5 +1,5 @@
 //! A row holds one entry for each of its 2 to 10 seats, and fillers past its last seat.
-ghost use Rattle.std.specs.Prelude.{◌≡◌, ◌≢◌, ℕ, ◌≤◌, false, length, slice_index, slice_index_or};
+ghost use Rattle.std.specs.Prelude.{◌≡◌, ◌≢◌, ℕ, ◌≤◌, ◌↔◌, [], false, length, IsTrue, slice_index, slice_index_or};
 ghost use Rattle.chip_ledger.specs.declared.rows.TheConstants.{MOST_AMOUNT};
 
 use crate::numbers::Seat;
@@ -69,7 +69,7 @@ pub struct LiveRow {
 }
 
 impl LiveRow {
-    ghost use Rattle.chip_ledger.specs.LiveRow.{flag_of};
+    ghost use Rattle.chip_ledger.specs.LiveRow.{flag_of, flagged};
 
     /// A row of so many seats, each with the flag `false`.
     pub fn new(seats: u8) -> Self
@@ -101,5 +101,19 @@ impl LiveRow {
             → 1 ≤ n → n ≢ seat.number → flag_of self.new n ≡ flag_of self.old n }
     {
         self.flags[seat.number as usize - 1] = flag;
+    }
+
+    /// Whether some seat has the flag `true`.
+    #[tactic(auto, using(crate::proofs::Flags::flagged_some))]
+    pub fn any(&self) -> bool
+        ensures { IsTrue result ↔ (flagged self.now ≢ []) }
+    {
+        for index in 0..self.seats {
+            let seat = Seat { number: index + 1 };
+            if self.get(seat) {
+                return true;
+            }
+        }
+        false
     }
 }

@@ -1,3 +1,6 @@
+pub mod Answering
+pub mod Documents
 pub mod FirstStreet
+pub mod Playing
 pub mod SeatNumbers
 pub mod Turn

@@ -5,6 +5,7 @@ use Rattle.play_event.specs.declared.code.Code.{Code}
 use Rattle.play_event.specs.declared.code.Code.TheVariants as games
 use Rattle.play_event.specs.declared.reason.Due.{Due}
 use Rattle.play_event.specs.declared.reason.Due.TheVariants as dues
+use Rattle.play_event.specs.declared.reason.Illegal.{Illegal}
 use Rattle.play_event.specs.declared.reason.Illegal.TheVariants as reasons
 use Rattle.play_event.specs.declared.setup.Setup.{Setup}
 use Rattle.play_event.specs.Games.{street_count}
@@ -17,6 +18,9 @@ use Rattle.play_event.specs.HistoryRules.{history_rules}
 use Rattle.play_event.specs.Reasons.{why, first_reason, all_reasons}
 use Rattle.poker_cli.specs.declared.past.Past.{Past, Start, After'}
 use Rattle.poker_cli.specs.declared.past.Step.TheVariants as steps
+use Rattle.poker_cli.specs.declared.play.Stage.{Stage}
+use Rattle.poker_cli.specs.declared.play.Stage.TheVariants as stages
+use Rattle.poker_cli.specs.Stage.{IsStage}
 use Rattle.poker_cli.specs.Steps.{past_seen}
 
 -- each step is of the first street
@@ -62,3 +66,14 @@ pub why_on_first : (setup : Setup) (before : past.Past) (event : Said) (now : Du
 unfolding why
 why_on_first setup before event now game newest more is_due =
     ap (λ t. first_reason (all_reasons setup history_rules before t event)) (turn_on_first setup before now game newest more is_due)
+
+-- why an event is refused at a stage: after the end always, while dealing by the deal, while betting by the move
+abbrev pub refusal_at : Setup → past.Past → Said → Stage → Option Illegal
+refusal_at setup before event stages.Over = Some reasons.HandOver
+refusal_at setup before event stages.Dealing = first_reason (all_reasons setup history_rules before (1, dues.Deal 1) event)
+refusal_at setup before event stages.Betting = first_reason (all_reasons setup history_rules before (1, dues.Move) event)
+
+pub why_stage : (setup : Setup) (played : Past) (event : Said) (stage : Stage) → setup.code ≡ games.NT → IsStage setup (past_seen played) stage → why setup history_rules (past_seen played) event ≡ refusal_at setup (past_seen played) event stage
+why_stage setup played event stages.Over game is = why_over setup (past_seen played) event is
+why_stage setup played event stages.Dealing game is = why_on_first setup (past_seen played) event (dues.Deal 1) game (newest_is_first played) is.0 (due_deal setup (past_seen played) is.1)
+why_stage setup played event stages.Betting game is = why_on_first setup (past_seen played) event dues.Move game (newest_is_first played) is.0 (due_move setup (past_seen played) is.1 is.2)

@@ -1,2 +1,9 @@
-pub mod Hand
+pub mod Answer
+pub mod Outcome
+pub mod Run
+pub mod Stage
+pub mod Status
 pub mod Steps
+pub mod Told
+pub mod Verdict
+pub mod Words

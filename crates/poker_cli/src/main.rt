@@ -1,14 +1,45 @@
 //! The program `handref`: a referee for recorded poker hands.
 #![tactic(auto)]
 
+pub mod answer;
 pub mod chips;
 pub mod deals;
 pub mod finish;
-pub mod hand;
 pub mod past;
+pub mod play;
 pub mod raises;
 pub mod reasons;
+pub mod run;
 pub mod seats;
+pub mod status;
+pub mod text;
 pub mod turns;
 
-fn main() {}
+use host_io::{MemShelf, StdSink, StdSource};
+use std::process::ExitCode;
+use std::rt::Env;
+use std::{env, io};
+
+// The words after the program's own name.
+fn words_after_name(rt: &(impl Env + AllocGlobal)) -> io::Result<Vec<String>> {
+    let mut words = Vec::new(rt.alloc());
+    for word in env::args(rt)?.skip(1) {
+        words.push(word)?;
+    }
+    Ok(words)
+}
+
+// Words that are no text are no command, as no words are.
+fn main(rt: HostRuntime) -> ExitCode {
+    let alloc = rt.alloc();
+    let words = match words_after_name(&rt) {
+        Ok(words) => words,
+        Err(_) => Vec::new(alloc),
+    };
+    let mut input = StdSource::new(rt.stdin());
+    let mut shelf = MemShelf::new(Vec::new(alloc), Vec::new(alloc));
+    let mut out = StdSink::new(rt.stdout());
+    let mut diag = StdSink::new(rt.stderr());
+    let status = run::run(alloc, &words, &mut input, &mut shelf, &mut out, &mut diag);
+    ExitCode::from(status.number())
+}

@@ -11,6 +11,7 @@ pub enum Step {
 }
 
 /// The steps so far.
+#[derive(Clone, Copy)]
 pub enum Past<'a> {
     Start,
     After(Step, &'a Past<'a>),

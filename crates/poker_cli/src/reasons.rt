@@ -6,7 +6,7 @@ ghost use Rattle.play_event.specs.declared.reason.Due.TheVariants as dues;
 ghost use Rattle.play_event.specs.Said as said;
 ghost use Rattle.play_event.specs.HistoryRules.{history_rules};
 ghost use Rattle.play_event.specs.Reasons as definition;
-ghost use Rattle.poker_cli.specs.Hand.{IsFirstEvent};
+ghost use Rattle.first_form.specs.Hand.{IsFirstEvent};
 ghost use Rattle.poker_cli.specs.Steps.{past_seen, moves_seen, steps_seen};
 
 use crate::past::Past;
@@ -84,7 +84,7 @@ fn against_raise(setup: &Setup, past: &Past<'_>, named: u8, amount: u64) -> Opti
 }
 
 /// The first reason against an event where a deal is due.
-fn against_in_deal(setup: &Setup, past: &Past<'_>, kind: &Kind) -> Option<Illegal>
+pub fn against_in_deal(setup: &Setup, past: &Past<'_>, kind: &Kind) -> Option<Illegal>
     requires game { setup.now.code ≡ games.NT }
     requires few { steps_seen past.now ≤ 300 }
     ensures { result ≡ definition.first_reason (definition.all_reasons setup.now history_rules (past_seen past.now) (1, dues.Deal 1) (said.kind_said kind.now)) }
@@ -96,7 +96,7 @@ fn against_in_deal(setup: &Setup, past: &Past<'_>, kind: &Kind) -> Option<Illega
 }
 
 /// The first reason against an event where a move is due.
-fn against_in_betting(setup: &Setup, past: &Past<'_>, kind: &Kind) -> Option<Illegal>
+pub fn against_in_betting(setup: &Setup, past: &Past<'_>, kind: &Kind) -> Option<Illegal>
     requires few { steps_seen past.now ≤ 300 }
     requires event { IsFirstEvent setup.now.stacks.seats (said.kind_said kind.now) }
     ensures { result ≡ definition.first_reason (definition.all_reasons setup.now history_rules (past_seen past.now) (1, dues.Move) (said.kind_said kind.now)) }

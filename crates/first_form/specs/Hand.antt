@@ -8,7 +8,7 @@ use Rattle.play_event.specs.declared.event.Spelled.TheVariants as spelled
 use Rattle.play_event.specs.declared.setup.Setup.{Setup}
 use Rattle.play_event.specs.Said as said
 use Rattle.play_event.specs.Said.{Said, said_of}
-use Rattle.poker_cli.specs.declared.hand.Hand.{Hand}
+use Rattle.first_form.specs.declared.hand.Hand.{Hand}
 
 -- an event with the number of its action
 abbrev pub Numbered : Type 0

@@ -1,0 +1,31 @@
+-- What rows of pots and of shares hold, and how the definition of pots sees the rows of a hand.
+use Rattle.std.specs.Prelude.{ℕ, List, map, take}
+use Rattle.chip_ledger.specs.declared.pots.Pot.{Pot}
+use Rattle.chip_ledger.specs.declared.pots.PotRow.{PotRow}
+use Rattle.chip_ledger.specs.declared.pots.ShareRow.{ShareRow}
+use Rattle.chip_ledger.specs.declared.rows.LiveRow.{LiveRow}
+use Rattle.chip_ledger.specs.declared.rows.SeatRow.{SeatRow}
+use Rattle.chip_ledger.specs.LiveRow.{flag_of, flagged}
+use Rattle.chip_ledger.specs.Pots.{PlainPot, Stake}
+use Rattle.chip_ledger.specs.Seat.{seats_of}
+use Rattle.chip_ledger.specs.SeatRow.{amount_of}
+
+-- the pots of the row, the lowest first
+abbrev pub pots_in : PotRow → List Pot
+pots_in row = take row.count row.pots
+
+-- the shares of the pots, those of the lowest first
+abbrev pub shares_in : ShareRow → List SeatRow
+shares_in row = take row.count row.shares
+
+-- a pot by its chips and the seats that may win it
+abbrev pub plain : Pot → PlainPot
+plain pot = record { chips = pot.chips; eligible = flagged pot.eligible }
+
+-- seat number n, with the chips that it put and whether it is live
+abbrev pub stake_of : SeatRow → LiveRow → ℕ → Stake
+stake_of puts live n = record { seat = n; chips = amount_of puts n; live = flag_of live n }
+
+-- the stakes of all seats of a hand
+abbrev pub stakes_of : SeatRow → LiveRow → List Stake
+stakes_of puts live = map (stake_of puts live) (seats_of puts.seats)

@@ -1,0 +1,103 @@
+//! A row of pots and a row of shares hold up to eleven entries, and fillers past the last one.
+ghost use Rattle.std.specs.Prelude.{◌≡◌, ◌+◌, ◌<◌, ◌≤◌, ◌∷◌, [], ◌++◌, ℕ, Some, length, slice_get};
+ghost use Rattle.chip_ledger.specs.Fillers.{no_amounts, no_pot};
+
+use crate::rows::{LiveRow, SeatRow};
+
+/// A pot: its chips, and the seats that may win them.
+#[derive(Clone, Copy, Debug, PartialEq, Eq, Hash)]
+pub struct Pot {
+    pub chips: u64,
+    pub eligible: LiveRow,
+}
+
+fn empty_pot() -> Pot
+    ensures { result ≡ no_pot }
+{
+    Pot {
+        chips: 0,
+        eligible: LiveRow::new(2),
+    }
+}
+
+/// The pots of a hand, the lowest first, and what is returned to each seat before they are made.
+#[derive(Clone, Copy, Debug, PartialEq, Eq, Hash)]
+pub struct PotRow {
+    pub count: u8,
+    pub pots: [Pot; 11],
+    pub returned: SeatRow,
+    pub ghost most: { count ≤ 11 },
+    pub ghost full: { length pots ≡ 11 },
+    pub ghost filler: { (k : ℕ) → count ≤ k → k < 11 → slice_get pots k ≡ Some no_pot },
+}
+
+impl PotRow {
+    ghost use Rattle.chip_ledger.specs.PotRow.{pots_in};
+
+    /// A row without pots, with what is returned.
+    pub fn new(returned: SeatRow) -> Self
+        ensures pots { pots_in result ≡ [] }
+        ensures count { result.count ≡ 0 }
+        ensures returned { result.returned ≡ returned }
+    {
+        let pot = empty_pot();
+        PotRow {
+            count: 0,
+            pots: [pot; 11],
+            returned,
+        }
+    }
+
+    /// Puts a pot above the others.
+    pub fn push(&mut self, pot: Pot)
+        requires { self.old.count < 11 }
+        ensures pots { pots_in self.new ≡ pots_in self.old ++ pot ∷ [] }
+        ensures count { self.new.count ≡ self.old.count + 1 }
+        ensures returned { self.new.returned ≡ self.old.returned }
+    {
+        self.pots[self.count as usize] = pot;
+        self.count += 1;
+    }
+}
+
+fn empty_amounts() -> SeatRow
+    ensures { result ≡ no_amounts }
+{
+    SeatRow::new(2)
+}
+
+/// What each seat gets of each pot of a hand, the lowest pot first.
+#[derive(Clone, Copy, Debug, PartialEq, Eq, Hash)]
+pub struct ShareRow {
+    pub count: u8,
+    pub shares: [SeatRow; 11],
+    pub ghost most: { count ≤ 11 },
+    pub ghost full: { length shares ≡ 11 },
+    pub ghost filler: { (k : ℕ) → count ≤ k → k < 11 → slice_get shares k ≡ Some no_amounts },
+}
+
+impl ShareRow {
+    ghost use Rattle.chip_ledger.specs.PotRow.{shares_in};
+
+    /// A row without shares.
+    pub fn new() -> Self
+        ensures shares { shares_in result ≡ [] }
+        ensures count { result.count ≡ 0 }
+    {
+        let amounts = empty_amounts();
+        ShareRow {
+            count: 0,
+            shares: [amounts; 11],
+        }
+    }
+
+    /// Puts the shares of a pot above the others.
+    pub fn push(&mut self, shares: SeatRow)
+        requires { self.old.count < 11 }
+        ensures shares { shares_in self.new ≡ shares_in self.old ++ shares ∷ [] }
+        ensures count { self.new.count ≡ self.old.count + 1 }
+    {
+        self.shares[self.count as usize] = shares;
+        self.count += 1;
+    }
+}

@@ -1,0 +1,2 @@
+-- Lemmas on the bytes that devices tell.
+pub mod KnownBytes

@@ -1,0 +1,10 @@
+-- A device may say that it failed only where its count of faults rose.
+use Rattle.std.specs.Prelude.{ℕ, ◌+◌, ◌-◌, ◌^◌, ◌≤◌, min}
+
+-- a count of 64 bits after one more: at its last value it stands still
+abbrev pub counted_up : ℕ → ℕ
+counted_up count = min (count + 1) (2 ^ 64 - 1)
+
+-- the count rose from before to now, or it stands at its last value
+abbrev pub Rose : ℕ → ℕ → Type 0
+Rose before now = counted_up before ≤ now

@@ -1,0 +1,10 @@
+-- What the contracts of the devices say.
+pub mod Bytes
+pub mod FaultPlan
+pub mod Faults
+pub mod MemShelf
+pub mod MemSink
+pub mod MemSource
+pub mod Shelf
+pub mod StdSink
+pub mod StdSource

@@ -1,0 +1,16 @@
+-- What a sink in memory shows.
+use Rattle.std.specs.Prelude.{ℕ, ◌-◌, List, length}
+use Rattle.host_io.specs.declared.fault_plan.FaultPlan.{FaultPlan}
+use Rattle.host_io.specs.declared.mem_sink.MemSink.{MemSink}
+
+-- the bytes that it took, in order
+abbrev pub bytes_held : MemSink → List ℕ
+bytes_held sink = sink.bytes.items
+
+-- how many bytes it can still take
+abbrev pub room_left : MemSink → ℕ
+room_left sink = sink.room - length sink.bytes.items
+
+-- which of its calls fail
+abbrev pub sink_plan : MemSink → FaultPlan
+sink_plan sink = sink.plan

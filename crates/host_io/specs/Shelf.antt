@@ -1,0 +1,18 @@
+-- What a shelf says of a name, by the bytes that lie under it.
+use Rattle.std.specs.Prelude.{◌≡◌, ◌<◌, ◌≤◌, ℕ, Bool, true, false, List, length, Option, None, Some, IsSomeAnd, Result, Ok, Err}
+use Rattle.host_io.specs.declared.shelf.Fetched.{Fetched}
+use Rattle.host_io.specs.declared.shelf.Fetched.TheVariants.{Bytes, Absent, TooLong}
+use Rattle.host_io.specs.declared.shelf.ShelfFault.{ShelfFault}
+use Rattle.host_io.specs.declared.shelf.ShelfFault.TheVariants.{Failed, Memory}
+
+-- all of the bytes, if they are at most max; one of the three answers fits, and only that
+abbrev pub IsAnswer : Option (List ℕ) → ℕ → Fetched → Type 0
+IsAnswer file max (Bytes fetched) = (file ≡ Some fetched.items) × (length fetched.items ≤ max)
+IsAnswer file max Absent = file ≡ None
+IsAnswer file max TooLong = IsSomeAnd file (λ bytes. max < length bytes)
+
+-- whether the answer is that the shelf failed
+abbrev pub has_failed : Result Fetched ShelfFault → Bool
+has_failed (Err Failed) = true
+has_failed (Err Memory) = false
+has_failed (Ok fetched) = false

@@ -1,0 +1,48 @@
+//! The calls of an object in memory are numbered from 0, and those fail whose number a list has.
+ghost use Rattle.std.specs.Prelude.{◌≡◌, ◌≤◌, ◌↔◌, IsErr, is_err};
+ghost use Rattle.host_io.specs.Faults.{counted_up};
+ghost use Rattle.host_io.specs.FaultPlan.{IsFresh, FailsNext, CountsCall};
+
+use crate::fault::{Failed, count_fault};
+
+// Which calls fail, how many there were, and how many of them failed. Both counts stand still at their last value.
+#[derive(Debug, Drop)]
+pub(crate) struct FaultPlan {
+    fail_at: Vec<u64>,
+    calls: u64,
+    faults: u64,
+}
+
+impl FaultPlan {
+    pub(crate) fn new(fail_at: Vec<u64>) -> Self
+        ensures { IsFresh result fail_at.items }
+    {
+        FaultPlan {
+            fail_at,
+            calls: 0,
+            faults: 0,
+        }
+    }
+
+    // Gives the call that begins its number, and fails it if the list has that number.
+    pub(crate) fn begin_call(&mut self) -> Result<(), Failed>
+        ensures fails { IsErr result ↔ FailsNext self.old }
+        ensures counts { CountsCall self.old self.new (is_err result) }
+        ensures later { self.old.faults ≤ self.new.faults }
+    {
+        let number = self.calls;
+        self.calls = number.saturating_add(1);
+        if self.fail_at.contains(&number) {
+            return Err(self.fail());
+        }
+        Ok(())
+    }
+
+    // Fails the call that was begun last.
+    pub(crate) fn fail(&mut self) -> Failed
+        ensures counted { self.new ≡ record self.old { faults = counted_up self.old.faults } }
+        ensures later { self.old.faults ≤ self.new.faults }
+    {
+        count_fault(&mut self.faults)
+    }
+}

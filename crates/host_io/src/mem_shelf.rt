@@ -1,0 +1,69 @@
+//! A shelf in memory answers by the first file with a name, and fails at the calls that a list names.
+ghost use Rattle.std.specs.Prelude.{◌≡◌, ◌≤◌, ◌↔◌, Some, IfOk, IfSome, IsErrOf};
+ghost use Rattle.std.specs.Option.{option_copied};
+ghost use Rattle.host_io.specs.Faults.{Rose};
+ghost use Rattle.host_io.specs.FaultPlan.{IsFresh, FailsNext, CountsCall};
+ghost use Rattle.host_io.specs.Shelf.{IsAnswer, has_failed};
+ghost use Rattle.host_io.specs.MemShelf.{file_named};
+
+use crate::fault_plan::FaultPlan;
+use crate::shelf::{Fetched, Shelf, ShelfFault};
+use std::alloc::Global;
+
+/// Files in memory as a shelf.
+#[derive(Debug, Drop)]
+pub struct MemShelf {
+    files: Vec<(String, Vec<u8>)>,
+    plan: FaultPlan,
+}
+
+impl MemShelf {
+    ghost use Rattle.host_io.specs.MemShelf.{shelf_files, shelf_plan};
+
+    /// A shelf of these files by name, that fails at the calls with these numbers, counted from 0.
+    /// Of equal names the first counts.
+    pub fn new(files: Vec<(String, Vec<u8>)>, fail_at: Vec<u64>) -> MemShelf
+        ensures files { shelf_files result ≡ file_named files.items }
+        ensures plan { IsFresh (shelf_plan result) fail_at.items }
+    {
+        MemShelf {
+            files,
+            plan: FaultPlan::new(fail_at),
+        }
+    }
+}
+
+// The bytes of the first file with this name.
+fn find_file<'a>(files: &'a [(String, Vec<u8>)], name: &str) -> Option<&'a [u8]>
+    ensures { option_copied result ≡ file_named files.now name.now }
+{
+    files
+        .iter()
+        .find(|file| file.0.as_str() == name)
+        .map(|file| file.1.as_slice())
+}
+
+impl Shelf for MemShelf {
+    ghost use Rattle.host_io.specs.MemShelf.{shelf_files, shelf_plan};
+
+    ghost files = { λ shelf. Some (shelf_files shelf) };
+
+    ghost faults = { λ shelf. (shelf_plan shelf).faults };
+
+    fn fetch(&mut self, alloc: Global, name: &str, max: usize) -> Result<Fetched, ShelfFault>
+        ensures answer { IfOk result (IsAnswer (shelf_files self.old name.now) max) }
+        ensures unchanged { shelf_files self.new ≡ shelf_files self.old }
+        ensures later { (shelf_plan self.old).faults ≤ (shelf_plan self.new).faults }
+        ensures failed { IsErrOf result ShelfFault.Failed → Rose (shelf_plan self.old).faults (shelf_plan self.new).faults }
+
+        ensures fails { IsErrOf result ShelfFault.Failed ↔ FailsNext (shelf_plan self.old) }
+        ensures counts { CountsCall (shelf_plan self.old) (shelf_plan self.new) (has_failed result) }
+    {
+        self.plan.begin_call()?;
+        match find_file(&self.files, name) {
+            None => Ok(Fetched::Absent),
+            Some(bytes) if max < bytes.len() => Ok(Fetched::TooLong),
+            Some(bytes) => Ok(Fetched::Bytes(Vec::from_slice(alloc, bytes)?)),
+        }
+    }
+}

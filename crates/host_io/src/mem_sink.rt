@@ -1,0 +1,87 @@
+//! A sink in memory holds what it took in order, and fails at the calls that a list names and where it is full.
+ghost use Rattle.std.specs.Prelude.{◌≡◌, ◌⊎◌, ◌+◌, ◌-◌, ◌<◌, ◌≤◌, ◌↔◌, [], ◌++◌, min, length, vec_len, vec_capacity, Some, IfOk, OnErr, IsErr, is_err};
+ghost use Rattle.std.specs.Io.{WritesAtMost};
+ghost use Rattle.std.specs.Io.KnownBytes.{WriteAppends};
+ghost use Rattle.host_io.specs.Faults.{Rose};
+ghost use Rattle.host_io.specs.FaultPlan.{IsFresh, FailsNext, CountsCall};
+
+use crate::fault::Failed;
+use crate::fault_plan::FaultPlan;
+use crate::sink::Sink;
+use card_set::Memory;
+use std::alloc::Global;
+
+/// A sink in memory, with room for a fixed number of bytes. Each call takes as many as there is room for.
+#[derive(Debug, Drop)]
+pub struct MemSink {
+    bytes: Vec<u8>,
+    room: usize,
+    plan: FaultPlan,
+    ghost within: { vec_len bytes ≤ room },
+    ghost reserved: { room ≤ vec_capacity bytes },
+}
+
+impl MemSink {
+    ghost use Rattle.host_io.specs.MemSink.{bytes_held, room_left, sink_plan};
+
+    /// An empty sink with room for `room` bytes, that fails at the calls with these numbers, counted from 0.
+    /// It takes all its memory here.
+    pub fn new(alloc: Global, room: usize, fail_at: Vec<u64>) -> Result<MemSink, Memory>
+        ensures held { IfOk result (λ sink. bytes_held sink ≡ []) }
+        ensures room { IfOk result (λ sink. room_left sink ≡ room) }
+        ensures plan { IfOk result (λ sink. IsFresh (sink_plan sink) fail_at.items) }
+    {
+        Ok(MemSink {
+            bytes: Vec::with_capacity(alloc, room)?,
+            room,
+            plan: FaultPlan::new(fail_at),
+        })
+    }
+
+    /// The bytes that the sink holds.
+    pub fn held(&self) -> &[u8]
+        ensures { result.now ≡ bytes_held self.now }
+    {
+        &self.bytes
+    }
+}
+
+// Puts the bytes after the others, into room that is there.
+fn push_reserved(held: &mut Vec<u8>, bytes: &[u8])
+    requires { vec_len held.old + length bytes.now ≤ vec_capacity held.old }
+    ensures items { held.new.items ≡ held.old.items ++ bytes.now }
+    ensures capacity { vec_capacity held.old ≤ vec_capacity held.new }
+{
+    let _ = held.extend_from_slice(bytes);
+}
+
+impl Sink for MemSink {
+    ghost use Rattle.host_io.specs.MemSink.{bytes_held, room_left, sink_plan};
+
+    ghost held = { λ sink. Some (bytes_held sink) };
+
+    ghost faults = { λ sink. (sink_plan sink).faults };
+
+    fn write(&mut self, bytes: &[u8]) -> Result<usize, Failed>
+        ensures bound { WritesAtMost result bytes.now }
+        ensures some { IfOk result (λ count. 0 < length bytes.now → 0 < count) }
+        ensures bytes { WriteAppends (Some (bytes_held self.old)) (Some (bytes_held self.new)) result bytes.now }
+        ensures later { (sink_plan self.old).faults ≤ (sink_plan self.new).faults }
+        ensures failed { OnErr result (Rose (sink_plan self.old).faults (sink_plan self.new).faults) }
+
+        ensures fails { IsErr result ↔ (FailsNext (sink_plan self.old)
+            ⊎ ((0 < length bytes.now) × (room_left self.old ≡ 0))) }
+        ensures takes { IfOk result (λ count. count ≡ min (length bytes.now) (room_left self.old)) }
+        ensures room { room_left self.new + length (bytes_held self.new) ≡ room_left self.old + length (bytes_held self.old) }
+        ensures counts { CountsCall (sink_plan self.old) (sink_plan self.new) (is_err result) }
+    {
+        self.plan.begin_call()?;
+        let room = self.room - self.bytes.len();
+        if room == 0 && !bytes.is_empty() {
+            return Err(self.plan.fail());
+        }
+        let count = bytes.len().min(room);
+        push_reserved(&mut self.bytes, &bytes[..count]);
+        Ok(count)
+    }
+}

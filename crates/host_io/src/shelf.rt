@@ -1,0 +1,63 @@
+//! A shelf has bytes under names, and a look at it changes none of them.
+ghost use Rattle.std.specs.Prelude.{◌≡◌, ◌≤◌, List, ℕ, Option, IfOk, IfSome, IsErrOf};
+ghost use Rattle.host_io.specs.Faults.{Rose};
+ghost use Rattle.host_io.specs.Shelf.{IsAnswer};
+ghost use Rattle.host_io.specs.declared.shelf.ShelfFault.TheVariants.{Failed as ShelfFailed, Memory};
+
+use crate::fault::Failed;
+use std::alloc::{AllocError, Global};
+use thiserror::Error;
+
+/// What a shelf says of a name.
+#[derive(Debug, PartialEq, Eq, Drop)]
+pub enum Fetched {
+    /// The bytes under the name.
+    Bytes(Vec<u8>),
+    /// Nothing has this name.
+    Absent,
+    /// There are more bytes under the name than were asked for.
+    TooLong,
+}
+
+/// Why a shelf gave no answer.
+#[derive(Clone, Copy, Debug, PartialEq, Eq, Error)]
+pub enum ShelfFault {
+    /// The shelf failed.
+    #[error("the shelf could not be read")]
+    Failed,
+    /// There was not enough memory for the bytes.
+    #[error("out of memory")]
+    Memory,
+}
+
+impl From<Failed> for ShelfFault {
+    ghost from_gives = { λ _ fault. fault ≡ ShelfFailed };
+
+    fn from(_: Failed) -> Self {
+        ShelfFault::Failed
+    }
+}
+
+impl From<AllocError> for ShelfFault {
+    ghost from_gives = { λ _ fault. fault ≡ Memory };
+
+    fn from(_: AllocError) -> Self {
+        ShelfFault::Memory
+    }
+}
+
+/// Where bytes lie under names.
+pub trait Shelf {
+    /// The bytes under each name, where the shelf tells them; none under a name that is not there.
+    ghost files: { Self → Option (List ℕ → Option (List ℕ)) };
+
+    /// How often the shelf has failed. The count never falls.
+    ghost faults: { Self → ℕ };
+
+    /// The bytes under a name, if there are at most `max`. No call changes what lies on the shelf.
+    fn fetch(&mut self, alloc: Global, name: &str, max: usize) -> Result<Fetched, ShelfFault>
+        ensures answer { IfOk result (λ fetched. IfSome (files self.old) (λ files. IsAnswer (files name.now) max fetched)) }
+        ensures unchanged { files self.new ≡ files self.old }
+        ensures later { faults self.old ≤ faults self.new }
+        ensures failed { IsErrOf result ShelfFault.Failed → Rose (faults self.old) (faults self.new) };
+}

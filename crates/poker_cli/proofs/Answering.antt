@@ -1,0 +1,30 @@
+-- The answer to what a source has left, where it tells that.
+use Rattle.std.proofs.Common.{◌≡◌, ℕ, ◌<◌, ◌≤◌, Bool, true, false, List, length, Option, Some, None, IfSome, nat_lt, sym, ◌∙◌, ap, if◌then◌else◌, codes, arith}
+use Rattle.std.proofs.lemmas.Bool.{lt-ltb, le-ltb}
+use Rattle.poker_cli.specs.declared.status.Status.TheVariants as statuses
+use Rattle.poker_cli.specs.Answer.{Answer, refusal, most_input, answer_to, answer_to_document, document_of}
+
+-- what holds anyway holds of what is there
+pub anyway : {A : Type 0} (found : Option A) (P : Type 0) → P → IfSome found (λ _. P)
+anyway (Some value) P holds = holds
+anyway None P holds = tt
+
+within : (bytes : List ℕ) → length bytes ≤ most_input → answer_to bytes ≡ answer_to_document (document_of bytes)
+unfolding answer_to
+within bytes few =
+    ap (λ b. if b then refusal statuses.Limit (codes "limit: input bytes 16777216\n") else answer_to_document (document_of bytes)) (le-ltb most_input (length bytes) few)
+
+beyond : (bytes : List ℕ) → most_input < length bytes → answer_to bytes ≡ refusal statuses.Limit (codes "limit: input bytes 16777216\n")
+unfolding answer_to
+beyond bytes many =
+    ap (λ b. if b then refusal statuses.Limit (codes "limit: input bytes 16777216\n") else answer_to_document (document_of bytes)) (lt-ltb most_input (length bytes) many)
+
+-- the bytes that were read, and no more than allowed
+pub answer_within : (left : Option (List ℕ)) (bytes : List ℕ) (answer : Answer) → IfSome left (λ l. bytes ≡ l) → length bytes ≤ most_input → answer ≡ answer_to_document (document_of bytes) → IfSome left (λ l. answer ≡ answer_to l)
+answer_within (Some left) bytes answer all few is = is ∙ sym (within bytes few) ∙ ap answer_to all
+answer_within None bytes answer all few is = tt
+
+-- more bytes than allowed
+pub answer_beyond : (left : Option (List ℕ)) (answer : Answer) → IfSome left (λ l. most_input < length l) → answer ≡ refusal statuses.Limit (codes "limit: input bytes 16777216\n") → IfSome left (λ l. answer ≡ answer_to l)
+answer_beyond (Some left) answer many is = is ∙ sym (beyond left many)
+answer_beyond None answer many is = tt

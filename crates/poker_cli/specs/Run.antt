@@ -1,0 +1,59 @@
+-- What a run of the program tells and leaves.
+use Rattle.std.specs.Prelude.{◌≡◌, ◌⊎◌, ℕ, List, [], codes, Option, Some, None}
+use Rattle.std.specs.Io.KnownBytes.{Appends}
+use Rattle.host_io.specs.Faults.{Rose}
+use Rattle.host_io.specs.Bytes.{AppendsPart}
+use Rattle.poker_cli.specs.declared.status.Status.{Status}
+use Rattle.poker_cli.specs.declared.status.Status.TheVariants as statuses
+use Rattle.poker_cli.specs.Answer.{Answer}
+use Rattle.poker_cli.specs.Words.{usage_line}
+
+-- A run may end with this status where this is the answer to its input: with the answer's own, or with that of a
+-- fault. A fault of writing comes only where there is something to write.
+abbrev pub MayEnd : Answer → Status → Type 0
+MayEnd answer statuses.ReadFault = Unit {0}
+MayEnd answer statuses.Memory = Unit {0}
+MayEnd answer statuses.WriteFault = answer.status ≡ statuses.Done
+MayEnd answer statuses.Usage = ⊥
+MayEnd answer statuses.Done = answer.status ≡ statuses.Done
+MayEnd answer statuses.Refused = answer.status ≡ statuses.Refused
+MayEnd answer statuses.BadInput = answer.status ≡ statuses.BadInput
+MayEnd answer statuses.Limit = answer.status ≡ statuses.Limit
+MayEnd answer statuses.Unbuilt = answer.status ≡ statuses.Unbuilt
+
+-- The line of a status: none after Done; for a refused hand, a bad input, a limit and what is unbuilt that of the answer.
+abbrev pub line_of : Answer → Status → List ℕ
+line_of answer statuses.Usage = usage_line
+line_of answer statuses.ReadFault = codes "read fault\n"
+line_of answer statuses.Memory = codes "out of memory\n"
+line_of answer statuses.WriteFault = codes "write fault\n"
+line_of answer statuses.Done = []
+line_of answer statuses.Refused = answer.line
+line_of answer statuses.BadInput = answer.line
+line_of answer statuses.Limit = answer.line
+line_of answer statuses.Unbuilt = answer.line
+
+-- a line is told whole, or a part of it where the count of faults rose
+abbrev pub TellsLine : (before now : ℕ) → Option (List ℕ) → Option (List ℕ) → List ℕ → Type 0
+TellsLine before now old new line = Appends old new line ⊎ (Rose before now × AppendsPart old new line)
+
+-- what is written: after Done the whole output, after a fault of writing a part of it
+abbrev pub Writes : Option (List ℕ) → Option (List ℕ) → Answer → Status → Type 0
+Writes old new answer statuses.Done = Appends old new answer.output
+Writes old new answer statuses.WriteFault = AppendsPart old new answer.output
+Writes old new answer _ = Unit {0}
+
+-- a status after which nothing was written
+abbrev pub WritesNothing : Status → Type 0
+WritesNothing statuses.Done = ⊥
+WritesNothing statuses.WriteFault = ⊥
+WritesNothing _ = Unit {0}
+
+-- a status that an answer has of its own, and not by a fault
+abbrev pub IsOwn : Status → Type 0
+IsOwn statuses.Done = Unit {0}
+IsOwn statuses.Refused = Unit {0}
+IsOwn statuses.BadInput = Unit {0}
+IsOwn statuses.Limit = Unit {0}
+IsOwn statuses.Unbuilt = Unit {0}
+IsOwn _ = ⊥

@@ -1,0 +1,16 @@
+-- The number of each status.
+use Rattle.std.specs.Prelude.{ℕ}
+use Rattle.poker_cli.specs.declared.status.Status.{Status}
+use Rattle.poker_cli.specs.declared.status.Status.TheVariants as statuses
+
+-- the number with which the process ends
+abbrev pub status_number : Status → ℕ
+status_number statuses.Done = 0
+status_number statuses.Refused = 1
+status_number statuses.Usage = 2
+status_number statuses.BadInput = 3
+status_number statuses.ReadFault = 5
+status_number statuses.WriteFault = 6
+status_number statuses.Limit = 7
+status_number statuses.Memory = 8
+status_number statuses.Unbuilt = 12

@@ -1,0 +1,8 @@
+-- What an answer of the program says.
+use Rattle.std.specs.Prelude.{string_bytes}
+use Rattle.poker_cli.specs.declared.answer.Answer as made
+use Rattle.poker_cli.specs.Answer as definition
+
+-- the status and the bytes of an answer
+abbrev pub answer_told : made.Answer → definition.Answer
+answer_told answer = record { status = answer.status; output = string_bytes answer.output; line = string_bytes answer.line }

@@ -1,0 +1,45 @@
+// How the program ends: one status for each kind of answer, each with its number.
+ghost use Rattle.std.specs.Prelude.{◌≡◌};
+ghost use Rattle.poker_cli.specs.Status.{status_number};
+
+/// How the program ended. Its numbers are the exit statuses of the process.
+#[derive(Clone, Copy, Debug, PartialEq, Eq)]
+pub enum Status {
+    /// All is done, and the output is written.
+    Done,
+    /// A hand is refused.
+    Refused,
+    /// The words are no command.
+    Usage,
+    /// The input is no document.
+    BadInput,
+    /// The input could not be read.
+    ReadFault,
+    /// The output could not be written.
+    WriteFault,
+    /// The input is too long.
+    Limit,
+    /// There was not enough memory.
+    Memory,
+    /// The document or its hand is of a form that is still to be built.
+    Unbuilt,
+}
+
+impl Status {
+    /// The number with which the process ends.
+    pub fn number(self) -> u8
+        ensures { result ≡ status_number self }
+    {
+        match self {
+            Status::Done => 0,
+            Status::Refused => 1,
+            Status::Usage => 2,
+            Status::BadInput => 3,
+            Status::ReadFault => 5,
+            Status::WriteFault => 6,
+            Status::Limit => 7,
+            Status::Memory => 8,
+            Status::Unbuilt => 12,
+        }
+    }
+}

@@ -1,0 +1,2 @@
+-- The levels that are still to be cut.
+pub mod Levels

@@ -1,0 +1,49 @@
+//! The next level is the least of the live seats' chips above the last one.
+ghost use Rattle.std.specs.Prelude.{◌≡◌, min, slice_get};
+ghost use Rattle.std.specs.Option.{option_map_or};
+ghost use Rattle.chip_ledger.specs.PotRow.{stakes_of};
+ghost use Rattle.chip_ledger.specs.Pots.{all_reach};
+ghost use Rattle.side_pots.specs.Levels.{levels_above};
+
+use chip_ledger::{LiveRow, Seat, SeatRow};
+
+fn lesser(chips: u64, next: Option<u64>) -> u64
+    ensures { result ≡ option_map_or (λ level. min chips level) next chips }
+{
+    match next {
+        Some(level) => chips.min(level),
+        None => chips,
+    }
+}
+
+/// The next level above so many chips, if there is one.
+#[tactic(auto, using(chip_ledger::proofs::Stakes::first_level_more))]
+pub fn next_level(left: &SeatRow, live: &LiveRow, below: u64) -> Option<u64>
+    requires { live.now.seats ≡ left.now.seats }
+    ensures { result ≡ slice_get (levels_above (stakes_of left.now live.now) below) 0 }
+{
+    let mut next = None;
+    for index in 0..left.seats {
+        let seat = Seat { number: index + 1 };
+        let chips = left.get(seat);
+        if live.get(seat) && below < chips {
+            next = Some(lesser(chips, next));
+        }
+    }
+    next
+}
+
+/// Whether every live seat has so many chips.
+#[tactic(auto, using(chip_ledger::proofs::Stakes::all_reach_more, chip_ledger::proofs::Stakes::all_reach_fails))]
+pub fn every_live_seat_reaches(left: &SeatRow, live: &LiveRow, level: u64) -> bool
+    requires { live.now.seats ≡ left.now.seats }
+    ensures { result ≡ all_reach (stakes_of left.now live.now) level }
+{
+    for index in 0..left.seats {
+        let seat = Seat { number: index + 1 };
+        if live.get(seat) && left.get(seat) < level {
+            return false;
+        }
+    }
+    true
+}
