@@ -9,6 +9,7 @@ mod script;
 mod setup;
 #[cfg(test)]
 mod tests;
+mod worked_hands;
 
 pub use code::Code;
 pub use event::{Event, Kind, Spelled};
@@ -16,3 +17,4 @@ pub use examples::hands_won_by_folds;
 pub use reason::{Due, Illegal};
 pub use script::Script;
 pub use setup::{Reopen, Rules, Setup};
+pub use worked_hands::{worked_cards, worked_ends, worked_raises};

@@ -1,4 +1,5 @@
 pub mod Answer
+pub mod FirstReasons
 pub mod Outcome
 pub mod Run
 pub mod Stage

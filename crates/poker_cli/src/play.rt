@@ -68,7 +68,7 @@ fn against(setup: &Setup, past: &Past<'_>, stage: Stage, kind: &Kind) -> Option<
 fn step_of(setup: &Setup, past: &Past<'_>, kind: &Kind) -> Step
     requires few { steps_seen past.now ≤ 300 }
     requires event { IsFirstEvent setup.now.stacks.seats (kind_said kind.now) }
-    ensures { resolved_step result ≡ resolved_on setup.now (moves_seen past.now) 1 (kind_said kind.now) }
+    ensures { resolved_step result ≡ resolved_on setup.now (past_seen past.now) 1 (kind_said kind.now) }
 {
     match kind {
         Kind::Hole { seat, cards } => Step::Dealt {
