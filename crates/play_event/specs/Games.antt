@@ -1,4 +1,4 @@
--- The eleven games: deck, limit, who opens, how many seats there may be, and the streets with their cards and bet sizes.
+-- The eleven games: deck, limit, who opens, the cards and what may be chosen of them, how many seats there may be, and the streets with their cards and bet sizes.
 use Rattle.std.specs.Prelude.{ℕ, ◌+◌, ◌-◌, Bool, true, false, List, [], ◌∷◌, length, slice_get}
 use Rattle.std.specs.Option.{option_map_or}
 use Rattle.play_event.specs.declared.code.Code.{Code}
@@ -22,6 +22,12 @@ pub data Size : Type 0 where
   Big : Size
   Least : Size
 
+-- which five of a seat's cards and the board's count: any, or two of the seat and three of the board; or all cards of the seat
+pub data Pick : Type 0 where
+  AnyFive : Pick
+  TwoAndThree : Pick
+  AllHeld : Pick
+
 -- what a street deals to each live seat, face down and face up, what it deals to the board, whether it draws, and its bet size
 pub record Street : Type 0 where
   pub down : ℕ
@@ -30,11 +36,16 @@ pub record Street : Type 0 where
   pub draws : Bool
   pub size : Size
 
--- a game
+-- a game: its deck, limit and opener; the cards of a seat and of the board at the end, which of them count, and
+-- whether half of each pot goes to the best low hand; the most seats, and the streets
 pub record Game : Type 0 where
   pub deck : ℕ
   pub limit : Limit
   pub opener : Opener
+  pub hole : ℕ
+  pub board : ℕ
+  pub pick : Pick
+  pub split : Bool
   pub seats : ℕ
   pub streets : List Street
 
@@ -68,17 +79,17 @@ draw_streets cards = hole_street cards Small ∷ draw_street Small ∷ draw_stre
 
 -- the game with a code
 abbrev pub game_of : Code → Game
-game_of games.FT = record { deck = 52; limit = Fixed; opener = Blinds; seats = 10; streets = flop_streets 2 Small Big }
-game_of games.NT = record { deck = 52; limit = NoLimit; opener = Blinds; seats = 10; streets = flop_streets 2 Least Least }
-game_of games.NS = record { deck = 36; limit = NoLimit; opener = Blinds; seats = 10; streets = flop_streets 2 Least Least }
-game_of games.PO = record { deck = 52; limit = Pot; opener = Blinds; seats = 10; streets = flop_streets 4 Least Least }
-game_of games.FO8 = record { deck = 52; limit = Fixed; opener = Blinds; seats = 10; streets = flop_streets 4 Small Big }
-game_of games.F7S = record { deck = 52; limit = Fixed; opener = LowUp; seats = 7; streets = stud_streets }
-game_of games.F7S8 = record { deck = 52; limit = Fixed; opener = LowUp; seats = 7; streets = stud_streets }
-game_of games.FR = record { deck = 52; limit = Fixed; opener = HighUp; seats = 7; streets = stud_streets }
-game_of games.N2L1D = record { deck = 52; limit = NoLimit; opener = Blinds; seats = 6; streets = hole_street 5 Least ∷ draw_street Least ∷ [] }
-game_of games.F2L3D = record { deck = 52; limit = Fixed; opener = Blinds; seats = 6; streets = draw_streets 5 }
-game_of games.FB = record { deck = 52; limit = Fixed; opener = Blinds; seats = 6; streets = draw_streets 4 }
+game_of games.FT = record { deck = 52; limit = Fixed; opener = Blinds; hole = 2; board = 5; pick = AnyFive; split = false; seats = 10; streets = flop_streets 2 Small Big }
+game_of games.NT = record { deck = 52; limit = NoLimit; opener = Blinds; hole = 2; board = 5; pick = AnyFive; split = false; seats = 10; streets = flop_streets 2 Least Least }
+game_of games.NS = record { deck = 36; limit = NoLimit; opener = Blinds; hole = 2; board = 5; pick = AnyFive; split = false; seats = 10; streets = flop_streets 2 Least Least }
+game_of games.PO = record { deck = 52; limit = Pot; opener = Blinds; hole = 4; board = 5; pick = TwoAndThree; split = false; seats = 10; streets = flop_streets 4 Least Least }
+game_of games.FO8 = record { deck = 52; limit = Fixed; opener = Blinds; hole = 4; board = 5; pick = TwoAndThree; split = true; seats = 10; streets = flop_streets 4 Small Big }
+game_of games.F7S = record { deck = 52; limit = Fixed; opener = LowUp; hole = 7; board = 0; pick = AnyFive; split = false; seats = 7; streets = stud_streets }
+game_of games.F7S8 = record { deck = 52; limit = Fixed; opener = LowUp; hole = 7; board = 0; pick = AnyFive; split = true; seats = 7; streets = stud_streets }
+game_of games.FR = record { deck = 52; limit = Fixed; opener = HighUp; hole = 7; board = 0; pick = AnyFive; split = false; seats = 7; streets = stud_streets }
+game_of games.N2L1D = record { deck = 52; limit = NoLimit; opener = Blinds; hole = 5; board = 0; pick = AllHeld; split = false; seats = 6; streets = hole_street 5 Least ∷ draw_street Least ∷ [] }
+game_of games.F2L3D = record { deck = 52; limit = Fixed; opener = Blinds; hole = 5; board = 0; pick = AllHeld; split = false; seats = 6; streets = draw_streets 5 }
+game_of games.FB = record { deck = 52; limit = Fixed; opener = Blinds; hole = 4; board = 0; pick = AllHeld; split = false; seats = 6; streets = draw_streets 4 }
 
 -- what the street with this number, from 1, deals to each live seat
 abbrev pub hole_cards_on : Code → ℕ → ℕ

@@ -10,6 +10,8 @@ mod played;
 mod reason;
 mod script;
 mod setup;
+#[cfg(test)]
+mod tests;
 mod worked_hands;
 
 pub use card_rows::{HandRow, UpRow};

@@ -22,8 +22,8 @@ use Rattle.poker_cli.specs.declared.past.Past.{Past}
 use Rattle.poker_cli.specs.declared.past.Step.{Step}
 use Rattle.poker_cli.specs.declared.play.Stage.{Stage}
 use Rattle.poker_cli.specs.declared.play.Stage.TheVariants as stages
-use Rattle.poker_cli.specs.declared.hand.Hand.{Hand}
-use Rattle.poker_cli.specs.Hand.{Numbered, Told, numbered, told, IsFirstEvent}
+use Rattle.first_form.specs.declared.hand.Hand.{Hand}
+use Rattle.first_form.specs.Hand.{Numbered, Told, numbered, told, IsFirstEvent}
 use Rattle.poker_cli.specs.Outcome.{ended_at}
 use Rattle.poker_cli.specs.Stage.{IsStage}
 use Rattle.poker_cli.specs.Steps.{past_seen, resolved_step}

@@ -18,7 +18,7 @@ use Rattle.play_event.specs.Dealing.{deal_due, draw_due}
 use Rattle.play_event.specs.Due.{turn, due_on, first_due, found_or, bring_in_due, move_due, showdown}
 use Rattle.play_event.specs.HistoryRules.{history_rules}
 use Rattle.play_event.specs.Reasons.{why, first_reason, all_reasons, later_reasons, may_come, is_first_show}
-use Rattle.poker_cli.specs.Hand.{IsFirstEvent}
+use Rattle.first_form.specs.Hand.{IsFirstEvent}
 use Rattle.poker_cli.specs.declared.past.Past.{Past, Start, After'}
 use Rattle.poker_cli.specs.declared.past.Step.TheVariants as steps
 use Rattle.poker_cli.specs.declared.play.Stage.{Stage}

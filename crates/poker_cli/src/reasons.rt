@@ -6,7 +6,7 @@ ghost use Rattle.play_event.specs.declared.reason.Due.TheVariants as dues;
 ghost use Rattle.play_event.specs.Said as said;
 ghost use Rattle.play_event.specs.HistoryRules.{history_rules};
 ghost use Rattle.play_event.specs.Reasons as definition;
-ghost use Rattle.poker_cli.specs.Hand.{IsFirstEvent};
+ghost use Rattle.first_form.specs.Hand.{IsFirstEvent};
 ghost use Rattle.poker_cli.specs.FirstReasons.{why_not_dealt, is_another, why_not_to};
 ghost use Rattle.poker_cli.specs.Steps.{past_seen, steps_seen};
 

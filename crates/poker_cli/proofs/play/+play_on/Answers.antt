@@ -1,7 +1,7 @@
 use Rattle.std.proofs.Common.{arith, ap, sym, ◌∙◌}
 use Rattle.std.proofs.lemmas.List.{length-map}
 use Rattle.std.proofs.lemmas.Option.{slice_get_within}
-use Rattle.poker_cli.specs.Hand.{numbered}
+use Rattle.first_form.specs.Hand.{numbered}
 use Rattle.poker_cli.specs.Outcome.{verdict_of}
 use Rattle.poker_cli.specs.Steps.{resolved_step}
 use Rattle.poker_cli.proofs.Playing.{along, event_at, verdict_beyond, verdict_ended, verdict_refused, verdict_later, played_more}

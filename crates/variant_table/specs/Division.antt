@@ -1,0 +1,34 @@
+-- How the chips of a pot are divided among the seats that win it.
+use Rattle.std.specs.Prelude.{◌≡◌, ◌≤◌, ℕ, zero, suc, ◌+◌, ◌-◌, ◌/◌, ◌%◌, Bool, IsTrue, nat_lt, ◌↔◌, if◌then◌else◌}
+
+-- how many of the seats up to this one pass a test
+abbrev pub count_to : (ℕ → Bool) → ℕ → ℕ
+count_to test zero = 0
+count_to test (suc seat) = count_to test seat + (if test (suc seat) then 1 else 0)
+
+-- what a seat gets of chips that are divided among the winners of so many seats: the even part, and one of the
+-- chips that remain, which go one each to the winners from p1 upward
+abbrev pub divided : ℕ → (ℕ → Bool) → ℕ → ℕ → ℕ
+divided seats wins chips seat =
+    if wins seat
+    then chips / count_to wins seats + (if nat_lt (count_to wins (seat - 1)) (chips % count_to wins seats) then 1 else 0)
+    else 0
+
+-- a test is true exactly of the winners: the seats that contend and that no other contending seat beats
+abbrev pub TellsWinners : (ℕ → Bool) → (ℕ → ℕ → Type 0) → (ℕ → Bool) → Type 0
+TellsWinners contends beats wins =
+    (seat : ℕ) → IsTrue (wins seat) ↔ (IsTrue (contends seat) × ((other : ℕ) → IsTrue (contends other) → ¬ (beats other seat)))
+
+-- each of so many seats has its part of chips that are divided among the winners
+pub record AreParts (seats : ℕ) (contends : ℕ → Bool) (beats : ℕ → ℕ → Type 0) (chips : ℕ) (share : ℕ → ℕ) : Type 0 where
+  pub wins : ℕ → Bool
+  pub told : TellsWinners contends beats wins
+  pub parts : (seat : ℕ) → 1 ≤ seat → seat ≤ seats → share seat ≡ divided seats wins chips seat
+
+-- each seat has its parts of both halves of a pot, of which the high half has the odd chip
+pub record AreHalves (seats : ℕ) (contends : ℕ → Bool) (beats beats_low : ℕ → ℕ → Type 0) (chips : ℕ) (share : ℕ → ℕ) : Type 0 where
+  pub high : ℕ → ℕ
+  pub low : ℕ → ℕ
+  pub high_parts : AreParts seats contends beats (chips - chips / 2) high
+  pub low_parts : AreParts seats contends beats_low (chips / 2) low
+  pub together : (seat : ℕ) → 1 ≤ seat → seat ≤ seats → share seat ≡ high seat + low seat

@@ -1,0 +1,80 @@
+-- The table of games keeps what a variant keeps, for each code.
+use Rattle.std.proofs.Common.{◌≡◌, ℕ, length, refl, sym, ◌∙◌, ap, subst, arith}
+use Rattle.play_event.specs.declared.code.Code.{Code}
+use Rattle.play_event.specs.declared.code.Code.TheVariants as games
+use Rattle.play_event.specs.Games.{game_of}
+use Rattle.play_event.specs.Games as tables
+use Rattle.hand_order.specs.declared.best.Pick.{Pick}
+use Rattle.hand_order.specs.declared.best.Pick.TheVariants as picks
+use Rattle.variant_table.specs.Orders.{Order, award_of, second_of}
+use Rattle.variant_table.specs.Plain.{limit_of, opener_of, pick_of, plain_limit, plain_opener, plain_pick}
+use Rattle.variant_table.specs.Variants.{AreValuesOf, IsOrder, IsUsable, AddsUp}
+
+-- an order is itself
+pub same_order : (order : Order) → IsOrder order order.held order.is_hand order.is_weaker
+same_order order = record {
+  held_is = refl;
+  hand_is = λ cards. (λ hand. hand, λ hand. hand);
+  weaker_is = λ a b. (λ weaker. weaker, λ weaker. weaker);
+}
+
+-- the streets deal a whole hand and board, and the deck has the cards of a full table: this is computed for each code
+pub table_adds_up : (code : Code) → AddsUp (game_of code)
+table_adds_up games.FT = record { hole = refl; board = refl; fits = omega arith }
+table_adds_up _ = record { hole = refl; board = refl; fits = omega arith }
+
+-- the pick of a game can use the cards of a whole hand and board, in the order of the award
+award_can_pick : (code : Code) → IsUsable (game_of code) (award_of code).held (pick_of (game_of code).pick)
+award_can_pick games.N2L1D = λ hole board holes boards. holes
+award_can_pick games.F2L3D = λ hole board holes boards. holes
+award_can_pick games.FB = λ hole board holes boards. holes
+award_can_pick _ = λ hole board holes boards. (refl, omega arith, omega arith)
+
+-- hands of both orders have as many cards
+same_held : (code : Code) → (second_of code).held ≡ (award_of code).held
+same_held games.FT = refl
+same_held _ = refl
+
+-- a pick is that of its plain value
+pick_back : (pick : Pick) → pick_of (plain_pick pick) ≡ pick
+pick_back picks.AnyFive = refl
+pick_back picks.TwoAndThree = refl
+pick_back picks.AllHeld = refl
+
+-- so does a pick that is that of the game, in an order whose hands have as many cards as the award's
+pub usable_award : (code : Code) (held : ℕ) (pick : Pick) → held ≡ (award_of code).held → plain_pick pick ≡ (game_of code).pick → IsUsable (game_of code) held pick
+usable_award code held pick same_held same_pick =
+    subst (λ (p : Pick). IsUsable (game_of code) held p) (sym (ap pick_of same_pick) ∙ pick_back pick)
+    (subst (λ (h : ℕ). IsUsable (game_of code) h (pick_of (game_of code).pick)) (sym same_held) (award_can_pick code))
+
+-- or as many as the second order's
+pub usable_second : (code : Code) (held : ℕ) (pick : Pick) → held ≡ (second_of code).held → plain_pick pick ≡ (game_of code).pick → IsUsable (game_of code) held pick
+usable_second code held pick same same_pick = usable_award code held pick (same ∙ same_held code) same_pick
+
+-- the values of a game are its own
+pub values_of : (code : Code) → let game = game_of code in AreValuesOf game game.split (pick_of game.pick) (limit_of game.limit) (opener_of game.opener) game.deck game.seats (length game.streets)
+values_of code =
+    let game = game_of code in record {
+      split_is = refl;
+      pick_is = plain_back game.pick;
+      limit_is = limit_back game.limit;
+      opener_is = opener_back game.opener;
+      deck_is = refl;
+      seats_is = refl;
+      streets_is = refl;
+    }
+  where
+    plain_back : (pick : tables.Pick) → plain_pick (pick_of pick) ≡ pick
+    plain_back tables.AnyFive = refl
+    plain_back tables.TwoAndThree = refl
+    plain_back tables.AllHeld = refl
+
+    limit_back : (limit : tables.Limit) → plain_limit (limit_of limit) ≡ limit
+    limit_back tables.Fixed = refl
+    limit_back tables.Pot = refl
+    limit_back tables.NoLimit = refl
+
+    opener_back : (opener : tables.Opener) → plain_opener (opener_of opener) ≡ opener
+    opener_back tables.Blinds = refl
+    opener_back tables.LowUp = refl
+    opener_back tables.HighUp = refl

@@ -1,0 +1,89 @@
+// A variant is a type with the table of a game: generic code above rests on its laws alone.
+ghost use Rattle.std.specs.Prelude.{◌≡◌, ℕ, ◌≤◌, ◌-◌, Bool, Some, slice_get};
+ghost use Rattle.card_set.specs.declared.card.Card.{Card};
+ghost use Rattle.play_event.specs.declared.code.Code.{Code};
+ghost use Rattle.play_event.specs.Games.{game_of};
+ghost use Rattle.play_event.specs.Places.{in_deck};
+ghost use Rattle.hand_order.specs.declared.best.Pick.{Pick};
+ghost use Rattle.variant_table.specs.declared.limit.Limit.{Limit};
+ghost use Rattle.variant_table.specs.declared.limit.Opener.{Opener};
+ghost use Rattle.variant_table.specs.Orders.{award_of, second_of};
+ghost use Rattle.variant_table.specs.Plain.{plain_street};
+ghost use Rattle.variant_table.specs.Variants.{AreValuesOf, IsOrder, IsUsable, AddsUp};
+ghost use Rattle.variant_table.specs.TableLaws.{table_adds_up, usable_award, usable_second};
+
+use crate::limit::{Limit, Opener, SHORT_DECK};
+use crate::street::Street;
+use card_set::{Card, Rank, place_of_rank};
+use hand_order::{HandOrder, Pick};
+use play_event::Code;
+
+/// A game with its table.
+pub trait Variant {
+    /// The order by which a pot is paid, or the first half of it.
+    type Award: HandOrder;
+    /// The order by which the second half is paid where `SPLIT` is true; else `Award`, and not used.
+    type Second: HandOrder;
+
+    ghost CODE: { Code };
+
+    ghost SPLIT: { Bool };
+
+    ghost PICK: { Pick };
+
+    ghost LIMIT: { Limit };
+
+    ghost OPEN: { Opener };
+
+    ghost DECK: { ℕ };
+
+    ghost SEATS: { ℕ };
+
+    ghost STREETS: { ℕ };
+
+    /// The code of the game.
+    const CODE: Code;
+    /// Whether half of a pot goes to the best low hand, where there is one.
+    const SPLIT: bool;
+    /// Which of a seat's cards and the board's count.
+    const PICK: Pick;
+
+    const LIMIT: Limit;
+
+    const OPEN: Opener;
+    /// How many cards the deck has.
+    const DECK: u8;
+    /// The most seats.
+    const SEATS: u8;
+
+    const STREETS: u8;
+
+    /// The street with this number, from 1 to `STREETS`.
+    fn street(number: u8) -> Street
+        requires first { 1 ≤ number }
+        requires last { number ≤ STREETS }
+        ensures { slice_get (game_of CODE).streets (number - 1) ≡ Some (plain_street result) };
+
+    /// Whether the deck has this card.
+    fn in_deck(card: Card) -> bool
+        ensures { result ≡ in_deck CODE card }
+    {
+        Self::DECK != SHORT_DECK || place_of_rank(card.rank) >= place_of_rank(Rank::Six)
+    }
+
+    /// The constants are those of the table.
+    ghost values: { AreValuesOf (game_of CODE) SPLIT PICK LIMIT OPEN DECK SEATS STREETS };
+
+    /// The orders are those of the code.
+    ghost award: { IsOrder (award_of CODE) Self.Award.HELD Self.Award.is_hand Self.Award.is_weaker };
+
+    ghost second: { IsOrder (second_of CODE) Self.Second.HELD Self.Second.is_hand Self.Second.is_weaker };
+
+    /// The streets deal a whole hand and board, and the deck has the cards of a full table.
+    ghost adds_up: { AddsUp (game_of CODE) } = { table_adds_up CODE };
+
+    /// The pick can use the cards of a whole hand and board, in both orders.
+    ghost award_usable: { IsUsable (game_of CODE) Self.Award.HELD PICK } = { usable_award CODE Self.Award.HELD PICK award.held_is values.pick_is };
+
+    ghost second_usable: { IsUsable (game_of CODE) Self.Second.HELD PICK } = { usable_second CODE Self.Second.HELD PICK second.held_is values.pick_is };
+}
