@@ -1,5 +1,5 @@
 -- After legal events no seat has put more than its stack.
-use Rattle.std.proofs.Common.{◌≡◌, ℕ, ◌+◌, ◌-◌, ◌≤◌, ◌==◌, Bool, true, false, min, max, nat_lt, Option, Some, None, List, [], ◌∷◌, refl, sym, ◌∙◌, ap, subst, arith, if◌then◌else◌}
+use Rattle.std.proofs.Common.{◌≡◌, ℕ, ◌+◌, ◌-◌, ◌≤◌, ◌==◌, Bool, true, false, None, List, [], ◌∷◌, refl, sym, subst, arith, if◌then◌else◌}
 use Rattle.std.proofs.Math.Nat.{min-le_left, min-le_right}
 use Rattle.std.proofs.lemmas.Bool.{ltb-false, eqb-true}
 use Rattle.chip_ledger.specs.SeatRow.{amount_of}
@@ -11,7 +11,7 @@ use Rattle.play_event.specs.Said as said
 use Rattle.play_event.specs.Said.{Said}
 use Rattle.play_event.specs.Past as past
 use Rattle.play_event.specs.Past.{Past, Move, Act, moves_of}
-use Rattle.play_event.specs.Chips.{chips_put, chips_left, street_chips, all_in, posted, blind_posted, chips_added}
+use Rattle.play_event.specs.Chips.{chips_put, chips_left, street_chips, all_in, posted, chips_added}
 use Rattle.play_event.specs.Price.{price, greatest}
 use Rattle.play_event.specs.Amounts.{call_target, raise_target, bring_in_target}
 use Rattle.play_event.specs.Targets.{greatest_target, greatest_target_in, pot_ceiling, full_targets}
@@ -21,7 +21,7 @@ use Rattle.play_event.specs.Table.{up_cards}
 use Rattle.play_event.specs.MoveReasons.{actor_of, is_raise_too_big}
 use Rattle.play_event.specs.Due.{turn}
 use Rattle.play_event.specs.Reasons.{why}
-use Rattle.play_event.specs.Scripts.{with_event, past_of, resolved_by, resolved_on, move_to}
+use Rattle.play_event.specs.Scripts.{with_event, past_of, resolved_by}
 use Rattle.play_event.specs.Laws.{AreLegal}
 use Rattle.play_event.proofs.ReasonLaws.{not_too_big}
 

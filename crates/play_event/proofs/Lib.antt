@@ -3,3 +3,6 @@ pub mod MoverLaws
 pub mod ReasonLaws
 pub mod ChipLaws
 pub mod TargetLaws
+pub mod Kept
+pub mod ClashLaws
+pub mod SafePlaces

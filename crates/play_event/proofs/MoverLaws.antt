@@ -1,5 +1,5 @@
 -- The seat whose turn it is has a move to make, and so is able.
-use Rattle.std.proofs.Common.{◌≡◌, ℕ, Bool, true, false, Option, Some, None, List, [], ◌∷◌, find, refl, sym, ◌∙◌, ap, subst, not, nat_lt, nat_le, ◌||◌, if◌then◌else◌}
+use Rattle.std.proofs.Common.{◌≡◌, ℕ, Bool, true, false, Option, Some, None, List, [], ◌∷◌, find, refl, sym, ◌∙◌, ap, nat_lt, nat_le, ◌||◌, if◌then◌else◌}
 use Rattle.std.proofs.lemmas.Bool.{and_parts}
 use Rattle.play_event.specs.declared.setup.Setup.{Setup}
 use Rattle.play_event.specs.Streets.{opener_of}
@@ -8,7 +8,7 @@ use Rattle.play_event.specs.Seats.{is_able, able_count}
 use Rattle.play_event.specs.Price.{owed}
 use Rattle.play_event.specs.Due.{has_to_move, has_moved_since_rise}
 use Rattle.play_event.specs.Openers.{InTurn, NoSeat, TheSeat, Undecided, in_turn, UpCards, opener_by}
-use Rattle.play_event.specs.Mover.{mover, mover_after, first_in_turn, next_in_turn, seats_from}
+use Rattle.play_event.specs.Mover.{mover, first_in_turn, next_in_turn, seats_from}
 use Rattle.play_event.proofs.StreetLaws.{some_is_none, same_some}
 
 -- what is found passes

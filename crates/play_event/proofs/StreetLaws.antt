@@ -1,5 +1,5 @@
 -- The street on which something is due is the first such street.
-use Rattle.std.proofs.Common.{◌≡◌, ℕ, zero, suc, ◌+◌, ◌-◌, ◌≤◌, ◌<◌, Bool, true, false, inl, inr, Option, Some, None, List, refl, sym, ◌∙◌, ap, subst, arith, nat_le, unwrap_or, if◌then◌else◌}
+use Rattle.std.proofs.Common.{◌≡◌, ℕ, zero, suc, ◌+◌, ◌-◌, ◌≤◌, ◌<◌, Bool, true, false, inl, inr, Option, Some, None, refl, sym, ◌∙◌, ap, arith, nat_le, unwrap_or, if◌then◌else◌}
 use Rattle.std.specs.Option.{option_map}
 use Rattle.std.proofs.lemmas.Bool.{cases_lt}
 use Rattle.play_event.specs.declared.reason.Due.{Due}
@@ -59,13 +59,13 @@ first_later on rest street quiet = ap (λ o. found_or (option_map (λ d. (street
 pub first_street : (on : ℕ → Option Due) (rest street found : ℕ) (due : Due) → IsFirstStreet on street found due → found < street + rest → first_due on rest street ≡ Some (found, due)
 first_street on zero street found due first within = absurd (omega (arith, first.reached, within))
 first_street on (suc rest) street found due first within = elim (cases_lt street found) [
-      | inl above ↦
-          first_later on rest street (first.quiet street (omega arith) above)
-          ∙ first_street on rest (street + 1) found due (record { reached = omega (arith, above); is_due = first.is_due; quiet = λ between least most. first.quiet between (omega (arith, least)) most }) (omega (arith, within))
-      | inr below ↦
-          let same : street ≡ found = omega (arith, below, first.reached) in
-          first_here on rest street found due (ap on same ∙ first.is_due) same
-    ]
+  | inl above ↦
+      first_later on rest street (first.quiet street (omega arith) above)
+      ∙ first_street on rest (street + 1) found due (record { reached = omega (arith, above); is_due = first.is_due; quiet = λ between least most. first.quiet between (omega (arith, least)) most }) (omega (arith, within))
+  | inr below ↦
+      let same : street ≡ found = omega (arith, below, first.reached) in
+      first_here on rest street found due (ap on same ∙ first.is_due) same
+]
 
 -- a showdown may end the hand
 shown_unfinished : (b : Bool) → is_unfinished (if b then dues.Show else dues.Over) ≡ false

@@ -14,9 +14,10 @@ ghost use Rattle.play_event.specs.declared.setup.Reopen.{Reopen};
 ghost use Rattle.play_event.specs.Said.{Said};
 ghost use Rattle.play_event.specs.Chips.{chips_put, chips_left};
 ghost use Rattle.play_event.specs.Targets.{is_legal_target, greatest_target};
+ghost use Rattle.play_event.specs.Table.{places_of};
 ghost use Rattle.play_event.specs.Reasons.{why, all_reasons};
 ghost use Rattle.play_event.specs.Scripts.{past_of};
-ghost use Rattle.play_event.specs.Laws.{IsFirstStreet, NoneHold, AreLegal};
+ghost use Rattle.play_event.specs.Laws.{IsFirstStreet, NoneHold, AreLegal, NoneClash};
 
 /// What is due is due on the first street, from that of the past on, on which something is. The function does
 /// nothing: its contract is a law.
@@ -43,7 +44,7 @@ pub fn law_of_chips()
     ensures put_and_left { (setup : Setup) (rules : Rules) (events : List Said)
         → ((seat : ℕ) → amount_of setup.antes seat ≤ amount_of setup.stacks seat) → AreLegal setup rules events
         → (seat : ℕ) → chips_put setup (moves_of (past_of setup events)) seat + chips_left setup (moves_of (past_of setup events)) seat
-            ≡ amount_of setup.stacks seat }
+        ≡ amount_of setup.stacks seat }
 {}
 
 /// The greatest legal target is legal, in each limit, so a seat that may raise has a target.
@@ -58,4 +59,11 @@ pub fn law_of_reasons()
         → NoneHold (all_reasons setup rules past (turn setup past) event) }
     ensures legal { (setup : Setup) (rules : Rules) (past : Past) (event : Said)
         → NoneHold (all_reasons setup rules past (turn setup past) event) → why setup rules past event ≡ None }
+{}
+
+/// No legal event makes two places clash: after legal events no two bear one card, but where one was gone before the
+/// other was dealt past the deck.
+pub fn law_of_places()
+    ensures { (setup : Setup) (rules : Rules) (events : List Said) → AreLegal setup rules events
+        → NoneClash (places_of setup.code (past_of setup events)) }
 {}
