@@ -1,0 +1,120 @@
+-- The flagged seats of a row, counted and found.
+use Rattle.std.proofs.Common.{◌≡◌, ◌≢◌, ◌<◌, ◌≤◌, ℕ, zero, suc, ◌+◌, ◌*◌, ◌==◌, ◌&&◌, ◌||◌, Bool, true, false, cond, List, [], ◌∷◌, ◌++◌, length, filter, sum_by, if◌then◌else◌, refl, sym, ◌∙◌, ap, subst, arith, ⊎_elim, length-append}
+use Rattle.std.specs.List.{list_any, range_with_len}
+use Rattle.std.proofs.lemmas.Bool.{and_from, and_parts, eq-eqb, eqb-true, or_cases}
+use Rattle.std.proofs.lemmas.List.Elements.{filter-append}
+use Rattle.std.proofs.Math.Nat.{mul-suc, mul-zero}
+use Rattle.chip_ledger.specs.declared.rows.LiveRow.{LiveRow}
+use Rattle.chip_ledger.specs.LiveRow.{flag_of, flagged}
+use Rattle.chip_ledger.specs.Seat.{seats_of}
+use Rattle.chip_ledger.proofs.Flags.{flag-from_flagged, flagged-from_flag}
+use Rattle.chip_ledger.proofs.Lists.{list_any-filter}
+use Rattle.chip_ledger.proofs.Seats.{seats_of_more, sum_of_seats_more}
+use Rattle.variant_table.specs.Division.{count_to}
+use Rattle.showdown_split.specs.Worths.{is_flagged}
+
+-- tests that are true together are the same
+pub same_test : (a b : Bool) → (a ≡ true → b ≡ true) → (b ≡ true → a ≡ true) → a ≡ b
+same_test true b to from = sym (to refl)
+same_test false true to from = from refl
+same_test false false to from = refl
+
+-- a number that is found among those from one on lies among them
+inside : (q : ℕ → Bool) (n a len : ℕ) → list_any (λ m. q m && (m == n)) (range_with_len a len) ≡ true → (a ≤ n) × (n < a + len)
+inside q n a zero h = cc (h)
+inside q n a (suc len) h =
+    ⊎_elim
+    (λ (here : (q a && (a == n)) ≡ true). let same = eqb-true a n (and_parts (q a) (a == n) here).1 in (omega (arith, same), omega (arith, same)))
+    (λ (there : list_any (λ m. q m && (m == n)) (range_with_len (a + 1) len) ≡ true). let range = inside q n (a + 1) len there in (omega (arith, range.0), omega (arith, range.1)))
+    (or_cases (q a && (a == n)) (list_any (λ m. q m && (m == n)) (range_with_len (a + 1) len)) h)
+
+-- a flagged seat is one of the row's
+pub flagged_inside : (row : LiveRow) (n : ℕ) → is_flagged row n ≡ true → (1 ≤ n) × (n ≤ row.seats)
+flagged_inside row n h =
+    let range = inside (flag_of row) n 1 row.seats (sym (list_any-filter (λ m. m == n) (flag_of row) (seats_of row.seats)) ∙ h) in
+    (range.0, omega (arith, range.1))
+
+-- a seat of the row is flagged exactly where its flag is true
+pub is_flagged-flag : (row : LiveRow) (n : ℕ) → 1 ≤ n → is_flagged row n ≡ flag_of row n
+is_flagged-flag row n low = same_test (is_flagged row n) (flag_of row n) (flag-from_flagged row n) (flagged-from_flag row n low)
+
+-- a list that has some has a number that is found in it
+found_some : (xs : List ℕ) → xs ≢ [] → (k : ℕ) × (list_any (λ m. m == k) xs ≡ true)
+found_some [] some = absurd (some refl)
+found_some (x ∷ xs) some = (x, ap (λ (b : Bool). b || list_any (λ m. m == x) xs) (eq-eqb x x refl))
+
+pub some_flagged : (row : LiveRow) → flagged row ≢ [] → (k : ℕ) × (is_flagged row k ≡ true)
+some_flagged row some = found_some (flagged row) some
+
+-- as many seats pass a test as are kept by it
+kept_count : (p : ℕ → Bool) (n : ℕ) → length (filter p (seats_of n)) ≡ count_to p n
+kept_count p zero = refl
+kept_count p (suc n) =
+    let next : suc n ≡ n + 1 = omega arith in
+    ap (λ (m : ℕ). length (filter p (seats_of m))) next
+    ∙ ap (λ (xs : List ℕ). length (filter p xs)) (seats_of_more n)
+    ∙ ap length (filter-append p (seats_of n) ((n + 1) ∷ []))
+    ∙ length-append (filter p (seats_of n)) (filter p ((n + 1) ∷ []))
+    ∙ ap (λ (m : ℕ). m + length (filter p ((n + 1) ∷ []))) (kept_count p n)
+    ∙ ap (λ (m : ℕ). count_to p n + length (filter p (m ∷ []))) (sym next)
+    ∙ ap (λ (m : ℕ). count_to p n + m) (one (p (suc n)))
+  where
+    one : (b : Bool) → length (cond b (suc n ∷ []) []) ≡ (if b then 1 else 0)
+    one true = refl
+    one false = refl
+
+pub length-flagged : (row : LiveRow) → length (flagged row) ≡ count_to (flag_of row) row.seats
+length-flagged row = kept_count (flag_of row) row.seats
+
+-- the same chips for each seat that passes a test
+pub sum_for_each : (p : ℕ → Bool) (chips n : ℕ) → sum_by (λ k. if p k then chips else 0) (seats_of n) ≡ chips * count_to p n
+sum_for_each p chips zero = sym (mul-zero chips)
+sum_for_each p chips (suc n) =
+    let next : suc n ≡ n + 1 = omega arith in
+    ap (λ (m : ℕ). sum_by (λ k. if p k then chips else 0) (seats_of m)) next
+    ∙ sum_of_seats_more (λ k. if p k then chips else 0) n
+    ∙ ap (λ (m : ℕ). sum_by (λ k. if p k then chips else 0) (seats_of n) + (if p m then chips else 0)) (sym next)
+    ∙ ap (λ (m : ℕ). m + (if p (suc n) then chips else 0)) (sum_for_each p chips n)
+    ∙ one (p (suc n))
+  where
+    one : (b : Bool) → chips * count_to p n + (if b then chips else 0) ≡ chips * (count_to p n + (if b then 1 else 0))
+    one true =
+        let more = mul-suc chips (count_to p n) in
+        let same : chips * (count_to p n + 1) ≡ chips * suc (count_to p n) = ap (λ (m : ℕ). chips * m) (omega arith) in
+        omega arith
+    one false =
+        let same : chips * (count_to p n + 0) ≡ chips * count_to p n = ap (λ (m : ℕ). chips * m) (omega arith) in
+        omega arith
+
+-- what passes nowhere passes at none of these
+none_passes : (p : ℕ → Bool) (xs : List ℕ) → ((x : ℕ) → p x ≡ false) → list_any p xs ≡ false
+none_passes p [] never = refl
+none_passes p (x ∷ xs) never = ap (λ (b : Bool). b || list_any p xs) (never x) ∙ none_passes p xs never
+
+empty_from : (xs : List ℕ) → ¬ (xs ≢ []) → xs ≡ []
+empty_from [] not = refl
+empty_from (x ∷ xs) not = absurd (not (λ none. cc (none)))
+
+-- where no seat of a row is flagged, a test that says the same passes nowhere
+pub none_flagged : (row : LiveRow) (test : ℕ → Bool) (seats : List ℕ) → ¬ (flagged row ≢ []) → ((n : ℕ) → is_flagged row n ≡ test n) → list_any test seats ≡ false
+none_flagged row test seats none same =
+    let empty = empty_from (flagged row) none in
+    none_passes test seats (λ n. sym (same n) ∙ ap (λ (xs : List ℕ). list_any (λ m. m == n) xs) empty)
+
+-- the seats of a row that are those of one row and of another
+pub flagged_both : (both first second : LiveRow) → both.seats ≡ second.seats → first.seats ≡ second.seats → ((n : ℕ) → 1 ≤ n → n ≤ second.seats → flag_of both n ≡ (flag_of first n && flag_of second n)) → (n : ℕ) → is_flagged both n ≡ (is_flagged first n && flag_of second n)
+flagged_both both first second same same_first flags n =
+    let at : 1 ≤ n → n ≤ second.seats → is_flagged both n ≡ (is_flagged first n && flag_of second n) =
+    λ low high. is_flagged-flag both n low ∙ flags n low high ∙ ap (λ (b : Bool). b && flag_of second n) (sym (is_flagged-flag first n low)) in
+    same_test (is_flagged both n) (is_flagged first n && flag_of second n)
+    (λ here. let range = flagged_inside both n here in sym (at range.0 (omega (arith, range.1, same))) ∙ here)
+    (λ here. let range = flagged_inside first n (and_parts (is_flagged first n) (flag_of second n) here).0 in at range.0 (omega (arith, range.1, same_first)) ∙ here)
+
+-- a row that has a flagged seat, and not one alone, has two or more
+pub several_flagged : (row : LiveRow) → flagged row ≢ [] → ¬ (count_to (flag_of row) row.seats ≡ 1) → 2 ≤ length (flagged row)
+several_flagged row some not_one = several (flagged row) some (λ one. not_one (sym (length-flagged row) ∙ one))
+  where
+    several : (xs : List ℕ) → xs ≢ [] → ¬ (length xs ≡ 1) → 2 ≤ length xs
+    several [] some not_one = absurd (some refl)
+    several (x ∷ []) some not_one = absurd (not_one refl)
+    several (x ∷ y ∷ rest) some not_one = omega arith

@@ -1,0 +1,7 @@
+-- Lemmas on the known cards of a seat, on worths, and on the parts of chips.
+pub mod KnownCards
+pub mod Parts
+pub mod Bests
+pub mod Compared
+pub mod Flagged
+pub mod Contests

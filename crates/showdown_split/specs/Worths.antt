@@ -1,0 +1,37 @@
+-- How the worths of seats compare, where a seat that has no hand is worth none.
+use Rattle.std.specs.Prelude.{ℕ, zero, suc, ◌==◌, Bool, true, false, IsTrue, [], Option, Some, None, if◌then◌else◌}
+use Rattle.std.specs.List.{list_any}
+use Rattle.std.specs.Option.{is_some}
+use Rattle.chip_ledger.specs.declared.rows.LiveRow.{LiveRow}
+use Rattle.chip_ledger.specs.LiveRow.{flag_of, flagged}
+use Rattle.hand_order.specs.Best.{IsLess}
+use Rattle.hand_order.specs.Points.{better}
+use Rattle.variant_table.specs.Shares.{Ranking, Showdown}
+
+-- both are worth the same
+abbrev pub same_worth : Option ℕ → Option ℕ → Bool
+same_worth None None = true
+same_worth None (Some y) = false
+same_worth (Some x) None = false
+same_worth (Some x) (Some y) = x == y
+
+-- the greatest worth of the seats up to this one that pass a test
+abbrev pub best_to : (ℕ → Bool) → (ℕ → Option ℕ) → ℕ → Option ℕ
+best_to test worth zero = None
+best_to test worth (suc seat) = if test (suc seat) then better (best_to test worth seat) (worth (suc seat)) else best_to test worth seat
+
+-- the seat is one of the row's, and its flag is true
+abbrev pub is_flagged : LiveRow → ℕ → Bool
+is_flagged row seat = list_any (λ n. n == seat) (flagged row)
+
+-- how seats compare by their worths
+abbrev pub ranking_by : (ℕ → Option ℕ) → (ℕ → Option ℕ) → Ranking
+ranking_by worth low = record {
+  beats = λ seat other. IsLess (worth other) (worth seat);
+  beats_low = λ seat other. IsLess (low other) (low seat);
+  has_low = λ seat. IsTrue (is_some (low seat));
+}
+
+-- which seats are shown, and no cards
+abbrev pub shown_only : LiveRow → Showdown
+shown_only shown = record { seats = shown.seats; shown = flag_of shown; holding = λ n. []; board = [] }

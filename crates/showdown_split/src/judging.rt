@@ -1,0 +1,59 @@
+// Each shown seat has the score of the best choice of its cards and the board's.
+ghost use Rattle.std.specs.Prelude.{◌≡◌, ◌≤◌, ◌++◌, ℕ, true};
+ghost use Rattle.std.specs.Option.{option_map};
+ghost use Rattle.card_set.specs.Different.{AllDifferent};
+ghost use Rattle.card_set.specs.Row.{cards_of};
+ghost use Rattle.chip_ledger.specs.LiveRow.{flag_of};
+ghost use Rattle.hand_order.specs.Best.{IsWorth};
+ghost use Rattle.hand_order.specs.Choices.{CanPick, allowed};
+ghost use Rattle.showdown_split.specs.Hands.{holding};
+ghost use Rattle.showdown_split.specs.Scores.{worth_of};
+
+use crate::hands::{HandRow, known_row};
+use crate::scores::Scores;
+use card_set::CardRow;
+use chip_ledger::{LiveRow, Seat};
+use hand_order::{HandOrder, Pick, Score, best_of};
+
+// The score of a seat.
+fn score_of<O: HandOrder>(
+    hands: &HandRow,
+    board: &CardRow,
+    pick: Pick,
+    seat: Seat,
+) -> Option<Score>
+    requires in_row { seat.number ≤ hands.now.seats }
+    requires usable { CanPick O.HELD pick (holding hands.now seat.number) (cards_of board.now) }
+    requires different { AllDifferent (holding hands.now seat.number ++ cards_of board.now) }
+    ensures { IsWorth O.is_hand O.is_weaker O.points
+        (allowed pick (holding hands.now seat.number) (cards_of board.now)) (option_map (λ s. s.value) result) }
+{
+    let hole = known_row(&hands.get(seat));
+    best_of::<O>(&hole, board, pick)
+}
+
+/// The scores of the shown seats in an order.
+pub fn scores_of<O: HandOrder>(
+    hands: &HandRow,
+    board: &CardRow,
+    shown: &LiveRow,
+    pick: Pick,
+) -> Scores
+    requires seats { hands.now.seats ≡ shown.now.seats }
+    requires usable { (n : ℕ) → 1 ≤ n → n ≤ shown.now.seats → flag_of shown.now n ≡ true
+        → CanPick O.HELD pick (holding hands.now n) (cards_of board.now) }
+    requires different { (n : ℕ) → 1 ≤ n → n ≤ shown.now.seats → flag_of shown.now n ≡ true
+        → AllDifferent (holding hands.now n ++ cards_of board.now) }
+    ensures { (n : ℕ) → 1 ≤ n → n ≤ shown.now.seats → flag_of shown.now n ≡ true
+        → IsWorth O.is_hand O.is_weaker O.points
+            (allowed pick (holding hands.now n) (cards_of board.now)) (worth_of result n) }
+{
+    let mut scores = Scores::new();
+    for index in 0..shown.seats {
+        let seat = Seat { number: index + 1 };
+        if shown.get(seat) {
+            scores.set(seat, score_of::<O>(hands, board, pick, seat));
+        }
+    }
+    scores
+}

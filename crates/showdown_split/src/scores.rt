@@ -1,0 +1,39 @@
+// A row of scores has one for each seat that has a hand.
+ghost use Rattle.std.specs.Prelude.{◌≡◌, ◌≢◌, ◌≤◌, ℕ, None, length};
+ghost use Rattle.std.specs.Option.{option_map};
+
+use chip_ledger::Seat;
+use hand_order::Score;
+
+/// The score of each seat in one order, where it has a hand of the order.
+#[derive(Clone, Copy, Debug)]
+pub struct Scores {
+    scores: [Option<Score>; 10],
+    ghost full: { length scores ≡ 10 },
+}
+
+impl Scores {
+    ghost use Rattle.showdown_split.specs.Scores.{worth_of};
+
+    /// No seat has a score.
+    pub fn new() -> Self
+        ensures { (n : ℕ) → worth_of result n ≡ None }
+    {
+        Scores { scores: [None; 10] }
+    }
+
+    /// The score of the seat.
+    pub fn get(&self, seat: Seat) -> Option<Score>
+        ensures { option_map (λ s. s.value) result ≡ worth_of self.now seat.number }
+    {
+        self.scores[seat.number as usize - 1]
+    }
+
+    /// Gives the seat this score.
+    pub fn set(&mut self, seat: Seat, score: Option<Score>)
+        ensures score { worth_of self.new seat.number ≡ option_map (λ s. s.value) score }
+        ensures others { (n : ℕ) → 1 ≤ n → n ≢ seat.number → worth_of self.new n ≡ worth_of self.old n }
+    {
+        self.scores[seat.number as usize - 1] = score;
+    }
+}

@@ -1,0 +1,72 @@
+// The winners are the seats that contend and that are worth as much as the best of them.
+ghost use Rattle.std.specs.Prelude.{◌≡◌, ◌≤◌, ◌&&◌, ◌↔◌, ℕ, IsTrue, if◌then◌else◌};
+ghost use Rattle.std.specs.Option.{option_map};
+ghost use Rattle.chip_ledger.specs.LiveRow.{flag_of};
+ghost use Rattle.hand_order.specs.Points.{better};
+ghost use Rattle.showdown_split.specs.Scores.{worth_of};
+ghost use Rattle.showdown_split.specs.Worths.{best_to, same_worth};
+
+use crate::scores::Scores;
+use chip_ledger::{LiveRow, Seat};
+use hand_order::{Score, better_score};
+
+/// The best score of the seats that contend, none where none of them has a hand.
+pub fn best(contending: &LiveRow, scores: &Scores) -> Option<Score>
+    ensures { option_map (λ s. s.value) result
+        ≡ best_to (flag_of contending.now) (worth_of scores.now) contending.now.seats }
+{
+    let mut best = None;
+    for index in 0..contending.seats {
+        let seat = Seat { number: index + 1 };
+        best = better_of_seat(best, contending, scores, seat);
+    }
+    best
+}
+
+// The better of a score and that of a seat, if the seat contends.
+fn better_of_seat(
+    score: Option<Score>,
+    contending: &LiveRow,
+    scores: &Scores,
+    seat: Seat,
+) -> Option<Score>
+    requires { seat.number ≤ contending.now.seats }
+    ensures { let worth = option_map (λ s. s.value) score in option_map (λ s. s.value) result
+        ≡ (if flag_of contending.now seat.number then better worth (worth_of scores.now seat.number) else worth) }
+{
+    if contending.get(seat) {
+        better_score(score, scores.get(seat))
+    } else {
+        score
+    }
+}
+
+/// The seats that contend and that have the best score.
+pub fn winners(contending: &LiveRow, scores: &Scores) -> LiveRow
+    ensures seats { result.seats ≡ contending.now.seats }
+    ensures flags { (n : ℕ) → 1 ≤ n → n ≤ contending.now.seats → flag_of result n
+        ≡ (flag_of contending.now n && same_worth (worth_of scores.now n)
+            (best_to (flag_of contending.now) (worth_of scores.now) contending.now.seats)) }
+{
+    let most = best(contending, scores);
+    let mut row = LiveRow::new(contending.seats);
+    for index in 0..contending.seats {
+        let seat = Seat { number: index + 1 };
+        row.set(
+            seat,
+            contending.get(seat) && is_same(scores.get(seat), most),
+        );
+    }
+    row
+}
+
+// Both are the same score, or none.
+fn is_same(first: Option<Score>, second: Option<Score>) -> bool
+    ensures { result ≡ same_worth (option_map (λ s. s.value) first) (option_map (λ s. s.value) second) }
+{
+    match (first, second) {
+        (None, None) => true,
+        (Some(x), Some(y)) => x.value == y.value,
+        (None, Some(_)) | (Some(_), None) => false,
+    }
+}
