@@ -22,6 +22,11 @@ pub mod CardReasons
 pub mod MoveReasons
 pub mod Reasons
 pub mod Scripts
+pub mod ValidSetup
+pub mod Trace
+pub mod SlotRows
+pub mod SeatSlots
+pub mod Played
 pub mod Finish
 pub mod HistoryRules
 pub mod Rows

@@ -1,5 +1,5 @@
 -- Why a seat may not fold, call, raise or bring in now. No card is read here: who is in turn is given.
-use Rattle.std.specs.Prelude.{ℕ, ◌-◌, Bool, true, false, ◌&&◌, ◌||◌, ◌==◌, nat_lt, not, List, Option, Some, None}
+use Rattle.std.specs.Prelude.{ℕ, ◌-◌, Bool, true, false, ◌&&◌, ◌==◌, nat_lt, not, List, Option, Some, None}
 use Rattle.play_event.specs.declared.reason.Illegal.{Illegal}
 use Rattle.play_event.specs.declared.reason.Illegal.TheVariants as reasons
 use Rattle.play_event.specs.declared.setup.Setup.{Setup}

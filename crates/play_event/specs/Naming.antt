@@ -1,13 +1,13 @@
 -- How cards that a discard or a show names find the places that it covers.
-use Rattle.std.specs.Prelude.{ℕ, zero, suc, ◌+◌, Bool, true, false, ◌&&◌, ◌||◌, ◌==◌, nat_lt, not, if◌then◌else◌, List, [], ◌∷◌, map, filter, length, count_by, Some, None}
-use Rattle.std.specs.List.{list_any, list_all}
+use Rattle.std.specs.Prelude.{ℕ, zero, suc, Bool, ◌&&◌, ◌||◌, ◌==◌, not, if◌then◌else◌, List, [], ◌∷◌, filter, length, count_by, Some}
+use Rattle.std.specs.List.{list_any}
 use Rattle.card_set.specs.declared.card.Card.{Card}
 use Rattle.card_set.specs.declared.card.Slot.{Slot}
 use Rattle.card_set.specs.declared.card.Slot.TheVariants as slots
 use Rattle.card_set.specs.Deck.{same_card}
 use Rattle.play_event.specs.declared.code.Code.{Code}
 use Rattle.play_event.specs.Openers.{is_unknown, known_cards}
-use Rattle.play_event.specs.Places.{Place, is_held_by, is_up, gone_now}
+use Rattle.play_event.specs.Places.{Place, is_held_by, is_up}
 
 -- the names without one that is this card
 abbrev pub without : Slot → List Card → List Card

@@ -1,5 +1,5 @@
 -- Who may bet or raise.
-use Rattle.std.specs.Prelude.{ℕ, Bool, true, false, ◌*◌, ◌-◌, ◌&&◌, ◌||◌, ◌==◌, nat_lt, nat_le, not, List, count_by, slice_index, Option, Some, None}
+use Rattle.std.specs.Prelude.{ℕ, Bool, true, ◌*◌, ◌-◌, ◌&&◌, ◌||◌, ◌==◌, nat_lt, nat_le, not, List, count_by, slice_index, Option, Some, None}
 use Rattle.std.specs.List.{list_any}
 use Rattle.play_event.specs.declared.setup.Setup.{Setup}
 use Rattle.play_event.specs.declared.setup.Rules.{Rules}

@@ -1,5 +1,5 @@
 -- A script as it took place: the past after each of its events, its first illegal event, and whether it ends early.
-use Rattle.std.specs.Prelude.{◌≡◌, ℕ, ◌+◌, ◌<◌, Bool, List, [], ◌∷◌, length, take, reverse, find, slice_get, Option, Some, None, option_and_then, is_some}
+use Rattle.std.specs.Prelude.{◌≡◌, ℕ, ◌<◌, Bool, List, [], ◌∷◌, length, take, reverse, find, slice_get, Option, Some, None, option_and_then, is_some}
 use Rattle.std.specs.List.{range_with_len}
 use Rattle.play_event.specs.declared.reason.Illegal.{Illegal}
 use Rattle.play_event.specs.declared.setup.Setup.{Setup}

@@ -1,6 +1,6 @@
 -- Which seats have shown or mucked, and whether showing is over.
-use Rattle.std.specs.Prelude.{ℕ, Bool, true, false, ◌&&◌, ◌||◌, ◌==◌, not, List, [], ◌∷◌}
-use Rattle.std.specs.List.{list_any, list_all}
+use Rattle.std.specs.Prelude.{ℕ, Bool, false, ◌&&◌, ◌||◌, ◌==◌, not}
+use Rattle.std.specs.List.{list_any}
 use Rattle.play_event.specs.declared.setup.Setup.{Setup}
 use Rattle.play_event.specs.Past.{Past, Resolved, Dealt, Boarded, Moved, Discarded, Shown, Mucked, moves_of}
 use Rattle.play_event.specs.Seats.{is_live, all_seats}

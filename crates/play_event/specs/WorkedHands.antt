@@ -1,11 +1,10 @@
 -- The setups and scripts of the worked hands.
 use Rattle.std.proofs.Common.{refl}
-use Rattle.std.specs.Prelude.{ℕ, true, false, List, [], ◌∷◌, ◌++◌, Option, Some, None, codes}
+use Rattle.std.specs.Prelude.{ℕ, true, false, List, [], ◌∷◌, ◌++◌, codes}
 use Rattle.play_event.specs.declared.code.Code.TheVariants as games
-use Rattle.play_event.specs.declared.event.Spelled.TheVariants as spelled
 use Rattle.play_event.specs.declared.setup.Setup.{Setup}
-use Rattle.play_event.specs.Said.{Said, Call, Raise}
-use Rattle.play_event.specs.Written.{hand_of, deal, board, fold, call, raise, bring_in, folds, calls, raises, raises_to, discard, show, muck}
+use Rattle.play_event.specs.Said.{Said}
+use Rattle.play_event.specs.Written.{hand_of, deal, board, fold, call, raise, discard, show}
 
 -- no-limit hold'em with antes that are not dead
 abbrev pub antes_and_blinds : Setup

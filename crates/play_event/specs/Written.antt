@@ -1,5 +1,5 @@
 -- Words for hands that are written out: setups, events, and what the rules give for a script.
-use Rattle.std.specs.Prelude.{ℕ, ◌+◌, Bool, true, false, List, [], ◌∷◌, map, reverse, filter, Option, Some, None, IsTrue, codes}
+use Rattle.std.specs.Prelude.{ℕ, ◌+◌, Bool, false, List, [], ◌∷◌, map, reverse, Option, Some, None, IsTrue}
 use Rattle.play_event.specs.declared.code.Code.{Code}
 use Rattle.play_event.specs.declared.event.Spelled.TheVariants as spelled
 use Rattle.play_event.specs.declared.reason.Due.{Due}
@@ -12,7 +12,7 @@ use Rattle.play_event.specs.Rows.{row_of, fits_row}
 use Rattle.play_event.specs.Past.{Past, moves_of}
 use Rattle.play_event.specs.Seats.{all_seats}
 use Rattle.play_event.specs.Chips.{chips_put}
-use Rattle.play_event.specs.Due.{turn, is_unfinished}
+use Rattle.play_event.specs.Due.{turn}
 use Rattle.play_event.specs.CardNames.{slots_named, cards_named}
 use Rattle.play_event.specs.Reasons.{why}
 use Rattle.play_event.specs.Scripts.{with_event, past_of}
