@@ -34,3 +34,4 @@ pub mod Examples
 pub mod CardNames
 pub mod Written
 pub mod WorkedHands
+pub mod Laws

@@ -1,0 +1,5 @@
+pub mod StreetLaws
+pub mod MoverLaws
+pub mod ReasonLaws
+pub mod ChipLaws
+pub mod TargetLaws
