@@ -117,10 +117,12 @@ has_best contending worth seats seat = contending seat && same_worth (worth seat
 pub best_win : (seats : ℕ) (contending : ℕ → Bool) (worth : ℕ → Option ℕ) → ((n : ℕ) → contending n ≡ true → (1 ≤ n) × (n ≤ seats)) → TellsWinners contending (λ seat other. IsLess (worth other) (worth seat)) (has_best contending worth seats)
 best_win seats contending worth inside seat = (
   λ wins.
-      let parts = and_parts (contending seat) (same_worth (worth seat) (best_to contending worth seats)) wins in
-      (parts.0, λ other contends less.
-          let range = inside other contends in
-          best_above contending worth seats other range.0 range.1 contends (subst (λ (w : Option ℕ). IsLess w (worth other)) (same_equal (worth seat) (best_to contending worth seats) parts.1) less)),
+      let parts = and_parts (contending seat) (same_worth (worth seat) (best_to contending worth seats)) wins in (
+        parts.0,
+        λ other contends less.
+            let range = inside other contends in
+            best_above contending worth seats other range.0 range.1 contends (subst (λ (w : Option ℕ). IsLess w (worth other)) (same_equal (worth seat) (best_to contending worth seats) parts.1) less),
+      ),
   λ unbeaten.
       let range = inside seat unbeaten.0 in
       and_from (contending seat) (same_worth (worth seat) (best_to contending worth seats)) unbeaten.0 (best_of_unbeaten contending worth seats seat range.0 range.1 unbeaten.0 unbeaten.1),

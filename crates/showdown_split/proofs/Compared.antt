@@ -31,13 +31,16 @@ same_contested seats p q a b chips share same alike (inl (none, are)) =
     inl (λ (seat, contends, has). none (seat, same seat ∙ contends, (alike.has_low seat contends).1 has), same_parts seats p q a.beats b.beats chips share same alike.beats are)
 same_contested seats p q a b chips share same alike (inr ((seat, contends, has), are)) =
     let here = sym (same seat) ∙ contends in
-    inr ((seat, here, (alike.has_low seat here).0 has), record {
-      high = are.high;
-      low = are.low;
-      high_parts = same_parts seats p q a.beats b.beats (chips - chips / 2) are.high same alike.beats are.high_parts;
-      low_parts = same_parts seats p q a.beats_low b.beats_low (chips / 2) are.low same alike.beats_low are.low_parts;
-      together = are.together;
-    })
+    inr (
+      (seat, here, (alike.has_low seat here).0 has),
+      record {
+        high = are.high;
+        low = are.low;
+        high_parts = same_parts seats p q a.beats b.beats (chips - chips / 2) are.high same alike.beats are.high_parts;
+        low_parts = same_parts seats p q a.beats_low b.beats_low (chips / 2) are.low same alike.beats_low are.low_parts;
+        together = are.together;
+      },
+    )
 
 -- the shares of a pot by one ranking are those by another that says the same
 pub same_shares : (seats : ℕ) (contending : ℕ → Bool) (a b : Ranking) (pot : PlainPot) (share : ℕ → ℕ) → AreAlike contending a b → AreShares seats contending a pot share → AreShares seats contending b pot share

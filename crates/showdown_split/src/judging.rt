@@ -16,12 +16,7 @@ use chip_ledger::{LiveRow, Seat};
 use hand_order::{HandOrder, Pick, Score, best_of};
 
 // The score of a seat.
-fn score_of<O: HandOrder>(
-    hands: &HandRow,
-    board: &CardRow,
-    pick: Pick,
-    seat: Seat,
-) -> Option<Score>
+fn score_of<O: HandOrder>(hands: &HandRow, board: &CardRow, pick: Pick, seat: Seat) -> Option<Score>
     requires in_row { seat.number ≤ hands.now.seats }
     requires usable { CanPick O.HELD pick (holding hands.now seat.number) (cards_of board.now) }
     requires different { AllDifferent (holding hands.now seat.number ++ cards_of board.now) }
@@ -46,7 +41,7 @@ pub fn scores_of<O: HandOrder>(
         → AllDifferent (holding hands.now n ++ cards_of board.now) }
     ensures { (n : ℕ) → 1 ≤ n → n ≤ shown.now.seats → flag_of shown.now n ≡ true
         → IsWorth O.is_hand O.is_weaker O.points
-            (allowed pick (holding hands.now n) (cards_of board.now)) (worth_of result n) }
+        (allowed pick (holding hands.now n) (cards_of board.now)) (worth_of result n) }
 {
     let mut scores = Scores::new();
     for index in 0..shown.seats {

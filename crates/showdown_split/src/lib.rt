@@ -16,15 +16,12 @@ mod division;
 mod hands;
 mod judging;
 mod pot;
-
 mod scores;
 mod winners;
 
-pub use hands::HandRow;
-
 use card_set::CardRow;
 use chip_ledger::{LiveRow, PotRow, ShareRow};
-
+pub use hands::HandRow;
 use variant_table::Variant;
 
 /// A pot that two or more seats may win has no shown hand among them.
