@@ -10,7 +10,7 @@ use Rattle.play_event.specs.Said.{Said}
 use Rattle.play_event.specs.Past.{Past}
 use Rattle.play_event.specs.Reasons.{why}
 use Rattle.play_event.specs.Scripts.{past_of, past_after, with_event, why_at, IsLegal, IsFirstIllegal}
-use Rattle.play_event.specs.Written.{refusal, refusal_from}
+use Rattle.play_event.specs.Computed.{refusal, refusal_from}
 use Rattle.play_event.proofs.StreetLaws.{some_is_none, same_some}
 
 -- the past after one event more

@@ -21,7 +21,7 @@ ghost use Rattle.play_event.specs.Table.{places_of, up_cards};
 ghost use Rattle.play_event.specs.Reasons.{why, all_reasons};
 ghost use Rattle.play_event.specs.declared.reason.Illegal.{Illegal};
 ghost use Rattle.play_event.specs.Scripts.{past_of, with_event, IsLegal, IsFirstIllegal};
-ghost use Rattle.play_event.specs.Written.{refusal};
+ghost use Rattle.play_event.specs.Computed.{refusal};
 ghost use Rattle.play_event.specs.Laws.{IsFirstStreet, NoneHold, AreLegal, NoneClash};
 
 /// What is due is due on the first street, from that of the past on, on which something is. The function does

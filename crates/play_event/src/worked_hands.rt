@@ -8,7 +8,8 @@ ghost use Rattle.play_event.specs.HistoryRules.{history_rules};
 ghost use Rattle.play_event.specs.Scripts.{ends_early};
 ghost use Rattle.play_event.specs.Examples.{ends_with};
 ghost use Rattle.play_event.specs.CardNames.{slots_named};
-ghost use Rattle.play_event.specs.Written.{match_rules, deal, board, fold, call, raise, bring_in, folds, calls, raises, raises_to, discard, show, muck, refusal, due_after, puts_after, shown_after, mucked_after, closed_after, moves_after, cards_after};
+ghost use Rattle.play_event.specs.Written.{match_rules, deal, board, fold, call, raise, bring_in, folds, calls, raises, raises_to, discard, show, muck};
+ghost use Rattle.play_event.specs.Computed.{refusal, due_after, puts_after, shown_after, mucked_after, closed_after, moves_after, cards_after};
 ghost use Rattle.play_event.specs.WorkedHands.{antes_and_blinds, shows_before_river, three_in_no_limit, three_in_pot_limit, checked_down, one_short, unseen_deals, unseen_fours, heads_up, heads_up_deals, limit_heads_up, stud, one_dead_ante, triple_draw, thirty_cards, second_draw};
 
 /// Betting in no limit and pot limit. The function does nothing: its contract is computed from the rules. Events
