@@ -6,3 +6,4 @@ pub mod TargetLaws
 pub mod Kept
 pub mod ClashLaws
 pub mod SafePlaces
+pub mod ScriptLaws

@@ -16,7 +16,9 @@ ghost use Rattle.play_event.specs.Chips.{chips_put, chips_left};
 ghost use Rattle.play_event.specs.Targets.{is_legal_target, greatest_target};
 ghost use Rattle.play_event.specs.Table.{places_of};
 ghost use Rattle.play_event.specs.Reasons.{why, all_reasons};
-ghost use Rattle.play_event.specs.Scripts.{past_of};
+ghost use Rattle.play_event.specs.declared.reason.Illegal.{Illegal};
+ghost use Rattle.play_event.specs.Scripts.{past_of, IsLegal, IsFirstIllegal};
+ghost use Rattle.play_event.specs.Written.{refusal};
 ghost use Rattle.play_event.specs.Laws.{IsFirstStreet, NoneHold, AreLegal, NoneClash};
 
 /// What is due is due on the first street, from that of the past on, on which something is. The function does
@@ -66,4 +68,12 @@ pub fn law_of_reasons()
 pub fn law_of_places()
     ensures { (setup : Setup) (rules : Rules) (events : List Said) → AreLegal setup rules events
         → NoneClash (places_of setup.code (past_of setup events)) }
+{}
+
+/// The walk by which the worked hands are computed tells the first illegal event of a script, or that it is legal.
+pub fn law_of_scripts()
+    ensures refused { (setup : Setup) (rules : Rules) (script : List Said) (index : ℕ) (reason : Illegal)
+        → refusal setup rules script ≡ Some (index + 1, reason) → IsFirstIllegal setup rules script index reason }
+    ensures legal { (setup : Setup) (rules : Rules) (script : List Said)
+        → refusal setup rules script ≡ None → IsLegal setup rules script }
 {}
