@@ -7,3 +7,4 @@ pub mod Kept
 pub mod ClashLaws
 pub mod SafePlaces
 pub mod ScriptLaws
+pub mod SpellingLaws

@@ -1,5 +1,5 @@
 -- The walk over a written script finds its first illegal event, or that all are legal.
-use Rattle.std.proofs.Common.{◌≡◌, ℕ, zero, suc, ◌+◌, ◌≤◌, ◌<◌, inl, inr, Option, Some, None, List, [], ◌∷◌, ◌++◌, length, take, drop, reverse, get_or, slice_get, option_and_then, unwrap_or, refl, sym, ◌∙◌, ap, subst, arith}
+use Rattle.std.proofs.Common.{◌≡◌, ℕ, ◌+◌, ◌≤◌, ◌<◌, inl, inr, Option, Some, None, List, [], ◌∷◌, length, take, drop, reverse, get_or, slice_get, option_and_then, refl, sym, ◌∙◌, ap, arith}
 use Rattle.std.proofs.lemmas.Bool.{cases_lt}
 use Rattle.std.proofs.lemmas.List.{drop_more, drop_all, take_more, reverse-append}
 use Rattle.std.proofs.lemmas.Option.{slice_get_within, get_or_from_slice_get, slice_get-get_or}
@@ -40,15 +40,15 @@ no_event event more is = cc
 is_next : (script : List Said) (count : ℕ) (event : Said) (more : List Said) → event ∷ more ≡ drop count script → IsNext script count event more
 unfolding first_of behind_first
 is_next script count event more left = elim (cases_lt count (length script)) [
-      | inr over ↦ absurd (no_event event more (left ∙ drop_all count script over))
-      | inl within ↦
-          let cut = left ∙ drop_more script count event within in
-          record {
-            within = within;
-            next = slice_get-get_or script count event within ∙ ap Some (sym (ap (first_of event) cut));
-            left = ap behind_first cut;
-          }
-    ]
+  | inr over ↦ absurd (no_event event more (left ∙ drop_all count script over))
+  | inl within ↦
+      let cut = left ∙ drop_more script count event within in
+      record {
+        within = within;
+        next = slice_get-get_or script count event within ∙ ap Some (sym (ap (first_of event) cut));
+        left = ap behind_first cut;
+      }
+]
 
 -- what the walk tells from a number of events on
 record IsRefused (setup : Setup) (rules : Rules) (script : List Said) (count number : ℕ) (reason : Illegal) : Type 0 where
@@ -67,9 +67,9 @@ why_next setup rules script count event found at is = ap (option_and_then (why s
 
 here_or_later : (setup : Setup) (rules : Rules) (script : List Said) (count bound : ℕ) → why_at setup rules script count ≡ None → ((index : ℕ) → count + 1 ≤ index → index < bound → why_at setup rules script index ≡ None) → (index : ℕ) → count ≤ index → index < bound → why_at setup rules script index ≡ None
 here_or_later setup rules script count bound here later index least most = elim (cases_lt count index) [
-      | inl above ↦ later index (omega (arith, above)) most
-      | inr below ↦ let same : index ≡ count = omega (arith, below, least) in ap (why_at setup rules script) same ∙ here
-    ]
+  | inl above ↦ later index (omega (arith, above)) most
+  | inr below ↦ let same : index ≡ count = omega (arith, below, least) in ap (why_at setup rules script) same ∙ here
+]
 
 -- one step of the walk
 walk_step : Setup → Rules → Past → ℕ → Said → List Said → Option Illegal → Option (ℕ × Illegal)
@@ -104,14 +104,14 @@ refused_from setup rules script [] count number reason left is = absurd (some_is
 refused_from setup rules script (event ∷ more) count number reason left is =
     let next = is_next script count event more left in
     refused_step setup rules script count event more number reason (why setup rules (past_after setup script count) event) next refl
-      (refused_from setup rules script more (count + 1) number reason next.left) is
+    (refused_from setup rules script more (count + 1) number reason next.left) is
 
 legal_step : (setup : Setup) (rules : Rules) (script : List Said) (count : ℕ) (event : Said) (more : List Said) (found : Option Illegal) → IsNext script count event more → why setup rules (past_after setup script count) event ≡ found → (refusal_from setup rules (past_after setup script (count + 1)) (count + 1 + 1) more ≡ None → AreLegalFrom setup rules script (count + 1)) → walk_step setup rules (past_after setup script count) (count + 1) event more found ≡ None → AreLegalFrom setup rules script count
 unfolding walk_step AreLegalFrom
 legal_step setup rules script count event more (Some first) next here later is = absurd (some_is_none is)
 legal_step setup rules script count event more None next here later is =
     here_or_later setup rules script count (length script) (why_next setup rules script count event None next.next here)
-      (later (ap (λ p. refusal_from setup rules p (count + 1 + 1) more) (past_more setup script count event next.next) ∙ is))
+    (later (ap (λ p. refusal_from setup rules p (count + 1 + 1) more) (past_more setup script count event next.next) ∙ is))
 
 left_over : (script : List Said) (count : ℕ) → count < length script → [] ≡ drop count script → ⊥
 left_over [] count within left = omega (arith, within)
@@ -119,9 +119,9 @@ left_over (event ∷ rest) count within left = no_event (get_or (event ∷ rest)
 
 no_more : (event : List Said) (count : ℕ) → [] ≡ drop count event → length event ≤ count
 no_more script count left = elim (cases_lt count (length script)) [
-      | inr over ↦ over
-      | inl within ↦ absurd (left_over script count within left)
-    ]
+  | inr over ↦ over
+  | inl within ↦ absurd (left_over script count within left)
+]
 
 legal_from : (setup : Setup) (rules : Rules) (script rest : List Said) (count : ℕ) → rest ≡ drop count script → refusal_from setup rules (past_after setup script count) (count + 1) rest ≡ None → AreLegalFrom setup rules script count
 unfolding walk_step AreLegalFrom
@@ -129,7 +129,7 @@ legal_from setup rules script [] count left is = λ index least most. absurd (om
 legal_from setup rules script (event ∷ more) count left is =
     let next = is_next script count event more left in
     legal_step setup rules script count event more (why setup rules (past_after setup script count) event) next refl
-      (legal_from setup rules script more (count + 1) next.left) is
+    (legal_from setup rules script more (count + 1) next.left) is
 
 -- a script that the walk refuses at an event has its first illegal event there
 pub refused_first : (setup : Setup) (rules : Rules) (script : List Said) (index : ℕ) (reason : Illegal) → refusal setup rules script ≡ Some (index + 1, reason) → IsFirstIllegal setup rules script index reason

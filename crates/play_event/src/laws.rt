@@ -11,13 +11,16 @@ ghost use Rattle.play_event.specs.Mover.{mover};
 ghost use Rattle.chip_ledger.specs.SeatRow.{amount_of};
 ghost use Rattle.play_event.specs.declared.setup.Rules.{Rules};
 ghost use Rattle.play_event.specs.declared.setup.Reopen.{Reopen};
-ghost use Rattle.play_event.specs.Said.{Said};
+ghost use Rattle.play_event.specs.declared.event.Spelled.{Spelled};
+ghost use Rattle.play_event.specs.declared.event.Spelled.TheVariants as spelled;
+ghost use Rattle.play_event.specs.Said.{Said, Raise};
+ghost use Rattle.play_event.specs.Amounts.{raise_target};
 ghost use Rattle.play_event.specs.Chips.{chips_put, chips_left};
 ghost use Rattle.play_event.specs.Targets.{is_legal_target, greatest_target};
-ghost use Rattle.play_event.specs.Table.{places_of};
+ghost use Rattle.play_event.specs.Table.{places_of, up_cards};
 ghost use Rattle.play_event.specs.Reasons.{why, all_reasons};
 ghost use Rattle.play_event.specs.declared.reason.Illegal.{Illegal};
-ghost use Rattle.play_event.specs.Scripts.{past_of, IsLegal, IsFirstIllegal};
+ghost use Rattle.play_event.specs.Scripts.{past_of, with_event, IsLegal, IsFirstIllegal};
 ghost use Rattle.play_event.specs.Written.{refusal};
 ghost use Rattle.play_event.specs.Laws.{IsFirstStreet, NoneHold, AreLegal, NoneClash};
 
@@ -76,4 +79,17 @@ pub fn law_of_scripts()
         → refusal setup rules script ≡ Some (index + 1, reason) → IsFirstIllegal setup rules script index reason }
     ensures legal { (setup : Setup) (rules : Rules) (script : List Said)
         → refusal setup rules script ≡ None → IsLegal setup rules script }
+{}
+
+/// A raise without actor, however it is spelled, has the reason and the outcome of a raise of the seat in turn to the
+/// target that the spelling has.
+pub fn law_of_spellings()
+    ensures same_reason { (setup : Setup) (rules : Rules) (past : Past) (seat : ℕ) (amount : Spelled)
+        → mover setup (up_cards setup.code past) (moves_of past) (turn setup past).0 ≡ TheSeat seat
+        → why setup rules past (Raise None amount)
+        ≡ why setup rules past (Raise (Some seat) (spelled.To (raise_target setup (moves_of past) (turn setup past).0 seat amount))) }
+    ensures same_past { (setup : Setup) (past : Past) (seat : ℕ) (amount : Spelled)
+        → mover setup (up_cards setup.code past) (moves_of past) (turn setup past).0 ≡ TheSeat seat
+        → with_event setup (Raise None amount) past
+        ≡ with_event setup (Raise (Some seat) (spelled.To (raise_target setup (moves_of past) (turn setup past).0 seat amount))) past }
 {}
