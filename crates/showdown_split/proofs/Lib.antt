@@ -5,3 +5,5 @@ pub mod Bests
 pub mod Compared
 pub mod Flagged
 pub mod Contests
+pub mod Judged
+pub mod Splitting

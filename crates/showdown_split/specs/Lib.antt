@@ -3,4 +3,5 @@ pub mod Known
 pub mod Hands
 pub mod Scores
 pub mod Worths
+pub mod Alike
 pub mod Split
