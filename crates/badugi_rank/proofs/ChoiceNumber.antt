@@ -1,5 +1,5 @@
 -- What is seen of a choice makes its number, and the best of each size makes the best of all.
-use Rattle.std.proofs.Common.{◌≡◌, ℕ, ◌-◌, ◌^◌, Bool, true, cond, List, ◌++◌, length, take, Option, Some, None, min, sym, ◌∙◌, ap, arith, length-take}
+use Rattle.std.proofs.Common.{◌≡◌, ℕ, ◌-◌, ◌^◌, Bool, true, cond, List, ◌++◌, length, Option, Some, None, sym, ◌∙◌, ap, arith, length-take}
 use Rattle.card_set.specs.declared.card.Card.{Card}
 use Rattle.card_set.specs.declared.row.CardRow.{CardRow}
 use Rattle.card_set.specs.Ranks.{low_ace, ranks_of}

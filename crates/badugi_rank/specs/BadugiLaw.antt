@@ -1,22 +1,20 @@
 -- The order of badugi is lawful.
-use Rattle.std.proofs.Common.{◌≡◌, ◌≢◌, ℕ, zero, suc, ◌+◌, ◌-◌, ◌*◌, ◌^◌, ◌<◌, ◌≤◌, ◌==◌, ◌&&◌, ◌||◌, not, Bool, true, false, cond, List, [], ◌∷◌, ◌++◌, length, count_by, get_or, Option, Some, None, IsSome, ◌⊎◌, inl, inr, ◌↔◌, refl, sym, ◌∙◌, ap, subst, arith, eq-eqb, eqb-true}
+use Rattle.std.proofs.Common.{◌≡◌, ℕ, zero, suc, ◌+◌, ◌-◌, ◌^◌, ◌<◌, ◌≤◌, ◌==◌, not, Bool, true, false, cond, List, [], ◌∷◌, ◌++◌, length, get_or, Option, Some, None, IsSome, inl, inr, ◌↔◌, refl, sym, ◌∙◌, ap, subst, arith, eqb-true}
 use Rattle.std.specs.List.{list_all}
 use Rattle.std.proofs.lemmas.Bool.{and_parts, or_parts}
-use Rattle.std.proofs.lemmas.Option.{same_Some, cond_some}
+use Rattle.std.proofs.lemmas.Option.{cond_some}
 use Rattle.card_set.specs.declared.card.Card.{Card}
-use Rattle.card_set.specs.Classes.{IsBelowLow, IsLower}
 use Rattle.card_set.specs.Different.{AllDifferent}
 use Rattle.card_set.specs.Deck.{suits_before}
-use Rattle.card_set.specs.Ranks.{low_ace, ranks_occurring, ranks_of, times}
-use Rattle.card_set.proofs.Counted.{IsHeight-low_ace, all_once, length-ranks_of, ranks_of-le, times-cons, times-none, passes_or_not}
-use Rattle.hand_order.specs.Best.{HasNoHand, IsBest, IsPointsOfBest, Beats, IsWorth}
+use Rattle.card_set.specs.Ranks.{low_ace, ranks_of, times}
+use Rattle.card_set.proofs.Counted.{IsHeight-low_ace, all_once, length-ranks_of, times-cons, times-none, passes_or_not}
+use Rattle.hand_order.specs.Best.{IsWorth}
 use Rattle.hand_order.specs.Choices.{choices, IsAmong, AreHeld}
 use Rattle.hand_order.specs.Digits.{class_above}
 use Rattle.hand_order.specs.Order.{IsLawful}
-use Rattle.hand_order.specs.Points.{greatest}
 use Rattle.hand_order.proofs.Greatest.{Says, says_greatest, IsAmong-right}
 use Rattle.hand_order.proofs.Held.{held_chosen, IsAmong-cases}
-use Rattle.hand_order.proofs.Lawful.{worth_greatest, beats_exactly}
+use Rattle.hand_order.proofs.Lawful.{worth_greatest, beats_exactly, lawful_by_order}
 use Rattle.hand_order.proofs.RankDigits.{AreDigits-ranks_of}
 use Rattle.hand_order.proofs.Ranked.{IsRanked, ranked_low_law}
 use Rattle.badugi_rank.specs.Badugi.{share, all_differ, IsRainbow, IsWorse, candidates, IsHand, IsWeaker, choice_points, points}
@@ -103,10 +101,7 @@ choice_ordered a b low high few_a few_b is_low is_high =
 
 -- choices are ordered by their numbers
 pub lawful_choices : IsLawful AreFew IsRainbow IsWorse choice_points
-lawful_choices = record {
-  scored = λ chosen few. points_there (all_differ chosen) (16 ^ 6 - class_above (4 - length chosen) (ranks_of low_ace chosen));
-  ordered = choice_ordered;
-}
+lawful_choices = lawful_by_order AreFew IsRainbow IsWorse choice_points (λ chosen few. points_there (all_differ chosen) (16 ^ 6 - class_above (4 - length chosen) (ranks_of low_ace chosen))) choice_ordered
 
 -- the choices of a hand have at most four cards
 pub few_chosen : (cards chosen : List Card) → AllDifferent cards → IsAmong chosen (candidates cards) → AreFew chosen
@@ -150,7 +145,4 @@ some_points (card ∷ rest) None held is =
     absurd (cc)
 
 pub lawful_badugi : IsLawful (AreHeld 4) IsHand IsWeaker points
-lawful_badugi = record {
-  scored = λ cards held. (λ some. tt, λ hand. some_points cards (points cards) held refl);
-  ordered = hand_ordered;
-}
+lawful_badugi = lawful_by_order (AreHeld 4) IsHand IsWeaker points (λ cards held. (λ some. tt, λ hand. some_points cards (points cards) held refl)) hand_ordered

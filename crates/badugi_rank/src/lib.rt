@@ -51,7 +51,8 @@ impl HandOrder for Badugi {
 fn best_of_size(cards: &CardRow, size: u8) -> Option<Score>
     requires different { AllDifferent (cards_of cards.now) }
     requires few { size ≤ 4 }
-    ensures { option_map (λ s. s.value) result ≡ greatest choice_points (choices size (cards_of cards.now)) }
+    ensures { option_map (λ s. s.value) result
+        ≡ greatest choice_points (choices size (cards_of cards.now)) }
 {
     best_choice(&Rainbow, cards, 0, CardRow::new(), size)
 }

@@ -1,10 +1,9 @@
 -- How often ranks occur adds up to the number of cards, so the class of a hand tells how many different ranks it has.
-use Rattle.std.proofs.Common.{◌≡◌, ℕ, ◌+◌, ◌*◌, ◌<◌, ◌≤◌, ◌==◌, Bool, true, false, cond, eqb, ◌&&◌, List, [], ◌∷◌, ◌++◌, length, filter, count_by, sum_by, find, unwrap_or, refl, sym, ◌∙◌, ap, arith, length-append, eqb-true, eq-eqb, ◌⊎◌, inl, inr}
+use Rattle.std.proofs.Common.{◌≡◌, ℕ, ◌+◌, ◌*◌, ◌<◌, ◌≤◌, ◌==◌, Bool, true, false, cond, ◌&&◌, List, [], ◌∷◌, ◌++◌, length, count_by, sum_by, find, unwrap_or, refl, sym, ◌∙◌, ap, arith, length-append, eqb-true, ◌⊎◌, inl, inr}
 use Rattle.std.specs.List.{list_all}
 use Rattle.std.proofs.lemmas.List.Sums.{sum_by-cons, length-filter}
 use Rattle.std.proofs.lemmas.Bool.{and_parts}
 use Rattle.std.proofs.lemmas.Bool.Decides.{nat_tests}
-use Rattle.std.specs.Cmp.Derive.{both_true}
 use Rattle.card_set.specs.declared.card.Card.{Card}
 use Rattle.card_set.specs.declared.card.Rank.{Rank}
 use Rattle.card_set.specs.declared.card.Rank.TheVariants as ranks

@@ -1,13 +1,11 @@
 -- In a class of the high order all hands have as many ranks that decide, so numbers of hands compare as hands do.
-use Rattle.std.proofs.Common.{◌≡◌, ℕ, ◌+◌, ◌-◌, ◌*◌, ◌^◌, ◌<◌, ◌≤◌, ◌==◌, ◌&&◌, ◌||◌, Bool, true, false, cond, List, [], ◌∷◌, length, get_or, ◌⊎◌, inl, inr, ◌↔◌, refl, sym, ◌∙◌, ap, subst, arith}
+use Rattle.std.proofs.Common.{◌≡◌, ℕ, ◌+◌, ◌-◌, ◌*◌, ◌^◌, ◌<◌, ◌≤◌, ◌==◌, ◌||◌, Bool, true, false, cond, List, [], ◌∷◌, length, get_or, inl, inr, ◌↔◌, refl, sym, ◌∙◌, ap, arith}
 use Rattle.std.proofs.lemmas.Bool.{or_cases}
 use Rattle.card_set.specs.declared.card.Card.{Card}
-use Rattle.card_set.specs.Different.{AllDifferent}
-use Rattle.card_set.specs.Classes.{place, IsBelow, IsLower}
-use Rattle.card_set.specs.Ranks.{high_ace, times, ranks_occurring, ranks_of, one_suit}
+use Rattle.card_set.specs.Classes.{place}
+use Rattle.card_set.specs.Ranks.{high_ace, ranks_occurring, ranks_of, one_suit}
 use Rattle.card_set.proofs.Counted.{IsHeight-high_ace, few_times, counted, all_once, once_in_suit, length-ranks_of, ranks_of-le}
 use Rattle.hand_order.specs.declared.straights.LowStraight.{LowStraight}
-use Rattle.hand_order.specs.declared.straights.LowStraight.TheVariants as straights
 use Rattle.hand_order.specs.Choices.{AreHeld}
 use Rattle.hand_order.specs.Digits.{class_above, with_digits}
 use Rattle.hand_order.specs.declared.look.Look.{Look}
@@ -15,7 +13,7 @@ use Rattle.hand_order.specs.Look.{IsLookOf}
 use Rattle.hand_order.specs.Heights.{heights_of}
 use Rattle.hand_order.specs.Straights.{is_run, is_low_straight, is_straight, straight_top, deciding_ranks, high_class, high_points, IsWeakerHigh}
 use Rattle.hand_order.specs.Tables.{high_table}
-use Rattle.hand_order.proofs.Digits.{AreDigits, class_first, number_below}
+use Rattle.hand_order.proofs.Digits.{AreDigits, number_below}
 use Rattle.hand_order.proofs.RankDigits.{AreDigits-ranks_of}
 use Rattle.hand_order.proofs.Shapes.{by_shape}
 use Rattle.hand_order.proofs.Ranked.{IsRanked, ranked_law}

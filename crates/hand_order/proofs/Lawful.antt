@@ -1,12 +1,12 @@
 -- Under a lawful order the greatest points of choices are those of a best choice, and one holding beats another exactly by them.
-use Rattle.std.proofs.Common.{◌≡◌, ℕ, ◌<◌, ◌≤◌, List, Option, Some, None, IsSome, IfSome, IfNone, ◌↔◌, refl, sym, ◌∙◌, ap, subst, arith, ⊎_elim, inl, inr}
+use Rattle.std.proofs.Common.{◌≡◌, ◌⊎◌, ℕ, ◌<◌, ◌≤◌, List, Option, Some, None, IsSome, IfSome, IfNone, ◌↔◌, refl, sym, ap, subst, arith, inl, inr}
 use Rattle.std.specs.Option.{option_map, is_some}
 use Rattle.std.proofs.lemmas.Bool.{cases_lt}
 use Rattle.std.proofs.lemmas.Option.{same_Some}
 use Rattle.card_set.specs.declared.card.Card.{Card}
 use Rattle.hand_order.specs.declared.order.Score.{Score}
 use Rattle.hand_order.specs.Choices.{IsAmong}
-use Rattle.hand_order.specs.Order.{IsLawful}
+use Rattle.hand_order.specs.Order.{IsLawful, IsEven}
 use Rattle.hand_order.specs.Best.{HasNoHand, IsBest, IsPointsOfBest, Beats, IsWorth, IsLess}
 use Rattle.hand_order.specs.Points.{greatest}
 use Rattle.hand_order.proofs.Greatest.{IsGreatest, Says, says_greatest}
@@ -19,6 +19,47 @@ pub record IsPointed (points : List Card → Option ℕ) (cards : List Card) : T
 pointed_by : (points : List Card → Option ℕ) (cards : List Card) (o : Option ℕ) → points cards ≡ o → IsSome o → IsPointed points cards
 pointed_by points cards None is some = absurd (cc)
 pointed_by points cards (Some value) is some = record { value = value; is = is }
+
+-- points are there exactly for hands
+abbrev pub Scores : (List Card → Type 0) → (List Card → Type 0) → (List Card → Option ℕ) → Type 0
+Scores looks_at is_hand points = (cards : List Card) → looks_at cards → IsSome (points cards) ↔ is_hand cards
+
+-- points are less exactly for weaker hands
+abbrev pub Orders : (List Card → Type 0) → (List Card → List Card → Type 0) → (List Card → Option ℕ) → Type 0
+Orders looks_at is_weaker points = (a b : List Card) (low high : ℕ) → looks_at a → looks_at b → points a ≡ Some low → points b ≡ Some high → (low < high) ↔ is_weaker a b
+
+-- hands with as many points are even, and even hands have as many
+even_by_order : (looks_at : List Card → Type 0) (is_weaker : List Card → List Card → Type 0) (points : List Card → Option ℕ) → Orders looks_at is_weaker points → (a b : List Card) (one other : ℕ) → looks_at a → looks_at b → points a ≡ Some one → points b ≡ Some other → (one ≡ other) ↔ IsEven is_weaker a b
+even_by_order looks_at is_weaker points ordered a b one other looks_a looks_b is_one is_other =
+    let first = ordered a b one other looks_a looks_b is_one is_other in
+    let second = ordered b a other one looks_b looks_a is_other is_one in (
+      λ same. (λ weaker. let less = first.1 weaker in absurd (omega arith), λ weaker. let less = second.1 weaker in absurd (omega arith)),
+      λ even. elim (cases_lt one other) [
+        | inl less ↦ absurd (even.0 (first.0 less))
+        | inr rest ↦ elim (cases_lt other one) [ inl more ↦ absurd (even.1 (second.0 more)) | inr least ↦ omega arith ]
+      ],
+    )
+
+compared_by_order : (looks_at : List Card → Type 0) (is_weaker : List Card → List Card → Type 0) (points : List Card → Option ℕ) → Orders looks_at is_weaker points → (a b : List Card) → looks_at a → looks_at b → IsPointed points a → IsPointed points b → is_weaker a b ⊎ (is_weaker b a ⊎ IsEven is_weaker a b)
+compared_by_order looks_at is_weaker points ordered a b looks_a looks_b pointed_a pointed_b =
+    elim (cases_lt pointed_a.value pointed_b.value) [
+      | inl less ↦ inl ((ordered a b pointed_a.value pointed_b.value looks_a looks_b pointed_a.is pointed_b.is).0 less)
+      | inr rest ↦ elim (cases_lt pointed_b.value pointed_a.value) [
+        | inl more ↦ inr (inl ((ordered b a pointed_b.value pointed_a.value looks_b looks_a pointed_b.is pointed_a.is).0 more))
+        | inr least ↦ inr (inr ((even_by_order looks_at is_weaker points ordered a b pointed_a.value pointed_b.value looks_a looks_b pointed_a.is pointed_b.is).0 (omega arith)))
+      ]
+    ]
+
+-- an order whose points are there for its hands, and less for the weaker one, is lawful
+pub lawful_by_order : (looks_at : List Card → Type 0) (is_hand : List Card → Type 0) (is_weaker : List Card → List Card → Type 0) (points : List Card → Option ℕ) → Scores looks_at is_hand points → Orders looks_at is_weaker points → IsLawful looks_at is_hand is_weaker points
+lawful_by_order looks_at is_hand is_weaker points scored ordered = record {
+  scored = scored;
+  ordered = ordered;
+  even = even_by_order looks_at is_weaker points ordered;
+  compared = λ a b looks_a looks_b hand_a hand_b.
+      compared_by_order looks_at is_weaker points ordered a b looks_a looks_b
+      (pointed_by points a (points a) refl ((scored a looks_a).1 hand_a)) (pointed_by points b (points b) refl ((scored b looks_b).1 hand_b));
+}
 
 -- a hand of the order has points
 pointed : (looks_at : List Card → Type 0) (is_hand : List Card → Type 0) (is_weaker : List Card → List Card → Type 0) (points : List Card → Option ℕ) → IsLawful looks_at is_hand is_weaker points → (cards : List Card) → looks_at cards → is_hand cards → IsPointed points cards
@@ -85,13 +126,11 @@ beats_exactly looks_at is_hand is_weaker points options others (Some most) (Some
 
 -- an order in which each hand has a number is lawful where the numbers compare as the hands do
 pub lawful_by_numbers : (looks_at : List Card → Type 0) (is_weaker : List Card → List Card → Type 0) (number : List Card → ℕ) → ((a b : List Card) → looks_at a → looks_at b → (number a < number b) ↔ is_weaker a b) → IsLawful looks_at (λ cards. Unit {0}) is_weaker (λ cards. Some (number cards))
-lawful_by_numbers looks_at is_weaker number law = record {
-  scored = λ cards are. (λ some. tt, λ hand. refl);
-  ordered = λ a b low high are_a are_b is_low is_high.
-      let low_is = same_Some (number a) low is_low in
-      let high_is = same_Some (number b) high is_high in
-      subst (λ (n : ℕ). (n < high) ↔ is_weaker a b) low_is (subst (λ (n : ℕ). (number a < n) ↔ is_weaker a b) high_is (law a b are_a are_b));
-}
+lawful_by_numbers looks_at is_weaker number law =
+    lawful_by_order looks_at (λ cards. Unit {0}) is_weaker (λ cards. Some (number cards)) (λ cards are. (λ some. tt, λ hand. refl)) (λ a b low high are_a are_b is_low is_high.
+    let low_is = same_Some (number a) low is_low in
+    let high_is = same_Some (number b) high is_high in
+    subst (λ (n : ℕ). (n < high) ↔ is_weaker a b) low_is (subst (λ (n : ℕ). (number a < n) ↔ is_weaker a b) high_is (law a b are_a are_b)))
 
 -- the greatest points of choices are what the choices are worth
 pub worth_greatest : (looks_at : List Card → Type 0) (is_hand : List Card → Type 0) (is_weaker : List Card → List Card → Type 0) (points : List Card → Option ℕ) (options : List (List Card)) (worth : Option ℕ) → IsLawful looks_at is_hand is_weaker points → ((choice : List Card) → IsAmong choice options → looks_at choice) → worth ≡ greatest points options → IsWorth is_hand is_weaker points options worth

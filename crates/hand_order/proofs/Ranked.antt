@@ -1,14 +1,13 @@
 -- Where a class tells how many ranks decide in it, numbers of hands compare as the hands do.
-use Rattle.std.proofs.Common.{◌≡◌, ℕ, ◌+◌, ◌-◌, ◌*◌, ◌^◌, ◌<◌, ◌≤◌, Bool, List, length, get_or, ◌⊎◌, inl, inr, ◌↔◌, sym, ◌∙◌, ap, arith}
+use Rattle.std.proofs.Common.{◌≡◌, ℕ, ◌+◌, ◌-◌, ◌*◌, ◌^◌, ◌<◌, ◌≤◌, Bool, List, length, get_or, inl, inr, ◌↔◌, sym, ap, arith}
 use Rattle.card_set.specs.declared.card.Card.{Card}
 use Rattle.card_set.specs.declared.card.Rank.{Rank}
 use Rattle.card_set.specs.Different.{AllDifferent}
 use Rattle.card_set.specs.Classes.{place, IsBelow, IsBelowLow}
 use Rattle.card_set.specs.Ranks.{ranks_occurring, ranks_of}
 use Rattle.card_set.proofs.Counted.{IsHeight, few_times, counted, length-ranks_of, ranks_of-le}
-use Rattle.hand_order.specs.Digits.{class_above, with_digits}
+use Rattle.hand_order.specs.Digits.{class_above}
 use Rattle.hand_order.proofs.Digits.{AreDigits, class_first, number_below}
-use Rattle.hand_order.proofs.Shapes.{by_counts}
 
 -- the class of a hand is one of the table's, and tells how many fewer ranks than cards decide in it
 pub record IsRanked (class : List Card → ℕ) (list : List Card → List ℕ) (missing : List ℕ) (last total : ℕ) (cards : List Card) : Type 0 where

@@ -1,5 +1,5 @@
 -- The ways in which ranks occur among at most five cards, and what each class of hands says of the number of ranks.
-use Rattle.std.proofs.Common.{◌≡◌, ℕ, zero, suc, ◌+◌, ◌*◌, ◌<◌, ◌≤◌, Bool, true, false, refl, sym, subst, arith}
+use Rattle.std.proofs.Common.{◌≡◌, ℕ, zero, suc, ◌+◌, ◌*◌, ◌<◌, ◌≤◌, Bool, true, false, refl, subst, arith}
 
 -- what holds in each way in which ranks occur holds for all hands of at most five cards
 pub by_counts : (P : ℕ → ℕ → ℕ → ℕ → Type 0) → ((one : ℕ) → P 1 0 0 one) → ((one : ℕ) → P 0 1 1 one) → ((one : ℕ) → P 0 1 0 one) → ((one : ℕ) → P 0 0 2 one) → ((one : ℕ) → P 0 0 1 one) → ((one : ℕ) → P 0 0 0 one) → (four three two one : ℕ) → 4 * four + 3 * three + 2 * two + one ≤ 5 → P four three two one

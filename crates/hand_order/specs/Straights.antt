@@ -1,5 +1,5 @@
 -- Straights and flushes, and the table of classes of the high orders.
-use Rattle.std.specs.Prelude.{◌==◌, ◌&&◌, ◌||◌, ℕ, ◌+◌, ◌-◌, Bool, true, false, List, [], ◌∷◌, if◌then◌else◌}
+use Rattle.std.specs.Prelude.{◌==◌, ◌&&◌, ◌||◌, ℕ, ◌+◌, ◌-◌, Bool, false, List, [], ◌∷◌, if◌then◌else◌}
 use Rattle.card_set.specs.declared.card.Card.{Card}
 use Rattle.card_set.specs.Ranks.{high_ace, ranks_of, one_suit}
 use Rattle.card_set.specs.Classes.{four_of_a_kind, full_house, three_of_a_kind, two_pair, one_pair, no_pair, place, IsBelow}

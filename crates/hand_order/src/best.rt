@@ -54,7 +54,8 @@ fn any_five<O: HandOrder>(hole: &CardRow, board: &CardRow) -> Option<Score>
     requires held { O.HELD ≡ 5 }
     requires room { length (cards_of hole.now) + length (cards_of board.now) ≤ 7 }
     requires different { AllDifferent (cards_of hole.now ++ cards_of board.now) }
-    ensures { option_map (λ s. s.value) result ≡ greatest O.points (choices 5 (cards_of hole.now ++ cards_of board.now)) }
+    ensures { option_map (λ s. s.value) result
+        ≡ greatest O.points (choices 5 (cards_of hole.now ++ cards_of board.now)) }
 {
     let judge = ByOrder::<O> { order: PhantomData };
     best_choice(&judge, &joined(hole, board), 0, CardRow::new(), 5)
@@ -111,7 +112,8 @@ pub fn best_choice<J: Judge>(
     requires accepted { (more : List Card) → IsAmong more (choices need (drop from (cards_of cards.now)))
         → J.accepts judge.now (cards_of chosen ++ more) }
     ensures { option_map (λ s. s.value) result
-        ≡ greatest (λ more. J.worth judge.now (cards_of chosen ++ more)) (choices need (drop from (cards_of cards.now))) }
+        ≡ greatest (λ more. J.worth judge.now (cards_of chosen ++ more))
+        (choices need (drop from (cards_of cards.now))) }
 {
     if need == 0 {
         return judge.judge(&chosen);
@@ -129,7 +131,8 @@ pub fn best_choice<J: Judge>(
 
 /// The better of two scores, where none is the worst.
 pub fn better_score(first: Option<Score>, second: Option<Score>) -> Option<Score>
-    ensures { option_map (λ s. s.value) result ≡ better (option_map (λ s. s.value) first) (option_map (λ s. s.value) second) }
+    ensures { option_map (λ s. s.value) result
+        ≡ better (option_map (λ s. s.value) first) (option_map (λ s. s.value) second) }
 {
     match (first, second) {
         (None, _) => second,

@@ -13,4 +13,4 @@ pub use look::{Look, high_number, look_at};
 pub use order::{HandOrder, Score};
 pub use ranks::{Ace, class_above, count_of_ranks, height_of, ranks_of};
 pub use row::RankRow;
-pub use straights::{LowStraight, deciding_of, is_flush, is_straight};
+pub use straights::LowStraight;

@@ -57,7 +57,8 @@ pub fn high_number(cards: &CardRow, low: LowStraight) -> u32
 
 // The classes of the high order, the best with the greatest number.
 fn high_class(look: &Look) -> u32
-    ensures { result ≡ 8 - place (high_table look.now.fours look.now.threes look.now.pairs look.now.straight look.now.flush) }
+    ensures { result ≡ 8 - place (high_table look.now.fours look.now.threes look.now.pairs
+        look.now.straight look.now.flush) }
 {
     if look.straight && look.flush {
         8

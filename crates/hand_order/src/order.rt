@@ -37,6 +37,7 @@ pub trait HandOrder {
         requires { AreHeld HELD (cards_of cards.now) }
         ensures { option_map (λ s. s.value) result ≡ points (cards_of cards.now) };
 
-    /// Points are there exactly for hands of the order, and less exactly for the weaker hand.
+    /// Points are there exactly for hands of the order, less exactly for the weaker hand,
+    /// and equal exactly for even hands; every two hands compare.
     ghost lawful: { IsLawful (AreHeld HELD) is_hand is_weaker points };
 }

@@ -87,8 +87,10 @@ pub fn ranks_of(cards: &CardRow, ace: Ace) -> RankRow
 
 // Puts the heights that occur so many times after the others.
 fn push_occurring(row: &mut RankRow, cards: &CardRow, ace: Ace, occurrences: usize)
-    requires { length (heights_of row.old) + length (occurring (height_with ace) (cards_of cards.now) occurrences) ≤ 5 }
-    ensures { heights_of row.new ≡ heights_of row.old ++ occurring (height_with ace) (cards_of cards.now) occurrences }
+    requires { length (heights_of row.old)
+        + length (occurring (height_with ace) (cards_of cards.now) occurrences) ≤ 5 }
+    ensures { heights_of row.new
+        ≡ heights_of row.old ++ occurring (height_with ace) (cards_of cards.now) occurrences }
 {
     let heights = all_heights();
     for height in heights {

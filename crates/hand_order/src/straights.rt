@@ -90,7 +90,8 @@ pub fn is_straight(ranks: &RankRow, low: LowStraight) -> bool
 
 /// The ranks that decide within a class: the top of a straight alone, else all.
 pub fn deciding_of(ranks: RankRow, straight: bool) -> RankRow
-    ensures { heights_of result ≡ (if straight then straight_top (heights_of ranks) ∷ [] else heights_of ranks) }
+    ensures { heights_of result
+        ≡ (if straight then straight_top (heights_of ranks) ∷ [] else heights_of ranks) }
 {
     if !straight {
         return ranks;

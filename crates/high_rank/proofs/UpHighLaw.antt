@@ -1,5 +1,5 @@
 -- Numbers of as many up-cards compare as the up-cards do.
-use Rattle.std.proofs.Common.{◌≡◌, ℕ, ◌+◌, ◌-◌, ◌*◌, ◌^◌, ◌<◌, ◌≤◌, Bool, List, [], ◌∷◌, length, ◌↔◌, refl, sym, ◌∙◌, ap, subst, arith}
+use Rattle.std.proofs.Common.{◌≡◌, ℕ, ◌-◌, ◌<◌, List, [], ◌∷◌, length, ◌↔◌, refl, sym, ◌∙◌, ap, subst, arith}
 use Rattle.card_set.specs.declared.card.Card.{Card}
 use Rattle.card_set.specs.Classes.{place}
 use Rattle.card_set.specs.Ranks.{high_ace, ranks_occurring, ranks_of}

@@ -1,7 +1,4 @@
 -- The high order is lawful.
-use Rattle.std.proofs.Common.{◌≡◌, ℕ, ◌<◌, List, Option, Some, ◌↔◌, refl, sym, ◌∙◌, ap, subst}
-use Rattle.std.proofs.lemmas.Option.{same_Some}
-use Rattle.card_set.specs.declared.card.Card.{Card}
 use Rattle.hand_order.specs.declared.straights.LowStraight.TheVariants as straights
 use Rattle.hand_order.specs.Choices.{AreHeld}
 use Rattle.hand_order.specs.Order.{IsLawful}

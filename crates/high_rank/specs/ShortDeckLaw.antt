@@ -1,14 +1,11 @@
 -- The order of the short deck is lawful.
-use Rattle.std.proofs.Common.{◌≡◌, ℕ, ◌+◌, ◌-◌, ◌*◌, ◌<◌, ◌≤◌, Bool, true, false, List, [], ◌∷◌, ◌↔◌, refl, sym, ◌∙◌, ap, arith}
+use Rattle.std.proofs.Common.{◌≡◌, ℕ, ◌+◌, ◌-◌, ◌*◌, ◌<◌, Bool, true, false, List, [], ◌∷◌, ◌↔◌, refl, arith}
 use Rattle.card_set.specs.declared.card.Card.{Card}
-use Rattle.card_set.specs.Classes.{place}
-use Rattle.card_set.specs.Ranks.{high_ace, ranks_occurring, one_suit}
 use Rattle.hand_order.specs.declared.straights.LowStraight.TheVariants as straights
-use Rattle.hand_order.specs.declared.look.Look.{Look}
 use Rattle.hand_order.specs.Choices.{AreHeld}
 use Rattle.hand_order.specs.Digits.{class_above}
 use Rattle.hand_order.specs.Order.{IsLawful}
-use Rattle.hand_order.specs.Straights.{is_straight, deciding_ranks}
+use Rattle.hand_order.specs.Straights.{deciding_ranks}
 use Rattle.hand_order.proofs.HighLaw.{TableSays, ranked_by}
 use Rattle.hand_order.proofs.Ranked.{IsRanked, ranked_law}
 use Rattle.hand_order.proofs.Shapes.{by_shape}

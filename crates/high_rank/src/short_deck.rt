@@ -38,7 +38,8 @@ impl HandOrder for ShortDeckHigh {
 
 // The classes of the short deck, the best with the greatest number.
 fn short_class(look: &Look) -> u32
-    ensures { result ≡ 8 - place (short_table look.now.fours look.now.threes look.now.pairs look.now.straight look.now.flush) }
+    ensures { result ≡ 8 - place (short_table look.now.fours look.now.threes look.now.pairs
+        look.now.straight look.now.flush) }
 {
     if look.straight && look.flush {
         8

@@ -9,7 +9,8 @@ ghost use Rattle.high_rank.specs.UpHigh.{up_high_points, up_high_table};
 use card_set::CardRow;
 use hand_order::{Ace, Score, class_above, count_of_ranks, ranks_of};
 
-/// How good the up-cards are where high cards are good: four, three, two pair, pair, high card, then the ranks.
+/// How good the up-cards are where high cards are good:
+/// four, three, two pair, pair, high card, then the ranks.
 /// It compares up-cards with as many others.
 pub fn up_high(cards: &CardRow) -> Score
     requires { AreUpCards (cards_of cards.now) }

@@ -1,5 +1,5 @@
 -- What is seen of low cards makes their number.
-use Rattle.std.proofs.Common.{◌≡◌, ℕ, ◌-◌, ◌^◌, ◌<◌, ◌≤◌, List, length, ◌↔◌, sym, ◌∙◌, ap, subst, arith}
+use Rattle.std.proofs.Common.{◌≡◌, ℕ, ◌^◌, ◌<◌, ◌≤◌, List, length, ◌↔◌, sym, ◌∙◌, ap, subst, arith}
 use Rattle.card_set.specs.declared.card.Card.{Card}
 use Rattle.card_set.specs.Classes.{place}
 use Rattle.card_set.specs.Different.{AllDifferent}

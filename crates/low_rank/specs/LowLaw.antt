@@ -1,21 +1,21 @@
 -- The three low orders are lawful.
-use Rattle.std.proofs.Common.{◌≡◌, ℕ, ◌+◌, ◌-◌, ◌*◌, ◌^◌, ◌<◌, ◌≤◌, ◌&&◌, Bool, true, false, cond, List, [], ◌∷◌, length, Option, Some, None, IsSome, ◌⊎◌, inl, inr, ◌↔◌, refl, sym, ◌∙◌, ap, subst, arith}
+use Rattle.std.proofs.Common.{◌≡◌, ℕ, ◌-◌, ◌^◌, ◌<◌, ◌≤◌, Bool, true, false, cond, List, [], ◌∷◌, length, Some, None, IsSome, inl, inr, ◌↔◌, refl, sym, ◌∙◌, ap, subst, arith}
 use Rattle.std.specs.List.{list_all}
 use Rattle.std.specs.Prelude.{nat_le}
 use Rattle.std.proofs.lemmas.Bool.{and_parts}
-use Rattle.std.proofs.lemmas.Option.{same_Some, cond_some}
+use Rattle.std.proofs.lemmas.Option.{cond_some}
 use Rattle.card_set.specs.declared.card.Card.{Card}
-use Rattle.card_set.specs.Classes.{place, no_pair, one_pair, two_pair, three_of_a_kind, full_house, four_of_a_kind, IsBelowLow, IsLower}
+use Rattle.card_set.specs.Classes.{place, no_pair, one_pair, two_pair, three_of_a_kind, full_house, four_of_a_kind}
 use Rattle.card_set.specs.Different.{AllDifferent}
-use Rattle.card_set.specs.Ranks.{low_ace, ranks_occurring, ranks_of}
+use Rattle.card_set.specs.Ranks.{low_ace, ranks_of}
 use Rattle.card_set.specs.UpCards.{low_class, IsWeakerLow}
 use Rattle.card_set.proofs.Counted.{IsHeight-low_ace}
 use Rattle.hand_order.specs.declared.straights.LowStraight.TheVariants as straights
 use Rattle.hand_order.specs.Choices.{AreHeld}
 use Rattle.hand_order.specs.Order.{IsLawful}
-use Rattle.hand_order.specs.Straights.{IsWeakerHigh, high_points}
+use Rattle.hand_order.specs.Straights.{high_points}
 use Rattle.hand_order.proofs.HighLaw.{high_ordered, high_below}
-use Rattle.hand_order.proofs.Lawful.{lawful_by_numbers}
+use Rattle.hand_order.proofs.Lawful.{lawful_by_numbers, lawful_by_order}
 use Rattle.hand_order.proofs.RankDigits.{AreDigits-ranks_of}
 use Rattle.hand_order.proofs.Ranked.{IsRanked, PlainSays, ranked_plain, ranked_low_law}
 use Rattle.hand_order.proofs.Shapes.{by_counts}
@@ -79,7 +79,4 @@ eight_ordered a b low high held_a held_b is_low is_high =
     )
 
 pub lawful_eight_low : IsLawful (AreHeld 5) eight.IsHand eight.IsWeaker eight.points
-lawful_eight_low = record {
-  scored = λ cards are. points_there (eight.qualifies cards) (low_points cards);
-  ordered = eight_ordered;
-}
+lawful_eight_low = lawful_by_order (AreHeld 5) eight.IsHand eight.IsWeaker eight.points (λ cards are. points_there (eight.qualifies cards) (low_points cards)) eight_ordered

@@ -10,7 +10,8 @@ ghost use Rattle.low_rank.specs.Low.{low_points, low_table};
 use card_set::CardRow;
 use hand_order::{Ace, Score, class_above, count_of_ranks, ranks_of};
 
-/// How good the up-cards are where low cards are good, the ace low: no pair, pair, two pair, three, four, then the ranks.
+/// How good the up-cards are where low cards are good, the ace low:
+/// no pair, pair, two pair, three, four, then the ranks.
 /// It compares up-cards with as many others.
 pub fn up_low(cards: &CardRow) -> Score
     requires { AreUpCards (cards_of cards.now) }

@@ -4,6 +4,7 @@ use Rattle.play_event.specs.declared.event.Spelled.{Spelled}
 use Rattle.play_event.specs.declared.event.Spelled.TheVariants as spelled
 use Rattle.play_event.specs.declared.setup.Setup.{Setup}
 use Rattle.play_event.specs.Past.{Move}
+use Rattle.play_event.specs.Streets.{unit}
 use Rattle.play_event.specs.Chips.{chips_put, street_chips, all_in}
 use Rattle.play_event.specs.Price.{price}
 
@@ -16,13 +17,17 @@ abbrev pub put_before_street : Setup → List Move → ℕ → ℕ → ℕ
 put_before_street setup moves street seat = chips_put setup moves seat - street_chips setup moves street seat
 
 -- a raise by the unit goes to one unit, or to one above the price, and never above all chips
-abbrev pub unit_target : Setup → List Move → ℕ → ℕ → ℕ → ℕ
-unit_target setup moves street seat unit =
-    min (if nat_lt (price setup moves street) unit then unit else price setup moves street + unit) (all_in setup moves street seat)
+abbrev pub unit_target : Setup → List Move → ℕ → ℕ → ℕ
+unit_target setup moves street seat =
+    min (if nat_lt (price setup moves street) (unit setup street) then unit setup street else price setup moves street + unit setup street) (all_in setup moves street seat)
 
 -- the street's chips to which a bet or raise takes its seat
 abbrev pub raise_target : Setup → List Move → ℕ → ℕ → Spelled → ℕ
 raise_target setup moves street seat (spelled.To amount) = amount
 raise_target setup moves street seat (spelled.Added amount) = street_chips setup moves street seat + amount
 raise_target setup moves street seat (spelled.HandTotal amount) = amount - put_before_street setup moves street seat
-raise_target setup moves street seat spelled.Unit = unit_target setup moves street seat setup.min_bet
+raise_target setup moves street seat spelled.Unit = unit_target setup moves street seat
+
+-- a bring-in goes to its size, or as far as the chips reach
+abbrev pub bring_in_target : Setup → List Move → ℕ → ℕ → ℕ
+bring_in_target setup moves street seat = min setup.bring_in (all_in setup moves street seat)

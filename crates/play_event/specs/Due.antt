@@ -1,50 +1,17 @@
--- What is due: a deal, a move, or nothing on this street, and then the next street.
-use Rattle.std.specs.Prelude.{ℕ, zero, suc, ◌+◌, ◌-◌, Bool, true, false, ◌&&◌, ◌||◌, ◌==◌, nat_lt, nat_le, if◌then◌else◌, List, [], ◌∷◌, length, Option, Some, None, unwrap_or}
+-- What is due: a deal, a draw, a bring-in, a move, or nothing on this street, and then the next street.
+use Rattle.std.specs.Prelude.{ℕ, zero, suc, ◌+◌, ◌-◌, Bool, true, false, ◌&&◌, ◌||◌, ◌==◌, nat_lt, nat_le, not, if◌then◌else◌, List, [], ◌∷◌, Option, Some, None, unwrap_or}
 use Rattle.std.specs.Option.{option_map}
 use Rattle.std.specs.List.{list_any}
 use Rattle.play_event.specs.declared.reason.Due.{Due}
 use Rattle.play_event.specs.declared.reason.Due.TheVariants as dues
 use Rattle.play_event.specs.declared.setup.Setup.{Setup}
-use Rattle.play_event.specs.Games.{hole_cards_on, board_cards_on, street_count}
-use Rattle.play_event.specs.Past.{Past, Resolved, Dealt, Boarded, Moved, Discarded, Shown, Mucked, Move, moves_of, newest_street}
-use Rattle.play_event.specs.Seats.{is_live, is_able, all_seats, live_count, able_count}
+use Rattle.play_event.specs.Games.{street_count}
+use Rattle.play_event.specs.Streets.{is_stud}
+use Rattle.play_event.specs.Past.{Past, Move, Act, moves_of, moves_on, newest_street, is_raise, is_bring_in}
+use Rattle.play_event.specs.Seats.{is_able, all_seats, live_count, able_count}
 use Rattle.play_event.specs.Price.{price, owed}
-
--- how many hole cards of a street a seat was dealt
-abbrev pub hole_cards_dealt : Past → ℕ → ℕ → ℕ
-hole_cards_dealt [] street seat = 0
-hole_cards_dealt (Dealt on owner cards ∷ before) street seat =
-    (if (on == street) && (owner == seat) then length cards else 0) + hole_cards_dealt before street seat
-hole_cards_dealt (Boarded on cards ∷ before) street seat = hole_cards_dealt before street seat
-hole_cards_dealt (Moved move ∷ before) street seat = hole_cards_dealt before street seat
-hole_cards_dealt (Discarded on owner cards ∷ before) street seat = hole_cards_dealt before street seat
-hole_cards_dealt (Shown on owner cards ∷ before) street seat = hole_cards_dealt before street seat
-hole_cards_dealt (Mucked on owner ∷ before) street seat = hole_cards_dealt before street seat
-
--- how many cards of a street the board was dealt
-abbrev pub board_cards_dealt : Past → ℕ → ℕ
-board_cards_dealt [] street = 0
-board_cards_dealt (Boarded on cards ∷ before) street = (if on == street then length cards else 0) + board_cards_dealt before street
-board_cards_dealt (Dealt on owner cards ∷ before) street = board_cards_dealt before street
-board_cards_dealt (Moved move ∷ before) street = board_cards_dealt before street
-board_cards_dealt (Discarded on owner cards ∷ before) street = board_cards_dealt before street
-board_cards_dealt (Shown on owner cards ∷ before) street = board_cards_dealt before street
-board_cards_dealt (Mucked on owner ∷ before) street = board_cards_dealt before street
-
--- how many hole cards of a street a seat is owed: a folded seat is owed none
-abbrev pub hole_cards_owed : Setup → Past → ℕ → ℕ → ℕ
-hole_cards_owed setup past street seat =
-    if is_live (moves_of past) seat then hole_cards_on setup.code street - hole_cards_dealt past street seat else 0
-
--- how many cards of a street the board is owed
-abbrev pub board_cards_owed : Setup → Past → ℕ → ℕ
-board_cards_owed setup past street = board_cards_on setup.code street - board_cards_dealt past street
-
--- a deal is due: some live seat lacks hole cards of the street, or the board lacks some of its cards
-abbrev pub deal_due : Setup → Past → ℕ → Bool
-deal_due setup past street =
-    list_any (λ seat. nat_lt 0 (hole_cards_owed setup past street seat)) (all_seats setup)
-    || nat_lt 0 (board_cards_owed setup past street)
+use Rattle.play_event.specs.Dealing.{deal_due, draw_due}
+use Rattle.play_event.specs.Showing.{show_due}
 
 -- a seat has moved on this street since the price last rose there: at the event that raised it or after
 abbrev pub has_moved_since_rise : Setup → List Move → ℕ → ℕ → Bool
@@ -64,10 +31,21 @@ has_to_move setup moves street seat =
 abbrev pub move_due : Setup → List Move → ℕ → Bool
 move_due setup moves street = list_any (has_to_move setup moves street) (all_seats setup)
 
+-- a move brought chips in: it is a bring-in or a raise
+abbrev pub opens_betting : Act → Bool
+opens_betting act = is_raise act || is_bring_in act
+
+-- a bring-in is due: on the first street of stud, with two able seats or more, before any bring-in or raise
+abbrev pub bring_in_due : Setup → List Move → ℕ → Bool
+bring_in_due setup moves street =
+    is_stud setup.code && (street == 1) && nat_le 2 (able_count setup moves) && not (list_any (λ move. opens_betting move.act) (moves_on street moves))
+
 -- what is due on this street, if something is
 abbrev pub due_on : Setup → Past → ℕ → Option Due
 due_on setup past street =
     if deal_due setup past street then Some (dues.Deal street)
+    else if draw_due setup past street then Some (dues.Draw street)
+    else if bring_in_due setup (moves_of past) street then Some dues.BringIn
     else if move_due setup (moves_of past) street then Some dues.Move
     else None
 
@@ -81,12 +59,16 @@ abbrev pub first_due : (ℕ → Option Due) → ℕ → ℕ → Option (ℕ × D
 first_due on zero street = None
 first_due on (suc rest) street = found_or (option_map (λ due. (street, due)) (on street)) (first_due on rest (street + 1))
 
+-- after the last street each live seat shows or mucks, and then the hand is over
+abbrev pub showdown : Setup → Past → Due
+showdown setup past = if show_due setup past then dues.Show else dues.Over
+
 -- What is due, and on which street: on the street of the past, or on the first one after it that has
 -- something due. After the last street it is the showdown. With one live seat nothing is due.
 unfoldable pub turn : Setup → Past → ℕ × Due
 turn setup past =
     if nat_le (live_count setup (moves_of past)) 1 then (newest_street past, dues.Over)
-    else unwrap_or (first_due (due_on setup past) (street_count setup.code + 1 - newest_street past) (newest_street past)) (street_count setup.code, dues.Show)
+    else unwrap_or (first_due (due_on setup past) (street_count setup.code + 1 - newest_street past) (newest_street past)) (street_count setup.code, showdown setup past)
 
 -- a script may not end while this is due
 abbrev pub is_unfinished : Due → Bool
@@ -96,3 +78,22 @@ is_unfinished dues.BringIn = true
 is_unfinished dues.Move = true
 is_unfinished dues.Show = false
 is_unfinished dues.Over = false
+
+-- no betting is left on the last street
+abbrev pub is_after_betting : Due → Bool
+is_after_betting dues.Show = true
+is_after_betting dues.Over = true
+is_after_betting (dues.Deal street) = false
+is_after_betting (dues.Draw street) = false
+is_after_betting dues.BringIn = false
+is_after_betting dues.Move = false
+
+-- an able seat owes chips
+abbrev pub some_able_owes : Setup → List Move → ℕ → Bool
+some_able_owes setup moves street = list_any (λ seat. is_able setup moves seat && nat_lt 0 (owed setup moves street seat)) (all_seats setup)
+
+-- the hand is settled: two or more seats are live, and no betting can come any more
+abbrev pub is_settled : Setup → List Move → ℕ × Due → Bool
+is_settled setup moves now =
+    nat_le 2 (live_count setup moves)
+    && (is_after_betting now.1 || (nat_le (able_count setup moves) 1 && not (some_able_owes setup moves now.0)))

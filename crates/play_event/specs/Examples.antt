@@ -1,24 +1,22 @@
 -- Hands that are written out, so that the rules can be read beside what they give.
-use Rattle.std.specs.Prelude.{◌≡◌, ℕ, Bool, true, false, List, [], ◌∷◌, ◌++◌, map, reverse, Option, Some, None, IsTrue}
+use Rattle.std.specs.Prelude.{ℕ, false, List, [], ◌∷◌, ◌++◌, map, reverse, Option, Some, IsTrue}
 use Rattle.std.specs.Option.{option_map}
 use Rattle.std.proofs.Common.{refl}
 use Rattle.card_set.specs.declared.card.Slot.{Slot}
 use Rattle.card_set.specs.declared.card.Slot.TheVariants as slots
-use Rattle.card_set.specs.declared.card.Card.{Card}
 use Rattle.card_set.specs.declared.card.Rank.TheVariants as ranks
 use Rattle.card_set.specs.declared.card.Suit.TheVariants as suits
 use Rattle.play_event.specs.declared.code.Code.TheVariants as games
 use Rattle.play_event.specs.declared.event.Spelled.TheVariants as spelled
 use Rattle.play_event.specs.declared.reason.Illegal.{Illegal}
-use Rattle.play_event.specs.declared.reason.Illegal.TheVariants as reasons
 use Rattle.play_event.specs.declared.setup.Setup.{Setup}
-use Rattle.play_event.specs.Said.{Said, Hole, Fold, Call, Raise}
+use Rattle.play_event.specs.Said.{Said, Hole, Fold, Raise}
 use Rattle.play_event.specs.HistoryRules.{history_rules}
 use Rattle.play_event.specs.Rows.{row_of, fits_row}
 use Rattle.play_event.specs.Past.{moves_of}
 use Rattle.play_event.specs.Seats.{all_seats}
 use Rattle.play_event.specs.Finish.{finishing_stack}
-use Rattle.play_event.specs.Scripts.{why_at, first_illegal, ends_early, past_of}
+use Rattle.play_event.specs.Scripts.{why_at, first_illegal, past_of}
 
 -- a hand of no-limit hold'em without antes, with these stacks and blinds
 abbrev pub no_limit : (stacks antes blinds : List ℕ) → IsTrue (fits_row stacks) → IsTrue (fits_row antes) → IsTrue (fits_row blinds) → ℕ → Setup

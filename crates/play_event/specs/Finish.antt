@@ -5,7 +5,7 @@ use Rattle.play_event.specs.declared.setup.Setup.{Setup}
 use Rattle.play_event.specs.Past.{Move}
 use Rattle.play_event.specs.Chips.{chips_put, chips_left}
 use Rattle.play_event.specs.Seats.{is_live, all_seats}
-use Rattle.play_event.specs.Price.{greatest}
+use Rattle.play_event.specs.Price.{greatest, all_chips_put}
 
 -- the chips of a seat that can be returned to it: all that it put, and its ante only where antes are not dead
 abbrev pub counted_put : Setup → List Move → ℕ → ℕ
@@ -18,10 +18,6 @@ greatest_other_put setup moves seat = greatest (map (counted_put setup moves) (f
 -- what is returned to the live seat: its chips above those of every other seat
 abbrev pub returned : Setup → List Move → ℕ → ℕ
 returned setup moves seat = if is_live moves seat then counted_put setup moves seat - greatest_other_put setup moves seat else 0
-
--- all chips that were put
-abbrev pub all_chips_put : Setup → List Move → ℕ
-all_chips_put setup moves = sum (map (chips_put setup moves) (all_seats setup))
 
 -- the pot: all chips that were put, less what is returned
 abbrev pub pot : Setup → List Move → ℕ

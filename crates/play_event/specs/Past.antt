@@ -72,3 +72,10 @@ is_raise Raised = true
 is_raise Folded = false
 is_raise Called = false
 is_raise BroughtIn = false
+
+-- the move is a bring-in
+abbrev pub is_bring_in : Act → Bool
+is_bring_in BroughtIn = true
+is_bring_in Folded = false
+is_bring_in Called = false
+is_bring_in Raised = false

@@ -1,58 +1,72 @@
--- Where each dealt card lies, and which card may not lie there.
-use Rattle.std.specs.Prelude.{ℕ, Bool, true, false, ◌||◌, ◌==◌, nat_le, not, if◌then◌else◌, List, [], ◌∷◌, ◌++◌, map, Option, Some, None}
-use Rattle.std.specs.List.{list_any}
-use Rattle.card_set.specs.declared.card.Card.{Card}
+-- Where each dealt card lies: whose it is, what is known of it, and whether it is gone. No amount is read here.
+use Rattle.std.specs.Prelude.{ℕ, ◌+◌, Bool, true, false, ◌&&◌, ◌==◌, nat_lt, nat_le, if◌then◌else◌, List, [], ◌∷◌, ◌++◌, map, filter, length, count_by, Option, Some, None, is_none}
 use Rattle.card_set.specs.declared.card.Slot.{Slot}
-use Rattle.card_set.specs.declared.card.Slot.TheVariants as slots
-use Rattle.card_set.specs.Deck.{ranks_below, same_card}
 use Rattle.play_event.specs.declared.code.Code.{Code}
-use Rattle.play_event.specs.Games.{game_of}
-use Rattle.play_event.specs.Past.{Past, Dealt, Boarded, Moved, Discarded, Shown, Mucked}
+use Rattle.play_event.specs.Streets.{deck_of, draws_on, down_cards_on, up_cards_on}
 
--- a dealt card: its owner, where that is a seat and not the board, its street, and the card as far as it is known
+-- A dealt card: its owner, where that is a seat and not the board; its street; how many cards of that street its owner
+-- had before it, and how many cards were dealt before it in all; the card as far as it is known; whether it was dealt
+-- past the deck; how many cards were dealt when it was gone, if it is; and the street of the draw that discarded it, or 0.
 pub record Place : Type 0 where
   pub owner : Option ℕ
   pub street : ℕ
+  pub index : ℕ
+  pub number : ℕ
   pub slot : Slot
+  pub past_deck : Bool
+  pub gone : Option ℕ
+  pub discarded : ℕ
 
--- the places of cards that are dealt to one owner together
-abbrev pub places_dealt : Option ℕ → ℕ → List Slot → List Place
-places_dealt owner street cards = map (λ slot. record { owner = owner; street = street; slot = slot }) cards
+-- two owners are one: a seat, or the board
+abbrev pub same_owner : Option ℕ → Option ℕ → Bool
+same_owner (Some seat) (Some other) = seat == other
+same_owner None None = true
+same_owner (Some seat) None = false
+same_owner None (Some other) = false
 
--- the places of a past, in the order of dealing
-abbrev pub places_of : Past → List Place
-places_of [] = []
-places_of (Dealt street seat cards ∷ before) = places_of before ++ places_dealt (Some seat) street cards
-places_of (Boarded street cards ∷ before) = places_of before ++ places_dealt None street (map (λ card. slots.Known card) cards)
-places_of (Moved move ∷ before) = places_of before
-places_of (Discarded street seat cards ∷ before) = places_of before
-places_of (Shown street seat cards ∷ before) = places_of before
-places_of (Mucked street seat ∷ before) = places_of before
+-- the places of an owner's cards of one street
+abbrev pub is_in_group : Option ℕ → ℕ → Place → Bool
+is_in_group owner street place = same_owner place.owner owner && (place.street == street)
 
--- the deck of the game has this card: a deck of 36 begins with the sixes
-abbrev pub in_deck : Code → Card → Bool
-in_deck code card = if (game_of code).deck == 36 then nat_le 4 (ranks_below card.rank) else true
+-- the places of cards that are dealt to one owner together: indices and numbers count up
+abbrev pub places_dealt : Option ℕ → ℕ → Bool → (index number : ℕ) → List Slot → List Place
+places_dealt owner street late index number [] = []
+places_dealt owner street late index number (slot ∷ rest) =
+    record { owner = owner; street = street; index = index; number = number; slot = slot; past_deck = late; gone = None; discarded = 0 }
+    ∷ places_dealt owner street late (index + 1) (number + 1) rest
 
--- a slot bears this card
-abbrev pub bears : Card → Slot → Bool
-bears card (slots.Known other) = same_card card other
-bears card slots.Unknown = false
+-- A card that is dealt on this street now is dealt past the deck: it is dealt in a draw, and the cards dealt before the
+-- draw and those discarded so far in it are more than the deck has.
+abbrev pub is_past_deck : Code → List Place → ℕ → Bool
+is_past_deck code placed street =
+    draws_on code street
+    && nat_lt (deck_of code) (count_by (λ place. nat_lt place.street street) placed + count_by (λ place. place.discarded == street) placed)
 
--- a slot may not be placed behind these places: the deck lacks its card, or another place bears it
-abbrev pub is_taken : Code → List Place → Slot → Bool
-is_taken code placed (slots.Known card) = not (in_deck code card) || list_any (λ place. bears card place.slot) placed
-is_taken code placed slots.Unknown = false
+-- the places after a deal
+abbrev pub after_deal : Code → Option ℕ → ℕ → List Slot → List Place → List Place
+after_deal code owner street cards placed =
+    placed ++ places_dealt owner street (is_past_deck code placed street) (count_by (is_in_group owner street) placed) (length placed) cards
 
--- the card of a slot stands again among others
-abbrev pub stands_again : Slot → List Slot → Bool
-stands_again (slots.Known card) others = list_any (bears card) others
-stands_again slots.Unknown others = false
+-- a seat holds the card: it was dealt to it and is not gone
+abbrev pub is_held_by : ℕ → Place → Bool
+is_held_by seat place = same_owner place.owner (Some seat) && is_none place.gone
 
--- two of the slots bear one card
-abbrev pub has_repeat : List Slot → Bool
-has_repeat [] = false
-has_repeat (slot ∷ rest) = stands_again slot rest || has_repeat rest
+-- a card is gone now, after so many deals, where it was not before
+abbrev pub gone_now : ℕ → Place → Place
+gone_now count place = record place { gone = Some count }
 
--- one of the cards may not be placed behind these places, or two of them are one card
-abbrev pub any_taken : Code → List Place → List Slot → Bool
-any_taken code placed cards = list_any (is_taken code placed) cards || has_repeat cards
+-- a card that a seat folds
+abbrev pub folded_place : ℕ → ℕ → Place → Place
+folded_place seat count place = if is_held_by seat place then gone_now count place else place
+
+-- the places after a fold: the seat's cards are gone
+abbrev pub after_fold : ℕ → List Place → List Place
+after_fold seat placed = map (folded_place seat (length placed)) placed
+
+-- a card was dealt face up: the cards of a street are dealt face down first
+abbrev pub is_up : Code → Place → Bool
+is_up code place = nat_lt 0 (up_cards_on code place.street) && nat_le (down_cards_on code place.street) place.index
+
+-- the up-cards of a seat
+abbrev pub up_slots : Code → List Place → ℕ → List Slot
+up_slots code placed seat = map (λ place. place.slot) (filter (λ place. is_held_by seat place && is_up code place) placed)

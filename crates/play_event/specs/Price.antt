@@ -1,8 +1,9 @@
 -- What it costs to stay in, and by how much a raise has to go above it.
-use Rattle.std.specs.Prelude.{ℕ, ◌+◌, ◌-◌, ◌*◌, ◌&&◌, ◌==◌, nat_le, max, if◌then◌else◌, List, [], ◌∷◌, map}
+use Rattle.std.specs.Prelude.{ℕ, ◌+◌, ◌-◌, ◌*◌, ◌&&◌, ◌||◌, ◌==◌, nat_le, max, if◌then◌else◌, List, [], ◌∷◌, map, sum}
 use Rattle.play_event.specs.declared.setup.Setup.{Setup}
-use Rattle.play_event.specs.Past.{Move, is_raise, moves_on}
-use Rattle.play_event.specs.Chips.{street_chips}
+use Rattle.play_event.specs.Past.{Move, is_raise, is_bring_in}
+use Rattle.play_event.specs.Streets.{unit}
+use Rattle.play_event.specs.Chips.{chips_put, street_chips}
 use Rattle.play_event.specs.Seats.{all_seats}
 
 -- the greatest of some numbers, and 0 of none
@@ -38,3 +39,20 @@ doubled_raises setup (move ∷ before) street =
     if (move.street == street) && is_raise move.act
     then (2 * move.to - price setup before street) ∷ doubled_raises setup before street
     else doubled_raises setup before street
+
+-- the price before the street's first move: that of the blinds on the first street, and nothing on another
+abbrev pub starting_price : Setup → ℕ → ℕ
+starting_price setup street = price setup [] street
+
+-- The last full bet, in fixed limit: the target of the newest raise or bring-in of this street that went at least
+-- one unit above the full bet before it. Before any it is the starting price, where that is a unit at least, and else 0.
+abbrev pub full_bet : Setup → List Move → ℕ → ℕ
+full_bet setup [] street = if nat_le (unit setup street) (starting_price setup street) then starting_price setup street else 0
+full_bet setup (move ∷ before) street =
+    if (move.street == street) && (is_raise move.act || is_bring_in move.act) && nat_le (full_bet setup before street + unit setup street) move.to
+    then move.to
+    else full_bet setup before street
+
+-- all chips that were put
+abbrev pub all_chips_put : Setup → List Move → ℕ
+all_chips_put setup moves = sum (map (chips_put setup moves) (all_seats setup))

@@ -1,8 +1,6 @@
--- Why an event is illegal: the first of the reasons that holds.
-use Rattle.std.specs.Prelude.{ℕ, Bool, true, false, ◌+◌, ◌-◌, ◌&&◌, ◌||◌, ◌==◌, nat_lt, not, if◌then◌else◌, List, [], ◌∷◌, ◌++◌, length, Option, Some, None, unwrap_or}
-use Rattle.std.specs.Option.{option_map_or}
-use Rattle.card_set.specs.declared.card.Slot.{Slot}
-use Rattle.play_event.specs.declared.event.Spelled.{Spelled}
+-- Why an event is illegal: the first of the twelve reasons that holds.
+use Rattle.std.specs.Prelude.{ℕ, Bool, true, false, ◌&&◌, ◌||◌, nat_lt, not, if◌then◌else◌, List, [], ◌∷◌, Option, Some, None}
+use Rattle.play_event.specs.declared.code.Code.{Code}
 use Rattle.play_event.specs.declared.reason.Due.{Due}
 use Rattle.play_event.specs.declared.reason.Due.TheVariants as dues
 use Rattle.play_event.specs.declared.reason.Illegal.{Illegal}
@@ -12,21 +10,21 @@ use Rattle.play_event.specs.declared.setup.Rules.{Rules}
 use Rattle.play_event.specs.Games.{hole_cards_on, board_cards_on}
 use Rattle.play_event.specs.Said as said
 use Rattle.play_event.specs.Said.{Said}
-use Rattle.play_event.specs.Past.{Past, Move, moves_of}
-use Rattle.play_event.specs.Chips.{street_chips}
-use Rattle.play_event.specs.Price.{owed}
-use Rattle.play_event.specs.Due.{turn, hole_cards_owed, board_cards_owed}
+use Rattle.play_event.specs.Past.{Past, moves_of}
+use Rattle.play_event.specs.Due.{turn, is_settled}
+use Rattle.play_event.specs.Openers.{InTurn}
 use Rattle.play_event.specs.Mover.{mover}
-use Rattle.play_event.specs.Amounts.{call_target, raise_target}
-use Rattle.play_event.specs.Raising.{may_raise, is_legal_target, greatest_target}
-use Rattle.play_event.specs.Places.{places_of, any_taken}
+use Rattle.play_event.specs.Places.{Place}
+use Rattle.play_event.specs.Table.{places_of, up_cards}
+use Rattle.play_event.specs.CardReasons.{is_owed_nothing, draws_next, may_show, is_wrong_count, is_card_taken, is_not_held}
+use Rattle.play_event.specs.MoveReasons.{is_other_seat, is_undecided_move, has_nothing_to_call, is_raise_closed, is_raise_too_small, is_raise_too_big, amount_row}
 
 -- the first reason whose condition holds, if one does
 abbrev pub first_reason : List (Bool × Illegal) → Option Illegal
 first_reason [] = None
 first_reason (reason ∷ rest) = if reason.0 then Some reason.1 else first_reason rest
 
--- nothing may come any more
+-- no event is due any more
 abbrev pub is_over : Due → Bool
 is_over dues.Over = true
 is_over (dues.Deal street) = false
@@ -35,79 +33,81 @@ is_over dues.BringIn = false
 is_over dues.Move = false
 is_over dues.Show = false
 
+-- an event is the first show or muck of a live seat: it may come where one seat is live
+abbrev pub is_first_show : Setup → Past → Said → Bool
+is_first_show setup past (said.Show seat cards) = may_show setup past seat
+is_first_show setup past (said.Muck seat) = may_show setup past seat
+is_first_show setup past _ = false
+
+-- the hand is over, or over but for the show or muck of its one live seat
+abbrev pub is_hand_over : Setup → Past → Due → Said → Bool
+is_hand_over setup past due event = is_over due && not (is_first_show setup past event)
+
 -- which kinds of event may come where this is due
-abbrev pub may_come : Setup → Due → Said → Bool
-may_come setup (dues.Deal street) (said.Hole seat cards) = nat_lt 0 (hole_cards_on setup.code street)
-may_come setup (dues.Deal street) (said.Board cards) = nat_lt 0 (board_cards_on setup.code street)
-may_come setup dues.Move (said.Fold actor) = true
-may_come setup dues.Move (said.Call actor stated) = true
-may_come setup dues.Move (said.Raise actor amount) = true
-may_come setup _ _ = false
+abbrev pub is_due_kind : Code → Due → Said → Bool
+is_due_kind code (dues.Deal street) (said.Hole seat cards) = nat_lt 0 (hole_cards_on code street)
+is_due_kind code (dues.Deal street) (said.Board cards) = nat_lt 0 (board_cards_on code street)
+is_due_kind code (dues.Draw street) (said.Discard seat cards) = true
+is_due_kind code (dues.Draw street) (said.Hole seat cards) = true
+is_due_kind code dues.BringIn (said.BringIn named) = true
+is_due_kind code dues.BringIn (said.Raise named amount) = true
+is_due_kind code dues.Move (said.Fold named) = true
+is_due_kind code dues.Move (said.Call named stated) = true
+is_due_kind code dues.Move (said.Raise named amount) = true
+is_due_kind code dues.Show (said.Show seat cards) = true
+is_due_kind code dues.Show (said.Muck seat) = true
+is_due_kind code dues.Over (said.Show seat cards) = true
+is_due_kind code dues.Over (said.Muck seat) = true
+is_due_kind code _ _ = false
 
--- the seat that an event moves: the one that is named, else the one whose turn it is
-abbrev pub actor_of : Option ℕ → Option ℕ → ℕ
-actor_of named in_turn = unwrap_or named (unwrap_or in_turn 0)
+-- an event is a show
+abbrev pub is_show : Said → Bool
+is_show (said.Show seat cards) = true
+is_show _ = false
 
--- a seat is named whose turn it is not
-abbrev pub is_other_seat : Option ℕ → Option ℕ → Bool
-is_other_seat named in_turn = option_map_or (λ seat. not (option_map_or (λ other. seat == other) in_turn false)) named false
+-- an event of this kind may come: what is due asks for it, or it is a show and the hand is settled
+abbrev pub may_come : Setup → Past → ℕ × Due → Said → Bool
+may_come setup past now event = is_due_kind setup.code now.1 event || (is_show event && is_settled setup (moves_of past) now)
 
--- why cards may not be dealt to a seat
-abbrev pub why_not_dealt : Setup → Past → ℕ → ℕ → List Slot → List (Bool × Illegal)
-why_not_dealt setup past street seat cards =
-    (hole_cards_owed setup past street seat == 0, reasons.WrongSeat)
-    ∷ ((length cards == 0) || nat_lt (hole_cards_owed setup past street seat) (length cards), reasons.WrongCount)
-    ∷ (any_taken setup.code (places_of past) cards, reasons.CardTaken)
+-- the seat may not do it now: it is not its turn, it is owed no card, it does not draw next, or it has nothing to show
+abbrev pub is_wrong_seat : Setup → Past → ℕ → InTurn → Said → Bool
+is_wrong_seat setup past street in_turn (said.Hole seat cards) = is_owed_nothing setup past street seat
+is_wrong_seat setup past street in_turn (said.Board cards) = false
+is_wrong_seat setup past street in_turn (said.Fold named) = is_other_seat setup (moves_of past) named in_turn
+is_wrong_seat setup past street in_turn (said.Call named stated) = is_other_seat setup (moves_of past) named in_turn
+is_wrong_seat setup past street in_turn (said.Raise named amount) = is_other_seat setup (moves_of past) named in_turn
+is_wrong_seat setup past street in_turn (said.BringIn named) = is_other_seat setup (moves_of past) named in_turn
+is_wrong_seat setup past street in_turn (said.Discard seat cards) = not (draws_next setup past street seat)
+is_wrong_seat setup past street in_turn (said.Show seat cards) = not (may_show setup past seat)
+is_wrong_seat setup past street in_turn (said.Muck seat) = not (may_show setup past seat)
+
+-- the reasons of a kind that may come, on this street, where the places are these and so is the seat in turn
+abbrev pub reasons_by : Setup → Rules → Past → ℕ → InTurn → List Place → Said → List (Bool × Illegal)
+reasons_by setup rules past street in_turn placed event =
+    let moves = moves_of past in
+    (is_wrong_seat setup past street in_turn event, reasons.WrongSeat)
+    ∷ (is_wrong_count setup past placed street event, reasons.WrongCount)
+    ∷ (is_card_taken setup.code placed street event, reasons.CardTaken)
+    ∷ (is_not_held setup.code placed event, reasons.NotHeld)
+    ∷ (is_undecided_move in_turn event, reasons.UpCardUnknown)
+    ∷ (has_nothing_to_call setup rules moves street in_turn event, reasons.NothingToCall)
+    ∷ (is_raise_closed setup rules moves street in_turn event, reasons.RaiseClosed)
+    ∷ (is_raise_too_small setup rules moves street in_turn event, reasons.RaiseTooSmall)
+    ∷ (is_raise_too_big setup moves street in_turn event, reasons.RaiseTooBig)
+    ∷ amount_row setup moves street in_turn event
     ∷ []
 
--- why a seat may not fold
-abbrev pub why_not_fold : Setup → Rules → List Move → ℕ → ℕ → List (Bool × Illegal)
-why_not_fold setup rules moves street seat =
-    ((owed setup moves street seat == 0) && not rules.free_fold, reasons.NothingToCall) ∷ []
+-- the reasons of a kind that may come, on this street
+abbrev pub later_reasons : Setup → Rules → Past → ℕ → Said → List (Bool × Illegal)
+later_reasons setup rules past street event =
+    reasons_by setup rules past street (mover setup (up_cards setup.code past) (moves_of past) street) (places_of setup.code past) event
 
--- the chips that a call adds
-abbrev pub chips_to_call : Setup → List Move → ℕ → ℕ → ℕ
-chips_to_call setup moves street seat = call_target setup moves street seat - street_chips setup moves street seat
-
--- why a seat may not call so
-abbrev pub why_not_call : Setup → List Move → ℕ → ℕ → Option ℕ → List (Bool × Illegal)
-why_not_call setup moves street seat None = []
-why_not_call setup moves street seat (Some stated) =
-    (not (stated == chips_to_call setup moves street seat), reasons.AmountDiffers stated (chips_to_call setup moves street seat)) ∷ []
-
--- why a seat may not raise to a target
-abbrev pub why_not_raise : Setup → Rules → List Move → ℕ → ℕ → ℕ → List (Bool × Illegal)
-why_not_raise setup rules moves street seat target =
-    (not (may_raise setup rules moves street seat), reasons.RaiseClosed)
-    ∷ (not (is_legal_target setup rules moves street seat target) && nat_lt target (greatest_target setup rules moves street seat), reasons.RaiseTooSmall)
-    ∷ (nat_lt (greatest_target setup rules moves street seat) target, reasons.RaiseTooBig)
-    ∷ []
-
--- why a move may not be made by the seat that is named
-abbrev pub why_not_seat : Option ℕ → Option ℕ → List (Bool × Illegal)
-why_not_seat named in_turn = (is_other_seat named in_turn, reasons.WrongSeat) ∷ []
-
--- the reasons of an event of its kind, on this street
-abbrev pub reasons_of_kind : Setup → Rules → Past → ℕ → Said → List (Bool × Illegal)
-reasons_of_kind setup rules past street (said.Hole seat cards) = why_not_dealt setup past street seat cards
-reasons_of_kind setup rules past street (said.Fold named) =
-    let in_turn = mover setup (moves_of past) street in
-    why_not_seat named in_turn ++ why_not_fold setup rules (moves_of past) street (actor_of named in_turn)
-reasons_of_kind setup rules past street (said.Call named stated) =
-    let in_turn = mover setup (moves_of past) street in
-    why_not_seat named in_turn ++ why_not_call setup (moves_of past) street (actor_of named in_turn) stated
-reasons_of_kind setup rules past street (said.Raise named amount) =
-    let in_turn = mover setup (moves_of past) street in
-    let seat = actor_of named in_turn in
-    why_not_seat named in_turn ++ why_not_raise setup rules (moves_of past) street seat (raise_target setup (moves_of past) street seat amount)
-reasons_of_kind setup rules past street _ = []
-
--- The reasons in their order: the hand is over, an event of this kind may not come, and then those of its kind.
+-- The twelve reasons in their order: the hand is over, an event of this kind may not come, and then the others.
 abbrev pub all_reasons : Setup → Rules → Past → ℕ × Due → Said → List (Bool × Illegal)
 all_reasons setup rules past now event =
-    (is_over now.1, reasons.HandOver)
-    ∷ (not (may_come setup now.1 event), reasons.WrongKind)
-    ∷ reasons_of_kind setup rules past now.0 event
+    (is_hand_over setup past now.1 event, reasons.HandOver)
+    ∷ (not (may_come setup past now event), reasons.WrongKind)
+    ∷ later_reasons setup rules past now.0 event
 
 -- why an event is illegal after this past, if it is
 unfoldable pub why : Setup → Rules → Past → Said → Option Illegal

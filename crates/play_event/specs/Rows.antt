@@ -1,7 +1,7 @@
 -- Rows of amounts made of a list, for hands that are written out.
-use Rattle.std.specs.Prelude.{◌≡◌, ℕ, zero, suc, ◌+◌, ◌-◌, ◌≤◌, Bool, true, ◌&&◌, nat_le, List, [], ◌∷◌, ◌++◌, length, replicate, slice_index, IsTrue}
+use Rattle.std.specs.Prelude.{◌≡◌, ℕ, zero, suc, ◌-◌, ◌≤◌, Bool, ◌&&◌, nat_le, List, [], ◌∷◌, ◌++◌, length, replicate, slice_index, IsTrue}
 use Rattle.std.specs.List.{list_all}
-use Rattle.std.proofs.Common.{arith, refl, sym, ◌∙◌, length-append}
+use Rattle.std.proofs.Common.{arith, refl, length-append}
 use Rattle.std.proofs.lemmas.List.{length-replicate}
 use Rattle.std.proofs.lemmas.Bool.{and_parts, leb-true}
 use Rattle.chip_ledger.specs.declared.rows.SeatRow.{SeatRow}

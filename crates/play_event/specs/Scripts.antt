@@ -1,5 +1,5 @@
 -- A script as it took place: the past after each of its events, its first illegal event, and whether it ends early.
-use Rattle.std.specs.Prelude.{◌≡◌, ℕ, ◌+◌, ◌<◌, Bool, List, [], ◌∷◌, length, take, reverse, find, slice_get, Option, Some, None, option_and_then, is_some, min}
+use Rattle.std.specs.Prelude.{◌≡◌, ℕ, ◌<◌, Bool, List, [], ◌∷◌, length, take, reverse, find, slice_get, Option, Some, None, option_and_then, is_some}
 use Rattle.std.specs.List.{range_with_len}
 use Rattle.play_event.specs.declared.reason.Illegal.{Illegal}
 use Rattle.play_event.specs.declared.setup.Setup.{Setup}
@@ -8,40 +8,48 @@ use Rattle.play_event.specs.Said as said
 use Rattle.play_event.specs.Said.{Said}
 use Rattle.play_event.specs.Past as past
 use Rattle.play_event.specs.Past.{Past, Resolved, Move, Act, moves_of}
-use Rattle.play_event.specs.Chips.{street_chips, all_in}
+use Rattle.play_event.specs.Chips.{street_chips}
 use Rattle.play_event.specs.Due.{turn, is_unfinished}
 use Rattle.play_event.specs.Mover.{mover}
-use Rattle.play_event.specs.Amounts.{call_target, raise_target}
-use Rattle.play_event.specs.Reasons.{why, actor_of}
+use Rattle.play_event.specs.Amounts.{call_target, raise_target, bring_in_target}
+use Rattle.play_event.specs.Openers.{InTurn}
+use Rattle.play_event.specs.Table.{up_cards}
+use Rattle.play_event.specs.MoveReasons.{actor_of}
+use Rattle.play_event.specs.Reasons.{why}
 
 -- a move of a seat to a target
 abbrev pub move_to : Setup → List Move → ℕ → ℕ → Act → ℕ → Resolved
 move_to setup moves street seat act target =
     past.Moved (record { street = street; seat = seat; act = act; from = street_chips setup moves street seat; to = target })
 
--- an event as it takes place on a street, after these moves
-abbrev pub resolved_on : Setup → List Move → ℕ → Said → Resolved
-resolved_on setup moves street (said.Hole seat cards) = past.Dealt street seat cards
-resolved_on setup moves street (said.Board cards) = past.Boarded street cards
-resolved_on setup moves street (said.Fold named) =
-    let seat = actor_of named (mover setup moves street) in
+-- an event as it takes place on a street, after these moves, where the seat in turn is this
+abbrev pub resolved_by : Setup → List Move → ℕ → InTurn → Said → Resolved
+resolved_by setup moves street in_turn (said.Hole seat cards) = past.Dealt street seat cards
+resolved_by setup moves street in_turn (said.Board cards) = past.Boarded street cards
+resolved_by setup moves street in_turn (said.Fold named) =
+    let seat = actor_of named in_turn in
     move_to setup moves street seat past.Folded (street_chips setup moves street seat)
-resolved_on setup moves street (said.Call named stated) =
-    let seat = actor_of named (mover setup moves street) in
+resolved_by setup moves street in_turn (said.Call named stated) =
+    let seat = actor_of named in_turn in
     move_to setup moves street seat past.Called (call_target setup moves street seat)
-resolved_on setup moves street (said.Raise named amount) =
-    let seat = actor_of named (mover setup moves street) in
+resolved_by setup moves street in_turn (said.Raise named amount) =
+    let seat = actor_of named in_turn in
     move_to setup moves street seat past.Raised (raise_target setup moves street seat amount)
-resolved_on setup moves street (said.BringIn named) =
-    let seat = actor_of named (mover setup moves street) in
-    move_to setup moves street seat past.BroughtIn (min setup.bring_in (all_in setup moves street seat))
-resolved_on setup moves street (said.Discard seat cards) = past.Discarded street seat cards
-resolved_on setup moves street (said.Show seat cards) = past.Shown street seat cards
-resolved_on setup moves street (said.Muck seat) = past.Mucked street seat
+resolved_by setup moves street in_turn (said.BringIn named) =
+    let seat = actor_of named in_turn in
+    move_to setup moves street seat past.BroughtIn (bring_in_target setup moves street seat)
+resolved_by setup moves street in_turn (said.Discard seat cards) = past.Discarded street seat cards
+resolved_by setup moves street in_turn (said.Show seat cards) = past.Shown street seat cards
+resolved_by setup moves street in_turn (said.Muck seat) = past.Mucked street seat
+
+-- an event as it takes place on a street after a past
+abbrev pub resolved_on : Setup → Past → ℕ → Said → Resolved
+resolved_on setup before street event =
+    resolved_by setup (moves_of before) street (mover setup (up_cards setup.code before) (moves_of before) street) event
 
 -- the past with one event more
 unfoldable pub with_event : Setup → Said → Past → Past
-with_event setup event before = resolved_on setup (moves_of before) (turn setup before).0 event ∷ before
+with_event setup event before = resolved_on setup before (turn setup before).0 event ∷ before
 
 -- the past of events, the newest first
 abbrev pub past_of : Setup → List Said → Past

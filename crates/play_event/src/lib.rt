@@ -1,16 +1,24 @@
 //! What is said of a hand: its setup, its rules, and the script of its events; and the rules of play.
 #![tactic(auto)]
 
+mod card_rows;
 mod code;
 mod event;
 mod examples;
+mod played;
 mod reason;
 mod script;
 mod setup;
+#[cfg(test)]
+mod tests;
+mod worked_hands;
 
+pub use card_rows::{HandRow, UpRow};
 pub use code::Code;
 pub use event::{Event, Kind, Spelled};
 pub use examples::hands_won_by_folds;
+pub use played::{Act, Move, Place};
 pub use reason::{Due, Illegal};
 pub use script::Script;
 pub use setup::{Reopen, Rules, Setup};
+pub use worked_hands::{worked_cards, worked_ends, worked_raises};

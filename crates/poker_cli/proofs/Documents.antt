@@ -6,11 +6,11 @@ use Rattle.std.proofs.lemmas.Str.{IsUtf8-from_is_utf8, is_utf8-from_IsUtf8}
 use Rattle.toml.specs.Data.{Members}
 use Rattle.toml.specs.Parse.{parse_document}
 use Rattle.std.specs.Option.{option_map}
-use Rattle.poker_cli.specs.declared.hand.Hand.{Hand}
+use Rattle.first_form.specs.declared.hand.Hand.{Hand}
 use Rattle.poker_cli.specs.Answer.{document_of}
-use Rattle.poker_cli.specs.FirstForm.{first_form}
-use Rattle.poker_cli.specs.Hand.{IsFirstHand, told}
-use Rattle.poker_cli.proofs.FirstHands.{first_hand}
+use Rattle.first_form.specs.FirstForm.{first_form}
+use Rattle.first_form.specs.Hand.{IsFirstHand, told}
+use Rattle.first_form.proofs.FirstHands.{first_hand}
 
 -- text that reads as a document is that document
 pub document_is : (bytes : List ℕ) (document : Members) → IsUtf8 bytes → parse_document bytes ≡ Some document → document_of bytes ≡ Some document

@@ -1,14 +1,6 @@
-pub mod AmountLaws
 pub mod Answering
-pub mod CardLaws
 pub mod Documents
-pub mod FilledRows
-pub mod FirstEvents
-pub mod FirstHands
 pub mod FirstStreet
 pub mod Playing
-pub mod ScriptLaws
-pub mod SeatLaws
 pub mod SeatNumbers
 pub mod Turn
-pub mod WordLaws

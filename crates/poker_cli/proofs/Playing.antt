@@ -13,7 +13,7 @@ use Rattle.play_event.specs.Said.{Said, said_of}
 use Rattle.play_event.specs.Past as past
 use Rattle.play_event.specs.Past.{moves_of}
 use Rattle.play_event.specs.Seats.{live_count, all_seats}
-use Rattle.play_event.specs.Due.{turn, due_on, is_unfinished, deal_due, move_due}
+use Rattle.play_event.specs.Due.{turn, due_on, is_unfinished}
 use Rattle.play_event.specs.Finish.{finishing_stack}
 use Rattle.play_event.specs.HistoryRules.{history_rules}
 use Rattle.play_event.specs.Reasons.{why}
@@ -22,8 +22,8 @@ use Rattle.poker_cli.specs.declared.past.Past.{Past}
 use Rattle.poker_cli.specs.declared.past.Step.{Step}
 use Rattle.poker_cli.specs.declared.play.Stage.{Stage}
 use Rattle.poker_cli.specs.declared.play.Stage.TheVariants as stages
-use Rattle.poker_cli.specs.declared.hand.Hand.{Hand}
-use Rattle.poker_cli.specs.Hand.{Numbered, Told, numbered, told}
+use Rattle.first_form.specs.declared.hand.Hand.{Hand}
+use Rattle.first_form.specs.Hand.{Numbered, Told, numbered, told, IsFirstEvent}
 use Rattle.poker_cli.specs.Outcome.{ended_at}
 use Rattle.poker_cli.specs.Stage.{IsStage}
 use Rattle.poker_cli.specs.Steps.{past_seen, resolved_step}
@@ -58,12 +58,12 @@ ends_here hand count all is =
     ∙ ap (λ n. verdict_by hand.setup hand.script (first_stop (stop_after hand.setup hand.script) (range_with_len (count + 1) n))) nothing
 
 -- at a stage something is due, or one seat is live
-pub not_beyond : (setup : Setup) (played : Past) (stage : Stage) → IsStage setup (past_seen played) stage → is_beyond setup (past_seen played) ≡ false
-not_beyond setup played stages.Over is = ap (λ b. not b && is_none (due_on setup (past_seen played) 1)) is
-not_beyond setup played stages.Dealing is =
+pub not_beyond : (setup : Setup) (played : Past) (stage : Stage) → setup.code ≡ games.NT → IsStage setup (past_seen played) stage → is_beyond setup (past_seen played) ≡ false
+not_beyond setup played stages.Over game is = ap (λ b. not b && is_none (due_on setup (past_seen played) 1)) is
+not_beyond setup played stages.Dealing game is =
     ap (λ b. not b && is_none (due_on setup (past_seen played) 1)) is.0 ∙ ap is_none (due_deal setup (past_seen played) is.1)
-not_beyond setup played stages.Betting is =
-    ap (λ b. not b && is_none (due_on setup (past_seen played) 1)) is.0 ∙ ap is_none (due_move setup (past_seen played) is.1 is.2)
+not_beyond setup played stages.Betting game is =
+    ap (λ b. not b && is_none (due_on setup (past_seen played) 1)) is.0 ∙ ap is_none (due_move setup (past_seen played) game is.1 is.2)
 
 -- the first street is over, and seats are left
 pub stop_beyond : (setup : Setup) (script : List Numbered) (count : ℕ) (before : past.Past) → before ≡ past_after setup (events_of script) count → is_beyond setup before ≡ true → stop_after setup script count ≡ Some Beyond
@@ -111,10 +111,10 @@ past_more setup events count event is =
     ∙ ap (λ e. past_of setup (e ∷ reverse (take count events))) (get_or_from_slice_get events count event event is)
 
 -- a step on the first street
-step_more : (setup : Setup) (events : List Said) (count : ℕ) (before : past.Past) (event : Said) (after : past.Resolved) → before ≡ past_after setup events count → slice_get events count ≡ Some event → (turn setup before).0 ≡ 1 → after ≡ resolved_on setup (moves_of before) 1 event → after ∷ before ≡ past_after setup events (count + 1)
+step_more : (setup : Setup) (events : List Said) (count : ℕ) (before : past.Past) (event : Said) (after : past.Resolved) → before ≡ past_after setup events count → slice_get events count ≡ Some event → (turn setup before).0 ≡ 1 → after ≡ resolved_on setup before 1 event → after ∷ before ≡ past_after setup events (count + 1)
 unfolding with_event
 step_more setup events count before event after seen is first resolved =
-    ap (λ e. e ∷ before) (resolved ∙ ap (λ n. resolved_on setup (moves_of before) n event) (sym first))
+    ap (λ e. e ∷ before) (resolved ∙ ap (λ n. resolved_on setup before n event) (sym first))
     ∙ ap (with_event setup event) seen
     ∙ sym (past_more setup events count event is)
 
@@ -128,7 +128,7 @@ unfinished_at stages.Betting = true
 turn_at : (setup : Setup) (played : Past) (stage : Stage) → setup.code ≡ games.NT → IsStage setup (past_seen played) stage → is_unfinished (turn setup (past_seen played)).1 ≡ unfinished_at stage
 turn_at setup played stages.Over game is = ap (λ t. is_unfinished t.1) (turn_over setup (past_seen played) is)
 turn_at setup played stages.Dealing game is = ap (λ t. is_unfinished t.1) (turn_on_first setup (past_seen played) (dues.Deal 1) game (newest_is_first played) is.0 (due_deal setup (past_seen played) is.1))
-turn_at setup played stages.Betting game is = ap (λ t. is_unfinished t.1) (turn_on_first setup (past_seen played) dues.Move game (newest_is_first played) is.0 (due_move setup (past_seen played) is.1 is.2))
+turn_at setup played stages.Betting game is = ap (λ t. is_unfinished t.1) (turn_on_first setup (past_seen played) dues.Move game (newest_is_first played) is.0 (due_move setup (past_seen played) game is.1 is.2))
 
 ended_by : (setup : Setup) (before : past.Past) (stage : Stage) → (if unfinished_at stage then EndsEarly else Complete (map (finishing_stack setup (moves_of before)) (all_seats setup))) ≡ ended_at setup before stage
 ended_by setup before stages.Over = refl
@@ -163,29 +163,29 @@ pub verdict_ended : (hand : Hand) (count : ℕ) (played : Past) (stage : Stage) 
 verdict_ended hand count played stage said game seen all is ended =
     ended
     ∙ sym (ending_is hand.setup hand.script count played stage game seen all is)
-    ∙ sym (ends_here (told hand) count (all ∙ sym (length-map hand.script numbered)) (stop_last hand.setup hand.script count (past_seen played) seen (not_beyond hand.setup played stage is) all))
+    ∙ sym (ends_here (told hand) count (all ∙ sym (length-map hand.script numbered)) (stop_last hand.setup hand.script count (past_seen played) seen (not_beyond hand.setup played stage game is) all))
 
 -- the verdict where the next event is illegal
-pub verdict_refused : (hand : Hand) (count : ℕ) (played : Past) (stage : Stage) (event : Event) (found : Option Illegal) (reason : Illegal) → past_seen played ≡ past_after hand.setup (events_of (map numbered hand.script)) count → IsStage hand.setup (past_seen played) stage → slice_get hand.script count ≡ Some event → found ≡ why hand.setup history_rules (past_seen played) (said_of event) → found ≡ Some reason → Stopped (Refused count event.at reason) ≡ verdict_from (told hand) count
-verdict_refused hand count played stage event found reason seen is at against some =
-    sym (stops_here (told hand) count (Refused count event.at reason) (omega (arith, slice_get_within hand.script count event at, length-map hand.script numbered)) (stop_next hand.setup hand.script count (past_seen played) event found seen (not_beyond hand.setup played stage is) at against ∙ ap (option_map (Refused count event.at)) some))
+pub verdict_refused : (hand : Hand) (count : ℕ) (played : Past) (stage : Stage) (event : Event) (found : Option Illegal) (reason : Illegal) → hand.setup.code ≡ games.NT → past_seen played ≡ past_after hand.setup (events_of (map numbered hand.script)) count → IsStage hand.setup (past_seen played) stage → slice_get hand.script count ≡ Some event → found ≡ why hand.setup history_rules (past_seen played) (said_of event) → found ≡ Some reason → Stopped (Refused count event.at reason) ≡ verdict_from (told hand) count
+verdict_refused hand count played stage event found reason game seen is at against some =
+    sym (stops_here (told hand) count (Refused count event.at reason) (omega (arith, slice_get_within hand.script count event at, length-map hand.script numbered)) (stop_next hand.setup hand.script count (past_seen played) event found seen (not_beyond hand.setup played stage game is) at against ∙ ap (option_map (Refused count event.at)) some))
 
 -- the verdict where the next event is legal is that after it
-pub verdict_later : (hand : Hand) (count : ℕ) (played : Past) (stage : Stage) (event : Event) (found : Option Illegal) (said : Verdict) → past_seen played ≡ past_after hand.setup (events_of (map numbered hand.script)) count → IsStage hand.setup (past_seen played) stage → slice_get hand.script count ≡ Some event → found ≡ why hand.setup history_rules (past_seen played) (said_of event) → found ≡ None → said ≡ verdict_from (told hand) (count + 1) → said ≡ verdict_from (told hand) count
-verdict_later hand count played stage event found said seen is at against none later =
+pub verdict_later : (hand : Hand) (count : ℕ) (played : Past) (stage : Stage) (event : Event) (found : Option Illegal) (said : Verdict) → hand.setup.code ≡ games.NT → past_seen played ≡ past_after hand.setup (events_of (map numbered hand.script)) count → IsStage hand.setup (past_seen played) stage → slice_get hand.script count ≡ Some event → found ≡ why hand.setup history_rules (past_seen played) (said_of event) → found ≡ None → said ≡ verdict_from (told hand) (count + 1) → said ≡ verdict_from (told hand) count
+verdict_later hand count played stage event found said game seen is at against none later =
     later
-    ∙ sym (goes_on (told hand) count (omega (arith, slice_get_within hand.script count event at, length-map hand.script numbered)) (stop_next hand.setup hand.script count (past_seen played) event found seen (not_beyond hand.setup played stage is) at against ∙ ap (option_map (Refused count event.at)) none))
+    ∙ sym (goes_on (told hand) count (omega (arith, slice_get_within hand.script count event at, length-map hand.script numbered)) (stop_next hand.setup hand.script count (past_seen played) event found seen (not_beyond hand.setup played stage game is) at against ∙ ap (option_map (Refused count event.at)) none))
 
 some_is_none : {A : Type 0} {x : A} → Some x ≡ None → ⊥
 some_is_none is = cc
 
 -- a legal event takes place on the first street
-on_first : (setup : Setup) (played : Past) (stage : Stage) (event : Said) → setup.code ≡ games.NT → IsStage setup (past_seen played) stage → why setup history_rules (past_seen played) event ≡ None → (turn setup (past_seen played)).0 ≡ 1
-on_first setup played stages.Over event game is legal = absurd (some_is_none (sym (why_over setup (past_seen played) event is) ∙ legal))
-on_first setup played stages.Dealing event game is legal = ap (λ t. t.0) (turn_on_first setup (past_seen played) (dues.Deal 1) game (newest_is_first played) is.0 (due_deal setup (past_seen played) is.1))
-on_first setup played stages.Betting event game is legal = ap (λ t. t.0) (turn_on_first setup (past_seen played) dues.Move game (newest_is_first played) is.0 (due_move setup (past_seen played) is.1 is.2))
+on_first : (setup : Setup) (played : Past) (stage : Stage) (event : Said) → setup.code ≡ games.NT → IsFirstEvent setup.stacks.seats event → IsStage setup (past_seen played) stage → why setup history_rules (past_seen played) event ≡ None → (turn setup (past_seen played)).0 ≡ 1
+on_first setup played stages.Over event game first is legal = absurd (some_is_none (sym (why_over setup (past_seen played) event first is) ∙ legal))
+on_first setup played stages.Dealing event game first is legal = ap (λ t. t.0) (turn_on_first setup (past_seen played) (dues.Deal 1) game (newest_is_first played) is.0 (due_deal setup (past_seen played) is.1))
+on_first setup played stages.Betting event game first is legal = ap (λ t. t.0) (turn_on_first setup (past_seen played) dues.Move game (newest_is_first played) is.0 (due_move setup (past_seen played) game is.1 is.2))
 
 -- the past after a step is that after one event more
-pub played_more : (hand : Hand) (count : ℕ) (played : Past) (stage : Stage) (event : Event) (found : Option Illegal) (after : past.Resolved) → hand.setup.code ≡ games.NT → past_seen played ≡ past_after hand.setup (events_of (map numbered hand.script)) count → IsStage hand.setup (past_seen played) stage → slice_get hand.script count ≡ Some event → found ≡ why hand.setup history_rules (past_seen played) (said_of event) → found ≡ None → after ≡ resolved_on hand.setup (moves_of (past_seen played)) 1 (said_of event) → after ∷ past_seen played ≡ past_after hand.setup (events_of (map numbered hand.script)) (count + 1)
-played_more hand count played stage event found after game seen is at against none resolved =
-    step_more hand.setup (events_of (map numbered hand.script)) count (past_seen played) (said_of event) after seen (said_at hand.script count event at) (on_first hand.setup played stage (said_of event) game is (sym against ∙ none)) resolved
+pub played_more : (hand : Hand) (count : ℕ) (played : Past) (stage : Stage) (event : Event) (found : Option Illegal) (after : past.Resolved) → hand.setup.code ≡ games.NT → IsFirstEvent hand.setup.stacks.seats (said_of event) → past_seen played ≡ past_after hand.setup (events_of (map numbered hand.script)) count → IsStage hand.setup (past_seen played) stage → slice_get hand.script count ≡ Some event → found ≡ why hand.setup history_rules (past_seen played) (said_of event) → found ≡ None → after ≡ resolved_on hand.setup (past_seen played) 1 (said_of event) → after ∷ past_seen played ≡ past_after hand.setup (events_of (map numbered hand.script)) (count + 1)
+played_more hand count played stage event found after game first seen is at against none resolved =
+    step_more hand.setup (events_of (map numbered hand.script)) count (past_seen played) (said_of event) after seen (said_at hand.script count event at) (on_first hand.setup played stage (said_of event) game first is (sym against ∙ none)) resolved

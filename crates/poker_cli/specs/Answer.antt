@@ -7,8 +7,8 @@ use Rattle.toml.specs.Data.{Members}
 use Rattle.toml.specs.Parse.{parse_document}
 use Rattle.play_event.specs.declared.reason.Illegal.{Illegal}
 use Rattle.play_event.specs.declared.reason.Illegal.TheVariants as reasons
-use Rattle.poker_cli.specs.FirstForm.{first_form}
-use Rattle.poker_cli.specs.Hand.{Told}
+use Rattle.first_form.specs.FirstForm.{first_form}
+use Rattle.first_form.specs.Hand.{Told}
 use Rattle.poker_cli.specs.Verdict.{Verdict, Stopped, Beyond, Refused, EndsEarly, Complete, verdict}
 use Rattle.poker_cli.specs.declared.status.Status.{Status}
 use Rattle.poker_cli.specs.declared.status.Status.TheVariants as statuses

@@ -1,12 +1,10 @@
-pub mod Action
 pub mod Answer
-pub mod FirstForm
-pub mod Hand
+pub mod FirstReasons
 pub mod Outcome
+pub mod Run
 pub mod Stage
 pub mod Status
-pub mod Told
 pub mod Steps
-pub mod Run
+pub mod Told
 pub mod Verdict
 pub mod Words

@@ -3,7 +3,8 @@ use Rattle.std.specs.Prelude.{◌≡◌, true, false, nat_le, Option, Some, None
 use Rattle.play_event.specs.declared.setup.Setup.{Setup}
 use Rattle.play_event.specs.Past.{Past, moves_of}
 use Rattle.play_event.specs.Seats.{live_count}
-use Rattle.play_event.specs.Due.{deal_due, move_due}
+use Rattle.play_event.specs.Dealing.{deal_due}
+use Rattle.play_event.specs.Due.{move_due}
 use Rattle.poker_cli.specs.declared.play.Stage.{Stage}
 use Rattle.poker_cli.specs.declared.play.Stage.TheVariants as stages
 

@@ -11,7 +11,7 @@ use Rattle.play_event.specs.Due.{due_on}
 use Rattle.play_event.specs.HistoryRules.{history_rules}
 use Rattle.play_event.specs.Scripts.{past_after, why_at, ends_early}
 use Rattle.play_event.specs.Finish.{finishing_stack}
-use Rattle.poker_cli.specs.Hand.{Numbered, Told}
+use Rattle.first_form.specs.Hand.{Numbered, Told}
 
 -- why a hand stops: its first street is over with two or more live seats, or an event is illegal: its index, the number of its action, and the reason
 pub data Stop : Type 0 where

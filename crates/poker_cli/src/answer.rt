@@ -2,17 +2,17 @@
 ghost use Rattle.std.specs.Prelude.{◌≡◌, codes, IfOk, IfSome, string_bytes};
 ghost use Rattle.std.specs.Option.{option_map};
 ghost use Rattle.poker_cli.specs.Answer as definition;
-ghost use Rattle.poker_cli.specs.Hand.{IsFirstHand, told};
+ghost use Rattle.first_form.specs.Hand.{IsFirstHand, told};
 ghost use Rattle.toml.specs.View.{table_view};
-ghost use Rattle.poker_cli.specs.FirstForm.{first_form};
+ghost use Rattle.first_form.specs.FirstForm.{first_form};
 ghost use Rattle.poker_cli.specs.Told.{answer_told};
 ghost use Rattle.poker_cli.specs.Outcome.{verdict_of};
 
-use crate::hand::Hand;
 use crate::play::{self, Outcome};
 use crate::status::Status;
-use crate::{first_form, text};
+use crate::text;
 use card_set::Memory;
+use first_form::{Hand, read_hand};
 use std::alloc::Global;
 use toml::Table;
 
@@ -86,7 +86,7 @@ fn answer_to_hand(alloc: Global, hand: Option<Hand>) -> Result<Answer, Memory>
 fn answer_to_table(alloc: Global, table: &Table) -> Result<Answer, Memory>
     ensures { IfOk result (λ answer. answer_told answer ≡ definition.answer_to_hand (first_form (table_view table.now))) }
 {
-    let hand = first_form::read_hand(alloc, table)?;
+    let hand = read_hand(alloc, table)?;
     answer_to_hand(alloc, hand)
 }
 

@@ -1,10 +1,11 @@
 // Which cards are owed and which are taken, looked up in the steps.
-ghost use Rattle.std.specs.Prelude.{◌≡◌, ◌+◌, ◌*◌, ◌≤◌, ◌<◌, ◌++◌, List, length, take, drop, Some, nat_lt};
+ghost use Rattle.std.specs.Prelude.{◌≡◌, ◌+◌, ◌*◌, ◌≤◌, ◌<◌, ◌++◌, false, List, length, take, drop, Some, nat_lt};
 ghost use Rattle.std.specs.List.{list_any};
 ghost use Rattle.card_set.specs.Deck.{same_card};
 ghost use Rattle.play_event.specs.declared.code.Code.TheVariants as games;
-ghost use Rattle.play_event.specs.Due as definition;
-ghost use Rattle.play_event.specs.Places.{places_of, bears, is_taken, stands_again, has_repeat, any_taken};
+ghost use Rattle.play_event.specs.Dealing as definition;
+ghost use Rattle.play_event.specs.Table.{places_of};
+ghost use Rattle.play_event.specs.Taken.{bears, is_taken, stands_again, has_repeat, any_taken};
 ghost use Rattle.poker_cli.specs.Steps.{past_seen, steps_seen, cards_dealt};
 
 use crate::past::{Past, Step};
@@ -106,12 +107,12 @@ fn dealt_by(step: &Step, card: Card) -> bool
 }
 
 /// The card lies on the table.
-fn on_table(past: &Past<'_>, card: Card) -> bool
-    ensures { result ≡ list_any (λ place. bears card place.slot) (places_of (past_seen past.now)) }
+fn on_table(setup: &Setup, past: &Past<'_>, card: Card) -> bool
+    ensures { result ≡ list_any (λ place. bears card place.slot) (places_of setup.now.code (past_seen past.now)) }
 {
     match past {
         Past::Start => false,
-        Past::After(step, before) => on_table(before, card) || dealt_by(step, card),
+        Past::After(step, before) => on_table(setup, before, card) || dealt_by(step, card),
     }
 }
 
@@ -119,10 +120,10 @@ fn on_table(past: &Past<'_>, card: Card) -> bool
 #[tactic(auto, using(crate::proofs::FirstStreet::whole_deck))]
 fn taken(setup: &Setup, past: &Past<'_>, slot: Slot) -> bool
     requires { setup.now.code ≡ games.NT }
-    ensures { result ≡ is_taken setup.now.code (places_of (past_seen past.now)) slot }
+    ensures { result ≡ is_taken setup.now.code (places_of setup.now.code (past_seen past.now)) false slot }
 {
     match slot {
-        Slot::Known(card) => on_table(past, card),
+        Slot::Known(card) => on_table(setup, past, card),
         Slot::Unknown => false,
     }
 }
@@ -130,7 +131,7 @@ fn taken(setup: &Setup, past: &Past<'_>, slot: Slot) -> bool
 /// The card of one of the slots lies on the table.
 fn some_taken(setup: &Setup, past: &Past<'_>, slots: &[Slot]) -> bool
     requires { setup.now.code ≡ games.NT }
-    ensures { result ≡ list_any (is_taken setup.now.code (places_of (past_seen past.now))) slots.now }
+    ensures { result ≡ list_any (is_taken setup.now.code (places_of setup.now.code (past_seen past.now)) false) slots.now }
 {
     match slots {
         [] => false,
@@ -159,9 +160,10 @@ fn repeated(slots: &[Slot]) -> bool
 }
 
 /// One of the cards lies on the table, or two of them are one card.
+#[tactic(auto, using(crate::proofs::FirstStreet::within_deck))]
 pub fn cards_taken(setup: &Setup, past: &Past<'_>, slots: &[Slot]) -> bool
     requires { setup.now.code ≡ games.NT }
-    ensures { result ≡ any_taken setup.now.code (places_of (past_seen past.now)) slots.now }
+    ensures { result ≡ any_taken setup.now.code (places_of setup.now.code (past_seen past.now)) 1 slots.now }
 {
     some_taken(setup, past, slots) || repeated(slots)
 }

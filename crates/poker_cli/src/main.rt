@@ -1,13 +1,10 @@
 //! The program `handref`: a referee for recorded poker hands.
 #![tactic(auto)]
 
-pub mod action;
 pub mod answer;
 pub mod chips;
 pub mod deals;
 pub mod finish;
-pub mod first_form;
-pub mod hand;
 pub mod past;
 pub mod play;
 pub mod raises;
@@ -18,26 +15,33 @@ pub mod status;
 pub mod text;
 pub mod turns;
 
+use card_set::Memory;
 use host_io::{MemShelf, StdSink, StdSource};
+use status::Status;
 use std::process::ExitCode;
 use std::rt::Env;
 use std::{env, io};
 
-// The words after the program's own name.
-fn words_after_name(rt: &(impl Env + AllocGlobal)) -> io::Result<Vec<String>> {
+// The words after the program's own name. Words that are no text are no command, as no words are.
+fn words_after_name(rt: &(impl Env + AllocGlobal)) -> Result<Vec<String>, Memory> {
     let mut words = Vec::new(rt.alloc());
-    for word in env::args(rt)?.skip(1) {
-        words.push(word)?;
+    match env::args(rt) {
+        Ok(all) => {
+            for word in all.skip(1) {
+                words.push(word)?;
+            }
+            Ok(words)
+        }
+        Err(error) if error.kind() == io::ErrorKind::OutOfMemory => Err(Memory),
+        Err(_) => Ok(words),
     }
-    Ok(words)
 }
 
-// Words that are no text are no command, as no words are.
 fn main(rt: HostRuntime) -> ExitCode {
     let alloc = rt.alloc();
     let words = match words_after_name(&rt) {
         Ok(words) => words,
-        Err(_) => Vec::new(alloc),
+        Err(Memory) => return ExitCode::from(Status::Memory.number()),
     };
     let mut input = StdSource::new(rt.stdin());
     let mut shelf = MemShelf::new(Vec::new(alloc), Vec::new(alloc));

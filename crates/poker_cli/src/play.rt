@@ -7,17 +7,17 @@ ghost use Rattle.play_event.specs.Said.{said_of, kind_said};
 ghost use Rattle.play_event.specs.HistoryRules.{history_rules};
 ghost use Rattle.play_event.specs.Reasons as reasons_definition;
 ghost use Rattle.play_event.specs.Scripts.{past_after, resolved_on};
-ghost use Rattle.poker_cli.specs.Hand.{IsFirstEvent, IsFirstHand, numbered, told};
+ghost use Rattle.first_form.specs.Hand.{IsFirstEvent, IsFirstHand, numbered, told};
 ghost use Rattle.poker_cli.specs.Stage.{IsStage};
 ghost use Rattle.poker_cli.specs.Steps.{past_seen, moves_seen, steps_seen, resolved_step};
 ghost use Rattle.poker_cli.specs.Verdict.{events_of, is_beyond, verdict, verdict_from};
 ghost use Rattle.poker_cli.specs.Outcome.{verdict_of, ended_at};
 
-use crate::hand::Hand;
 use crate::past::{Past, Step};
 use crate::{chips, deals, finish, reasons, seats, turns};
 use card_set::Memory;
 use chip_ledger::Chips;
+use first_form::Hand;
 use play_event::{Illegal, Kind, Setup, Spelled};
 use std::alloc::Global;
 
@@ -68,7 +68,7 @@ fn against(setup: &Setup, past: &Past<'_>, stage: Stage, kind: &Kind) -> Option<
 fn step_of(setup: &Setup, past: &Past<'_>, kind: &Kind) -> Step
     requires few { steps_seen past.now ≤ 300 }
     requires event { IsFirstEvent setup.now.stacks.seats (kind_said kind.now) }
-    ensures { resolved_step result ≡ resolved_on setup.now (moves_seen past.now) 1 (kind_said kind.now) }
+    ensures { resolved_step result ≡ resolved_on setup.now (past_seen past.now) 1 (kind_said kind.now) }
 {
     match kind {
         Kind::Hole { seat, cards } => Step::Dealt {

@@ -6,8 +6,9 @@ ghost use Rattle.play_event.specs.declared.reason.Due.TheVariants as dues;
 ghost use Rattle.play_event.specs.Said as said;
 ghost use Rattle.play_event.specs.HistoryRules.{history_rules};
 ghost use Rattle.play_event.specs.Reasons as definition;
-ghost use Rattle.poker_cli.specs.Hand.{IsFirstEvent};
-ghost use Rattle.poker_cli.specs.Steps.{past_seen, moves_seen, steps_seen};
+ghost use Rattle.first_form.specs.Hand.{IsFirstEvent};
+ghost use Rattle.poker_cli.specs.FirstReasons.{why_not_dealt, is_another, why_not_to};
+ghost use Rattle.poker_cli.specs.Steps.{past_seen, steps_seen};
 
 use crate::past::Past;
 use crate::{chips, deals, raises, seats, turns};
@@ -18,7 +19,7 @@ use play_event::{Illegal, Kind, Setup, Spelled};
 fn against_cards(setup: &Setup, past: &Past<'_>, seat: u8, cards: &[Slot]) -> Option<Illegal>
     requires game { setup.now.code ≡ games.NT }
     requires few { steps_seen past.now ≤ 300 }
-    ensures { result ≡ definition.first_reason (definition.why_not_dealt setup.now (past_seen past.now) 1 seat cards.now) }
+    ensures { result ≡ definition.first_reason (why_not_dealt setup.now (past_seen past.now) seat cards.now) }
 {
     let owed = deals::hole_cards_owed(setup, past, seat);
     if owed == 0 {
@@ -34,7 +35,7 @@ fn against_cards(setup: &Setup, past: &Past<'_>, seat: u8, cards: &[Slot]) -> Op
 
 /// A seat is named whose turn it is not.
 fn other_seat(named: u8, in_turn: Option<u8>) -> bool
-    ensures { result ≡ definition.is_other_seat (Some named) in_turn }
+    ensures { result ≡ is_another named in_turn }
 {
     match in_turn {
         Some(seat) => named != seat,
@@ -44,8 +45,9 @@ fn other_seat(named: u8, in_turn: Option<u8>) -> bool
 
 /// The first reason against a fold of the named seat.
 fn against_fold(setup: &Setup, past: &Past<'_>, named: u8) -> Option<Illegal>
-    requires { steps_seen past.now ≤ 300 }
-    ensures { result ≡ definition.first_reason (definition.reasons_of_kind setup.now history_rules (past_seen past.now) 1 (said.Fold (Some named))) }
+    requires game { setup.now.code ≡ games.NT }
+    requires few { steps_seen past.now ≤ 300 }
+    ensures { result ≡ definition.first_reason (definition.later_reasons setup.now history_rules (past_seen past.now) 1 (said.Fold (Some named))) }
 {
     if other_seat(named, turns::mover(setup, past)) {
         Some(Illegal::WrongSeat)
@@ -56,8 +58,9 @@ fn against_fold(setup: &Setup, past: &Past<'_>, named: u8) -> Option<Illegal>
 
 /// The first reason against a raise of the seat to a target.
 fn against_target(setup: &Setup, past: &Past<'_>, seat: u8, target: u64) -> Option<Illegal>
-    requires { steps_seen past.now ≤ 300 }
-    ensures { result ≡ definition.first_reason (definition.why_not_raise setup.now history_rules (moves_seen past.now) 1 seat target) }
+    requires game { setup.now.code ≡ games.NT }
+    requires few { steps_seen past.now ≤ 300 }
+    ensures { result ≡ definition.first_reason (why_not_to setup.now (past_seen past.now) seat target) }
 {
     let greatest = chips::all_in(setup, past, seat);
     if !raises::may_raise(setup, past, seat) {
@@ -73,8 +76,9 @@ fn against_target(setup: &Setup, past: &Past<'_>, seat: u8, target: u64) -> Opti
 
 /// The first reason against a raise of the named seat.
 fn against_raise(setup: &Setup, past: &Past<'_>, named: u8, amount: u64) -> Option<Illegal>
-    requires { steps_seen past.now ≤ 300 }
-    ensures { result ≡ definition.first_reason (definition.reasons_of_kind setup.now history_rules (past_seen past.now) 1 (said.Raise (Some named) (spelled.To amount))) }
+    requires game { setup.now.code ≡ games.NT }
+    requires few { steps_seen past.now ≤ 300 }
+    ensures { result ≡ definition.first_reason (definition.later_reasons setup.now history_rules (past_seen past.now) 1 (said.Raise (Some named) (spelled.To amount))) }
 {
     if other_seat(named, turns::mover(setup, past)) {
         Some(Illegal::WrongSeat)
@@ -87,6 +91,7 @@ fn against_raise(setup: &Setup, past: &Past<'_>, named: u8, amount: u64) -> Opti
 pub fn against_in_deal(setup: &Setup, past: &Past<'_>, kind: &Kind) -> Option<Illegal>
     requires game { setup.now.code ≡ games.NT }
     requires few { steps_seen past.now ≤ 300 }
+    requires event { IsFirstEvent setup.now.stacks.seats (said.kind_said kind.now) }
     ensures { result ≡ definition.first_reason (definition.all_reasons setup.now history_rules (past_seen past.now) (1, dues.Deal 1) (said.kind_said kind.now)) }
 {
     match kind {
@@ -97,6 +102,7 @@ pub fn against_in_deal(setup: &Setup, past: &Past<'_>, kind: &Kind) -> Option<Il
 
 /// The first reason against an event where a move is due.
 pub fn against_in_betting(setup: &Setup, past: &Past<'_>, kind: &Kind) -> Option<Illegal>
+    requires game { setup.now.code ≡ games.NT }
     requires few { steps_seen past.now ≤ 300 }
     requires event { IsFirstEvent setup.now.stacks.seats (said.kind_said kind.now) }
     ensures { result ≡ definition.first_reason (definition.all_reasons setup.now history_rules (past_seen past.now) (1, dues.Move) (said.kind_said kind.now)) }

@@ -12,6 +12,9 @@ use card_set::Memory;
 use host_io::{Failed, InFault, Shelf, Sink, Source, read_all, write_all};
 use std::alloc::Global;
 
+#[cfg(test)]
+mod tests;
+
 const USAGE: &[u8] = b"usage: handref check|replay|report|convert|game|load [options]\n";
 
 /// Runs the program on its words, without its own name. It reads the input to its end, writes the output where

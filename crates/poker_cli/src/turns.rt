@@ -5,6 +5,8 @@ ghost use Rattle.chip_ledger.specs.SeatRow.{amount_of};
 ghost use Rattle.play_event.specs.Past.{moves_on};
 ghost use Rattle.play_event.specs.Price.{greatest};
 ghost use Rattle.play_event.specs.Due.{has_moved_since_rise, has_to_move, move_due};
+ghost use Rattle.play_event.specs.Openers as openers;
+ghost use Rattle.play_event.specs.Openers.{TheSeat, in_turn, blinds_opener};
 ghost use Rattle.play_event.specs.Mover as definition;
 ghost use Rattle.poker_cli.specs.Steps.{moves_seen, steps_seen};
 
@@ -99,7 +101,7 @@ fn greatest_amount(row: &SeatRow, seats: &[u8]) -> u64
 /// The seat after this one, going round.
 fn seat_after(setup: &Setup, seat: u8) -> u8
     requires { seat ≤ 10 }
-    ensures value { result ≡ definition.seat_after setup.now seat }
+    ensures value { result ≡ openers.seat_after setup.now seat }
     ensures least { 1 ≤ result }
     ensures most { result ≤ 11 }
 {
@@ -129,7 +131,7 @@ fn last_with_blind(setup: &Setup, blind: u64, seats: &[u8]) -> u8
 
 /// The last of the seats with the greatest blind.
 fn last_big_blind(setup: &Setup) -> u8
-    ensures value { result ≡ definition.last_big_blind setup.now }
+    ensures value { result ≡ openers.last_big_blind setup.now }
     ensures seat { result ≤ 10 }
 {
     let seats = seats::seats(setup.stacks.seats);
@@ -138,7 +140,7 @@ fn last_big_blind(setup: &Setup) -> u8
 
 /// Who opens the first street.
 fn opener(setup: &Setup) -> u8
-    ensures value { result ≡ definition.opener setup.now 1 }
+    ensures value { result ≡ blinds_opener setup.now 1 }
     ensures least { 1 ≤ result }
     ensures most { result ≤ 11 }
 {
@@ -151,7 +153,7 @@ fn opener(setup: &Setup) -> u8
 
 /// The seat after the newest move, and before any move the opener.
 fn next_in_turn(setup: &Setup, past: &Past<'_>) -> u8
-    ensures value { result ≡ definition.next_in_turn setup.now 1 (moves_on 1 (moves_seen past.now)) }
+    ensures value { TheSeat result ≡ definition.next_in_turn setup.now (TheSeat (blinds_opener setup.now 1)) (moves_on 1 (moves_seen past.now)) }
     ensures least { 1 ≤ result }
     ensures most { result ≤ 11 }
 {
@@ -168,7 +170,7 @@ fn next_in_turn(setup: &Setup, past: &Past<'_>) -> u8
 /// Whose turn it is, if some seat has a move to make.
 pub fn mover(setup: &Setup, past: &Past<'_>) -> Option<u8>
     requires { steps_seen past.now ≤ 300 }
-    ensures { result ≡ definition.mover setup.now (moves_seen past.now) 1 }
+    ensures { in_turn result ≡ definition.mover_after setup.now (TheSeat (blinds_opener setup.now 1)) (moves_seen past.now) 1 }
 {
     let start = next_in_turn(setup, past);
     match first_to_move(setup, past, seats::seats_from(setup.stacks.seats, start)) {

@@ -3,7 +3,7 @@ ghost use Rattle.std.specs.Prelude.{◌≡◌, ℕ, ◌≤◌, ◌-◌, Bool, So
 ghost use Rattle.card_set.specs.declared.card.Card.{Card};
 ghost use Rattle.play_event.specs.declared.code.Code.{Code};
 ghost use Rattle.play_event.specs.Games.{game_of};
-ghost use Rattle.play_event.specs.Places.{in_deck};
+ghost use Rattle.play_event.specs.Taken.{in_deck};
 ghost use Rattle.hand_order.specs.declared.best.Pick.{Pick};
 ghost use Rattle.variant_table.specs.declared.limit.Limit.{Limit};
 ghost use Rattle.variant_table.specs.declared.limit.Opener.{Opener};

@@ -1,4 +1,4 @@
-use Rattle.std.proofs.Common.{List, ◌++◌, length, arith, ap, ◌∙◌}
+use Rattle.std.proofs.Common.{List, ◌++◌, length, arith, ap}
 use Rattle.card_set.specs.declared.card.Card.{Card}
 use Rattle.card_set.specs.Row.{cards_of}
 use Rattle.hand_order.proofs.Held.{length_chosen}

@@ -1,9 +1,6 @@
-use Rattle.std.proofs.Common.{rules, ◌≡◌, ℕ, ◌+◌, ◌≤◌, List, ◌++◌, drop, get_or, Option, None, ◌-◌, ◌<◌, length, arith, sym, ap, subst, ◌∙◌}
-use Rattle.card_set.specs.declared.card.Card.{Card}
+use Rattle.std.proofs.Common.{rules, ◌+◌, ◌++◌, drop, get_or, arith, sym, ◌∙◌}
 use Rattle.card_set.specs.Filler.{filler_card}
 use Rattle.card_set.specs.Row.{cards_of}
-use Rattle.hand_order.specs.Choices.{IsAmong, choices}
-use Rattle.hand_order.specs.Points.{better, greatest}
 use Rattle.hand_order.proofs.Chosen.{accepted_zero, accepted_with, accepted_without, greatest-zero, greatest-empty, best_step, drop-row, drop-past}
 use Rattle.hand_order.proofs.best.+best_choice.Goals as goal
 

@@ -1,7 +1,5 @@
-use Rattle.std.proofs.Common.{List, ◌++◌, map, sym, ◌∙◌, ap, subst}
-use Rattle.card_set.specs.declared.card.Card.{Card}
+use Rattle.std.proofs.Common.{◌∙◌}
 use Rattle.card_set.specs.Row.{cards_of}
-use Rattle.hand_order.specs.Choices.{choices}
 use Rattle.hand_order.proofs.Held.{joins_start}
 use Rattle.hand_order.proofs.Chosen.{greatest_of_both}
 use Rattle.hand_order.proofs.best.two_and_three.Goals as goal

@@ -1,6 +1,6 @@
-use Rattle.std.proofs.Common.{ℕ, ◌+◌, ◌-◌, List, arith, ap, ◌∙◌, subst, sym}
+use Rattle.std.proofs.Common.{arith, ap, ◌∙◌}
 use Rattle.card_set.specs.Row.{cards_of}
-use Rattle.hand_order.specs.Digits.{class_above, with_digits}
+use Rattle.hand_order.specs.Digits.{with_digits}
 use Rattle.hand_order.specs.Straights.{high_class}
 use Rattle.hand_order.specs.Tables.{high_table}
 use Rattle.hand_order.proofs.HighLaw.{decide_below, table_number_is}

@@ -2,7 +2,6 @@ use Rattle.std.proofs.Common.{◌==◌, get_or, arith, sym, ap, ◌∙◌}
 use Rattle.std.specs.List.{list_all}
 use Rattle.card_set.specs.Filler.{filler_card}
 use Rattle.card_set.specs.Deck.{suits_before}
-use Rattle.card_set.specs.Row.{cards_of}
 use Rattle.hand_order.proofs.Chosen.{no_suit, suit_of_first}
 use Rattle.hand_order.proofs.straights.is_flush.Goals as goal
 

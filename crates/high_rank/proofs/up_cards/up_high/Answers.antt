@@ -1,12 +1,8 @@
-use Rattle.std.proofs.Common.{◌≡◌, ℕ, ◌-◌, ◌<◌, ◌↔◌, List, length, arith, sym, ap, subst, ◌∙◌}
+use Rattle.std.proofs.Common.{arith, ap, ◌∙◌}
 use Rattle.card_set.specs.Row.{cards_of}
-use Rattle.card_set.specs.Classes.{place}
-use Rattle.card_set.specs.Ranks.{high_ace, ranks_of}
-use Rattle.card_set.specs.UpCards.{up_high_class, IsWeakerUpHigh}
 use Rattle.hand_order.specs.declared.ranks.Ace.TheVariants as aces
 use Rattle.hand_order.specs.Digits.{with_digits}
 use Rattle.hand_order.proofs.RankDigits.{ranks_below}
-use Rattle.high_rank.specs.UpHigh.{up_high_points, up_high_table}
 use Rattle.high_rank.proofs.UpHighLaw.{up_number_is, up_ordered_at}
 use Rattle.high_rank.proofs.up_cards.up_high.Goals as goal
 

@@ -1,6 +1,6 @@
 use Rattle.std.proofs.Common.{◌≡◌, ◌∙◌, sym, ap, nat_lt}
 use Rattle.std.specs.List.{list_any}
-use Rattle.play_event.specs.Due.{hole_cards_owed}
+use Rattle.play_event.specs.Dealing.{hole_cards_owed}
 use Rattle.poker_cli.specs.Steps.{past_seen}
 use Rattle.poker_cli.proofs.FirstStreet.{deal_due_first}
 use Rattle.poker_cli.proofs.deals.deal_due.Goals as goal

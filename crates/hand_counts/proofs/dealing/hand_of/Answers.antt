@@ -1,0 +1,18 @@
+use Rattle.std.proofs.Common.{◌+◌, arith}
+use Rattle.card_set.specs.Row.{cards_of}
+use Rattle.hand_counts.proofs.DealtLaws.{dealt_push, dealt_later}
+use Rattle.hand_counts.proofs.dealing.hand_of.Goals as goal
+
+pub loop-slot-preserved : goal.loop-slot-preserved
+loop-slot-preserved c =
+    let here = c.place_in_deck.ensures.place in
+    let again = c.place_in_deck-from.ensures.place in
+    let within = c.place_in_deck-from.ensures.within in
+    let from = c.if-place_in_deck-from.false in
+    record {
+      dealt = dealt_push c.loop-slot.from (c.place_in_deck-from.result + 1) (cards_of c.loop-slot.hand) (cards_of c.push.new.self) c.in-Known.card c.loop-slot.invariant.dealt (omega arith) (omega arith) c.push.ensures.entries;
+      within = omega arith;
+    }
+
+pub returns : goal.returns
+returns c = dealt_later c.loop-slot.from 52 (cards_of c.loop-slot.hand) c.loop-slot.invariant.within c.loop-slot.invariant.dealt

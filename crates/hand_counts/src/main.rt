@@ -1,0 +1,17 @@
+//! Scores every hand that can be dealt in each order, and prints how many hands there are of each class.
+#![tactic(auto)]
+
+mod dealing;
+#[cfg(test)]
+mod known_hands;
+mod tables;
+mod tally;
+
+use std::io;
+
+fn main(rt: HostRuntime) -> io::Result<()> {
+    for line in tables::all_counts(rt.alloc())? {
+        println!(rt; "{line}")?;
+    }
+    Ok(())
+}

@@ -1,0 +1,80 @@
+-- Why cards may not be dealt, discarded or shown now. No amount is read here.
+use Rattle.std.specs.Prelude.{ℕ, ◌+◌, Bool, false, ◌&&◌, ◌||◌, ◌==◌, nat_lt, nat_le, not, List, length, map, filter, count_by}
+use Rattle.std.specs.Option.{option_map_or}
+use Rattle.std.specs.List.{list_any}
+use Rattle.card_set.specs.declared.card.Card.{Card}
+use Rattle.card_set.specs.declared.card.Slot.{Slot}
+use Rattle.card_set.specs.declared.card.Slot.TheVariants as slots
+use Rattle.play_event.specs.declared.code.Code.{Code}
+use Rattle.play_event.specs.declared.setup.Setup.{Setup}
+use Rattle.play_event.specs.Said as said
+use Rattle.play_event.specs.Said.{Said}
+use Rattle.play_event.specs.Past.{Past}
+use Rattle.play_event.specs.Dealing.{cards_owed, board_cards_owed, next_to_draw}
+use Rattle.play_event.specs.Showing.{has_to_show}
+use Rattle.play_event.specs.Openers.{is_unknown, known_cards}
+use Rattle.play_event.specs.Places.{Place, is_held_by}
+use Rattle.play_event.specs.Naming.{other_names, is_named, blanks_in, held_count, held_down_count, is_covered, names_all, after_discard, after_show}
+use Rattle.play_event.specs.Table.{up_cards}
+use Rattle.play_event.specs.Taken.{any_taken, any_misplaced}
+
+-- a number is that of a seat of the hand
+abbrev pub is_seat : Setup → ℕ → Bool
+is_seat setup seat = nat_le 1 seat && nat_le seat setup.stacks.seats
+
+-- no card is owed to a seat
+abbrev pub is_owed_nothing : Setup → Past → ℕ → ℕ → Bool
+is_owed_nothing setup past street seat = not (is_seat setup seat) || (cards_owed setup past street seat == 0)
+
+-- a seat draws next
+abbrev pub draws_next : Setup → Past → ℕ → ℕ → Bool
+draws_next setup past street seat = option_map_or (λ next. next == seat) (next_to_draw setup past street) false
+
+-- a seat of the hand is live, and did not show or muck
+abbrev pub may_show : Setup → Past → ℕ → Bool
+may_show setup past seat = is_seat setup seat && has_to_show past seat
+
+-- a deal has no card, or more than are owed
+abbrev pub is_wrong_deal : ℕ → ℕ → Bool
+is_wrong_deal owed count = (count == 0) || nat_lt owed count
+
+-- a show may have so many cards: all that the seat holds, or its down-cards alone where its up-cards are known
+abbrev pub may_show_so_many : Setup → Past → List Place → ℕ → ℕ → Bool
+may_show_so_many setup past placed seat count =
+    (count == held_count placed seat)
+    || ((count == held_down_count setup.code placed seat) && not (list_any is_unknown (up_cards setup.code past seat)))
+
+-- an event has another count of cards than it may
+abbrev pub is_wrong_count : Setup → Past → List Place → ℕ → Said → Bool
+is_wrong_count setup past placed street (said.Hole seat cards) = is_wrong_deal (cards_owed setup past street seat) (length cards)
+is_wrong_count setup past placed street (said.Board cards) = is_wrong_deal (board_cards_owed setup past street) (length cards)
+is_wrong_count setup past placed street (said.Discard seat cards) = nat_lt (held_count placed seat) (length cards)
+is_wrong_count setup past placed street (said.Show seat cards) = not (may_show_so_many setup past placed seat (length cards))
+is_wrong_count setup past placed street _ = false
+
+-- a card that is dealt, or that is named and taken to an unknown place, may not lie there
+abbrev pub is_card_taken : Code → List Place → ℕ → Said → Bool
+is_card_taken code placed street (said.Hole seat cards) = any_taken code placed street cards
+is_card_taken code placed street (said.Board cards) = any_taken code placed street (map (λ card. slots.Known card) cards)
+is_card_taken code placed street (said.Discard seat cards) = any_misplaced code placed (after_discard street seat cards placed)
+is_card_taken code placed street (said.Show seat cards) = any_misplaced code placed (after_show code seat cards placed)
+is_card_taken code placed street _ = false
+
+-- the names find no place: there are more that no known card bears, and blanks, than unknown cards
+abbrev pub find_no_place : List Place → List Card → ℕ → Bool
+find_no_place covered names blanks = nat_lt (count_by (λ place. is_unknown place.slot) covered) (length (other_names covered names) + blanks)
+
+-- a known card is not among the names
+abbrev pub is_left_out : List Card → Slot → Bool
+is_left_out names (slots.Known card) = not (is_named card names)
+is_left_out names slots.Unknown = false
+
+-- a show names a card that the seat does not hold, or leaves out one that is known
+abbrev pub shows_others : List Place → List Card → Bool
+shows_others covered names = find_no_place covered names 0 || list_any (λ place. is_left_out names place.slot) covered
+
+-- a card is named that the seat does not hold
+abbrev pub is_not_held : Code → List Place → Said → Bool
+is_not_held code placed (said.Discard seat cards) = find_no_place (filter (is_held_by seat) placed) (known_cards cards) (blanks_in cards)
+is_not_held code placed (said.Show seat cards) = shows_others (filter (is_covered code seat (names_all placed seat cards)) placed) cards
+is_not_held code placed _ = false

@@ -1,0 +1,85 @@
+-- How cards that a discard or a show names find the places that it covers.
+use Rattle.std.specs.Prelude.{ℕ, zero, suc, Bool, ◌&&◌, ◌||◌, ◌==◌, not, if◌then◌else◌, List, [], ◌∷◌, filter, length, count_by, Some}
+use Rattle.std.specs.List.{list_any}
+use Rattle.card_set.specs.declared.card.Card.{Card}
+use Rattle.card_set.specs.declared.card.Slot.{Slot}
+use Rattle.card_set.specs.declared.card.Slot.TheVariants as slots
+use Rattle.card_set.specs.Deck.{same_card}
+use Rattle.play_event.specs.declared.code.Code.{Code}
+use Rattle.play_event.specs.Openers.{is_unknown, known_cards}
+use Rattle.play_event.specs.Places.{Place, is_held_by, is_up}
+
+-- the names without one that is this card
+abbrev pub without : Slot → List Card → List Card
+without slots.Unknown names = names
+without (slots.Known card) [] = []
+without (slots.Known card) (name ∷ rest) = if same_card card name then rest else (name ∷ without (slots.Known card) rest)
+
+-- the names that no known card of these places bears, each card taking one name
+abbrev pub other_names : List Place → List Card → List Card
+other_names [] names = names
+other_names (place ∷ rest) names = other_names rest (without place.slot names)
+
+-- a card is among the names
+abbrev pub is_named : Card → List Card → Bool
+is_named card names = list_any (same_card card) names
+
+-- what a covered place becomes, and the names and blanks that are left for the next
+pub record Found : Type 0 where
+  pub place : Place
+  pub others : List Card
+  pub blanks : ℕ
+
+-- a known card that is named is marked; an unknown one takes the next of the other names, and then a blank
+abbrev pub found_by : (Place → Place) → List Card → Slot → List Card → ℕ → Place → Found
+found_by mark names (slots.Known card) others blanks place =
+    record { place = if is_named card names then mark place else place; others = others; blanks = blanks }
+found_by mark names slots.Unknown (card ∷ others) blanks place =
+    record { place = mark (record place { slot = slots.Known card }); others = others; blanks = blanks }
+found_by mark names slots.Unknown [] zero place = record { place = place; others = []; blanks = 0 }
+found_by mark names slots.Unknown [] (suc blanks) place = record { place = mark place; others = []; blanks = blanks }
+
+-- the places after the names found theirs, in the order of dealing
+abbrev pub after_names : (Place → Bool) → (Place → Place) → List Card → List Card → ℕ → List Place → List Place
+after_names covers mark names others blanks [] = []
+after_names covers mark names others blanks (place ∷ rest) =
+    if covers place
+    then (let found = found_by mark names place.slot others blanks place in found.place ∷ after_names covers mark names found.others found.blanks rest)
+    else (place ∷ after_names covers mark names others blanks rest)
+
+-- how many names are blank
+abbrev pub blanks_in : List Slot → ℕ
+blanks_in names = count_by is_unknown names
+
+-- a card that is discarded now on a street is gone, after so many deals
+abbrev pub discarded_now : ℕ → ℕ → Place → Place
+discarded_now street count place = record place { gone = Some count; discarded = street }
+
+-- the places after a discard, which covers the cards that the seat holds
+abbrev pub after_discard : ℕ → ℕ → List Slot → List Place → List Place
+after_discard street seat names placed =
+    after_names (is_held_by seat) (discarded_now street (length placed)) (known_cards names) (other_names (filter (is_held_by seat) placed) (known_cards names)) (blanks_in names) placed
+
+-- how many cards a seat holds, and how many of them face down
+abbrev pub held_count : List Place → ℕ → ℕ
+held_count placed seat = count_by (is_held_by seat) placed
+
+abbrev pub is_held_down : Code → ℕ → Place → Bool
+is_held_down code seat place = is_held_by seat place && not (is_up code place)
+
+abbrev pub held_down_count : Code → List Place → ℕ → ℕ
+held_down_count code placed seat = count_by (is_held_down code seat) placed
+
+-- a show covers all cards that the seat holds, or the down-cards alone where it names fewer
+abbrev pub is_covered : Code → ℕ → Bool → Place → Bool
+is_covered code seat all place = is_held_by seat place && (all || not (is_up code place))
+
+-- a show of so many cards names all that the seat holds
+abbrev pub names_all : List Place → ℕ → List Card → Bool
+names_all placed seat names = length names == held_count placed seat
+
+-- the places after a show, which marks nothing
+abbrev pub after_show : Code → ℕ → List Card → List Place → List Place
+after_show code seat names placed =
+    let covers = is_covered code seat (names_all placed seat names) in
+    after_names covers (λ place. place) names (other_names (filter covers placed) names) 0 placed

@@ -1,0 +1,113 @@
+-- Who opens a street: by the blinds, or by the up-cards of the able seats.
+use Rattle.std.specs.Prelude.{ℕ, ◌+◌, ◌*◌, Bool, true, false, ◌&&◌, ◌||◌, ◌==◌, nat_lt, not, if◌then◌else◌, List, [], ◌∷◌, map, filter, find, reverse, unwrap_or, Option, Some, None}
+use Rattle.std.specs.List.{list_any}
+use Rattle.card_set.specs.declared.card.Card.{Card}
+use Rattle.card_set.specs.declared.card.Slot.{Slot}
+use Rattle.card_set.specs.declared.card.Slot.TheVariants as slots
+use Rattle.card_set.specs.Deck.{deck_place, suits_before}
+use Rattle.card_set.specs.Ranks.{high_ace, low_ace, ranks_of}
+use Rattle.card_set.specs.UpCards.{up_high_class, low_class}
+use Rattle.chip_ledger.specs.SeatRow.{amount_of}
+use Rattle.play_event.specs.declared.setup.Setup.{Setup}
+use Rattle.play_event.specs.Games.{Opener, Blinds, LowUp, HighUp}
+use Rattle.play_event.specs.Streets.{opener_of}
+use Rattle.play_event.specs.Past.{Move}
+use Rattle.play_event.specs.Seats.{all_seats, is_able}
+use Rattle.play_event.specs.Price.{greatest}
+
+-- whose turn it is: no seat's, a seat's, or not known where an up-card that decides it is unknown
+pub data InTurn : Type 0 where
+  NoSeat : InTurn
+  TheSeat : ℕ → InTurn
+  Undecided : InTurn
+
+-- a seat that was looked for, as the one whose turn it is
+abbrev pub in_turn : Option ℕ → InTurn
+in_turn (Some seat) = TheSeat seat
+in_turn None = NoSeat
+
+-- the up-cards of each seat
+abbrev pub UpCards : Type 0
+UpCards = ℕ → List Slot
+
+-- the seat after this one, going round
+abbrev pub seat_after : Setup → ℕ → ℕ
+seat_after setup seat = if seat == setup.stacks.seats then 1 else seat + 1
+
+-- the greatest blind that is named
+abbrev pub greatest_blind : Setup → ℕ
+greatest_blind setup = greatest (map (amount_of setup.blinds) (all_seats setup))
+
+-- the last of the seats with the greatest blind
+abbrev pub last_big_blind : Setup → ℕ
+last_big_blind setup = unwrap_or (find (λ seat. amount_of setup.blinds seat == greatest_blind setup) (reverse (all_seats setup))) 0
+
+-- Who opens a street of a game with blinds. The first street is opened by the seat after the greatest blind, the last
+-- of equal ones, and with two seats by p2; a later street by p1.
+abbrev pub blinds_opener : Setup → ℕ → ℕ
+blinds_opener setup street =
+    if street == 1
+    then (if setup.stacks.seats == 2 then 2 else seat_after setup (last_big_blind setup))
+    else 1
+
+-- a slot is unknown
+abbrev pub is_unknown : Slot → Bool
+is_unknown slots.Unknown = true
+is_unknown (slots.Known card) = false
+
+-- the known cards of some slots
+abbrev pub known_cards : List Slot → List Card
+known_cards [] = []
+known_cards (slots.Known card ∷ rest) = card ∷ known_cards rest
+known_cards (slots.Unknown ∷ rest) = known_cards rest
+
+-- where a single up-card stands: the first card counts
+abbrev pub card_stands : (Card → ℕ) → List Card → ℕ
+card_stands stands [] = 0
+card_stands stands (card ∷ rest) = stands card
+
+-- where a card stands in razz: the ace is low, and suits break ties
+abbrev pub razz_place : Card → ℕ
+razz_place card = 4 * low_ace card.rank + suits_before card.suit
+
+-- at the first place where the lists differ the left one is lower
+abbrev pub is_lower : List ℕ → List ℕ → Bool
+is_lower [] others = false
+is_lower (height ∷ rest) [] = false
+is_lower (height ∷ rest) (other ∷ others) = nat_lt height other || ((height == other) && is_lower rest others)
+
+-- up-cards are worse, the ace high: their class is, or it is the same and the first rank that differs is lower
+abbrev pub is_worse_high : List Card → List Card → Bool
+is_worse_high a b = nat_lt (up_high_class b) (up_high_class a) || ((up_high_class a == up_high_class b) && is_lower (ranks_of high_ace a) (ranks_of high_ace b))
+
+-- up-cards are worse in razz: their class is, or it is the same and the first rank that differs is higher
+abbrev pub is_worse_low : List Card → List Card → Bool
+is_worse_low a b = nat_lt (low_class b) (low_class a) || ((low_class a == low_class b) && is_lower (ranks_of low_ace b) (ranks_of low_ace a))
+
+-- The up-cards of one seat open before those of another. The first street is opened by the lowest card, in razz by the
+-- highest; a later street by the best cards, in razz by the lowest.
+abbrev pub opens_before : Opener → Bool → List Card → List Card → Bool
+opens_before LowUp true a b = nat_lt (card_stands deck_place a) (card_stands deck_place b)
+opens_before HighUp true a b = nat_lt (card_stands razz_place b) (card_stands razz_place a)
+opens_before LowUp false a b = is_worse_high b a
+opens_before HighUp false a b = is_worse_low b a
+opens_before Blinds first a b = false
+
+-- the able seats
+abbrev pub able_seats : Setup → List Move → List ℕ
+able_seats setup moves = filter (is_able setup moves) (all_seats setup)
+
+-- the first of the able seats before which no other opens
+abbrev pub up_cards_opener : Setup → UpCards → List Move → ℕ → Option ℕ
+up_cards_opener setup ups moves street =
+    find (λ seat. not (list_any (λ other. opens_before (opener_of setup.code) (street == 1) (known_cards (ups other)) (known_cards (ups seat))) (able_seats setup moves))) (able_seats setup moves)
+
+-- an up-card of an able seat is unknown
+abbrev pub some_up_card_unknown : Setup → UpCards → List Move → Bool
+some_up_card_unknown setup ups moves = list_any (λ seat. list_any is_unknown (ups seat)) (able_seats setup moves)
+
+-- who opens a street
+abbrev pub opener_by : Opener → Setup → UpCards → List Move → ℕ → InTurn
+opener_by Blinds setup ups moves street = TheSeat (blinds_opener setup street)
+opener_by LowUp setup ups moves street = if some_up_card_unknown setup ups moves then Undecided else in_turn (up_cards_opener setup ups moves street)
+opener_by HighUp setup ups moves street = if some_up_card_unknown setup ups moves then Undecided else in_turn (up_cards_opener setup ups moves street)

@@ -1,0 +1,54 @@
+-- What is read from a game's table: its limit, who opens, its deck, and what a street deals, draws and bets.
+use Rattle.std.specs.Prelude.{ℕ, ◌-◌, Bool, true, false, slice_get}
+use Rattle.std.specs.Option.{option_map_or}
+use Rattle.play_event.specs.declared.code.Code.{Code}
+use Rattle.play_event.specs.declared.setup.Setup.{Setup}
+use Rattle.play_event.specs.Games.{Limit, Opener, Blinds, LowUp, HighUp, Size, Small, Big, Least, game_of}
+
+-- what bounds a raise
+abbrev pub limit_of : Code → Limit
+limit_of code = (game_of code).limit
+
+-- who moves first
+abbrev pub opener_of : Code → Opener
+opener_of code = (game_of code).opener
+
+-- how many cards the deck has
+abbrev pub deck_of : Code → ℕ
+deck_of code = (game_of code).deck
+
+-- how many cards the street with this number, from 1, deals face down to each live seat
+abbrev pub down_cards_on : Code → ℕ → ℕ
+down_cards_on code street = option_map_or (λ s. s.down) (slice_get (game_of code).streets (street - 1)) 0
+
+-- how many it deals face up
+abbrev pub up_cards_on : Code → ℕ → ℕ
+up_cards_on code street = option_map_or (λ s. s.up) (slice_get (game_of code).streets (street - 1)) 0
+
+-- the street draws
+abbrev pub draws_on : Code → ℕ → Bool
+draws_on code street = option_map_or (λ s. s.draws) (slice_get (game_of code).streets (street - 1)) false
+
+-- the bet size of the street
+abbrev pub size_on : Code → ℕ → Size
+size_on code street = option_map_or (λ s. s.size) (slice_get (game_of code).streets (street - 1)) Least
+
+-- a bet of this size, in chips
+abbrev pub chips_of_size : Setup → Size → ℕ
+chips_of_size setup Small = setup.small_bet
+chips_of_size setup Big = setup.big_bet
+chips_of_size setup Least = setup.min_bet
+
+-- the unit of a street: the small or big bet in fixed limit, and the least bet in the other limits
+abbrev pub unit : Setup → ℕ → ℕ
+unit setup street = chips_of_size setup (size_on setup.code street)
+
+-- games without blinds begin with a bring-in: those that are opened by up-cards
+abbrev pub opens_by_up_cards : Opener → Bool
+opens_by_up_cards Blinds = false
+opens_by_up_cards LowUp = true
+opens_by_up_cards HighUp = true
+
+-- the game is a game of stud
+abbrev pub is_stud : Code → Bool
+is_stud code = opens_by_up_cards (opener_of code)

@@ -1,0 +1,26 @@
+-- The cards on the table after a past: the places of its deals, as discards, folds and shows left them.
+use Rattle.std.specs.Prelude.{if◌then◌else◌, List, [], ◌∷◌, map, Some, None}
+use Rattle.card_set.specs.declared.card.Slot.TheVariants as slots
+use Rattle.play_event.specs.declared.code.Code.{Code}
+use Rattle.play_event.specs.Past.{Past, Resolved, Dealt, Boarded, Moved, Discarded, Shown, Mucked, is_fold}
+use Rattle.play_event.specs.Openers.{UpCards}
+use Rattle.play_event.specs.Places.{Place, after_deal, after_fold, up_slots}
+use Rattle.play_event.specs.Naming.{after_discard, after_show}
+
+-- the places after one event more
+abbrev pub places_after : Code → Resolved → List Place → List Place
+places_after code (Dealt street seat cards) placed = after_deal code (Some seat) street cards placed
+places_after code (Boarded street cards) placed = after_deal code None street (map (λ card. slots.Known card) cards) placed
+places_after code (Moved move) placed = if is_fold move.act then after_fold move.seat placed else placed
+places_after code (Discarded street seat cards) placed = after_discard street seat cards placed
+places_after code (Shown street seat cards) placed = after_show code seat cards placed
+places_after code (Mucked street seat) placed = placed
+
+-- the places of a past, in the order of dealing
+abbrev pub places_of : Code → Past → List Place
+places_of code [] = []
+places_of code (event ∷ before) = places_after code event (places_of code before)
+
+-- the up-cards of each seat, as far as they are known
+abbrev pub up_cards : Code → Past → UpCards
+up_cards code past = up_slots code (places_of code past)

@@ -1,0 +1,58 @@
+-- To which amounts a seat that may raise may go, by the limit of the game.
+use Rattle.std.specs.Prelude.{ℕ, Bool, ◌+◌, ◌&&◌, ◌||◌, ◌==◌, min, max, nat_lt, nat_le, if◌then◌else◌, List, [], ◌∷◌}
+use Rattle.std.specs.List.{list_any}
+use Rattle.play_event.specs.declared.setup.Setup.{Setup}
+use Rattle.play_event.specs.declared.setup.Reopen.{Reopen}
+use Rattle.play_event.specs.declared.setup.Reopen.TheVariants as reopen
+use Rattle.play_event.specs.Games.{Limit, Fixed, Pot, NoLimit}
+use Rattle.play_event.specs.Streets.{limit_of, unit}
+use Rattle.play_event.specs.Past.{Move}
+use Rattle.play_event.specs.Chips.{all_in}
+use Rattle.play_event.specs.Price.{price, owed, full_raise, greatest, doubled_raises, starting_price, full_bet, all_chips_put}
+
+-- The least target of a raise in no limit that is not all-in. Where betting always reopens, it is the starting price
+-- and the least bet, or what doubles the greatest step of this street.
+abbrev pub floor : Reopen → Setup → List Move → ℕ → ℕ
+floor reopen.Full setup moves street = price setup moves street + full_raise setup moves street
+floor reopen.Always setup moves street = max (starting_price setup street + setup.min_bet) (greatest (doubled_raises setup moves street))
+
+-- the greatest target in pot limit: the price, and all chips that are there after a call, or a full raise where that is more
+abbrev pub pot_ceiling : Setup → List Move → ℕ → ℕ → ℕ
+pot_ceiling setup moves street seat =
+    max (price setup moves street + full_raise setup moves street) (price setup moves street + all_chips_put setup moves + owed setup moves street seat)
+
+-- one target where it is above the price, and none else
+abbrev pub above_price : ℕ → ℕ → List ℕ
+above_price the_price target = if nat_lt the_price target then (target ∷ []) else []
+
+-- the full targets in fixed limit: one unit, where the price is less; else one unit above the price, and one above the last full bet
+abbrev pub full_targets : Setup → List Move → ℕ → List ℕ
+full_targets setup moves street =
+    if nat_lt (price setup moves street) (unit setup street) then (unit setup street ∷ [])
+    else ((price setup moves street + unit setup street) ∷ above_price (price setup moves street) (full_bet setup moves street + unit setup street))
+
+-- the legal targets: from the least raise up to all-in or the limit's greatest, and all-in itself where the limit reaches so far
+abbrev pub is_target_in : Limit → Reopen → Setup → List Move → ℕ → ℕ → ℕ → Bool
+is_target_in NoLimit reopens setup moves street seat target =
+    (nat_le (floor reopens setup moves street) target && nat_le target (all_in setup moves street seat))
+    || (target == all_in setup moves street seat)
+is_target_in Pot reopens setup moves street seat target =
+    (nat_le (price setup moves street + full_raise setup moves street) target && nat_le target (min (all_in setup moves street seat) (pot_ceiling setup moves street seat)))
+    || ((target == all_in setup moves street seat) && nat_le target (pot_ceiling setup moves street seat))
+is_target_in Fixed reopens setup moves street seat target =
+    (list_any (λ full. target == full) (full_targets setup moves street) && nat_le target (all_in setup moves street seat))
+    || ((target == all_in setup moves street seat) && nat_lt target (greatest (full_targets setup moves street)))
+
+-- the greatest legal target: all-in, or less where the limit bounds it
+abbrev pub greatest_target_in : Limit → Setup → List Move → ℕ → ℕ → ℕ
+greatest_target_in NoLimit setup moves street seat = all_in setup moves street seat
+greatest_target_in Pot setup moves street seat = min (all_in setup moves street seat) (pot_ceiling setup moves street seat)
+greatest_target_in Fixed setup moves street seat = min (all_in setup moves street seat) (greatest (full_targets setup moves street))
+
+-- a target is legal in the game of the hand
+abbrev pub is_legal_target : Reopen → Setup → List Move → ℕ → ℕ → ℕ → Bool
+is_legal_target reopens setup moves street seat target = is_target_in (limit_of setup.code) reopens setup moves street seat target
+
+-- the greatest legal target in the game of the hand
+abbrev pub greatest_target : Setup → List Move → ℕ → ℕ → ℕ
+greatest_target setup moves street seat = greatest_target_in (limit_of setup.code) setup moves street seat

@@ -1,0 +1,84 @@
+-- What the trace of a hand keeps of its past: the moves, the places of the cards, and who showed and who mucked.
+use Rattle.std.specs.Prelude.{ℕ, Bool, ◌&&◌, nat_le, not, List, [], ◌∷◌, ◌++◌, map, filter, flat_map, Option, Some, None}
+use Rattle.std.specs.List.{list_any, range_with_len}
+use Rattle.play_event.specs.declared.setup.Setup.{Setup}
+use Rattle.play_event.specs.Games.{Limit, Fixed, Pot, NoLimit, street_count}
+use Rattle.play_event.specs.Streets.{limit_of}
+use Rattle.play_event.specs.Past.{Past, Move, Act, moves_of, is_raise}
+use Rattle.play_event.specs.Seats.{is_live, live_count, all_seats}
+use Rattle.play_event.specs.Price.{price}
+use Rattle.play_event.specs.Amounts.{unit_target}
+use Rattle.play_event.specs.Raising.{is_closed}
+use Rattle.play_event.specs.Showing.{has_mucked}
+use Rattle.play_event.specs.Openers.{is_unknown}
+use Rattle.play_event.specs.Places.{Place, is_in_group, is_held_by}
+use Rattle.play_event.specs.Table.{places_of}
+
+-- A move of the trace: the chips of the street that its seat had put before it and after it; the price before it; whether
+-- it needs rules by which betting always reopens; and where a raise by the unit would have gone in fixed limit, or 0.
+pub record TracedMove : Type 0 where
+  pub street : ℕ
+  pub seat : ℕ
+  pub act : Act
+  pub from : ℕ
+  pub to : ℕ
+  pub price : ℕ
+  pub closed : Bool
+  pub unit_to : ℕ
+
+-- where a raise by the unit goes, in fixed limit alone
+abbrev pub unit_target_in : Limit → Setup → List Move → ℕ → ℕ → ℕ
+unit_target_in Fixed setup moves street seat = unit_target setup moves street seat
+unit_target_in Pot setup moves street seat = 0
+unit_target_in NoLimit setup moves street seat = 0
+
+-- a move after those before it
+abbrev pub traced_move : Setup → Move → List Move → TracedMove
+traced_move setup move before =
+    record {
+      street = move.street;
+      seat = move.seat;
+      act = move.act;
+      from = move.from;
+      to = move.to;
+      price = price setup before move.street;
+      closed = is_raise move.act && is_closed setup before move.street move.seat move.to;
+      unit_to = unit_target_in (limit_of setup.code) setup before move.street move.seat;
+    }
+
+-- the moves, the oldest first
+abbrev pub traced_moves : Setup → List Move → List TracedMove
+traced_moves setup [] = []
+traced_moves setup (move ∷ before) = traced_moves setup before ++ traced_move setup move before ∷ []
+
+-- the owners of cards: the seats from p1 upward, and then the board
+abbrev pub owners : Setup → List (Option ℕ)
+owners setup = map Some (all_seats setup) ++ None ∷ []
+
+-- the streets of the game
+abbrev pub streets_of : Setup → List ℕ
+streets_of setup = range_with_len 1 (street_count setup.code)
+
+-- the places of one street, owner by owner
+abbrev pub places_on : Setup → List Place → ℕ → List Place
+places_on setup placed street = flat_map (λ owner. filter (is_in_group owner street) placed) (owners setup)
+
+-- the places by street, then by owner, then in the order of dealing
+abbrev pub traced_places : Setup → Past → List Place
+traced_places setup past = flat_map (places_on setup (places_of setup.code past)) (streets_of setup)
+
+-- the hand is contested: two or more seats are live at its end
+abbrev pub is_contested : Setup → Past → Bool
+is_contested setup past = nat_le 2 (live_count setup (moves_of past))
+
+-- a card that a seat holds is unknown
+abbrev pub holds_unknown : Setup → Past → ℕ → Bool
+holds_unknown setup past seat = list_any (λ place. is_held_by seat place && is_unknown place.slot) (places_of setup.code past)
+
+-- a live seat of a contested hand is shown where it did not muck and all its cards are known
+abbrev pub is_shown : Setup → Past → ℕ → Bool
+is_shown setup past seat = is_contested setup past && is_live (moves_of past) seat && not (has_mucked past seat) && not (holds_unknown setup past seat)
+
+-- else it is mucked
+abbrev pub is_mucked : Setup → Past → ℕ → Bool
+is_mucked setup past seat = is_contested setup past && is_live (moves_of past) seat && not (is_shown setup past seat)
