@@ -1,5 +1,5 @@
 -- The best worth of the seats that contend is above none of them, and is that of one of them: those that have it are the winners.
-use Rattle.std.proofs.Common.{◌≡◌, ◌≢◌, ◌<◌, ◌≤◌, ℕ, zero, suc, ◌+◌, ◌==◌, ◌&&◌, Bool, true, false, cond, IsTrue, ◌⊎◌, inl, inr, Option, Some, None, if◌then◌else◌, max, refl, sym, ◌∙◌, ap, subst, arith, ⊎_elim, ◌↔◌}
+use Rattle.std.proofs.Common.{◌≡◌, ◌<◌, ◌≤◌, ℕ, zero, suc, ◌+◌, ◌&&◌, Bool, true, false, ◌⊎◌, inl, inr, Option, Some, None, if◌then◌else◌, max, refl, sym, ◌∙◌, ap, subst, arith}
 use Rattle.std.specs.Option.{is_some}
 use Rattle.std.proofs.lemmas.Bool.{and_from, and_parts, cases_lt, eq-eqb, eqb-true}
 use Rattle.std.proofs.lemmas.Option.{same_Some}
@@ -117,10 +117,12 @@ has_best contending worth seats seat = contending seat && same_worth (worth seat
 pub best_win : (seats : ℕ) (contending : ℕ → Bool) (worth : ℕ → Option ℕ) → ((n : ℕ) → contending n ≡ true → (1 ≤ n) × (n ≤ seats)) → TellsWinners contending (λ seat other. IsLess (worth other) (worth seat)) (has_best contending worth seats)
 best_win seats contending worth inside seat = (
   λ wins.
-      let parts = and_parts (contending seat) (same_worth (worth seat) (best_to contending worth seats)) wins in
-      (parts.0, λ other contends less.
-          let range = inside other contends in
-          best_above contending worth seats other range.0 range.1 contends (subst (λ (w : Option ℕ). IsLess w (worth other)) (same_equal (worth seat) (best_to contending worth seats) parts.1) less)),
+      let parts = and_parts (contending seat) (same_worth (worth seat) (best_to contending worth seats)) wins in (
+        parts.0,
+        λ other contends less.
+            let range = inside other contends in
+            best_above contending worth seats other range.0 range.1 contends (subst (λ (w : Option ℕ). IsLess w (worth other)) (same_equal (worth seat) (best_to contending worth seats) parts.1) less),
+      ),
   λ unbeaten.
       let range = inside seat unbeaten.0 in
       and_from (contending seat) (same_worth (worth seat) (best_to contending worth seats)) unbeaten.0 (best_of_unbeaten contending worth seats seat range.0 range.1 unbeaten.0 unbeaten.1),

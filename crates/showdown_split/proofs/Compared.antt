@@ -1,7 +1,7 @@
 -- Shares stay those of a pot where the same seats contend and compare in the same way.
-use Rattle.std.proofs.Common.{◌≡◌, ◌≤◌, ◌/◌, ◌-◌, ℕ, Bool, IsTrue, ◌⊎◌, inl, inr, refl, sym, ◌∙◌, ◌↔◌}
+use Rattle.std.proofs.Common.{◌≡◌, ◌/◌, ◌-◌, ℕ, Bool, IsTrue, inl, inr, refl, sym, ◌∙◌, ◌↔◌}
 use Rattle.chip_ledger.specs.Pots.{PlainPot}
-use Rattle.variant_table.specs.Division.{AreHalves, AreParts, TellsWinners}
+use Rattle.variant_table.specs.Division.{AreParts, TellsWinners}
 use Rattle.variant_table.specs.Shares.{AreContested, AreShares, IsLowShown, Ranking}
 use Rattle.showdown_split.specs.Alike.{AreAlike}
 
@@ -27,13 +27,16 @@ same_contested seats p q a b chips share same alike (inl (none, are)) =
 same_contested seats p q a b chips share same alike (inr ((seat, contends, has), are)) =
     let here = sym (same seat) ∙ contends in
     let shown : IsLowShown q b = (seat, here, (alike.has_low seat here).0 has) in
-    inr (shown, record {
-      high = are.high;
-      low = are.low;
-      high_parts = same_parts seats p q a.beats b.beats (chips - chips / 2) are.high same alike.beats are.high_parts;
-      low_parts = same_parts seats p q a.beats_low b.beats_low (chips / 2) are.low same (alike.beats_low shown) are.low_parts;
-      together = are.together;
-    })
+    inr (
+      shown,
+      record {
+        high = are.high;
+        low = are.low;
+        high_parts = same_parts seats p q a.beats b.beats (chips - chips / 2) are.high same alike.beats are.high_parts;
+        low_parts = same_parts seats p q a.beats_low b.beats_low (chips / 2) are.low same (alike.beats_low shown) are.low_parts;
+        together = are.together;
+      },
+    )
 
 -- the shares of a pot by one ranking are those by another that says the same
 pub same_shares : (seats : ℕ) (contending : ℕ → Bool) (a b : Ranking) (pot : PlainPot) (share : ℕ → ℕ) → AreAlike contending a b → AreShares seats contending a pot share → AreShares seats contending b pot share

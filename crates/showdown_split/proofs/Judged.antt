@@ -1,12 +1,12 @@
 -- By their worths in a lawful order seats compare as the order of the game says.
-use Rattle.std.proofs.Common.{◌≡◌, ◌≤◌, ◌++◌, ℕ, Bool, true, false, IsTrue, List, Option, Some, None, ◌↔◌, inl, inr, refl, sym, ◌∙◌, ap, subst}
+use Rattle.std.proofs.Common.{◌≡◌, ◌++◌, ℕ, Bool, true, false, IsTrue, List, Option, Some, None, ◌↔◌, inl, inr, refl, sym, ◌∙◌, ap}
 use Rattle.std.specs.Option.{is_some}
 use Rattle.std.proofs.lemmas.Bool.{true≢false}
 use Rattle.card_set.specs.declared.card.Card.{Card}
 use Rattle.card_set.specs.Different.{AllDifferent}
 use Rattle.hand_order.specs.declared.best.Pick.{Pick}
-use Rattle.hand_order.specs.Best.{Beats, HasNoHand, IsBest, IsLess, IsWorth}
-use Rattle.hand_order.specs.Choices.{AreHeld, CanPick, IsAmong, allowed}
+use Rattle.hand_order.specs.Best.{Beats, IsBest, IsLess, IsWorth}
+use Rattle.hand_order.specs.Choices.{AreHeld, CanPick, allowed}
 use Rattle.hand_order.specs.Order.{IsLawful}
 use Rattle.hand_order.proofs.Held.{held_allowed}
 use Rattle.hand_order.proofs.Lawful.{beats_exactly}

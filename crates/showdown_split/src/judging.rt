@@ -10,20 +10,16 @@ ghost use Rattle.showdown_split.specs.Alike.{AreJudged};
 ghost use Rattle.showdown_split.specs.Hands.{holding, showdown_of};
 ghost use Rattle.showdown_split.specs.Scores.{worth_of};
 
-use crate::hands::{HandRow, known_row};
+use crate::known::known_row;
 use crate::scores::Scores;
 use card_set::CardRow;
 use chip_ledger::{LiveRow, Seat};
 use hand_order::{HandOrder, Pick, Score, best_of};
+use play_event::HandRow;
 use variant_table::Variant;
 
 // The score of a seat.
-fn score_of<O: HandOrder>(
-    hands: &HandRow,
-    board: &CardRow,
-    pick: Pick,
-    seat: Seat,
-) -> Option<Score>
+fn score_of<O: HandOrder>(hands: &HandRow, board: &CardRow, pick: Pick, seat: Seat) -> Option<Score>
     requires in_row { seat.number ≤ hands.now.seats }
     requires usable { CanPick O.HELD pick (holding hands.now seat.number) (cards_of board.now) }
     requires different { AllDifferent (holding hands.now seat.number ++ cards_of board.now) }
@@ -35,12 +31,7 @@ fn score_of<O: HandOrder>(
 }
 
 // The scores of the shown seats in an order.
-fn scores_of<O: HandOrder>(
-    hands: &HandRow,
-    board: &CardRow,
-    shown: &LiveRow,
-    pick: Pick,
-) -> Scores
+fn scores_of<O: HandOrder>(hands: &HandRow, board: &CardRow, shown: &LiveRow, pick: Pick) -> Scores
     requires seats { hands.now.seats ≡ shown.now.seats }
     requires usable { (n : ℕ) → 1 ≤ n → n ≤ shown.now.seats → flag_of shown.now n ≡ true
         → CanPick O.HELD pick (holding hands.now n) (cards_of board.now) }
@@ -48,7 +39,7 @@ fn scores_of<O: HandOrder>(
         → AllDifferent (holding hands.now n ++ cards_of board.now) }
     ensures { (n : ℕ) → 1 ≤ n → n ≤ shown.now.seats → flag_of shown.now n ≡ true
         → IsWorth O.is_hand O.is_weaker O.points
-            (allowed pick (holding hands.now n) (cards_of board.now)) (worth_of result n) }
+        (allowed pick (holding hands.now n) (cards_of board.now)) (worth_of result n) }
 {
     let mut scores = Scores::new();
     for index in 0..shown.seats {
@@ -69,7 +60,7 @@ fn low_scores<V: Variant>(hands: &HandRow, board: &CardRow, shown: &LiveRow) -> 
         → AllDifferent (holding hands.now n ++ cards_of board.now) }
     ensures two { V.SPLIT ≡ true → (n : ℕ) → 1 ≤ n → n ≤ shown.now.seats → flag_of shown.now n ≡ true
         → IsWorth V.Second.is_hand V.Second.is_weaker V.Second.points
-            (allowed V.PICK (holding hands.now n) (cards_of board.now)) (worth_of result n) }
+        (allowed V.PICK (holding hands.now n) (cards_of board.now)) (worth_of result n) }
     ensures one { V.SPLIT ≡ false → (n : ℕ) → worth_of result n ≡ None }
 {
     if V::SPLIT {

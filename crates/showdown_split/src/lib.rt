@@ -14,18 +14,16 @@ ghost use Rattle.showdown_split.specs.Hands.{holding, showdown_of};
 ghost use Rattle.showdown_split.specs.Split.{AllShared};
 
 mod division;
-mod hands;
 mod judging;
+mod known;
 mod pot;
-
 mod scores;
 mod winners;
-
-pub use hands::HandRow;
 
 use card_set::CardRow;
 use chip_ledger::{LiveRow, PotRow, ShareRow};
 use judging::judged;
+use play_event::HandRow;
 use pot::shares_of;
 use variant_table::Variant;
 

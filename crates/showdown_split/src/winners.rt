@@ -46,7 +46,7 @@ pub fn winners(contending: &LiveRow, scores: &Scores) -> LiveRow
     ensures seats { result.seats ≡ contending.now.seats }
     ensures flags { (n : ℕ) → 1 ≤ n → n ≤ contending.now.seats → flag_of result n
         ≡ (flag_of contending.now n && same_worth (worth_of scores.now n)
-            (best_to (flag_of contending.now) (worth_of scores.now) contending.now.seats)) }
+        (best_to (flag_of contending.now) (worth_of scores.now) contending.now.seats)) }
 {
     let most = best(contending, scores);
     let mut row = LiveRow::new(contending.seats);

@@ -1,5 +1,5 @@
 -- By the scores the shown seats compare as in the game.
-use Rattle.std.proofs.Common.{◌≡◌, ◌≤◌, ◌++◌, ℕ, Bool, true, false, IsTrue, None, ◌↔◌, refl, sym, ◌∙◌, ap, subst}
+use Rattle.std.proofs.Common.{◌≡◌, ℕ, true, IsTrue, ◌↔◌, sym, ◌∙◌, ap, subst}
 use Rattle.std.specs.Option.{is_some}
 use Rattle.card_set.specs.Row.{cards_of}
 use Rattle.hand_order.specs.declared.best.Pick.{Pick}

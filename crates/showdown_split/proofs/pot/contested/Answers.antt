@@ -1,5 +1,5 @@
 -- Without a low hand all chips go to the high winners, and else each half to its own.
-use Rattle.std.proofs.Common.{◌≡◌, ◌-◌, ◌/◌, None, Some, sym, ◌∙◌, ap, arith, inl, inr}
+use Rattle.std.proofs.Common.{◌-◌, ◌/◌, sym, ◌∙◌, ap, arith, inl, inr}
 use Rattle.std.specs.Option.{option_map}
 use Rattle.hand_order.specs.declared.order.Score.{Score}
 use Rattle.chip_ledger.specs.SeatRow.{amount_of}
@@ -41,10 +41,13 @@ returns-in-Some-clause-shares c =
     let first = c.winners-in-Some in
     let second = c.winners-in-Some-2 in
     let same = c.divide-in-Some.ensures.seats ∙ first.ensures.seats in
-    inr (low_shown row.seats (is_flagged row) high low c.in-Some.field-0.value best, record {
-      high = amount_of c.divide-in-Some.result;
-      low = amount_of c.divide-in-Some-2.result;
-      high_parts = marked_parts row first.result high (c.args.chips - c.args.chips / 2) (amount_of c.divide-in-Some.result) first.ensures.seats first.ensures.flags c.divide-in-Some.ensures.parts;
-      low_parts = marked_parts row second.result low (c.args.chips / 2) (amount_of c.divide-in-Some-2.result) second.ensures.seats second.ensures.flags c.divide-in-Some-2.ensures.parts;
-      together = λ n first_seat last_seat. c.together.ensures.sums n first_seat (omega (arith, same, last_seat));
-    })
+    inr (
+      low_shown row.seats (is_flagged row) high low c.in-Some.field-0.value best,
+      record {
+        high = amount_of c.divide-in-Some.result;
+        low = amount_of c.divide-in-Some-2.result;
+        high_parts = marked_parts row first.result high (c.args.chips - c.args.chips / 2) (amount_of c.divide-in-Some.result) first.ensures.seats first.ensures.flags c.divide-in-Some.ensures.parts;
+        low_parts = marked_parts row second.result low (c.args.chips / 2) (amount_of c.divide-in-Some-2.result) second.ensures.seats second.ensures.flags c.divide-in-Some-2.ensures.parts;
+        together = λ n first_seat last_seat. c.together.ensures.sums n first_seat (omega (arith, same, last_seat));
+      },
+    )
