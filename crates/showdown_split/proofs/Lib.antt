@@ -7,3 +7,4 @@ pub mod Flagged
 pub mod Contests
 pub mod Judged
 pub mod Splitting
+pub mod Playable

@@ -4,4 +4,5 @@ pub mod Hands
 pub mod Scores
 pub mod Worths
 pub mod Alike
+pub mod Playable
 pub mod Split

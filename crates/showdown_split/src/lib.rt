@@ -18,6 +18,8 @@ mod judging;
 mod known;
 mod pot;
 mod scores;
+#[cfg(test)]
+mod tests;
 mod winners;
 
 use card_set::CardRow;
