@@ -8,3 +8,4 @@ pub mod Contests
 pub mod Judged
 pub mod Splitting
 pub mod Playable
+pub mod ShareLaws

@@ -1,6 +1,7 @@
 -- One pot more is shared, or it is the first without a shown hand.
-use Rattle.std.proofs.Common.{◌≡◌, ◌<◌, ◌+◌, ℕ, suc, Bool, true, false, List, [], ◌∷◌, ◌++◌, Some, None, length, length-take, map, take, drop, take-append-drop, get_or, if◌then◌else◌, sym, ◌∙◌, ap, arith}
+use Rattle.std.proofs.Common.{◌≡◌, ◌<◌, ◌+◌, ℕ, suc, Bool, true, false, List, [], ◌∷◌, ◌++◌, Some, None, All, length, length-take, map, take, drop, take-append-drop, get_or, if◌then◌else◌, sym, ◌∙◌, ap, arith}
 use Rattle.std.proofs.lemmas.List.{length-map, map-append, take_more}
+use Rattle.std.proofs.lemmas.List.Elements.{All-push}
 use Rattle.chip_ledger.specs.declared.pots.Pot.{Pot}
 use Rattle.chip_ledger.specs.declared.rows.SeatRow.{SeatRow}
 use Rattle.chip_ledger.specs.PotRow.{plain}
@@ -10,11 +11,22 @@ use Rattle.play_event.specs.declared.code.Code.{Code}
 use Rattle.variant_table.specs.Shares.{AreSharesOf, Showdown, first_unshown, first_unshown_from, is_unshown}
 use Rattle.showdown_split.specs.Split.{AllShared}
 
-pub shared_more : (code : Code) (showdown : Showdown) (pots : List PlainPot) (rows : List SeatRow) (pot : PlainPot) (row : SeatRow) → AllShared code showdown pots rows → AreSharesOf code showdown pot (amount_of row) → AllShared code showdown (pots ++ pot ∷ []) (rows ++ row ∷ [])
+shared_more : (code : Code) (showdown : Showdown) (pots : List PlainPot) (rows : List SeatRow) (pot : PlainPot) (row : SeatRow) → AllShared code showdown pots rows → AreSharesOf code showdown pot (amount_of row) → AllShared code showdown (pots ++ pot ∷ []) (rows ++ row ∷ [])
 shared_more code showdown [] [] pot row all one = (one, tt)
 shared_more code showdown [] (r ∷ rows) pot row all one = absurd all
 shared_more code showdown (p ∷ pots) [] pot row all one = absurd all
 shared_more code showdown (p ∷ pots) (r ∷ rows) pot row all one = (all.0, shared_more code showdown pots rows pot row all.1 one)
+
+-- the lists of pots and of shares, each with one more
+pub shared_next : (code : Code) (showdown : Showdown) (pots new_pots : List PlainPot) (rows new_rows : List SeatRow) (pot : PlainPot) (row : SeatRow) → new_pots ≡ pots ++ pot ∷ [] → new_rows ≡ rows ++ row ∷ [] → AllShared code showdown pots rows → AreSharesOf code showdown pot (amount_of row) → AllShared code showdown new_pots new_rows
+shared_next code showdown pots new_pots rows new_rows pot row next pushed all one =
+    subst (λ (xs : List PlainPot). AllShared code showdown xs new_rows) (sym next)
+    (subst (λ (ys : List SeatRow). AllShared code showdown (pots ++ pot ∷ []) ys) (sym pushed) (shared_more code showdown pots rows pot row all one))
+
+-- one row more of so many seats
+pub seats_next : (seats : ℕ) (rows new : List SeatRow) (row : SeatRow) → new ≡ rows ++ row ∷ [] → All (λ (r : SeatRow). r.seats ≡ seats) rows → row.seats ≡ seats → All (λ (r : SeatRow). r.seats ≡ seats) new
+seats_next seats rows new row pushed all one =
+    subst (λ (ys : List SeatRow). All (λ (r : SeatRow). r.seats ≡ seats) ys) (sym pushed) (All-push (λ (r : SeatRow). r.seats ≡ seats) rows row all one)
 
 -- one pot more that has a shown hand
 pub still_shown : (number : ℕ) (showdown : Showdown) (pots : List PlainPot) (pot : PlainPot) → first_unshown_from number showdown pots ≡ None → is_unshown showdown pot ≡ false → first_unshown_from number showdown (pots ++ pot ∷ []) ≡ None

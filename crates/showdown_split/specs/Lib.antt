@@ -4,5 +4,6 @@ pub mod Hands
 pub mod Scores
 pub mod Worths
 pub mod Alike
+pub mod Laws
 pub mod Playable
 pub mod Split

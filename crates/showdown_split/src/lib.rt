@@ -16,6 +16,7 @@ ghost use Rattle.showdown_split.specs.Split.{AllShared};
 mod division;
 mod judging;
 mod known;
+pub mod laws;
 mod pot;
 mod scores;
 #[cfg(test)]

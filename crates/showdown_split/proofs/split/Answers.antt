@@ -1,7 +1,6 @@
 -- Each turn shares one pot more, or finds the first without a shown hand.
 use Rattle.std.proofs.Common.{◌≡◌, ◌≤◌, ◌+◌, ◌++◌, ◌∷◌, [], ℕ, true, All, List, map, take, sym, ◌∙◌, ap, subst, arith}
 use Rattle.std.proofs.lemmas.Bool.{and_parts}
-use Rattle.std.proofs.lemmas.List.Elements.{All-push}
 use Rattle.chip_ledger.specs.declared.pots.Pot.{Pot}
 use Rattle.chip_ledger.specs.declared.rows.SeatRow.{SeatRow}
 use Rattle.chip_ledger.specs.LiveRow.{flag_of}
@@ -11,11 +10,10 @@ use Rattle.chip_ledger.specs.SeatRow.{amount_of}
 use Rattle.variant_table.specs.Shares.{contends, first_unshown, ranking_of}
 use Rattle.showdown_split.specs.Hands.{showdown_of}
 use Rattle.showdown_split.specs.Scores.{worth_of}
-use Rattle.showdown_split.specs.Split.{AllShared}
 use Rattle.showdown_split.specs.Worths.{ranking_by}
 use Rattle.showdown_split.proofs.Compared.{same_shares}
 use Rattle.showdown_split.proofs.Flagged.{flagged_inside}
-use Rattle.showdown_split.proofs.Splitting.{plain_more, shared_more, still_shown, totals_more, unshown_at}
+use Rattle.showdown_split.proofs.Splitting.{plain_more, seats_next, shared_next, still_shown, totals_more, unshown_at}
 use Rattle.showdown_split.proofs.split.Goals as goal
 
 pub returns-in-None-clause-first_unshown : goal.returns-in-None-clause-first_unshown
@@ -43,15 +41,11 @@ loop-pot-preserved g c =
     let range = flagged_inside pot.eligible n parts.0 in
     (range.0, omega (arith, range.1, same_seats), parts.1) in
     let one = same_shares shown.seats test (ranking_by (worth_of c.judged.result.0) (worth_of c.judged.result.1)) (ranking_of code showdown) (plain pot) (amount_of row) (c.judged.ensures test inside) c.in-Some.ensures.shares in
-    let all = shared_more code showdown before (shares_in c.loop-pot.shares) (plain pot) row c.loop-pot.invariant.shared one in
+    let pushed = c.push.ensures.shares in
     record {
       count = c.push.ensures.count ∙ ap (λ (n : ℕ). n + 1) c.loop-pot.invariant.count;
-      shared =
-          subst (λ (pots : List PlainPot). AllShared code showdown pots (shares_in c.push.new.self)) (sym next)
-          (subst (λ (rows : List SeatRow). AllShared code showdown (before ++ plain pot ∷ []) rows) (sym c.push.ensures.shares) all);
+      shared = shared_next code showdown before (map plain (take (i + 1) items)) (shares_in c.loop-pot.shares) (shares_in c.push.new.self) (plain pot) row next pushed c.loop-pot.invariant.shared one;
       shown = ap (first_unshown showdown) next ∙ still_shown 1 showdown before (plain pot) c.loop-pot.invariant.shown c.in-Some.ensures.some;
-      totals = totals_more (shares_in c.loop-pot.shares) (shares_in c.push.new.self) row items i pot c.push.ensures.shares c.loop-pot-test.true c.pot-item.is c.in-Some.ensures.total c.loop-pot.invariant.totals;
-      seats =
-          subst (λ (rows : List SeatRow). All (λ (r : SeatRow). r.seats ≡ shown.seats) rows) (sym c.push.ensures.shares)
-          (All-push (λ (r : SeatRow). r.seats ≡ shown.seats) (shares_in c.loop-pot.shares) row c.loop-pot.invariant.seats c.in-Some.ensures.seats);
+      totals = totals_more (shares_in c.loop-pot.shares) (shares_in c.push.new.self) row items i pot pushed c.loop-pot-test.true c.pot-item.is c.in-Some.ensures.total c.loop-pot.invariant.totals;
+      seats = seats_next shown.seats (shares_in c.loop-pot.shares) (shares_in c.push.new.self) row pushed c.loop-pot.invariant.seats c.in-Some.ensures.seats;
     }
