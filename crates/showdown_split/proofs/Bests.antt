@@ -1,5 +1,5 @@
 -- The best worth of the seats that contend is above none of them, and is that of one of them: those that have it are the winners.
-use Rattle.std.proofs.Common.{◌≡◌, ◌≢◌, ◌<◌, ◌≤◌, ℕ, zero, suc, ◌+◌, ◌==◌, ◌&&◌, Bool, true, false, cond, IsTrue, ◌⊎◌, inl, inr, Option, Some, None, if◌then◌else◌, max, refl, sym, ◌∙◌, ap, subst, arith, ⊎_elim, ◌↔◌}
+use Rattle.std.proofs.Common.{◌≡◌, ◌<◌, ◌≤◌, ℕ, zero, suc, ◌+◌, ◌&&◌, Bool, true, false, ◌⊎◌, inl, inr, Option, Some, None, if◌then◌else◌, max, refl, sym, ◌∙◌, ap, subst, arith}
 use Rattle.std.specs.Option.{is_some}
 use Rattle.std.proofs.lemmas.Bool.{and_from, and_parts, cases_lt, eq-eqb, eqb-true}
 use Rattle.std.proofs.lemmas.Option.{same_Some}

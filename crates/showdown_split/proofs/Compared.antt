@@ -1,14 +1,9 @@
 -- Shares stay those of a pot where the same seats contend and compare in the same way.
-use Rattle.std.proofs.Common.{◌≡◌, ◌≤◌, ◌/◌, ◌-◌, ℕ, Bool, IsTrue, ◌⊎◌, inl, inr, refl, sym, ◌∙◌, ◌↔◌}
+use Rattle.std.proofs.Common.{◌≡◌, ◌/◌, ◌-◌, ℕ, Bool, IsTrue, inl, inr, refl, sym, ◌∙◌, ◌↔◌}
 use Rattle.chip_ledger.specs.Pots.{PlainPot}
-use Rattle.variant_table.specs.Division.{AreHalves, AreParts, TellsWinners}
+use Rattle.variant_table.specs.Division.{AreParts, TellsWinners}
 use Rattle.variant_table.specs.Shares.{AreContested, AreShares, IsLowShown, Ranking}
-
--- two rankings say the same of the seats that contend
-pub record AreAlike (contending : ℕ → Bool) (a b : Ranking) : Type 0 where
-  pub beats : (m n : ℕ) → IsTrue (contending m) → IsTrue (contending n) → a.beats m n ↔ b.beats m n
-  pub beats_low : (m n : ℕ) → IsTrue (contending m) → IsTrue (contending n) → a.beats_low m n ↔ b.beats_low m n
-  pub has_low : (n : ℕ) → IsTrue (contending n) → a.has_low n ↔ b.has_low n
+use Rattle.showdown_split.specs.Alike.{AreAlike}
 
 same_winners : (p q wins : ℕ → Bool) (a b : ℕ → ℕ → Type 0) → ((n : ℕ) → p n ≡ q n) → ((m n : ℕ) → IsTrue (q m) → IsTrue (q n) → a m n ↔ b m n) → TellsWinners p a wins → TellsWinners q b wins
 same_winners p q wins a b same alike told seat = (
@@ -31,13 +26,14 @@ same_contested seats p q a b chips share same alike (inl (none, are)) =
     inl (λ (seat, contends, has). none (seat, same seat ∙ contends, (alike.has_low seat contends).1 has), same_parts seats p q a.beats b.beats chips share same alike.beats are)
 same_contested seats p q a b chips share same alike (inr ((seat, contends, has), are)) =
     let here = sym (same seat) ∙ contends in
+    let shown : IsLowShown q b = (seat, here, (alike.has_low seat here).0 has) in
     inr (
-      (seat, here, (alike.has_low seat here).0 has),
+      shown,
       record {
         high = are.high;
         low = are.low;
         high_parts = same_parts seats p q a.beats b.beats (chips - chips / 2) are.high same alike.beats are.high_parts;
-        low_parts = same_parts seats p q a.beats_low b.beats_low (chips / 2) are.low same alike.beats_low are.low_parts;
+        low_parts = same_parts seats p q a.beats_low b.beats_low (chips / 2) are.low same (alike.beats_low shown) are.low_parts;
         together = are.together;
       },
     )
@@ -55,6 +51,6 @@ same_shares seats contending a b pot share alike (inr shown) = inr (record {
 pub alike_itself : (contending : ℕ → Bool) (a : Ranking) → AreAlike contending a a
 alike_itself contending a = record {
   beats = λ m n first second. (λ h. h, λ h. h);
-  beats_low = λ m n first second. (λ h. h, λ h. h);
+  beats_low = λ shown m n first second. (λ h. h, λ h. h);
   has_low = λ n contends. (λ h. h, λ h. h);
 }

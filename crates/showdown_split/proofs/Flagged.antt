@@ -1,8 +1,10 @@
 -- The flagged seats of a row, counted and found.
-use Rattle.std.proofs.Common.{◌≡◌, ◌≢◌, ◌<◌, ◌≤◌, ℕ, zero, suc, ◌+◌, ◌*◌, ◌==◌, ◌&&◌, ◌||◌, Bool, true, false, cond, List, [], ◌∷◌, ◌++◌, length, filter, sum_by, if◌then◌else◌, refl, sym, ◌∙◌, ap, subst, arith, ⊎_elim, length-append}
+use Rattle.std.proofs.Common.{◌≡◌, ◌≢◌, ◌<◌, ◌≤◌, ℕ, zero, suc, ◌+◌, ◌-◌, ◌*◌, ◌==◌, ◌&&◌, ◌||◌, Bool, true, false, cond, List, [], ◌∷◌, length, filter, sum_by, if◌then◌else◌, get_or, refl, sym, ◌∙◌, ap, arith, ⊎_elim, length-append}
 use Rattle.std.specs.List.{list_any, range_with_len}
-use Rattle.std.proofs.lemmas.Bool.{and_from, and_parts, eq-eqb, eqb-true, or_cases}
+use Rattle.std.proofs.lemmas.Bool.{and_parts, eq-eqb, eqb-true, or_cases}
 use Rattle.std.proofs.lemmas.List.Elements.{filter-append}
+use Rattle.std.proofs.lemmas.List.Folds.{list_any_at}
+use Rattle.std.proofs.lemmas.List.FromFn.{get_or-range_with_len, length-range_with_len}
 use Rattle.std.proofs.Math.Nat.{mul-suc, mul-zero}
 use Rattle.chip_ledger.specs.declared.rows.LiveRow.{LiveRow}
 use Rattle.chip_ledger.specs.LiveRow.{flag_of, flagged}
@@ -118,3 +120,14 @@ several_flagged row some not_one = several (flagged row) some (λ one. not_one (
     several [] some not_one = absurd (some refl)
     several (x ∷ []) some not_one = absurd (not_one refl)
     several (x ∷ y ∷ rest) some not_one = omega arith
+
+-- where a seat passes a test it passes among the seats
+pub some_passes : (p : ℕ → Bool) (seats n : ℕ) → 1 ≤ n → n ≤ seats → p n ≡ true → list_any p (seats_of seats) ≡ true
+some_passes p seats n low high passes =
+    let at : get_or (seats_of seats) (n - 1) 0 ≡ n = get_or-range_with_len 1 seats (n - 1) 0 (omega arith) ∙ omega arith in
+    let long = length-range_with_len 1 seats in
+    list_any_at p (seats_of seats) (n - 1) 0 (omega arith) (ap p at ∙ passes)
+
+pub and_false : (b : Bool) → (b && false) ≡ false
+and_false true = refl
+and_false false = refl

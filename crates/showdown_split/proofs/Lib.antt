@@ -5,3 +5,7 @@ pub mod Bests
 pub mod Compared
 pub mod Flagged
 pub mod Contests
+pub mod Judged
+pub mod Splitting
+pub mod Playable
+pub mod ShareLaws

@@ -1,5 +1,5 @@
 -- The cards that are known among slots.
-use Rattle.std.specs.Prelude.{Bool, true, false, List, [], ◌∷◌}
+use Rattle.std.specs.Prelude.{List, [], ◌∷◌}
 use Rattle.card_set.specs.declared.card.Card.{Card}
 use Rattle.card_set.specs.declared.card.Slot.{Slot}
 use Rattle.card_set.specs.declared.card.Slot.TheVariants as slots
@@ -9,9 +9,3 @@ abbrev pub known_cards : List Slot → List Card
 known_cards [] = []
 known_cards (slots.Known card ∷ rest) = card ∷ known_cards rest
 known_cards (slots.Unknown ∷ rest) = known_cards rest
-
--- all slots are known
-abbrev pub all_known : List Slot → Bool
-all_known [] = true
-all_known (slots.Known card ∷ rest) = all_known rest
-all_known (slots.Unknown ∷ rest) = false

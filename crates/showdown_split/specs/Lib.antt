@@ -3,4 +3,7 @@ pub mod Known
 pub mod Hands
 pub mod Scores
 pub mod Worths
+pub mod Alike
+pub mod Laws
+pub mod Playable
 pub mod Split

@@ -1,19 +1,22 @@
 // Each shown seat has the score of the best choice of its cards and the board's.
-ghost use Rattle.std.specs.Prelude.{◌≡◌, ◌≤◌, ◌++◌, ℕ, true};
+ghost use Rattle.std.specs.Prelude.{◌≡◌, ◌≤◌, ◌++◌, ℕ, true, false, None};
 ghost use Rattle.std.specs.Option.{option_map};
 ghost use Rattle.card_set.specs.Different.{AllDifferent};
 ghost use Rattle.card_set.specs.Row.{cards_of};
 ghost use Rattle.chip_ledger.specs.LiveRow.{flag_of};
 ghost use Rattle.hand_order.specs.Best.{IsWorth};
 ghost use Rattle.hand_order.specs.Choices.{CanPick, allowed};
-ghost use Rattle.showdown_split.specs.Hands.{holding};
+ghost use Rattle.showdown_split.specs.Alike.{AreJudged};
+ghost use Rattle.showdown_split.specs.Hands.{holding, showdown_of};
 ghost use Rattle.showdown_split.specs.Scores.{worth_of};
 
-use crate::hands::{HandRow, known_row};
+use crate::known::known_row;
 use crate::scores::Scores;
 use card_set::CardRow;
 use chip_ledger::{LiveRow, Seat};
 use hand_order::{HandOrder, Pick, Score, best_of};
+use play_event::HandRow;
+use variant_table::Variant;
 
 // The score of a seat.
 fn score_of<O: HandOrder>(hands: &HandRow, board: &CardRow, pick: Pick, seat: Seat) -> Option<Score>
@@ -27,13 +30,8 @@ fn score_of<O: HandOrder>(hands: &HandRow, board: &CardRow, pick: Pick, seat: Se
     best_of::<O>(&hole, board, pick)
 }
 
-/// The scores of the shown seats in an order.
-pub fn scores_of<O: HandOrder>(
-    hands: &HandRow,
-    board: &CardRow,
-    shown: &LiveRow,
-    pick: Pick,
-) -> Scores
+// The scores of the shown seats in an order.
+fn scores_of<O: HandOrder>(hands: &HandRow, board: &CardRow, shown: &LiveRow, pick: Pick) -> Scores
     requires seats { hands.now.seats ≡ shown.now.seats }
     requires usable { (n : ℕ) → 1 ≤ n → n ≤ shown.now.seats → flag_of shown.now n ≡ true
         → CanPick O.HELD pick (holding hands.now n) (cards_of board.now) }
@@ -51,4 +49,37 @@ pub fn scores_of<O: HandOrder>(
         }
     }
     scores
+}
+
+// The scores of the shown seats in the second order, in a game that pays by two; in another game none.
+fn low_scores<V: Variant>(hands: &HandRow, board: &CardRow, shown: &LiveRow) -> Scores
+    requires seats { hands.now.seats ≡ shown.now.seats }
+    requires usable { (n : ℕ) → 1 ≤ n → n ≤ shown.now.seats → flag_of shown.now n ≡ true
+        → CanPick V.Second.HELD V.PICK (holding hands.now n) (cards_of board.now) }
+    requires different { (n : ℕ) → 1 ≤ n → n ≤ shown.now.seats → flag_of shown.now n ≡ true
+        → AllDifferent (holding hands.now n ++ cards_of board.now) }
+    ensures two { V.SPLIT ≡ true → (n : ℕ) → 1 ≤ n → n ≤ shown.now.seats → flag_of shown.now n ≡ true
+        → IsWorth V.Second.is_hand V.Second.is_weaker V.Second.points
+        (allowed V.PICK (holding hands.now n) (cards_of board.now)) (worth_of result n) }
+    ensures one { V.SPLIT ≡ false → (n : ℕ) → worth_of result n ≡ None }
+{
+    if V::SPLIT {
+        scores_of::<V::Second>(hands, board, shown, V::PICK)
+    } else {
+        Scores::new()
+    }
+}
+
+/// The scores of the shown seats in a game: in its first order, and in the second where it pays by two.
+pub fn judged<V: Variant>(hands: &HandRow, board: &CardRow, shown: &LiveRow) -> (Scores, Scores)
+    requires seats { hands.now.seats ≡ shown.now.seats }
+    requires usable { (n : ℕ) → 1 ≤ n → n ≤ shown.now.seats → flag_of shown.now n ≡ true
+        → CanPick V.Award.HELD V.PICK (holding hands.now n) (cards_of board.now) }
+    requires different { (n : ℕ) → 1 ≤ n → n ≤ shown.now.seats → flag_of shown.now n ≡ true
+        → AllDifferent (holding hands.now n ++ cards_of board.now) }
+    ensures { AreJudged V.CODE (showdown_of hands.now board.now shown.now) (worth_of result.0) (worth_of result.1) }
+{
+    let high = scores_of::<V::Award>(hands, board, shown, V::PICK);
+    let low = low_scores::<V>(hands, board, shown);
+    (high, low)
 }

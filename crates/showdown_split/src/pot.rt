@@ -1,5 +1,5 @@
 // A pot goes to the one seat that may win it, or to the shown seats among those that may.
-ghost use Rattle.std.specs.Prelude.{◌≡◌, ◌≢◌, ◌≤◌, ◌&&◌, ℕ, true, [], IfSome, IfNone, length, if◌then◌else◌};
+ghost use Rattle.std.specs.Prelude.{◌≡◌, ◌≢◌, ◌≤◌, ◌&&◌, ℕ, true, [], IfSome, IfNone, OnSome, false, length, if◌then◌else◌};
 ghost use Rattle.chip_ledger.specs.declared.rows.TheConstants.{MOST_AMOUNT};
 ghost use Rattle.chip_ledger.specs.LiveRow.{flag_of, flagged};
 ghost use Rattle.chip_ledger.specs.PotRow.{plain};
@@ -76,6 +76,7 @@ pub fn shares_of(pot: &Pot, shown: &LiveRow, high: &Scores, low: &Scores) -> Opt
     requires bounded { pot.now.chips ≤ MOST_AMOUNT }
     ensures seats { IfSome result (λ row. row.seats ≡ shown.now.seats) }
     ensures none { IfNone result (is_unshown (shown_only shown.now) (plain pot.now) ≡ true) }
+    ensures some { OnSome result (is_unshown (shown_only shown.now) (plain pot.now) ≡ false) }
     ensures shares { IfSome result (λ row. AreShares shown.now.seats (contends (shown_only shown.now) (plain pot.now))
         (ranking_by (worth_of high.now) (worth_of low.now)) (plain pot.now) (amount_of row)) }
     ensures total { IfSome result (λ row. total_of row ≡ pot.now.chips) }

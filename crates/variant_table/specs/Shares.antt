@@ -1,6 +1,5 @@
 -- Who gets what of each pot: the shown seats that may win it and that no other one beats, in halves where a low hand is shown.
-use Rattle.std.specs.Prelude.{◌≡◌, ◌≤◌, ℕ, suc, ◌&&◌, Bool, IsTrue, not, nat_le, ◌⊎◌, List, [], ◌∷◌, length, Option, position, if◌then◌else◌}
-use Rattle.std.specs.Option.{option_map}
+use Rattle.std.specs.Prelude.{◌≡◌, ◌≤◌, ℕ, suc, ◌&&◌, Bool, IsTrue, not, nat_le, ◌⊎◌, List, [], ◌∷◌, length, Option, Some, None, if◌then◌else◌}
 use Rattle.std.specs.List.{list_any}
 use Rattle.card_set.specs.declared.card.Card.{Card}
 use Rattle.chip_ledger.specs.Pots.{PlainPot, may_win}
@@ -79,6 +78,11 @@ AreSharesOf code showdown pot share = AreShares showdown.seats (contends showdow
 abbrev pub is_unshown : Showdown → PlainPot → Bool
 is_unshown showdown pot = nat_le 2 (length pot.eligible) && not (list_any (contends showdown pot) (seats_of showdown.seats))
 
+-- the number of the first such pot, where the first pot has this number
+abbrev pub first_unshown_from : ℕ → Showdown → List PlainPot → Option ℕ
+first_unshown_from number showdown [] = None
+first_unshown_from number showdown (pot ∷ pots) = if is_unshown showdown pot then Some number else first_unshown_from (suc number) showdown pots
+
 -- the number of the first such pot, counted from 1
 abbrev pub first_unshown : Showdown → List PlainPot → Option ℕ
-first_unshown showdown pots = option_map (λ index. suc index) (position (is_unshown showdown) pots)
+first_unshown showdown pots = first_unshown_from 1 showdown pots

@@ -31,12 +31,12 @@ award_can_pick games.FB = λ hole board holes boards. holes
 award_can_pick _ = λ hole board holes boards. (refl, omega arith, omega arith)
 
 -- hands of both orders have as many cards
-same_held : (code : Code) → (second_of code).held ≡ (award_of code).held
+pub same_held : (code : Code) → (second_of code).held ≡ (award_of code).held
 same_held games.FT = refl
 same_held _ = refl
 
 -- a pick is that of its plain value
-pick_back : (pick : Pick) → pick_of (plain_pick pick) ≡ pick
+pub pick_back : (pick : Pick) → pick_of (plain_pick pick) ≡ pick
 pick_back picks.AnyFive = refl
 pick_back picks.TwoAndThree = refl
 pick_back picks.AllHeld = refl

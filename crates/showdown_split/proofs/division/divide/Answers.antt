@@ -1,5 +1,5 @@
 -- The parts together are the chips.
-use Rattle.std.proofs.Common.{ap, sym, ◌∙◌, sum_by, arith, ◌≡◌}
+use Rattle.std.proofs.Common.{ap, ◌∙◌, sum_by, arith}
 use Rattle.chip_ledger.specs.LiveRow.{flag_of}
 use Rattle.chip_ledger.specs.Seat.{seats_of}
 use Rattle.chip_ledger.specs.SeatRow.{amount_of}

@@ -1,5 +1,5 @@
 -- Without a low hand all chips go to the high winners, and else each half to its own.
-use Rattle.std.proofs.Common.{◌≡◌, ◌-◌, ◌/◌, None, Some, sym, ◌∙◌, ap, arith, inl, inr}
+use Rattle.std.proofs.Common.{◌-◌, ◌/◌, sym, ◌∙◌, ap, arith, inl, inr}
 use Rattle.std.specs.Option.{option_map}
 use Rattle.hand_order.specs.declared.order.Score.{Score}
 use Rattle.chip_ledger.specs.SeatRow.{amount_of}

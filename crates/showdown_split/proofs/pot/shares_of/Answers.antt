@@ -1,5 +1,5 @@
 -- A pot of one seat is all its own, and one of several goes to those that are shown.
-use Rattle.std.proofs.Common.{◌≡◌, ◌≤◌, ◌*◌, ◌&&◌, ℕ, Bool, true, false, not, nat_le, length, if◌then◌else◌, sum_by, refl, sym, ◌∙◌, ap, subst, arith, inl, inr}
+use Rattle.std.proofs.Common.{◌≡◌, ◌≤◌, ◌*◌, ◌&&◌, ℕ, Bool, not, nat_le, length, if◌then◌else◌, sum_by, sym, ◌∙◌, ap, subst, arith, inl, inr}
 use Rattle.std.specs.List.{list_any}
 use Rattle.std.proofs.lemmas.Bool.{and_from, le-leb, true≢false}
 use Rattle.std.proofs.Math.Nat.{mul-one}
@@ -13,7 +13,7 @@ use Rattle.variant_table.specs.Shares.{AreContested, contends}
 use Rattle.showdown_split.specs.Scores.{worth_of}
 use Rattle.showdown_split.specs.Worths.{is_flagged, ranking_by, shown_only}
 use Rattle.showdown_split.proofs.Compared.{alike_itself, same_contested}
-use Rattle.showdown_split.proofs.Flagged.{flagged_both, is_flagged-flag, length-flagged, none_flagged, several_flagged, some_flagged, sum_for_each}
+use Rattle.showdown_split.proofs.Flagged.{and_false, flagged_both, flagged_inside, is_flagged-flag, length-flagged, none_flagged, several_flagged, some_flagged, some_passes, sum_for_each}
 use Rattle.showdown_split.proofs.pot.shares_of.Goals as goal
 
 pub returns-then-flags_to-eq1-clause-shares : goal.returns-then-flags_to-eq1-clause-shares
@@ -66,3 +66,22 @@ returns-clause-shares c =
           same_contested shown.seats (is_flagged rivals.result) test ranking ranking pot.chips (amount_of c.contested.result) same (alike_itself test ranking)
           (subst (λ (n : ℕ). AreContested n (is_flagged rivals.result) ranking pot.chips (amount_of c.contested.result)) rivals.ensures.seats c.contested.ensures.shares);
     })
+
+pub returns-then-flags_to-eq1-clause-some : goal.returns-then-flags_to-eq1-clause-some
+returns-then-flags_to-eq1-clause-some c =
+    let pot = c.args.pot.now in
+    let shown = c.args.shown.now in
+    let one : length (flagged pot.eligible) ≡ 1 = omega (arith, length-flagged pot.eligible, c.flags_to.ensures.number, c.if-flags_to-eq1.true) in
+    ap (λ (n : ℕ). nat_le 2 n && not (list_any (contends (shown_only shown) (plain pot)) (seats_of shown.seats))) one
+
+pub returns-clause-some : goal.returns-clause-some
+returns-clause-some c =
+    let pot = c.args.pot.now in
+    let shown = c.args.shown.now in
+    let rivals = c.contending-rivals in
+    let test = contends (shown_only shown) (plain pot) in
+    let same = flagged_both rivals.result pot.eligible shown rivals.ensures.seats c.requires.seats rivals.ensures.flags in
+    let one = some_flagged rivals.result (c.any.ensures.0 c.if-not-any.false) in
+    let range = flagged_inside rivals.result one.0 one.1 in
+    let found = some_passes test shown.seats one.0 range.0 (omega (arith, range.1, rivals.ensures.seats)) (sym (same one.0) ∙ one.1) in
+    ap (λ (b : Bool). nat_le 2 (length (flagged pot.eligible)) && not b) found ∙ and_false (nat_le 2 (length (flagged pot.eligible)))

@@ -1,0 +1,18 @@
+//! What the shares of a pot mean, whatever gave them. The functions do nothing: each contract is a law.
+ghost use Rattle.std.specs.Prelude.{ℕ};
+ghost use Rattle.chip_ledger.specs.Pots.{PlainPot};
+ghost use Rattle.play_event.specs.declared.code.Code.{Code};
+ghost use Rattle.variant_table.specs.Shares.{AreSharesOf, Showdown};
+ghost use Rattle.showdown_split.specs.Laws.{GoesToBest, LeavesNoneOut};
+
+/// Only shown seats that no other shown seat beats win chips of a pot for which they contend.
+pub fn only_the_best_shown_hands_win()
+    ensures { (code : Code) (showdown : Showdown) (pot : PlainPot) (share : ℕ → ℕ)
+        → AreSharesOf code showdown pot share → GoesToBest code showdown pot share }
+{}
+
+/// A seat without a share may not win the pot, is not shown, is beaten, or comes too late for an odd chip.
+pub fn no_winner_is_left_out()
+    ensures { (code : Code) (showdown : Showdown) (pot : PlainPot) (share : ℕ → ℕ)
+        → AreSharesOf code showdown pot share → LeavesNoneOut code showdown pot share }
+{}
