@@ -1,11 +1,10 @@
 -- Each turn shares one pot more, or finds the first without a shown hand.
-use Rattle.std.proofs.Common.{◌≡◌, ◌≤◌, ◌+◌, ◌++◌, ◌∷◌, [], ℕ, true, All, List, map, take, sym, ◌∙◌, ap, subst, arith}
+use Rattle.std.proofs.Common.{◌≡◌, ◌≤◌, ◌+◌, ℕ, true, map, take, ◌∙◌, ap, arith}
 use Rattle.std.proofs.lemmas.Bool.{and_parts}
 use Rattle.chip_ledger.specs.declared.pots.Pot.{Pot}
-use Rattle.chip_ledger.specs.declared.rows.SeatRow.{SeatRow}
 use Rattle.chip_ledger.specs.LiveRow.{flag_of}
 use Rattle.chip_ledger.specs.PotRow.{plain, pots_in, shares_in}
-use Rattle.chip_ledger.specs.Pots.{PlainPot, may_win}
+use Rattle.chip_ledger.specs.Pots.{may_win}
 use Rattle.chip_ledger.specs.SeatRow.{amount_of}
 use Rattle.variant_table.specs.Shares.{contends, first_unshown, ranking_of}
 use Rattle.showdown_split.specs.Hands.{showdown_of}
