@@ -1,6 +1,5 @@
 -- What a hand that was read says, and the form that the first hands have.
-use Rattle.std.specs.Prelude.{◌≡◌, ℕ, ◌+◌, ◌≤◌, ◌<◌, Bool, true, false, List, length, map, filter, slice_get, Option, Some, None}
-use Rattle.card_set.specs.declared.card.Slot.{Slot}
+use Rattle.std.specs.Prelude.{◌≡◌, ℕ, ◌+◌, ◌≤◌, Bool, true, false, List, length, map, filter, slice_get, Some}
 use Rattle.chip_ledger.specs.SeatRow.{amount_of}
 use Rattle.play_event.specs.declared.code.Code.TheVariants as games
 use Rattle.play_event.specs.declared.event.Event.{Event}
