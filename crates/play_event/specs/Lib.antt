@@ -33,4 +33,6 @@ pub mod Rows
 pub mod Examples
 pub mod CardNames
 pub mod Written
+pub mod Computed
 pub mod WorkedHands
+pub mod Laws

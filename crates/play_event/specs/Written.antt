@@ -1,21 +1,13 @@
--- Words for hands that are written out: setups, events, and what the rules give for a script.
-use Rattle.std.specs.Prelude.{ℕ, ◌+◌, Bool, false, List, [], ◌∷◌, map, reverse, Option, Some, None, IsTrue}
+-- Words for hands that are written out: setups and events.
+use Rattle.std.specs.Prelude.{ℕ, Bool, false, List, Option, Some, None, IsTrue}
 use Rattle.play_event.specs.declared.code.Code.{Code}
 use Rattle.play_event.specs.declared.event.Spelled.TheVariants as spelled
-use Rattle.play_event.specs.declared.reason.Due.{Due}
-use Rattle.play_event.specs.declared.reason.Illegal.{Illegal}
 use Rattle.play_event.specs.declared.setup.Setup.{Setup}
 use Rattle.play_event.specs.declared.setup.Rules.{Rules}
 use Rattle.play_event.specs.declared.setup.Reopen.TheVariants as reopen
 use Rattle.play_event.specs.Said.{Said, Hole, Board, Fold, Call, Raise, BringIn, Discard, Show, Muck}
 use Rattle.play_event.specs.Rows.{row_of, fits_row}
-use Rattle.play_event.specs.Past.{Past, moves_of}
-use Rattle.play_event.specs.Seats.{all_seats}
-use Rattle.play_event.specs.Chips.{chips_put}
-use Rattle.play_event.specs.Due.{turn}
 use Rattle.play_event.specs.CardNames.{slots_named, cards_named}
-use Rattle.play_event.specs.Reasons.{why}
-use Rattle.play_event.specs.Scripts.{with_event, past_of}
 
 -- a hand of a game: bring-in, small bet, big bet and least bet; then stacks, antes and blinds
 abbrev pub hand_of : Code → Bool → (bring_in small big least : ℕ) → (stacks antes blinds : List ℕ) → IsTrue (fits_row stacks) → IsTrue (fits_row antes) → IsTrue (fits_row blinds) → Setup
@@ -78,21 +70,3 @@ show seat cards = Show seat (cards_named cards)
 
 abbrev pub muck : ℕ → Said
 muck seat = Muck seat
-
--- the first illegal event of a script, counted from the given number on, and why it is
-abbrev pub refusal_from : Setup → Rules → Past → ℕ → List Said → Option (ℕ × Illegal)
-refusal_from setup rules past number [] = None
-refusal_from setup rules past number (event ∷ rest) =
-    elim (why setup rules past event) [ Some reason ↦ Some (number, reason) | None ↦ refusal_from setup rules (with_event setup event past) (number + 1) rest ]
-
--- the first illegal event of a script, counted from 1, and why it is
-abbrev pub refusal : Setup → Rules → List Said → Option (ℕ × Illegal)
-refusal setup rules script = refusal_from setup rules [] 1 script
-
--- what is due after a script
-abbrev pub due_after : Setup → List Said → ℕ × Due
-due_after setup script = turn setup (past_of setup (reverse script))
-
--- the chips that each seat put by the end of a script
-abbrev pub puts_after : Setup → List Said → List ℕ
-puts_after setup script = map (chips_put setup (moves_of (past_of setup (reverse script)))) (all_seats setup)

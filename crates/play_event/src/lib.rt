@@ -5,6 +5,7 @@ mod card_rows;
 mod code;
 mod event;
 mod examples;
+mod laws;
 mod played;
 mod reason;
 mod script;
@@ -17,8 +18,12 @@ pub use card_rows::{HandRow, UpRow};
 pub use code::Code;
 pub use event::{Event, Kind, Spelled};
 pub use examples::hands_won_by_folds;
+pub use laws::{
+    law_of_chips, law_of_movers, law_of_places, law_of_reasons, law_of_scripts, law_of_spellings,
+    law_of_streets, law_of_targets,
+};
 pub use played::{Act, Move, Place};
 pub use reason::{Due, Illegal};
 pub use script::Script;
 pub use setup::{Reopen, Rules, Setup};
-pub use worked_hands::{worked_cards, worked_ends, worked_raises};
+pub use worked_hands::{worked_cards, worked_ends, worked_raises, worked_traces};

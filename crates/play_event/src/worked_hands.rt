@@ -1,5 +1,5 @@
 // Worked hands: what the rules give for scripts that are written out, event by event.
-ghost use Rattle.std.specs.Prelude.{◌≡◌, ◌++◌, [], ◌∷◌, true, false, Some, None, codes};
+ghost use Rattle.std.specs.Prelude.{◌≡◌, ◌++◌, [], ◌∷◌, true, false, Some, None, codes, map};
 ghost use Rattle.play_event.specs.declared.event.Spelled.TheVariants as spelled;
 ghost use Rattle.play_event.specs.declared.reason.Due.TheVariants as dues;
 ghost use Rattle.play_event.specs.declared.reason.Illegal.TheVariants as reasons;
@@ -7,7 +7,9 @@ ghost use Rattle.play_event.specs.Said.{Call, Raise};
 ghost use Rattle.play_event.specs.HistoryRules.{history_rules};
 ghost use Rattle.play_event.specs.Scripts.{ends_early};
 ghost use Rattle.play_event.specs.Examples.{ends_with};
-ghost use Rattle.play_event.specs.Written.{match_rules, deal, board, fold, call, raise, bring_in, folds, calls, raises, raises_to, discard, show, muck, refusal, due_after, puts_after};
+ghost use Rattle.play_event.specs.CardNames.{slots_named};
+ghost use Rattle.play_event.specs.Written.{match_rules, deal, board, fold, call, raise, bring_in, folds, calls, raises, raises_to, discard, show, muck};
+ghost use Rattle.play_event.specs.Computed.{refusal, due_after, puts_after, shown_after, mucked_after, closed_after, moves_after, cards_after};
 ghost use Rattle.play_event.specs.WorkedHands.{antes_and_blinds, shows_before_river, three_in_no_limit, three_in_pot_limit, checked_down, one_short, unseen_deals, unseen_fours, heads_up, heads_up_deals, limit_heads_up, stud, one_dead_ante, triple_draw, thirty_cards, second_draw};
 
 /// Betting in no limit and pot limit. The function does nothing: its contract is computed from the rules. Events
@@ -72,4 +74,18 @@ pub fn worked_ends()
         ≡ Some (8, reasons.HandOver) }
     ensures the_hand_is_over { refusal three_in_no_limit history_rules (unseen_deals ++ raise 3 6 ∷ fold 1 ∷ fold 2 ∷ muck 1 ∷ [])
         ≡ Some (7, reasons.HandOver) }
+{}
+
+/// What a trace keeps: who is shown, raises that are closed, where a unit would have gone, and the cards in their order.
+pub fn worked_traces()
+    ensures both_showed { shown_after antes_and_blinds shows_before_river ≡ 1 ∷ 3 ∷ [] }
+    ensures known_hands_are_shown { shown_after three_in_no_limit (checked_down (codes "As2d")) ≡ 2 ∷ 3 ∷ [] }
+    ensures an_unknown_hand_is_mucked { mucked_after three_in_no_limit (checked_down (codes "????")) ≡ 2 ∷ [] }
+    ensures a_closed_raise { closed_after one_short (unseen_deals ++ raises_to 10 ∷ raises_to 14 ∷ calls ∷ raises_to 40 ∷ folds ∷ []) ≡ 40 ∷ [] }
+    ensures a_target_that_is_closed { closed_after one_short (unseen_deals ++ raises_to 10 ∷ raises_to 14 ∷ raises_to 18 ∷ folds ∷ []) ≡ 18 ∷ [] }
+    ensures units { map (λ move. move.unit_to) (moves_after limit_heads_up (heads_up_deals ++ raises ∷ raises ∷ calls ∷ []))
+        ≡ 20 ∷ 30 ∷ 40 ∷ [] }
+    ensures cards_by_owner { cards_after heads_up (deal 2 (codes "Kd") ∷ deal 1 (codes "9s8h") ∷ deal 2 (codes "Tc") ∷ []) ≡ slots_named (codes "9s8hKdTc") }
+    ensures cards_that_were_shown { cards_after three_in_no_limit (checked_down (codes "??2d") ++ show 2 (codes "As2d") ∷ [])
+        ≡ slots_named (codes "????As2dAc2hKhKdQsQcJs") }
 {}

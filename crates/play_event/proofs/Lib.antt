@@ -1,0 +1,10 @@
+pub mod StreetLaws
+pub mod MoverLaws
+pub mod ReasonLaws
+pub mod ChipLaws
+pub mod TargetLaws
+pub mod Kept
+pub mod ClashLaws
+pub mod SafePlaces
+pub mod ScriptLaws
+pub mod SpellingLaws

@@ -1,0 +1,45 @@
+-- The seat whose turn it is has a move to make, and so is able.
+use Rattle.std.proofs.Common.{◌≡◌, ℕ, Bool, true, false, Option, Some, None, List, [], ◌∷◌, find, refl, sym, ◌∙◌, ap, nat_lt, nat_le, ◌||◌, if◌then◌else◌}
+use Rattle.std.proofs.lemmas.Bool.{and_parts}
+use Rattle.play_event.specs.declared.setup.Setup.{Setup}
+use Rattle.play_event.specs.Streets.{opener_of}
+use Rattle.play_event.specs.Past.{Move, moves_on}
+use Rattle.play_event.specs.Seats.{is_able, able_count}
+use Rattle.play_event.specs.Price.{owed}
+use Rattle.play_event.specs.Due.{has_to_move, has_moved_since_rise}
+use Rattle.play_event.specs.Openers.{InTurn, NoSeat, TheSeat, Undecided, in_turn, UpCards, opener_by}
+use Rattle.play_event.specs.Mover.{mover, first_in_turn, next_in_turn, seats_from}
+use Rattle.play_event.proofs.StreetLaws.{some_is_none, same_some}
+
+-- what is found passes
+found_at : (p : ℕ → Bool) (first : ℕ) (rest : List ℕ) (seat : ℕ) (b : Bool) → p first ≡ b → (find p rest ≡ Some seat → p seat ≡ true) → (if b then Some first else find p rest) ≡ Some seat → p seat ≡ true
+found_at p first rest seat true here later is = ap p (sym (same_some first seat is)) ∙ here
+found_at p first rest seat false here later is = later is
+
+found_passes : (p : ℕ → Bool) (seats : List ℕ) (seat : ℕ) → find p seats ≡ Some seat → p seat ≡ true
+found_passes p [] seat is = absurd (some_is_none (sym is))
+found_passes p (first ∷ rest) seat is = found_at p first rest seat (p first) refl (found_passes p rest seat) is
+
+seat_of : InTurn → Option ℕ
+seat_of NoSeat = None
+seat_of Undecided = None
+seat_of (TheSeat seat) = Some seat
+
+found_in_turn : (found : Option ℕ) (seat : ℕ) → in_turn found ≡ TheSeat seat → found ≡ Some seat
+unfolding seat_of
+found_in_turn None seat is = absurd (some_is_none (sym (ap seat_of is)))
+found_in_turn (Some other) seat is = ap seat_of is
+
+first_passes : (setup : Setup) (p : ℕ → Bool) (from : InTurn) (seat : ℕ) → first_in_turn setup p from ≡ TheSeat seat → p seat ≡ true
+unfolding seat_of
+first_passes setup p NoSeat seat is = absurd (some_is_none (sym (ap seat_of is)))
+first_passes setup p Undecided seat is = absurd (some_is_none (sym (ap seat_of is)))
+first_passes setup p (TheSeat start) seat is = found_passes p (seats_from setup start) seat (found_in_turn (find p (seats_from setup start)) seat is)
+
+pub mover_has_to_move : (setup : Setup) (ups : UpCards) (moves : List Move) (street seat : ℕ) → mover setup ups moves street ≡ TheSeat seat → has_to_move setup moves street seat ≡ true
+mover_has_to_move setup ups moves street seat is =
+    first_passes setup (has_to_move setup moves street) (next_in_turn setup (opener_by (opener_of setup.code) setup ups moves street) (moves_on street moves)) seat is
+
+pub mover_is_able : (setup : Setup) (ups : UpCards) (moves : List Move) (street seat : ℕ) → mover setup ups moves street ≡ TheSeat seat → is_able setup moves seat ≡ true
+mover_is_able setup ups moves street seat is =
+    (and_parts (is_able setup moves seat) (if has_moved_since_rise setup moves street seat then false else (nat_lt 0 (owed setup moves street seat) || nat_le 2 (able_count setup moves))) (mover_has_to_move setup ups moves street seat is)).0

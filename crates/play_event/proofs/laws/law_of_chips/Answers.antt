@@ -1,0 +1,8 @@
+use Rattle.play_event.proofs.ChipLaws.{puts_within, put_and_left}
+use Rattle.play_event.proofs.laws.law_of_chips.Goals as goal
+
+pub returns-clause-puts_within : goal.returns-clause-puts_within
+returns-clause-puts_within c = puts_within
+
+pub returns-clause-put_and_left : goal.returns-clause-put_and_left
+returns-clause-put_and_left c = put_and_left

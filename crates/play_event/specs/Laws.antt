@@ -1,0 +1,36 @@
+-- What the laws of play speak of: the first street with something due, legal events, and reasons that do not hold.
+use Rattle.std.specs.Prelude.{◌≡◌, ◌≢◌, ◌⊎◌, ℕ, ◌≤◌, ◌<◌, Bool, false, List, [], ◌∷◌, Option, Some, None}
+use Rattle.play_event.specs.declared.reason.Due.{Due}
+use Rattle.play_event.specs.declared.reason.Illegal.{Illegal}
+use Rattle.play_event.specs.declared.setup.Setup.{Setup}
+use Rattle.play_event.specs.declared.setup.Rules.{Rules}
+use Rattle.play_event.specs.Said.{Said}
+use Rattle.play_event.specs.Places.{Place}
+use Rattle.play_event.specs.Taken.{clash}
+use Rattle.play_event.specs.Reasons.{why}
+use Rattle.play_event.specs.Scripts.{past_of}
+
+-- something is due on a street, and nothing on any street from the given one up to it
+pub record IsFirstStreet (on : ℕ → Option Due) (from street : ℕ) (due : Due) : Type 0 where
+  pub reached : from ≤ street
+  pub is_due : on street ≡ Some due
+  pub quiet : (between : ℕ) → from ≤ between → between < street → on between ≡ None
+
+-- no reason of a list holds
+abbrev pub NoneHold : List (Bool × Illegal) → Type 0
+NoneHold [] = Unit {0}
+NoneHold (reason ∷ rest) = (reason.0 ≡ false) × NoneHold rest
+
+-- events, the newest first, each of which is legal after those before it
+abbrev pub AreLegal : Setup → Rules → List Said → Type 0
+AreLegal setup rules [] = Unit {0}
+AreLegal setup rules (event ∷ before) = (why setup rules (past_of setup before) event ≡ None) × AreLegal setup rules before
+
+-- a place is one of some places
+abbrev pub IsAmong : List Place → Place → Type 0
+IsAmong [] place = ⊥
+IsAmong (first ∷ rest) place = (first ≡ place) ⊎ IsAmong rest place
+
+-- no two of the places clash
+abbrev pub NoneClash : List Place → Type 0
+NoneClash placed = (a b : Place) → IsAmong placed a → IsAmong placed b → a.number ≢ b.number → clash a b ≡ false

@@ -1,0 +1,95 @@
+// Laws of play that a reader expects, proved over the definitions.
+ghost use Rattle.std.specs.Prelude.{◌≡◌, ℕ, ◌+◌, ◌≤◌, ◌<◌, true, false, List, Option, Some, None, nat_le};
+ghost use Rattle.play_event.specs.declared.reason.Due.{Due};
+ghost use Rattle.play_event.specs.declared.setup.Setup.{Setup};
+ghost use Rattle.play_event.specs.Games.{street_count};
+ghost use Rattle.play_event.specs.Past.{Past, Move, moves_of, newest_street};
+ghost use Rattle.play_event.specs.Seats.{is_able, live_count};
+ghost use Rattle.play_event.specs.Due.{turn, due_on, first_due, has_to_move, is_unfinished};
+ghost use Rattle.play_event.specs.Openers.{UpCards, TheSeat};
+ghost use Rattle.play_event.specs.Mover.{mover};
+ghost use Rattle.chip_ledger.specs.SeatRow.{amount_of};
+ghost use Rattle.play_event.specs.declared.setup.Rules.{Rules};
+ghost use Rattle.play_event.specs.declared.setup.Reopen.{Reopen};
+ghost use Rattle.play_event.specs.declared.event.Spelled.{Spelled};
+ghost use Rattle.play_event.specs.declared.event.Spelled.TheVariants as spelled;
+ghost use Rattle.play_event.specs.Said.{Said, Raise};
+ghost use Rattle.play_event.specs.Amounts.{raise_target};
+ghost use Rattle.play_event.specs.Chips.{chips_put, chips_left};
+ghost use Rattle.play_event.specs.Targets.{is_legal_target, greatest_target};
+ghost use Rattle.play_event.specs.Table.{places_of, up_cards};
+ghost use Rattle.play_event.specs.Reasons.{why, all_reasons};
+ghost use Rattle.play_event.specs.declared.reason.Illegal.{Illegal};
+ghost use Rattle.play_event.specs.Scripts.{past_of, with_event, IsLegal, IsFirstIllegal};
+ghost use Rattle.play_event.specs.Computed.{refusal};
+ghost use Rattle.play_event.specs.Laws.{IsFirstStreet, NoneHold, AreLegal, NoneClash};
+
+/// What is due is due on the first street, from that of the past on, on which something is. The function does
+/// nothing: its contract is a law.
+pub fn law_of_streets()
+    ensures due_is_first { (setup : Setup) (past : Past) (street : ℕ) (due : Due) → turn setup past ≡ (street, due) → is_unfinished due ≡ true
+        → IsFirstStreet (due_on setup past) (newest_street past) street due }
+    ensures first_is_due { (setup : Setup) (past : Past) (street : ℕ) (due : Due) → nat_le (live_count setup (moves_of past)) 1 ≡ false
+        → IsFirstStreet (due_on setup past) (newest_street past) street due → street ≤ street_count setup.code → turn setup past ≡ (street, due) }
+{}
+
+/// The seat whose turn it is has a move to make, and so is able.
+pub fn law_of_movers()
+    ensures has_to_move { (setup : Setup) (ups : UpCards) (moves : List Move) (street seat : ℕ)
+        → mover setup ups moves street ≡ TheSeat seat → has_to_move setup moves street seat ≡ true }
+    ensures is_able { (setup : Setup) (ups : UpCards) (moves : List Move) (street seat : ℕ)
+        → mover setup ups moves street ≡ TheSeat seat → is_able setup moves seat ≡ true }
+{}
+
+/// After legal events no seat has put more than its stack, and what it put and what it has left are the stack.
+pub fn law_of_chips()
+    ensures puts_within { (setup : Setup) (rules : Rules) (events : List Said)
+        → ((seat : ℕ) → amount_of setup.antes seat ≤ amount_of setup.stacks seat) → AreLegal setup rules events
+        → (seat : ℕ) → chips_put setup (moves_of (past_of setup events)) seat ≤ amount_of setup.stacks seat }
+    ensures put_and_left { (setup : Setup) (rules : Rules) (events : List Said)
+        → ((seat : ℕ) → amount_of setup.antes seat ≤ amount_of setup.stacks seat) → AreLegal setup rules events
+        → (seat : ℕ) → chips_put setup (moves_of (past_of setup events)) seat + chips_left setup (moves_of (past_of setup events)) seat
+        ≡ amount_of setup.stacks seat }
+{}
+
+/// The greatest legal target is legal, in each limit, so a seat that may raise has a target.
+pub fn law_of_targets()
+    ensures { (reopens : Reopen) (setup : Setup) (moves : List Move) (street seat : ℕ)
+        → is_legal_target reopens setup moves street seat (greatest_target setup moves street seat) ≡ true }
+{}
+
+/// Where an event is legal, none of the twelve reasons holds, and where none holds it is legal.
+pub fn law_of_reasons()
+    ensures none_holds { (setup : Setup) (rules : Rules) (past : Past) (event : Said) → why setup rules past event ≡ None
+        → NoneHold (all_reasons setup rules past (turn setup past) event) }
+    ensures legal { (setup : Setup) (rules : Rules) (past : Past) (event : Said)
+        → NoneHold (all_reasons setup rules past (turn setup past) event) → why setup rules past event ≡ None }
+{}
+
+/// No legal event makes two places clash: after legal events no two bear one card, but where one was gone before the
+/// other was dealt past the deck.
+pub fn law_of_places()
+    ensures { (setup : Setup) (rules : Rules) (events : List Said) → AreLegal setup rules events
+        → NoneClash (places_of setup.code (past_of setup events)) }
+{}
+
+/// The walk by which the worked hands are computed tells the first illegal event of a script, or that it is legal.
+pub fn law_of_scripts()
+    ensures refused { (setup : Setup) (rules : Rules) (script : List Said) (index : ℕ) (reason : Illegal)
+        → refusal setup rules script ≡ Some (index + 1, reason) → IsFirstIllegal setup rules script index reason }
+    ensures legal { (setup : Setup) (rules : Rules) (script : List Said)
+        → refusal setup rules script ≡ None → IsLegal setup rules script }
+{}
+
+/// A raise without actor, however it is spelled, has the reason and the outcome of a raise of the seat in turn to the
+/// target that the spelling has.
+pub fn law_of_spellings()
+    ensures same_reason { (setup : Setup) (rules : Rules) (past : Past) (seat : ℕ) (amount : Spelled)
+        → mover setup (up_cards setup.code past) (moves_of past) (turn setup past).0 ≡ TheSeat seat
+        → why setup rules past (Raise None amount)
+        ≡ why setup rules past (Raise (Some seat) (spelled.To (raise_target setup (moves_of past) (turn setup past).0 seat amount))) }
+    ensures same_past { (setup : Setup) (past : Past) (seat : ℕ) (amount : Spelled)
+        → mover setup (up_cards setup.code past) (moves_of past) (turn setup past).0 ≡ TheSeat seat
+        → with_event setup (Raise None amount) past
+        ≡ with_event setup (Raise (Some seat) (spelled.To (raise_target setup (moves_of past) (turn setup past).0 seat amount))) past }
+{}
