@@ -39,8 +39,9 @@ pub struct NoShownHand {
 
 /// What each seat gets of each pot of a hand, the lowest pot first.
 ///
-/// `hands` are the hole cards of the seats, and `shown` says which of them are shown: of other seats no
-/// card is looked at. A shown seat and the board have as many cards as the game's pick can use.
+/// `hands` are the hole cards of the seats, of which the known ones count, and `shown` says which seats are
+/// shown: of other seats no card is looked at. A shown seat and the board have as many cards as the game's
+/// pick can use. Without a shown hand for a pot that two or more seats may win nothing is paid.
 pub fn split<V: Variant>(
     pots: &PotRow,
     hands: &HandRow,
