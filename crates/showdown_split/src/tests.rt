@@ -198,13 +198,13 @@ fn pots_go_to_the_best_shown_hands(rt: HostRuntime) {
         &[(30, &[1, 2, 3]), (8, &[1, 2]), (4, &[1])],
         &[&[0, 30, 0], &[0, 8, 0], &[4, 0, 0]],
     );
-    // Two pots with different winners.
-    let sides: [&str; 3] = ["AcAd", "KcKd", "QcQd"];
+    // Two side pots with different winners.
+    let sides: [&str; 4] = ["AcAd", "KcKd", "QcQd", "TcTd"];
     expect::<NT>(
         &rt,
-        (&sides, "2h7s8d9cJs"),
-        &[(30, &[1, 2, 3]), (20, &[2, 3])],
-        &[&[30, 0, 0], &[0, 20, 0]],
+        (&sides, "2h3s4d7c8s"),
+        &[(40, &[1, 2, 3, 4]), (30, &[2, 3, 4]), (20, &[3, 4])],
+        &[&[40, 0, 0, 0], &[0, 30, 0, 0], &[0, 0, 20, 0]],
     );
     // The first pot without a shown hand is named.
     assert_eq!(rt;
