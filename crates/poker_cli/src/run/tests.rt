@@ -3,6 +3,7 @@ use super::run;
 use card_set::Memory;
 use host_io::{MemShelf, MemSink, MemSource};
 use std::alloc::Global;
+use std::process::Abort;
 use std::test::Fail;
 
 const CHECK: [&str; 3] = ["check", "--from", "phh"];
@@ -157,146 +158,127 @@ fn hands_are_answered(rt: HostRuntime) -> Result<(), Fail> {
     Ok(())
 }
 
-#[test]
-fn words_inputs_and_faults_are_answered(rt: HostRuntime) -> Result<(), Fail> {
-    let alloc = rt.alloc();
-    let usage = "usage: handref check|replay|report|convert|game|load [options]\n";
+/// Runs on an input, and compares the status, the output and the line.
+fn expect(
+    rt: &impl Abort,
+    alloc: Global,
+    (words, input): (&[&str], &[u8]),
+    (read_fails, write_fails): (&[u64], &[u64]),
+    (status, output, line): (u8, &str, &str),
+) -> Result<(), Memory> {
+    let ended = ran(alloc, words, input, read_fails, write_fails)?;
+    assert_eq!(rt; ended.status, status, "{line}");
+    assert_eq!(rt; ended.output.as_str(), output, "{line}");
+    assert_eq!(rt; ended.line.as_str(), line, "{line}");
+    Ok(())
+}
+
+/// The document of the raise and two folds, after these lines.
+fn won_after(alloc: Global, lines: &str) -> Result<String, Memory> {
     let actions = format!(in alloc; "{DEALS}, {FOLDS}")?;
     let won = document(alloc, "100, 100, 100", "1, 2, 0", actions.as_str())?;
-    let noted = format!(in alloc; "_source = 'a friend'\n{won}")?;
-    let unknown = format!(in alloc; "venue = 'Hall'\n{won}")?;
-    let eleven = document(alloc, "1, 1, 1, 1, 1, 1, 1, 1, 1, 1, 1", "1, 2, 0", "")?;
-    let twice = document(
+    Ok(format!(in alloc; "{lines}{won}")?)
+}
+
+#[test]
+fn keys_and_numbers_are_counted(rt: HostRuntime) -> Result<(), Fail> {
+    let alloc = rt.alloc();
+    let unbuilt = (12, "", "unbuilt\n");
+    let noted = won_after(alloc, "_source = 'a friend'\n")?;
+    expect(
+        &rt,
         alloc,
-        "100, 100, 100",
-        "1, 2, 0",
-        "'d dh p1 AhKh', 'd dh p2 2cAh'",
+        (&CHECK, noted.as_bytes()),
+        (&[], &[]),
+        (0, WON, ""),
     )?;
-    let three = document(alloc, "100, 100, 100", "1, 2, 0", "'d dh p1 AhKhQh'")?;
-    let mut many = String::from_str(alloc, "'p1 f'")?;
+    let unknown = won_after(alloc, "venue = 'Hall'\n")?;
+    expect(
+        &rt,
+        alloc,
+        (&CHECK, unknown.as_bytes()),
+        (&[], &[]),
+        unbuilt,
+    )?;
+    let eleven = document(alloc, "1, 1, 1, 1, 1, 1, 1, 1, 1, 1, 1", "1, 2, 0", "")?;
+    expect(&rt, alloc, (&CHECK, eleven.as_bytes()), (&[], &[]), unbuilt)?;
+    let mut actions = String::from_str(alloc, "'p1 f'")?;
     for _ in 0..256 {
-        many.push_str(", 'p1 f'")?;
+        actions.push_str(", 'p1 f'")?;
     }
-    let many = document(alloc, "100, 100, 100", "1, 2, 0", many.as_str())?;
-    let taken = "refused: hand 1: event 2, action 2: CardTaken\n";
-    let count = "refused: hand 1: event 1, action 1: WrongCount\n";
-    let no_fault: &[u64] = &[];
-    let first: &[u64] = &[0];
-    let later: &[u64] = &[1];
-    let words: &[&str] = &CHECK;
-    let cases: [(&[&str], &[u8], &[u64], &[u64], u8, &str, &str); 18] = [
-        (words, won.as_bytes(), no_fault, no_fault, 0, WON, ""),
-        (words, noted.as_bytes(), no_fault, no_fault, 0, WON, ""),
-        (
-            words,
-            unknown.as_bytes(),
-            no_fault,
-            no_fault,
-            12,
-            "",
-            "unbuilt\n",
-        ),
-        (
-            words,
-            eleven.as_bytes(),
-            no_fault,
-            no_fault,
-            12,
-            "",
-            "unbuilt\n",
-        ),
-        (
-            words,
-            many.as_bytes(),
-            no_fault,
-            no_fault,
-            12,
-            "",
-            "unbuilt\n",
-        ),
-        (words, twice.as_bytes(), no_fault, no_fault, 1, "", taken),
-        (words, three.as_bytes(), no_fault, no_fault, 1, "", count),
-        (words, b"", no_fault, no_fault, 12, "", "unbuilt\n"),
-        (
-            words,
-            b"x =",
-            no_fault,
-            no_fault,
-            3,
-            "",
-            "bad input: Text\n",
-        ),
-        (
-            words,
-            b"\xff\xfe",
-            no_fault,
-            no_fault,
-            3,
-            "",
-            "bad input: Text\n",
-        ),
-        (
-            words,
-            won.as_bytes(),
-            first,
-            no_fault,
-            5,
-            "",
-            "read fault\n",
-        ),
-        (
-            words,
-            won.as_bytes(),
-            later,
-            no_fault,
-            5,
-            "",
-            "read fault\n",
-        ),
-        (
-            words,
-            won.as_bytes(),
-            no_fault,
-            first,
-            6,
-            "",
-            "write fault\n",
-        ),
-        (
-            &["convert", "--from", "phh"],
-            won.as_bytes(),
-            no_fault,
-            no_fault,
-            2,
-            "",
-            usage,
-        ),
-        (&[], won.as_bytes(), no_fault, no_fault, 2, "", usage),
-        (
-            &["check", "--from=phh"],
-            won.as_bytes(),
-            no_fault,
-            no_fault,
-            2,
-            "",
-            usage,
-        ),
-        (
-            &["check", "--from", "phh", "more"],
-            won.as_bytes(),
-            no_fault,
-            no_fault,
-            2,
-            "",
-            usage,
-        ),
-        (&["--help"], b"", first, first, 2, "", usage),
-    ];
-    for (words, input, read_fails, write_fails, status, output, line) in cases {
-        let ended = ran(alloc, words, input, read_fails, write_fails)?;
-        assert_eq!(rt; ended.status, status, "{line}");
-        assert_eq!(rt; ended.output.as_str(), output, "{line}");
-        assert_eq!(rt; ended.line.as_str(), line, "{line}");
-    }
+    let many = document(alloc, "100, 100, 100", "1, 2, 0", actions.as_str())?;
+    expect(&rt, alloc, (&CHECK, many.as_bytes()), (&[], &[]), unbuilt)?;
+    Ok(())
+}
+
+#[test]
+fn cards_are_looked_at(rt: HostRuntime) -> Result<(), Fail> {
+    let alloc = rt.alloc();
+    let even = "100, 100, 100";
+    let twice = document(alloc, even, "1, 2, 0", "'d dh p1 AhKh', 'd dh p2 2cAh'")?;
+    let taken = (1, "", "refused: hand 1: event 2, action 2: CardTaken\n");
+    expect(&rt, alloc, (&CHECK, twice.as_bytes()), (&[], &[]), taken)?;
+    let three = document(alloc, even, "1, 2, 0", "'d dh p1 AhKhQh'")?;
+    let count = (1, "", "refused: hand 1: event 1, action 1: WrongCount\n");
+    expect(&rt, alloc, (&CHECK, three.as_bytes()), (&[], &[]), count)?;
+    Ok(())
+}
+
+#[test]
+fn bytes_and_faults_are_answered(rt: HostRuntime) -> Result<(), Fail> {
+    let alloc = rt.alloc();
+    let text = (3, "", "bad input: Text\n");
+    expect(&rt, alloc, (&CHECK, b""), (&[], &[]), (12, "", "unbuilt\n"))?;
+    expect(&rt, alloc, (&CHECK, b"x ="), (&[], &[]), text)?;
+    expect(&rt, alloc, (&CHECK, b"\xff\xfe"), (&[], &[]), text)?;
+    let won = won_after(alloc, "")?;
+    let read = (5, "", "read fault\n");
+    let write = (6, "", "write fault\n");
+    expect(
+        &rt,
+        alloc,
+        (&CHECK, won.as_bytes()),
+        (&[], &[]),
+        (0, WON, ""),
+    )?;
+    expect(&rt, alloc, (&CHECK, won.as_bytes()), (&[0], &[]), read)?;
+    expect(&rt, alloc, (&CHECK, won.as_bytes()), (&[1], &[]), read)?;
+    expect(&rt, alloc, (&CHECK, won.as_bytes()), (&[], &[0]), write)?;
+    Ok(())
+}
+
+#[test]
+fn other_words_are_usage(rt: HostRuntime) -> Result<(), Fail> {
+    let alloc = rt.alloc();
+    let usage = (
+        2,
+        "",
+        "usage: handref check|replay|report|convert|game|load [options]\n",
+    );
+    let won = won_after(alloc, "")?;
+    let input = won.as_bytes();
+    expect(
+        &rt,
+        alloc,
+        (&["convert", "--from", "phh"], input),
+        (&[], &[]),
+        usage,
+    )?;
+    expect(&rt, alloc, (&[], input), (&[], &[]), usage)?;
+    expect(
+        &rt,
+        alloc,
+        (&["check", "--from=phh"], input),
+        (&[], &[]),
+        usage,
+    )?;
+    expect(
+        &rt,
+        alloc,
+        (&["check", "--from", "phh", "more"], input),
+        (&[], &[]),
+        usage,
+    )?;
+    expect(&rt, alloc, (&["--help"], b""), (&[0], &[0]), usage)?;
     Ok(())
 }
