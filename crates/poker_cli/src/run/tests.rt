@@ -232,18 +232,13 @@ fn bytes_and_faults_are_answered(rt: HostRuntime) -> Result<(), Fail> {
     expect(&rt, alloc, (&CHECK, b"x ="), (&[], &[]), text)?;
     expect(&rt, alloc, (&CHECK, b"\xff\xfe"), (&[], &[]), text)?;
     let won = won_after(alloc, "")?;
+    let input = won.as_bytes();
     let read = (5, "", "read fault\n");
     let write = (6, "", "write fault\n");
-    expect(
-        &rt,
-        alloc,
-        (&CHECK, won.as_bytes()),
-        (&[], &[]),
-        (0, WON, ""),
-    )?;
-    expect(&rt, alloc, (&CHECK, won.as_bytes()), (&[0], &[]), read)?;
-    expect(&rt, alloc, (&CHECK, won.as_bytes()), (&[1], &[]), read)?;
-    expect(&rt, alloc, (&CHECK, won.as_bytes()), (&[], &[0]), write)?;
+    expect(&rt, alloc, (&CHECK, input), (&[], &[]), (0, WON, ""))?;
+    expect(&rt, alloc, (&CHECK, input), (&[0], &[]), read)?;
+    expect(&rt, alloc, (&CHECK, input), (&[1], &[]), read)?;
+    expect(&rt, alloc, (&CHECK, input), (&[], &[0]), write)?;
     Ok(())
 }
 
