@@ -1,5 +1,5 @@
 -- What the rules say on the first street of no-limit hold'em.
-use Rattle.std.proofs.Common.{◌≡◌, ℕ, zero, suc, ◌+◌, ◌-◌, ◌≤◌, ◌<◌, Bool, true, false, ◌||◌, ◌&&◌, ◌==◌, not, nat_lt, nat_le, is_some, if◌then◌else◌, count_by, Option, Some, None, find, List, [], ◌∷◌, ◌++◌, map, take, drop, length, refl, sym, ◌∙◌, ap, subst, arith}
+use Rattle.std.proofs.Common.{◌≡◌, ℕ, ◌+◌, ◌-◌, Bool, true, false, ◌||◌, ◌&&◌, ◌==◌, not, nat_lt, nat_le, is_some, if◌then◌else◌, count_by, Option, Some, None, find, List, [], ◌∷◌, ◌++◌, map, length, refl, sym, ◌∙◌, ap, subst, arith}
 use Rattle.std.specs.List.{list_any, range_with_len}
 use Rattle.std.specs.Option.{option_or}
 use Rattle.std.proofs.lemmas.List.Folds.{find-append}
@@ -9,7 +9,7 @@ use Rattle.card_set.specs.declared.card.Slot.{Slot}
 use Rattle.play_event.specs.declared.code.Code.{Code}
 use Rattle.play_event.specs.declared.code.Code.TheVariants as games
 use Rattle.play_event.specs.declared.setup.Setup.{Setup}
-use Rattle.play_event.specs.Games.{hole_cards_on, board_cards_on, street_count}
+use Rattle.play_event.specs.Games.{board_cards_on}
 use Rattle.chip_ledger.specs.Seat.{seats_of}
 use Rattle.play_event.specs.Past.{Past, Move, moves_on}
 use Rattle.play_event.specs.Openers.{TheSeat, in_turn, blinds_opener}
@@ -22,7 +22,7 @@ use Rattle.poker_cli.specs.declared.past.Step.{Step}
 use Rattle.poker_cli.specs.declared.past.Step.TheVariants as steps
 use Rattle.poker_cli.specs.Steps.{resolved_step, cards_dealt}
 use Rattle.play_event.specs.Seats.{all_seats}
-use Rattle.play_event.specs.Dealing.{deal_due, hole_cards_owed, board_cards_owed, board_cards_dealt, draw_due, next_to_draw, replacements_owed}
+use Rattle.play_event.specs.Dealing.{deal_due, hole_cards_owed, board_cards_dealt, draw_due, next_to_draw, replacements_owed}
 use Rattle.play_event.specs.Streets.{draws_on, is_stud, deck_of}
 use Rattle.play_event.specs.Seats.{able_count}
 use Rattle.play_event.specs.Due.{has_to_move, bring_in_due, opens_betting}

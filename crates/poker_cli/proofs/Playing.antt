@@ -1,5 +1,5 @@
 -- One event more of a hand that is played, and what that makes of its verdict.
-use Rattle.std.proofs.Common.{Result, Ok, Err, IfOk, ◌≡◌, ℕ, zero, suc, ◌+◌, ◌-◌, ◌<◌, ◌≤◌, Bool, true, false, ◌&&◌, not, List, [], ◌∷◌, ◌++◌, length, map, take, reverse, get_or, slice_get, Option, Some, None, is_none, nat_le, refl, sym, ◌∙◌, ap, subst, arith, if◌then◌else◌, option_and_then}
+use Rattle.std.proofs.Common.{Result, Ok, Err, IfOk, ◌≡◌, ℕ, suc, ◌+◌, ◌-◌, ◌≤◌, Bool, true, false, ◌&&◌, not, List, [], ◌∷◌, length, map, take, reverse, get_or, slice_get, Option, Some, None, is_none, refl, sym, ◌∙◌, ap, arith, if◌then◌else◌, option_and_then}
 use Rattle.std.specs.Option.{option_map, option_map_or}
 use Rattle.std.specs.List.{range_with_len}
 use Rattle.std.proofs.lemmas.List.{take_more, reverse-append, length-map}
@@ -12,21 +12,20 @@ use Rattle.play_event.specs.declared.setup.Setup.{Setup}
 use Rattle.play_event.specs.Said.{Said, said_of}
 use Rattle.play_event.specs.Past as past
 use Rattle.play_event.specs.Past.{moves_of}
-use Rattle.play_event.specs.Seats.{live_count, all_seats}
+use Rattle.play_event.specs.Seats.{all_seats}
 use Rattle.play_event.specs.Due.{turn, due_on, is_unfinished}
 use Rattle.play_event.specs.Finish.{finishing_stack}
 use Rattle.play_event.specs.HistoryRules.{history_rules}
 use Rattle.play_event.specs.Reasons.{why}
-use Rattle.play_event.specs.Scripts.{past_of, past_after, with_event, resolved_on, why_at, ends_early}
+use Rattle.play_event.specs.Scripts.{past_of, past_after, with_event, resolved_on, why_at}
 use Rattle.poker_cli.specs.declared.past.Past.{Past}
-use Rattle.poker_cli.specs.declared.past.Step.{Step}
 use Rattle.poker_cli.specs.declared.play.Stage.{Stage}
 use Rattle.poker_cli.specs.declared.play.Stage.TheVariants as stages
 use Rattle.first_form.specs.declared.hand.Hand.{Hand}
 use Rattle.first_form.specs.Hand.{Numbered, Told, numbered, told, IsFirstEvent}
 use Rattle.poker_cli.specs.Outcome.{ended_at}
 use Rattle.poker_cli.specs.Stage.{IsStage}
-use Rattle.poker_cli.specs.Steps.{past_seen, resolved_step}
+use Rattle.poker_cli.specs.Steps.{past_seen}
 use Rattle.poker_cli.specs.Verdict.{Stop, Beyond, Refused, Verdict, Stopped, EndsEarly, Complete, events_of, action_at, is_beyond, stop_after, stop_or, first_stop, ending, verdict_by, verdict_from}
 use Rattle.poker_cli.proofs.Turn.{turn_over, turn_on_first, due_deal, due_move, newest_is_first, why_over}
 

@@ -1,5 +1,5 @@
 -- How far the first street has come.
-use Rattle.std.specs.Prelude.{◌≡◌, true, false, nat_le, Option, Some, None}
+use Rattle.std.specs.Prelude.{◌≡◌, true, false, nat_le}
 use Rattle.play_event.specs.declared.setup.Setup.{Setup}
 use Rattle.play_event.specs.Past.{Past, moves_of}
 use Rattle.play_event.specs.Seats.{live_count}

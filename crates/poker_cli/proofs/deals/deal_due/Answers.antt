@@ -1,4 +1,4 @@
-use Rattle.std.proofs.Common.{◌≡◌, ◌∙◌, sym, ap, nat_lt}
+use Rattle.std.proofs.Common.{◌∙◌, sym, ap, nat_lt}
 use Rattle.std.specs.List.{list_any}
 use Rattle.play_event.specs.Dealing.{hole_cards_owed}
 use Rattle.poker_cli.specs.Steps.{past_seen}

@@ -1,4 +1,4 @@
-use Rattle.std.proofs.Common.{◌∙◌, ap, sym, find}
+use Rattle.std.proofs.Common.{◌∙◌, ap, find}
 use Rattle.play_event.specs.Due.{has_to_move}
 use Rattle.poker_cli.specs.Steps.{moves_seen}
 use Rattle.poker_cli.proofs.FirstStreet.{mover_before, mover_behind}
