@@ -1,0 +1,37 @@
+//! Rows of the rules are read from the input, one a line, and each is printed again with what the crates answer to it.
+#![tactic(auto)]
+
+mod games;
+mod words;
+
+use std::alloc::{AllocError, Global};
+use std::io;
+
+fn main(rt: HostRuntime) -> io::Result<()> {
+    let alloc = rt.alloc();
+    for line in rt.lines(alloc) {
+        let row = answered(alloc, line?.as_str())?;
+        println!(rt; "{row}")?;
+    }
+    Ok(())
+}
+
+// A row with its answer behind it. Headings, which begin with `#`, and empty lines stay as they are.
+fn answered(alloc: Global, row: &str) -> Result<String, AllocError> {
+    if row.is_empty() || row.starts_with('#') {
+        return String::from_str(alloc, row);
+    }
+    match answer_to(alloc, row)? {
+        Some(answer) => format!(in alloc; "{row} = {answer}"),
+        None => format!(in alloc; "{row} ? no such row"),
+    }
+}
+
+// The answer of the subject that the first word names, none where the row has no meaning there.
+fn answer_to(alloc: Global, row: &str) -> Result<Option<String>, AllocError> {
+    let (subject, rest) = words::first_and_rest(row);
+    match subject.as_bytes() {
+        b"games" => games::answer_to(alloc, rest),
+        _ => Ok(None),
+    }
+}
