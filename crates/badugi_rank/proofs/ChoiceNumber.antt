@@ -8,16 +8,16 @@ use Rattle.hand_order.specs.Choices.{choices}
 use Rattle.hand_order.specs.Digits.{class_above}
 use Rattle.hand_order.specs.Points.{better, greatest}
 use Rattle.hand_order.proofs.Greatest.{greatest-append}
-use Rattle.badugi_rank.specs.Badugi.{all_differ, candidates, choice_points}
+use Rattle.badugi_rank.specs.Badugi.{has_nothing_in_common, candidates, choice_points}
 
 -- a row has as many cards as it says
 row_length : (row : CardRow) → length (cards_of row) ≡ row.len
 row_length row = omega (arith, length-take row.len row.cards, row.entries, row.fits)
 
 -- the number of a choice
-pub choice_number : (chosen : CardRow) (seen : List Card) (class : ℕ) (list : List ℕ) → true ≡ all_differ seen → seen ≡ cards_of chosen → class ≡ 4 - chosen.len → list ≡ ranks_of low_ace (cards_of chosen) → ◌≡◌ {A = Option ℕ} (Some (16 ^ 6 - class_above class list)) (choice_points (cards_of chosen))
+pub choice_number : (chosen : CardRow) (seen : List Card) (class : ℕ) (list : List ℕ) → true ≡ has_nothing_in_common seen → seen ≡ cards_of chosen → class ≡ 4 - chosen.len → list ≡ ranks_of low_ace (cards_of chosen) → ◌≡◌ {A = Option ℕ} (Some (16 ^ 6 - class_above class list)) (choice_points (cards_of chosen))
 choice_number chosen seen class list differ is_seen is_class is_list =
-    let test = differ ∙ ap all_differ is_seen in
+    let test = differ ∙ ap has_nothing_in_common is_seen in
     let many = is_class ∙ ap (λ (n : ℕ). 4 - n) (sym (row_length chosen)) in
     ap (λ (l : List ℕ). Some (16 ^ 6 - class_above class l)) is_list
     ∙ ap (λ (k : ℕ). Some (16 ^ 6 - class_above k (ranks_of low_ace (cards_of chosen)))) many

@@ -11,20 +11,20 @@ use Rattle.hand_order.specs.Digits.{class_above}
 use Rattle.hand_order.specs.Points.{greatest}
 
 -- two cards have a rank or a suit in common
-abbrev pub share : Card → Card → Bool
-share card other = low_ace other.rank == low_ace card.rank || suits_before other.suit == suits_before card.suit
+abbrev pub has_in_common : Card → Card → Bool
+has_in_common card other = low_ace other.rank == low_ace card.rank || suits_before other.suit == suits_before card.suit
 
 -- all ranks and suits differ
-abbrev pub all_differ : List Card → Bool
-all_differ [] = true
-all_differ (card ∷ rest) = list_all (λ other. not (share card other)) rest && all_differ rest
+abbrev pub has_nothing_in_common : List Card → Bool
+has_nothing_in_common [] = true
+has_nothing_in_common (card ∷ rest) = list_all (λ other. not (has_in_common card other)) rest && has_nothing_in_common rest
 
 abbrev pub IsRainbow : List Card → Type 0
-IsRainbow chosen = all_differ chosen ≡ true
+IsRainbow chosen = has_nothing_in_common chosen ≡ true
 
--- a choice is worse: it has fewer cards, or as many, and from the top down the first rank that differs is higher, the ace low
-abbrev pub IsWorse : List Card → List Card → Type 0
-IsWorse a b = (length a < length b) ⊎ ((length a ≡ length b) × IsLower (ranks_of low_ace b) (ranks_of low_ace a))
+-- a choice is weaker: it has fewer cards, or as many, and from the top down the first rank that differs is higher, the ace low
+abbrev pub IsWeakerChoice : List Card → List Card → Type 0
+IsWeakerChoice a b = (length a < length b) ⊎ ((length a ≡ length b) × IsLower (ranks_of low_ace b) (ranks_of low_ace a))
 
 -- the choices of four, three, two cards and one
 unfoldable pub candidates : List Card → List (List Card)
@@ -36,12 +36,12 @@ IsHand cards = Unit {0}
 
 -- a hand is weaker than another: the best choice of the other beats its own
 abbrev pub IsWeaker : List Card → List Card → Type 0
-IsWeaker a b = Beats IsRainbow IsWorse (candidates b) (candidates a)
+IsWeaker a b = Beats IsRainbow IsWeakerChoice (candidates b) (candidates a)
 
--- the number of a choice whose ranks and suits differ
+-- the points of a choice whose ranks and suits differ
 abbrev pub choice_points : List Card → Option ℕ
-choice_points chosen = if all_differ chosen then Some (16 ^ 6 - class_above (4 - length chosen) (ranks_of low_ace chosen)) else None
+choice_points chosen = if has_nothing_in_common chosen then Some (16 ^ 6 - class_above (4 - length chosen) (ranks_of low_ace chosen)) else None
 
--- the number of a hand's score
+-- the points of a hand
 abbrev pub points : List Card → Option ℕ
 points cards = greatest choice_points (candidates cards)

@@ -8,16 +8,16 @@ use Rattle.card_set.specs.Different.{AllDifferent}
 use Rattle.card_set.specs.Deck.{suits_before}
 use Rattle.card_set.specs.Ranks.{low_ace, ranks_of, times}
 use Rattle.card_set.proofs.Counted.{IsHeight-low_ace, all_once, length-ranks_of, times-cons, times-none, passes_or_not}
-use Rattle.hand_order.specs.Best.{IsWorth}
+use Rattle.hand_order.specs.Best.{IsPointsOfHolding}
 use Rattle.hand_order.specs.Choices.{choices, IsAmong, AreHeld}
 use Rattle.hand_order.specs.Digits.{class_above}
 use Rattle.hand_order.specs.Order.{IsLawful}
 use Rattle.hand_order.proofs.Greatest.{Says, says_greatest, IsAmong-right}
 use Rattle.hand_order.proofs.Held.{held_chosen, IsAmong-cases}
-use Rattle.hand_order.proofs.Lawful.{worth_greatest, beats_exactly, lawful_by_order}
+use Rattle.hand_order.proofs.Lawful.{greatest_of_holding, beats_exactly, lawful_by_order}
 use Rattle.hand_order.proofs.RankDigits.{AreDigits-ranks_of}
 use Rattle.hand_order.proofs.Ranked.{IsRanked, ranked_low_law}
-use Rattle.badugi_rank.specs.Badugi.{share, all_differ, IsRainbow, IsWorse, candidates, IsHand, IsWeaker, choice_points, points}
+use Rattle.badugi_rank.specs.Badugi.{has_in_common, has_nothing_in_common, IsRainbow, IsWeakerChoice, candidates, IsHand, IsWeaker, choice_points, points}
 
 -- at most four cards
 abbrev pub AreFew : List Card → Type 0
@@ -28,19 +28,19 @@ not_true false is = refl
 not_true true is = absurd (cc)
 
 -- no card of a rank that other cards lack
-lacks_rank : (card : Card) (rest : List Card) → list_all (λ other. not (share card other)) rest ≡ true → times low_ace rest (low_ace card.rank) ≡ 0
+lacks_rank : (card : Card) (rest : List Card) → list_all (λ other. not (has_in_common card other)) rest ≡ true → times low_ace rest (low_ace card.rank) ≡ 0
 lacks_rank card [] lacks = times-none low_ace (low_ace card.rank)
 lacks_rank card (other ∷ rest) lacks =
-    let parts = and_parts (not (share card other)) (list_all (λ other. not (share card other)) rest) lacks in
-    let apart = or_parts (low_ace other.rank == low_ace card.rank) (suits_before other.suit == suits_before card.suit) (not_true (share card other) parts.0) in
+    let parts = and_parts (not (has_in_common card other)) (list_all (λ other. not (has_in_common card other)) rest) lacks in
+    let apart = or_parts (low_ace other.rank == low_ace card.rank) (suits_before other.suit == suits_before card.suit) (not_true (has_in_common card other) parts.0) in
     let none = ap (λ (b : Bool). cond {A = ℕ} b 1 0) apart.0 in
     omega (arith, times-cons low_ace other rest (low_ace card.rank), none, lacks_rank card rest parts.1)
 
 -- no rank occurs twice where all differ
-once_each : (chosen : List Card) → all_differ chosen ≡ true → (h : ℕ) → times low_ace chosen h ≤ 1
+once_each : (chosen : List Card) → has_nothing_in_common chosen ≡ true → (h : ℕ) → times low_ace chosen h ≤ 1
 once_each [] differ h = omega (arith, times-none low_ace h)
 once_each (card ∷ rest) differ h =
-    let parts = and_parts (list_all (λ other. not (share card other)) rest) (all_differ rest) differ in
+    let parts = and_parts (list_all (λ other. not (has_in_common card other)) rest) (has_nothing_in_common rest) differ in
     elim (passes_or_not (low_ace card.rank == h)) [
       | inl same ↦
           let one = ap (λ (b : Bool). cond {A = ℕ} b 1 0) same in
@@ -52,7 +52,7 @@ once_each (card ∷ rest) differ h =
     ]
 
 -- as many ranks as cards decide
-rainbow_ranks : (chosen : List Card) → all_differ chosen ≡ true → length (ranks_of low_ace chosen) ≡ length chosen
+rainbow_ranks : (chosen : List Card) → has_nothing_in_common chosen ≡ true → length (ranks_of low_ace chosen) ≡ length chosen
 rainbow_ranks chosen differ =
     let once = all_once low_ace IsHeight-low_ace chosen (once_each chosen differ) in
     omega (arith, length-ranks_of low_ace chosen, once.0, once.1, once.2, once.3)
@@ -73,7 +73,7 @@ missing_of (suc (suc (suc zero))) few = refl
 missing_of (suc (suc (suc (suc zero)))) few = refl
 missing_of (suc (suc (suc (suc (suc n))))) few = absurd (omega arith)
 
-rainbow_ranked : (chosen : List Card) → AreFew chosen → all_differ chosen ≡ true → IsRanked missing_cards (ranks_of low_ace) rainbow_missing 4 4 chosen
+rainbow_ranked : (chosen : List Card) → AreFew chosen → has_nothing_in_common chosen ≡ true → IsRanked missing_cards (ranks_of low_ace) rainbow_missing 4 4 chosen
 rainbow_ranked chosen few differ =
     let same = rainbow_ranks chosen differ in
     record {
@@ -83,14 +83,14 @@ rainbow_ranked chosen few differ =
       digits = AreDigits-ranks_of low_ace chosen;
     }
 
-choice_value : (chosen : List Card) (value : ℕ) → choice_points chosen ≡ Some value → (all_differ chosen ≡ true) × (16 ^ 6 - class_above (4 - length chosen) (ranks_of low_ace chosen) ≡ value)
-choice_value chosen value is = cond_some (all_differ chosen) (16 ^ 6 - class_above (4 - length chosen) (ranks_of low_ace chosen)) value is
+choice_value : (chosen : List Card) (value : ℕ) → choice_points chosen ≡ Some value → (has_nothing_in_common chosen ≡ true) × (16 ^ 6 - class_above (4 - length chosen) (ranks_of low_ace chosen) ≡ value)
+choice_value chosen value is = cond_some (has_nothing_in_common chosen) (16 ^ 6 - class_above (4 - length chosen) (ranks_of low_ace chosen)) value is
 
 points_there : (test : Bool) (value : ℕ) → IsSome (cond test (Some value) None) ↔ (test ≡ true)
 points_there true value = (λ some. refl, λ is. refl)
 points_there false value = (λ some. some, λ is. is)
 
-choice_ordered : (a b : List Card) (low high : ℕ) → AreFew a → AreFew b → choice_points a ≡ Some low → choice_points b ≡ Some high → (low < high) ↔ IsWorse a b
+choice_ordered : (a b : List Card) (low high : ℕ) → AreFew a → AreFew b → choice_points a ≡ Some low → choice_points b ≡ Some high → (low < high) ↔ IsWeakerChoice a b
 choice_ordered a b low high few_a few_b is_low is_high =
     let is_a = choice_value a low is_low in
     let is_b = choice_value b high is_high in
@@ -100,8 +100,8 @@ choice_ordered a b low high few_a few_b is_low is_high =
     )
 
 -- choices are ordered by their numbers
-pub lawful_choices : IsLawful AreFew IsRainbow IsWorse choice_points
-lawful_choices = lawful_by_order AreFew IsRainbow IsWorse choice_points (λ chosen few. points_there (all_differ chosen) (16 ^ 6 - class_above (4 - length chosen) (ranks_of low_ace chosen))) choice_ordered
+pub lawful_choices : IsLawful AreFew IsRainbow IsWeakerChoice choice_points
+lawful_choices = lawful_by_order AreFew IsRainbow IsWeakerChoice choice_points (λ chosen few. points_there (has_nothing_in_common chosen) (16 ^ 6 - class_above (4 - length chosen) (ranks_of low_ace chosen))) choice_ordered
 
 -- the choices of a hand have at most four cards
 pub few_chosen : (cards chosen : List Card) → AllDifferent cards → IsAmong chosen (candidates cards) → AreFew chosen
@@ -118,15 +118,15 @@ few_chosen cards chosen different among =
       ]
     ]
 
--- a hand is worth its best choice
-worth_hand : (cards : List Card) (worth : Option ℕ) → AreHeld 4 cards → points cards ≡ worth → IsWorth IsRainbow IsWorse choice_points (candidates cards) worth
-worth_hand cards worth held is = worth_greatest AreFew IsRainbow IsWorse choice_points (candidates cards) worth lawful_choices (λ choice among. few_chosen cards choice held.1 among) (sym is)
+-- a hand has the points of its best choice
+hand_points : (cards : List Card) (most : Option ℕ) → AreHeld 4 cards → points cards ≡ most → IsPointsOfHolding IsRainbow IsWeakerChoice choice_points (candidates cards) most
+hand_points cards most held is = greatest_of_holding AreFew IsRainbow IsWeakerChoice choice_points (candidates cards) most lawful_choices (λ choice among. few_chosen cards choice held.1 among) (sym is)
 
 hand_ordered : (a b : List Card) (low high : ℕ) → AreHeld 4 a → AreHeld 4 b → points a ≡ Some low → points b ≡ Some high → (low < high) ↔ IsWeaker a b
 hand_ordered a b low high held_a held_b is_low is_high =
-    beats_exactly AreFew IsRainbow IsWorse choice_points (candidates b) (candidates a) (Some high) (Some low) lawful_choices
+    beats_exactly AreFew IsRainbow IsWeakerChoice choice_points (candidates b) (candidates a) (Some high) (Some low) lawful_choices
     (λ choice among. few_chosen b choice held_b.1 among) (λ choice among. few_chosen a choice held_a.1 among)
-    (worth_hand b (Some high) held_b is_high) (worth_hand a (Some low) held_a is_low)
+    (hand_points b (Some high) held_b is_high) (hand_points a (Some low) held_a is_low)
 
 -- each hand has a choice of one card
 one_chosen : (card : Card) (rest : List Card) → IsAmong (card ∷ []) (candidates (card ∷ rest))
@@ -136,7 +136,7 @@ one_chosen card rest =
     (IsAmong-right (card ∷ []) (choices 3 (card ∷ rest)) (choices 2 (card ∷ rest) ++ choices 1 (card ∷ rest))
     (IsAmong-right (card ∷ []) (choices 2 (card ∷ rest)) (choices 1 (card ∷ rest)) (inl refl)))
 
-some_points : (cards : List Card) (worth : Option ℕ) → AreHeld 4 cards → points cards ≡ worth → IsSome worth
+some_points : (cards : List Card) (most : Option ℕ) → AreHeld 4 cards → points cards ≡ most → IsSome most
 some_points cards (Some value) held is = refl
 some_points [] None held is = absurd (omega (arith, held.0))
 some_points (card ∷ rest) None held is =

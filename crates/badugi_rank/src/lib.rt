@@ -8,7 +8,7 @@ ghost use Rattle.card_set.specs.Row.{cards_of};
 ghost use Rattle.card_set.specs.Different.{AllDifferent};
 ghost use Rattle.hand_order.specs.Choices.{choices};
 ghost use Rattle.hand_order.specs.Points.{greatest};
-ghost use Rattle.badugi_rank.specs.Badugi.{all_differ, choice_points, share};
+ghost use Rattle.badugi_rank.specs.Badugi.{has_nothing_in_common, choice_points, has_in_common};
 
 use card_set::{Card, CardRow, place_of_suit};
 use hand_order::{
@@ -51,7 +51,7 @@ impl HandOrder for Badugi {
 fn best_of_size(cards: &CardRow, size: u8) -> Option<Score>
     requires different { AllDifferent (cards_of cards.now) }
     requires few { size ≤ 4 }
-    ensures { option_map (λ s. s.value) result
+    ensures { option_map (λ s. s.points) result
         ≡ greatest choice_points (choices size (cards_of cards.now)) }
 {
     best_choice(&Rainbow, cards, 0, CardRow::new(), size)
@@ -67,7 +67,7 @@ impl Judge for Rainbow {
 
     ghost accepts = { λ judge chosen. AreFew chosen };
 
-    ghost worth = { λ judge chosen. choice_points chosen };
+    ghost points = { λ judge chosen. choice_points chosen };
 
     fn judge(&self, chosen: &CardRow) -> Option<Score> {
         if !differ(chosen.as_slice()) {
@@ -75,14 +75,14 @@ impl Judge for Rainbow {
         }
         let ranks = ranks_of(chosen, Ace::Low);
         Some(Score {
-            value: 0x100_0000 - class_above(u32::from(4 - chosen.len), ranks.as_slice()),
+            points: 0x100_0000 - class_above(u32::from(4 - chosen.len), ranks.as_slice()),
         })
     }
 }
 
 // Whether all ranks and suits differ.
 fn differ(cards: &[Card]) -> bool
-    ensures { result ≡ all_differ cards.now }
+    ensures { result ≡ has_nothing_in_common cards.now }
 {
     match cards {
         [] => true,
@@ -91,14 +91,14 @@ fn differ(cards: &[Card]) -> bool
 }
 
 fn shares_none(card: &Card, others: &[Card]) -> bool
-    ensures { result ≡ list_all (λ other. not (share card.now other)) others.now }
+    ensures { result ≡ list_all (λ other. not (has_in_common card.now other)) others.now }
 {
     others.iter().all(|other| !have_common(card, other))
 }
 
 // Whether two cards have a rank or a suit in common.
 fn have_common(card: &Card, other: &Card) -> bool
-    ensures { result ≡ share card.now other.now }
+    ensures { result ≡ has_in_common card.now other.now }
 {
     height_of(other.rank, Ace::Low) == height_of(card.rank, Ace::Low)
         || place_of_suit(other.suit) == place_of_suit(card.suit)

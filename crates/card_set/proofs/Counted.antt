@@ -10,7 +10,7 @@ use Rattle.card_set.specs.declared.card.Rank.TheVariants as ranks
 use Rattle.card_set.specs.declared.card.Suit.{Suit}
 use Rattle.card_set.specs.declared.card.Suit.TheVariants as suits
 use Rattle.card_set.specs.Deck.{suits_before}
-use Rattle.card_set.specs.Ranks.{high_ace, low_ace, falling_heights, times, occurring, ranks_occurring, ranks_of, one_suit}
+use Rattle.card_set.specs.Ranks.{high_ace, low_ace, falling_heights, times, occurring, ranks_occurring, ranks_of, is_one_suit}
 use Rattle.card_set.specs.Spelling.{all_ranks}
 use Rattle.card_set.proofs.DeckLaws.{suits_same}
 use Rattle.card_set.specs.Different.{Lacks, AllDifferent}
@@ -123,8 +123,8 @@ abbrev card_of : Rank → Suit → Card
 card_of rank suit = record { rank = rank; suit = suit }
 
 -- a card is its rank and its suit
-same_card : (first second : Card) → first.rank ≡ second.rank → first.suit ≡ second.suit → first ≡ second
-same_card first second rank suit = ap (λ (r : Rank). card_of r first.suit) rank ∙ ap (λ (s : Suit). card_of second.rank s) suit
+one_card : (first second : Card) → first.rank ≡ second.rank → first.suit ≡ second.suit → first ≡ second
+one_card first second rank suit = ap (λ (r : Rank). card_of r first.suit) rank ∙ ap (λ (s : Suit). card_of second.rank s) suit
 
 -- a card of this height and this suit
 abbrev is_card : (Rank → ℕ) → ℕ → ℕ → Card → Bool
@@ -149,7 +149,7 @@ only_card : (height : Rank → ℕ) → IsHeight height → (h s : ℕ) (first s
 only_card height is h s first second one other =
     let a = and_parts (height first.rank == h) (suits_before first.suit == s) one in
     let b = and_parts (height second.rank == h) (suits_before second.suit == s) other in
-    same_card first second
+    one_card first second
     (sym (is.back first.rank) ∙ ap (rank_with height) (eqb-true (height first.rank) h a.0 ∙ sym (eqb-true (height second.rank) h b.0)) ∙ is.back second.rank)
     (suits_same first.suit second.suit (eqb-true _ _ a.1 ∙ sym (eqb-true _ _ b.1)))
 
@@ -182,7 +182,7 @@ times_in_suit height (card ∷ rest) h s all =
     omega (arith, times-cons height card rest h, count_by-cons (is_card height h s) card rest, here, times_in_suit height rest h s parts.1)
 
 -- a rank occurs at most once among different cards of one suit
-pub once_in_suit : (height : Rank → ℕ) → IsHeight height → (cards : List Card) → AllDifferent cards → one_suit cards ≡ true → (h : ℕ) → times height cards h ≤ 1
+pub once_in_suit : (height : Rank → ℕ) → IsHeight height → (cards : List Card) → AllDifferent cards → is_one_suit cards ≡ true → (h : ℕ) → times height cards h ≤ 1
 once_in_suit height is [] different suited h = absurd (cc)
 once_in_suit height is (card ∷ rest) different suited h =
     let s = suits_before card.suit in

@@ -6,7 +6,7 @@ use Rattle.card_set.specs.declared.card.Rank.{Rank}
 use Rattle.card_set.specs.declared.card.Rank.TheVariants as ranks
 use Rattle.card_set.specs.declared.card.Suit.{Suit}
 use Rattle.card_set.specs.declared.card.Suit.TheVariants as suits
-use Rattle.card_set.specs.Deck.{ranks_below, suits_before, deck_place, same_card}
+use Rattle.card_set.specs.Deck.{ranks_below, suits_before, deck_place, is_same_card}
 use Rattle.card_set.specs.Spelling.{all_ranks, all_suits}
 
 -- the rank with so many below it
@@ -60,9 +60,9 @@ deck_place-same a b same =
     ap (λ r. record { rank = r; suit = a.suit }) rank ∙ ap (λ s. record { rank = b.rank; suit = s }) suit
 
 -- the test of one card is true only at one card
-pub same_card-true : (a b : Card) → same_card a b ≡ true → a ≡ b
-same_card-true a b same = deck_place-same a b (eqb-true (deck_place a) (deck_place b) same)
+pub is_same_card-true : (a b : Card) → is_same_card a b ≡ true → a ≡ b
+is_same_card-true a b same = deck_place-same a b (eqb-true (deck_place a) (deck_place b) same)
 
 -- a card is the same as itself
-pub same_card-self : (a : Card) → same_card a a ≡ true
-same_card-self a = eq-eqb (deck_place a) (deck_place a) refl
+pub is_same_card-self : (a : Card) → is_same_card a a ≡ true
+is_same_card-self a = eq-eqb (deck_place a) (deck_place a) refl

@@ -5,28 +5,28 @@ use Rattle.card_set.specs.declared.card.Rank.{Rank}
 use Rattle.card_set.specs.Ranks.{ranks_occurring}
 
 -- one rank occurs four times
-abbrev pub four_of_a_kind : (Rank → ℕ) → List Card → Bool
-four_of_a_kind height cards = ranks_occurring height cards 4 == 1
+abbrev pub has_four_of_a_kind : (Rank → ℕ) → List Card → Bool
+has_four_of_a_kind height cards = ranks_occurring height cards 4 == 1
 
 -- one rank occurs three times and another twice
-abbrev pub full_house : (Rank → ℕ) → List Card → Bool
-full_house height cards = ranks_occurring height cards 3 == 1 && ranks_occurring height cards 2 == 1
+abbrev pub has_full_house : (Rank → ℕ) → List Card → Bool
+has_full_house height cards = ranks_occurring height cards 3 == 1 && ranks_occurring height cards 2 == 1
 
 -- one rank occurs three times and none twice
-abbrev pub three_of_a_kind : (Rank → ℕ) → List Card → Bool
-three_of_a_kind height cards = ranks_occurring height cards 3 == 1 && ranks_occurring height cards 2 == 0
+abbrev pub has_three_of_a_kind : (Rank → ℕ) → List Card → Bool
+has_three_of_a_kind height cards = ranks_occurring height cards 3 == 1 && ranks_occurring height cards 2 == 0
 
 -- two ranks occur twice
-abbrev pub two_pair : (Rank → ℕ) → List Card → Bool
-two_pair height cards = ranks_occurring height cards 2 == 2
+abbrev pub has_two_pair : (Rank → ℕ) → List Card → Bool
+has_two_pair height cards = ranks_occurring height cards 2 == 2
 
 -- one rank occurs twice and none three times
-abbrev pub one_pair : (Rank → ℕ) → List Card → Bool
-one_pair height cards = ranks_occurring height cards 2 == 1 && ranks_occurring height cards 3 == 0
+abbrev pub has_one_pair : (Rank → ℕ) → List Card → Bool
+has_one_pair height cards = ranks_occurring height cards 2 == 1 && ranks_occurring height cards 3 == 0
 
 -- no rank occurs more than once
-abbrev pub no_pair : (Rank → ℕ) → List Card → Bool
-no_pair height cards = ranks_occurring height cards 4 == 0 && ranks_occurring height cards 3 == 0 && ranks_occurring height cards 2 == 0
+abbrev pub has_no_pair : (Rank → ℕ) → List Card → Bool
+has_no_pair height cards = ranks_occurring height cards 4 == 0 && ranks_occurring height cards 3 == 0 && ranks_occurring height cards 2 == 0
 
 -- how many classes of a table, whose first is the best, stand before the first that a hand has
 abbrev pub place : List Bool → ℕ

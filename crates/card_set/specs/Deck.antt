@@ -34,5 +34,5 @@ abbrev pub deck_place : Card → ℕ
 deck_place card = 4 * ranks_below card.rank + suits_before card.suit
 
 -- both are one card
-abbrev pub same_card : Card → Card → Bool
-same_card a b = deck_place a == deck_place b
+abbrev pub is_same_card : Card → Card → Bool
+is_same_card a b = deck_place a == deck_place b

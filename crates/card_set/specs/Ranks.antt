@@ -59,6 +59,6 @@ unfoldable pub ranks_of : (Rank → ℕ) → List Card → List ℕ
 ranks_of height cards = occurring height cards 4 ++ (occurring height cards 3 ++ (occurring height cards 2 ++ occurring height cards 1))
 
 -- the cards are of one suit: each has that of the first
-abbrev pub one_suit : List Card → Bool
-one_suit [] = false
-one_suit (card ∷ rest) = list_all (λ other. suits_before other.suit == suits_before card.suit) (card ∷ rest)
+abbrev pub is_one_suit : List Card → Bool
+is_one_suit [] = false
+is_one_suit (card ∷ rest) = list_all (λ other. suits_before other.suit == suits_before card.suit) (card ∷ rest)

@@ -44,7 +44,7 @@ impl Tally {
             self.unscored = self.unscored.saturating_add(1);
             return Ok(());
         };
-        self.scores.insert(score.value)?;
+        self.scores.insert(score.points)?;
         for class in self.classes.iter_mut() {
             if score >= class.least {
                 class.hands = class.hands.saturating_add(1);

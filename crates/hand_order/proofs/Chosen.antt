@@ -5,7 +5,7 @@ use Rattle.card_set.specs.declared.card.Card.{Card}
 use Rattle.card_set.specs.declared.row.CardRow.{CardRow}
 use Rattle.std.specs.List.{list_all}
 use Rattle.card_set.specs.Deck.{suits_before}
-use Rattle.card_set.specs.Ranks.{one_suit}
+use Rattle.card_set.specs.Ranks.{is_one_suit}
 use Rattle.card_set.specs.Row.{cards_of}
 use Rattle.card_set.specs.Filler.{filler_card}
 use Rattle.hand_order.specs.Choices.{choices, choices_of_both, IsAmong}
@@ -19,13 +19,13 @@ choices-cons zero card rest some = absurd (omega arith)
 choices-cons (suc n) card rest some = let e : suc n - 1 ≡ n = omega arith in rw e refl
 
 -- the greatest of the choices with the first card, and of those without it
-pub greatest-step : (worth : List Card → Option ℕ) (chosen with rest : List Card) (card : Card) (need : ℕ) → 0 < need → with ≡ chosen ++ card ∷ [] → greatest (λ more. worth (chosen ++ more)) (choices need (card ∷ rest)) ≡ better (greatest (λ more. worth (with ++ more)) (choices (need - 1) rest)) (greatest (λ more. worth (chosen ++ more)) (choices need rest))
-greatest-step worth chosen with rest card need some is =
-    ap (greatest (λ more. worth (chosen ++ more))) (choices-cons need card rest some)
-    ∙ greatest-append (λ more. worth (chosen ++ more)) (map (λ others. card ∷ others) (choices (need - 1) rest)) (choices need rest)
-    ∙ ap (λ (first : Option ℕ). better first (greatest (λ more. worth (chosen ++ more)) (choices need rest)))
-    (greatest-map (λ more. worth (chosen ++ more)) (λ others. card ∷ others) (choices (need - 1) rest)
-    ∙ greatest-agree (λ others. worth (chosen ++ card ∷ others)) (λ more. worth (with ++ more)) (choices (need - 1) rest) (λ others. ap worth (sym (append_assoc chosen (card ∷ []) others) ∙ ap (λ (l : List Card). l ++ others) (sym is))))
+pub greatest-step : (points : List Card → Option ℕ) (chosen with rest : List Card) (card : Card) (need : ℕ) → 0 < need → with ≡ chosen ++ card ∷ [] → greatest (λ more. points (chosen ++ more)) (choices need (card ∷ rest)) ≡ better (greatest (λ more. points (with ++ more)) (choices (need - 1) rest)) (greatest (λ more. points (chosen ++ more)) (choices need rest))
+greatest-step points chosen with rest card need some is =
+    ap (greatest (λ more. points (chosen ++ more))) (choices-cons need card rest some)
+    ∙ greatest-append (λ more. points (chosen ++ more)) (map (λ others. card ∷ others) (choices (need - 1) rest)) (choices need rest)
+    ∙ ap (λ (first : Option ℕ). better first (greatest (λ more. points (chosen ++ more)) (choices need rest)))
+    (greatest-map (λ more. points (chosen ++ more)) (λ others. card ∷ others) (choices (need - 1) rest)
+    ∙ greatest-agree (λ others. points (chosen ++ card ∷ others)) (λ more. points (with ++ more)) (choices (need - 1) rest) (λ others. ap points (sym (append_assoc chosen (card ∷ []) others) ∙ ap (λ (l : List Card). l ++ others) (sym is))))
 
 -- what is accepted of all choices is accepted of those with the first card
 pub accepted_with : (accepts : List Card → Type 0) (chosen with rest : List Card) (card : Card) (need : ℕ) → 0 < need → with ≡ chosen ++ card ∷ [] → ((more : List Card) → IsAmong more (choices need (card ∷ rest)) → accepts (chosen ++ more)) → (more : List Card) → IsAmong more (choices (need - 1) rest) → accepts (with ++ more)
@@ -39,19 +39,19 @@ accepted_without accepts chosen rest card need some all more among =
     all more (subst (IsAmong more) (sym (choices-cons need card rest some)) (IsAmong-right more (map (λ others. card ∷ others) (choices (need - 1) rest)) (choices need rest) among))
 
 -- nothing more is needed
-pub greatest-zero : (worth : List Card → Option ℕ) (chosen rest : List Card) → greatest (λ more. worth (chosen ++ more)) (choices 0 rest) ≡ worth chosen
+pub greatest-zero : (points : List Card → Option ℕ) (chosen rest : List Card) → greatest (λ more. points (chosen ++ more)) (choices 0 rest) ≡ points chosen
 unfolding choices
-greatest-zero worth chosen rest = greatest-one (λ more. worth (chosen ++ more)) [] ∙ ap worth (append-nil chosen)
+greatest-zero points chosen rest = greatest-one (λ more. points (chosen ++ more)) [] ∙ ap points (append-nil chosen)
 
 pub accepted_zero : (accepts : List Card → Type 0) (chosen rest : List Card) → ((more : List Card) → IsAmong more (choices 0 rest) → accepts (chosen ++ more)) → accepts chosen
 unfolding choices
 accepted_zero accepts chosen rest all = subst accepts (append-nil chosen) (all [] (inl refl))
 
 -- no card is left
-pub greatest-empty : (worth : List Card → Option ℕ) (need : ℕ) → 0 < need → greatest worth (choices need []) ≡ None
+pub greatest-empty : (points : List Card → Option ℕ) (need : ℕ) → 0 < need → greatest points (choices need []) ≡ None
 unfolding choices
-greatest-empty worth zero some = absurd (omega arith)
-greatest-empty worth (suc n) some = greatest-none worth
+greatest-empty points zero some = absurd (omega arith)
+greatest-empty points (suc n) some = greatest-none points
 
 -- the card at a place of a row, and those after it
 pub drop-row : (row : CardRow) (at : ℕ) → at < row.len → drop at (cards_of row) ≡ get_or row.cards at filler_card ∷ drop (at + 1) (cards_of row)
@@ -60,13 +60,13 @@ drop-row row at within =
     ∙ ap (λ (card : Card). card ∷ drop (at + 1) (cards_of row)) (get_or-take row.len row.cards at filler_card within)
 
 -- the better of the best with a card and of the best without it is the best
-pub best_step : (worth : List Card → Option ℕ) (chosen with deck : List Card) (card : Card) (at need : ℕ) (best first second : Option ℕ) → 0 < need → with ≡ chosen ++ card ∷ [] → drop at deck ≡ card ∷ drop (at + 1) deck → best ≡ better first second → first ≡ greatest (λ more. worth (with ++ more)) (choices (need - 1) (drop (at + 1) deck)) → second ≡ greatest (λ more. worth (chosen ++ more)) (choices need (drop (at + 1) deck)) → best ≡ greatest (λ more. worth (chosen ++ more)) (choices need (drop at deck))
-best_step worth chosen with deck card at need best first second some is left better_is first_is second_is =
+pub best_step : (points : List Card → Option ℕ) (chosen with deck : List Card) (card : Card) (at need : ℕ) (best first second : Option ℕ) → 0 < need → with ≡ chosen ++ card ∷ [] → drop at deck ≡ card ∷ drop (at + 1) deck → best ≡ better first second → first ≡ greatest (λ more. points (with ++ more)) (choices (need - 1) (drop (at + 1) deck)) → second ≡ greatest (λ more. points (chosen ++ more)) (choices need (drop (at + 1) deck)) → best ≡ greatest (λ more. points (chosen ++ more)) (choices need (drop at deck))
+best_step points chosen with deck card at need best first second some is left better_is first_is second_is =
     better_is
     ∙ ap (λ (o : Option ℕ). better o second) first_is
-    ∙ ap (λ (o : Option ℕ). better (greatest (λ more. worth (with ++ more)) (choices (need - 1) (drop (at + 1) deck))) o) second_is
-    ∙ sym (greatest-step worth chosen with (drop (at + 1) deck) card need some is)
-    ∙ ap (λ (l : List Card). greatest (λ more. worth (chosen ++ more)) (choices need l)) (sym left)
+    ∙ ap (λ (o : Option ℕ). better (greatest (λ more. points (with ++ more)) (choices (need - 1) (drop (at + 1) deck))) o) second_is
+    ∙ sym (greatest-step points chosen with (drop (at + 1) deck) card need some is)
+    ∙ ap (λ (l : List Card). greatest (λ more. points (chosen ++ more)) (choices need l)) (sym left)
 
 -- past the last card none is left
 pub drop-past : (row : CardRow) (at : ℕ) → row.len ≤ at → drop at (cards_of row) ≡ []
@@ -81,10 +81,10 @@ greatest_of_both points start n first m second none =
     ∙ sym (greatest-flat_map points (λ chosen. map (λ others. chosen ++ others) (choices m second)) (choices n first))
 
 -- a row without cards is of no suit, and another is of one where all its cards have the suit of the first
-pub no_suit : (row : CardRow) → row.len ≡ 0 → one_suit (cards_of row) ≡ false
-no_suit row none = ap one_suit (drop-past row 0 (omega arith))
+pub no_suit : (row : CardRow) → row.len ≡ 0 → is_one_suit (cards_of row) ≡ false
+no_suit row none = ap is_one_suit (drop-past row 0 (omega arith))
 
-pub suit_of_first : (row : CardRow) → 0 < row.len → one_suit (cards_of row) ≡ list_all (λ other. suits_before other.suit == suits_before (get_or row.cards 0 filler_card).suit) (cards_of row)
+pub suit_of_first : (row : CardRow) → 0 < row.len → is_one_suit (cards_of row) ≡ list_all (λ other. suits_before other.suit == suits_before (get_or row.cards 0 filler_card).suit) (cards_of row)
 suit_of_first row some =
     let e = drop-row row 0 some in
-    ap one_suit e ∙ ap (list_all (λ other. suits_before other.suit == suits_before (get_or row.cards 0 filler_card).suit)) (sym e)
+    ap is_one_suit e ∙ ap (list_all (λ other. suits_before other.suit == suits_before (get_or row.cards 0 filler_card).suit)) (sym e)

@@ -3,7 +3,7 @@ use Rattle.std.proofs.Common.{◌≡◌, ℕ, ◌+◌, ◌-◌, ◌*◌, ◌^◌
 use Rattle.std.proofs.lemmas.Bool.{or_cases}
 use Rattle.card_set.specs.declared.card.Card.{Card}
 use Rattle.card_set.specs.Classes.{place}
-use Rattle.card_set.specs.Ranks.{high_ace, ranks_occurring, ranks_of, one_suit}
+use Rattle.card_set.specs.Ranks.{high_ace, ranks_occurring, ranks_of, is_one_suit}
 use Rattle.card_set.proofs.Counted.{IsHeight-high_ace, few_times, counted, all_once, once_in_suit, length-ranks_of, ranks_of-le}
 use Rattle.hand_order.specs.declared.straights.LowStraight.{LowStraight}
 use Rattle.hand_order.specs.Choices.{AreHeld}
@@ -53,7 +53,7 @@ straight_of_five low ranks is = elim (or_cases (is_run ranks) (is_low_straight l
 -- the ranks of five different cards
 pub record IsFive (cards : List Card) : Type 0 where
   pub all : 4 * ranks_occurring high_ace cards 4 + 3 * ranks_occurring high_ace cards 3 + 2 * ranks_occurring high_ace cards 2 + ranks_occurring high_ace cards 1 ≡ 5
-  pub flushes : one_suit cards ≡ true → ranks_occurring high_ace cards 4 + ranks_occurring high_ace cards 3 + ranks_occurring high_ace cards 2 + ranks_occurring high_ace cards 1 ≡ 5
+  pub flushes : is_one_suit cards ≡ true → ranks_occurring high_ace cards 4 + ranks_occurring high_ace cards 3 + ranks_occurring high_ace cards 2 + ranks_occurring high_ace cards 1 ≡ 5
 
 pub five_cards : (cards : List Card) → AreHeld 5 cards → IsFive cards
 five_cards cards held = record {
@@ -101,10 +101,10 @@ TableSays table missing four three two one straight flush = (place (table four t
 
 -- a hand of five different cards is ranked by a table that says so of each way in which ranks occur
 pub ranked_by : (table : ℕ → ℕ → ℕ → Bool → Bool → List Bool) (missing : List ℕ) → ((four three two one : ℕ) (straight flush : Bool) → 4 * four + 3 * three + 2 * two + one ≡ 5 → (straight ≡ true → four + three + two + one ≡ 5) → (flush ≡ true → four + three + two + one ≡ 5) → TableSays table missing four three two one straight flush)
-    → (low : LowStraight) (class : List Card → ℕ) (cards : List Card) → AreHeld 5 cards → class cards ≡ place (table (ranks_occurring high_ace cards 4) (ranks_occurring high_ace cards 3) (ranks_occurring high_ace cards 2) (is_straight low cards) (one_suit cards)) → IsRanked class (deciding_ranks low) missing 8 5 cards
+    → (low : LowStraight) (class : List Card → ℕ) (cards : List Card) → AreHeld 5 cards → class cards ≡ place (table (ranks_occurring high_ace cards 4) (ranks_occurring high_ace cards 3) (ranks_occurring high_ace cards 2) (is_straight low cards) (is_one_suit cards)) → IsRanked class (deciding_ranks low) missing 8 5 cards
 ranked_by table missing every low class cards held is =
     let five = five_cards cards held in
-    let says = every (ranks_occurring high_ace cards 4) (ranks_occurring high_ace cards 3) (ranks_occurring high_ace cards 2) (ranks_occurring high_ace cards 1) (is_straight low cards) (one_suit cards) five.all (straights_of_five low cards) five.flushes in
+    let says = every (ranks_occurring high_ace cards 4) (ranks_occurring high_ace cards 3) (ranks_occurring high_ace cards 2) (ranks_occurring high_ace cards 1) (is_straight low cards) (is_one_suit cards) five.all (straights_of_five low cards) five.flushes in
     record {
       within = omega (arith, is, says.0);
       long =
@@ -143,7 +143,7 @@ high_below low cards held = let below = decide_below low cards held.0 in omega a
 
 -- a class by any table and a list that are seen of the cards make a number
 pub table_number_is : (table : ℕ → ℕ → ℕ → Bool → Bool → List Bool) (low : LowStraight) (cards : List Card) (look : Look) (class : ℕ) (list : List ℕ) → IsLookOf look low cards → class ≡ 8 - place (table look.fours look.threes look.pairs look.straight look.flush) → list ≡ heights_of look.deciding
-    → class_above class list ≡ class_above (8 - place (table (ranks_occurring high_ace cards 4) (ranks_occurring high_ace cards 3) (ranks_occurring high_ace cards 2) (is_straight low cards) (one_suit cards))) (deciding_ranks low cards)
+    → class_above class list ≡ class_above (8 - place (table (ranks_occurring high_ace cards 4) (ranks_occurring high_ace cards 3) (ranks_occurring high_ace cards 2) (is_straight low cards) (is_one_suit cards))) (deciding_ranks low cards)
 table_number_is table low cards look class list is class_is list_is =
     ap (λ (l : List ℕ). class_above class l) (list_is ∙ is.deciding)
     ∙ ap (λ (k : ℕ). class_above k (deciding_ranks low cards)) (class_is

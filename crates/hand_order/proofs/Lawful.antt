@@ -7,7 +7,7 @@ use Rattle.card_set.specs.declared.card.Card.{Card}
 use Rattle.hand_order.specs.declared.order.Score.{Score}
 use Rattle.hand_order.specs.Choices.{IsAmong}
 use Rattle.hand_order.specs.Order.{IsLawful, IsEven}
-use Rattle.hand_order.specs.Best.{HasNoHand, IsBest, IsPointsOfBest, Beats, IsWorth, IsLess}
+use Rattle.hand_order.specs.Best.{HasNoHand, IsBest, IsPointsOfBest, Beats, IsPointsOfHolding, IsLess}
 use Rattle.hand_order.specs.Points.{greatest}
 use Rattle.hand_order.proofs.Greatest.{IsGreatest, Says, says_greatest}
 
@@ -89,13 +89,13 @@ points_of_best looks_at is_hand is_weaker points options value lawful are most =
 }
 
 -- a result that is the greatest points of choices
-pub none_by_greatest : (looks_at : List Card → Type 0) (is_hand : List Card → Type 0) (is_weaker : List Card → List Card → Type 0) (points : List Card → Option ℕ) (options : List (List Card)) (result : Option Score) → IsLawful looks_at is_hand is_weaker points → ((choice : List Card) → IsAmong choice options → looks_at choice) → option_map (λ (s : Score). s.value) result ≡ greatest points options → IfNone result (HasNoHand is_hand options)
+pub none_by_greatest : (looks_at : List Card → Type 0) (is_hand : List Card → Type 0) (is_weaker : List Card → List Card → Type 0) (points : List Card → Option ℕ) (options : List (List Card)) (result : Option Score) → IsLawful looks_at is_hand is_weaker points → ((choice : List Card) → IsAmong choice options → looks_at choice) → option_map (λ (s : Score). s.points) result ≡ greatest points options → IfNone result (HasNoHand is_hand options)
 none_by_greatest looks_at is_hand is_weaker points options None lawful are is = no_hand looks_at is_hand is_weaker points options lawful are (subst (Says points options) (sym is) (says_greatest points options))
 none_by_greatest looks_at is_hand is_weaker points options (Some score) lawful are is = tt
 
-pub best_by_greatest : (looks_at : List Card → Type 0) (is_hand : List Card → Type 0) (is_weaker : List Card → List Card → Type 0) (points : List Card → Option ℕ) (options : List (List Card)) (result : Option Score) → IsLawful looks_at is_hand is_weaker points → ((choice : List Card) → IsAmong choice options → looks_at choice) → option_map (λ (s : Score). s.value) result ≡ greatest points options → IfSome result (λ score. IsPointsOfBest is_hand is_weaker points options score.value)
+pub best_by_greatest : (looks_at : List Card → Type 0) (is_hand : List Card → Type 0) (is_weaker : List Card → List Card → Type 0) (points : List Card → Option ℕ) (options : List (List Card)) (result : Option Score) → IsLawful looks_at is_hand is_weaker points → ((choice : List Card) → IsAmong choice options → looks_at choice) → option_map (λ (s : Score). s.points) result ≡ greatest points options → IfSome result (λ score. IsPointsOfBest is_hand is_weaker points options score.points)
 best_by_greatest looks_at is_hand is_weaker points options None lawful are is = tt
-best_by_greatest looks_at is_hand is_weaker points options (Some score) lawful are is = points_of_best looks_at is_hand is_weaker points options score.value lawful are (subst (Says points options) (sym is) (says_greatest points options))
+best_by_greatest looks_at is_hand is_weaker points options (Some score) lawful are is = points_of_best looks_at is_hand is_weaker points options score.points lawful are (subst (Says points options) (sym is) (says_greatest points options))
 
 -- a best choice has at least the points of each other choice
 best_most : (looks_at : List Card → Type 0) (is_hand : List Card → Type 0) (is_weaker : List Card → List Card → Type 0) (points : List Card → Option ℕ) (options : List (List Card)) (best other : List Card) (most value : ℕ) → IsLawful looks_at is_hand is_weaker points → ((choice : List Card) → IsAmong choice options → looks_at choice) → IsBest is_hand is_weaker options best → IsAmong other options → is_hand other → points best ≡ Some most → points other ≡ Some value → value ≤ most
@@ -106,7 +106,7 @@ best_most looks_at is_hand is_weaker points options best other most value lawful
     ]
 
 -- one holding beats another exactly where its points are greater
-pub beats_exactly : (looks_at : List Card → Type 0) (is_hand : List Card → Type 0) (is_weaker : List Card → List Card → Type 0) (points : List Card → Option ℕ) (options others : List (List Card)) (ours theirs : Option ℕ) → IsLawful looks_at is_hand is_weaker points → ((choice : List Card) → IsAmong choice options → looks_at choice) → ((choice : List Card) → IsAmong choice others → looks_at choice) → IsWorth is_hand is_weaker points options ours → IsWorth is_hand is_weaker points others theirs → IsLess theirs ours ↔ Beats is_hand is_weaker options others
+pub beats_exactly : (looks_at : List Card → Type 0) (is_hand : List Card → Type 0) (is_weaker : List Card → List Card → Type 0) (points : List Card → Option ℕ) (options others : List (List Card)) (ours theirs : Option ℕ) → IsLawful looks_at is_hand is_weaker points → ((choice : List Card) → IsAmong choice options → looks_at choice) → ((choice : List Card) → IsAmong choice others → looks_at choice) → IsPointsOfHolding is_hand is_weaker points options ours → IsPointsOfHolding is_hand is_weaker points others theirs → IsLess theirs ours ↔ Beats is_hand is_weaker options others
 beats_exactly looks_at is_hand is_weaker points options others None None lawful are are_others none no_others = (λ less. absurd less, λ beats. none beats.best beats.is_best.among beats.is_best.hand)
 beats_exactly looks_at is_hand is_weaker points options others None (Some value) lawful are are_others none other = (λ less. absurd less, λ beats. none beats.best beats.is_best.among beats.is_best.hand)
 beats_exactly looks_at is_hand is_weaker points options others (Some value) None lawful are are_others ours no_others = (λ less. record { best = ours.best; is_best = ours.is_best; over = inl no_others }, λ beats. tt)
@@ -132,7 +132,7 @@ lawful_by_numbers looks_at is_weaker number law =
     let high_is = same_Some (number b) high is_high in
     subst (λ (n : ℕ). (n < high) ↔ is_weaker a b) low_is (subst (λ (n : ℕ). (number a < n) ↔ is_weaker a b) high_is (law a b are_a are_b)))
 
--- the greatest points of choices are what the choices are worth
-pub worth_greatest : (looks_at : List Card → Type 0) (is_hand : List Card → Type 0) (is_weaker : List Card → List Card → Type 0) (points : List Card → Option ℕ) (options : List (List Card)) (worth : Option ℕ) → IsLawful looks_at is_hand is_weaker points → ((choice : List Card) → IsAmong choice options → looks_at choice) → worth ≡ greatest points options → IsWorth is_hand is_weaker points options worth
-worth_greatest looks_at is_hand is_weaker points options None lawful are is = no_hand looks_at is_hand is_weaker points options lawful are (subst (Says points options) (sym is) (says_greatest points options))
-worth_greatest looks_at is_hand is_weaker points options (Some value) lawful are is = points_of_best looks_at is_hand is_weaker points options value lawful are (subst (Says points options) (sym is) (says_greatest points options))
+-- the greatest points of choices are those of the holding
+pub greatest_of_holding : (looks_at : List Card → Type 0) (is_hand : List Card → Type 0) (is_weaker : List Card → List Card → Type 0) (points : List Card → Option ℕ) (options : List (List Card)) (worth : Option ℕ) → IsLawful looks_at is_hand is_weaker points → ((choice : List Card) → IsAmong choice options → looks_at choice) → worth ≡ greatest points options → IsPointsOfHolding is_hand is_weaker points options worth
+greatest_of_holding looks_at is_hand is_weaker points options None lawful are is = no_hand looks_at is_hand is_weaker points options lawful are (subst (Says points options) (sym is) (says_greatest points options))
+greatest_of_holding looks_at is_hand is_weaker points options (Some value) lawful are is = points_of_best looks_at is_hand is_weaker points options value lawful are (subst (Says points options) (sym is) (says_greatest points options))

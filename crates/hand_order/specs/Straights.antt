@@ -1,8 +1,8 @@
 -- Straights and flushes, and the table of classes of the high orders.
 use Rattle.std.specs.Prelude.{◌==◌, ◌&&◌, ◌||◌, ℕ, ◌+◌, ◌-◌, Bool, false, List, [], ◌∷◌, if◌then◌else◌}
 use Rattle.card_set.specs.declared.card.Card.{Card}
-use Rattle.card_set.specs.Ranks.{high_ace, ranks_of, one_suit}
-use Rattle.card_set.specs.Classes.{four_of_a_kind, full_house, three_of_a_kind, two_pair, one_pair, no_pair, place, IsBelow}
+use Rattle.card_set.specs.Ranks.{high_ace, ranks_of, is_one_suit}
+use Rattle.card_set.specs.Classes.{has_four_of_a_kind, has_full_house, has_three_of_a_kind, has_two_pair, has_one_pair, has_no_pair, place, IsBelow}
 use Rattle.hand_order.specs.Digits.{class_above}
 use Rattle.hand_order.specs.declared.straights.LowStraight.{LowStraight}
 use Rattle.hand_order.specs.declared.straights.LowStraight.TheVariants as straights
@@ -13,14 +13,14 @@ is_run (a ∷ b ∷ c ∷ d ∷ e ∷ []) = a == b + 1 && b == c + 1 && c == d +
 is_run _ = false
 
 -- the ranks after the ace in the straight that it begins: 5432, 9876 or none
-abbrev pub follow_ace : LowStraight → ℕ → ℕ → ℕ → ℕ → Bool
-follow_ace straights.FiveHigh b c d e = b == 5 && c == 4 && d == 3 && e == 2
-follow_ace straights.NineHigh b c d e = b == 9 && c == 8 && d == 7 && e == 6
-follow_ace straights.Nothing b c d e = false
+abbrev pub is_after_ace : LowStraight → ℕ → ℕ → ℕ → ℕ → Bool
+is_after_ace straights.FiveHigh b c d e = b == 5 && c == 4 && d == 3 && e == 2
+is_after_ace straights.NineHigh b c d e = b == 9 && c == 8 && d == 7 && e == 6
+is_after_ace straights.Nothing b c d e = false
 
 -- the straight that an ace begins
 abbrev pub is_low_straight : LowStraight → List ℕ → Bool
-is_low_straight low (a ∷ b ∷ c ∷ d ∷ e ∷ []) = a == 14 && follow_ace low b c d e
+is_low_straight low (a ∷ b ∷ c ∷ d ∷ e ∷ []) = a == 14 && is_after_ace low b c d e
 is_low_straight low _ = false
 
 -- five different ranks of consecutive heights, or the straight that an ace begins
@@ -40,15 +40,15 @@ deciding_ranks low cards = if is_straight low cards then straight_top (ranks_of 
 unfoldable pub high_class : LowStraight → List Card → ℕ
 high_class low cards =
     place (
-    (is_straight low cards && one_suit cards)
-    ∷ four_of_a_kind high_ace cards
-    ∷ full_house high_ace cards
-    ∷ one_suit cards
+    (is_straight low cards && is_one_suit cards)
+    ∷ has_four_of_a_kind high_ace cards
+    ∷ has_full_house high_ace cards
+    ∷ is_one_suit cards
     ∷ is_straight low cards
-    ∷ three_of_a_kind high_ace cards
-    ∷ two_pair high_ace cards
-    ∷ one_pair high_ace cards
-    ∷ no_pair high_ace cards
+    ∷ has_three_of_a_kind high_ace cards
+    ∷ has_two_pair high_ace cards
+    ∷ has_one_pair high_ace cards
+    ∷ has_no_pair high_ace cards
     ∷ []
     )
 

@@ -31,7 +31,7 @@ pub fn best_of<O: HandOrder>(hole: &CardRow, board: &CardRow, pick: Pick) -> Opt
     requires different { AllDifferent (cards_of hole.now ++ cards_of board.now) }
     ensures none { IfNone result (HasNoHand O.is_hand (allowed pick (cards_of hole.now) (cards_of board.now))) }
     ensures best { IfSome result (λ score. IsPointsOfBest O.is_hand O.is_weaker O.points
-        (allowed pick (cards_of hole.now) (cards_of board.now)) score.value) }
+        (allowed pick (cards_of hole.now) (cards_of board.now)) score.points) }
 {
     greatest_score::<O>(hole, board, pick)
 }
@@ -40,7 +40,7 @@ pub fn best_of<O: HandOrder>(hole: &CardRow, board: &CardRow, pick: Pick) -> Opt
 fn greatest_score<O: HandOrder>(hole: &CardRow, board: &CardRow, pick: Pick) -> Option<Score>
     requires usable { CanPick O.HELD pick (cards_of hole.now) (cards_of board.now) }
     requires different { AllDifferent (cards_of hole.now ++ cards_of board.now) }
-    ensures { option_map (λ s. s.value) result
+    ensures { option_map (λ s. s.points) result
         ≡ greatest O.points (allowed pick (cards_of hole.now) (cards_of board.now)) }
 {
     match pick {
@@ -54,7 +54,7 @@ fn any_five<O: HandOrder>(hole: &CardRow, board: &CardRow) -> Option<Score>
     requires held { O.HELD ≡ 5 }
     requires room { length (cards_of hole.now) + length (cards_of board.now) ≤ 7 }
     requires different { AllDifferent (cards_of hole.now ++ cards_of board.now) }
-    ensures { option_map (λ s. s.value) result
+    ensures { option_map (λ s. s.points) result
         ≡ greatest O.points (choices 5 (cards_of hole.now ++ cards_of board.now)) }
 {
     let judge = ByOrder::<O> { order: PhantomData };
@@ -64,7 +64,7 @@ fn any_five<O: HandOrder>(hole: &CardRow, board: &CardRow) -> Option<Score>
 fn two_and_three<O: HandOrder>(hole: &CardRow, board: &CardRow) -> Option<Score>
     requires held { O.HELD ≡ 5 }
     requires different { AllDifferent (cards_of hole.now ++ cards_of board.now) }
-    ensures { option_map (λ s. s.value) result
+    ensures { option_map (λ s. s.points) result
         ≡ greatest O.points (choices_of_both 2 (cards_of hole.now) 3 (cards_of board.now)) }
 {
     let judge = WithBoard::<O> {
@@ -86,18 +86,18 @@ fn joined(first: &CardRow, second: &CardRow) -> CardRow
     row
 }
 
-/// What a choice is worth.
+/// How many points a choice has.
 pub trait Judge {
     /// Which choices it can judge.
     ghost accepts: { Self → List Card → Type 0 };
 
-    /// What a choice is worth, if anything.
-    ghost worth: { Self → List Card → Option ℕ };
+    /// The points of a choice, if it has some.
+    ghost points: { Self → List Card → Option ℕ };
 
-    /// What the chosen cards are worth.
+    /// The score of the chosen cards.
     fn judge(&self, chosen: &CardRow) -> Option<Score>
         requires { accepts self.now (cards_of chosen.now) }
-        ensures { option_map (λ s. s.value) result ≡ worth self.now (cards_of chosen.now) };
+        ensures { option_map (λ s. s.points) result ≡ points self.now (cards_of chosen.now) };
 }
 
 /// The best that can be had with `chosen` and `need` of the cards from place `from` on.
@@ -111,8 +111,8 @@ pub fn best_choice<J: Judge>(
     requires room { chosen.len + need ≤ 7 }
     requires accepted { (more : List Card) → IsAmong more (choices need (drop from (cards_of cards.now)))
         → J.accepts judge.now (cards_of chosen ++ more) }
-    ensures { option_map (λ s. s.value) result
-        ≡ greatest (λ more. J.worth judge.now (cards_of chosen ++ more))
+    ensures { option_map (λ s. s.points) result
+        ≡ greatest (λ more. J.points judge.now (cards_of chosen ++ more))
         (choices need (drop from (cards_of cards.now))) }
 {
     if need == 0 {
@@ -131,14 +131,14 @@ pub fn best_choice<J: Judge>(
 
 /// The better of two scores, where none is the worst.
 pub fn better_score(first: Option<Score>, second: Option<Score>) -> Option<Score>
-    ensures { option_map (λ s. s.value) result
-        ≡ better (option_map (λ s. s.value) first) (option_map (λ s. s.value) second) }
+    ensures { option_map (λ s. s.points) result
+        ≡ better (option_map (λ s. s.points) first) (option_map (λ s. s.points) second) }
 {
     match (first, second) {
         (None, _) => second,
         (Some(_), None) => first,
         (Some(x), Some(y)) => Some(Score {
-            value: x.value.max(y.value),
+            points: x.points.max(y.points),
         }),
     }
 }
@@ -152,7 +152,7 @@ struct ByOrder<O: HandOrder> {
 impl<O: HandOrder> Judge for ByOrder<O> {
     ghost accepts = { λ judge cards. AreHeld O.HELD cards };
 
-    ghost worth = { λ judge cards. O.points cards };
+    ghost points = { λ judge cards. O.points cards };
 
     fn judge(&self, chosen: &CardRow) -> Option<Score> {
         O::score(chosen)
@@ -169,7 +169,7 @@ struct WithBoard<O: HandOrder> {
 impl<O: HandOrder> Judge for WithBoard<O> {
     ghost accepts = { λ judge cards. CanJoin O.HELD cards (cards_of judge.board) };
 
-    ghost worth = { λ judge cards. greatest (λ more. O.points (cards ++ more)) (choices 3 (cards_of judge.board)) };
+    ghost points = { λ judge cards. greatest (λ more. O.points (cards ++ more)) (choices 3 (cards_of judge.board)) };
 
     fn judge(&self, chosen: &CardRow) -> Option<Score> {
         let judge = ByOrder::<O> { order: PhantomData };

@@ -12,7 +12,7 @@ use card_set::CardRow;
 /// Scores of different orders have nothing to do with one another.
 #[derive(Clone, Copy, Debug, PartialEq, Eq, PartialOrd, Ord, Hash)]
 pub struct Score {
-    pub value: u32,
+    pub points: u32,
 }
 
 /// An order of hands.
@@ -26,7 +26,7 @@ pub trait HandOrder {
     /// Whether the first hand is weaker than the second.
     ghost is_weaker: { List Card → List Card → Type 0 };
 
-    /// The number of a hand's score, where it is a hand of the order.
+    /// The points of a hand, where it is a hand of the order.
     ghost points: { List Card → Option ℕ };
 
     /// How many cards a hand has.
@@ -35,7 +35,7 @@ pub trait HandOrder {
     /// The score of a hand, none where the cards are no hand of the order.
     fn score(cards: &CardRow) -> Option<Score>
         requires { AreHeld HELD (cards_of cards.now) }
-        ensures { option_map (λ s. s.value) result ≡ points (cards_of cards.now) };
+        ensures { option_map (λ s. s.points) result ≡ points (cards_of cards.now) };
 
     /// Points are there exactly for hands of the order, less exactly for the weaker hand,
     /// and equal exactly for even hands; every two hands compare.

@@ -3,7 +3,7 @@ ghost use Rattle.std.specs.Prelude.{◌≡◌, ◌==◌, ◌||◌, [], ◌∷◌
 ghost use Rattle.std.specs.List.{list_all};
 ghost use Rattle.card_set.specs.Row.{cards_of};
 ghost use Rattle.card_set.specs.Deck.{suits_before};
-ghost use Rattle.card_set.specs.Ranks.{one_suit};
+ghost use Rattle.card_set.specs.Ranks.{is_one_suit};
 ghost use Rattle.hand_order.specs.Heights.{heights_of};
 ghost use Rattle.hand_order.specs.Straights.{is_low_straight, is_run, straight_top};
 
@@ -23,7 +23,7 @@ pub enum LowStraight {
 
 /// Whether the cards are of one suit.
 pub fn is_flush(cards: &CardRow) -> bool
-    ensures { result ≡ one_suit (cards_of cards.now) }
+    ensures { result ≡ is_one_suit (cards_of cards.now) }
 {
     if cards.len == 0 {
         return false;

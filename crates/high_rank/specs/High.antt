@@ -8,7 +8,7 @@ use Rattle.hand_order.specs.Straights.{IsWeakerHigh, high_points}
 abbrev pub IsWeaker : List Card → List Card → Type 0
 IsWeaker a b = IsWeakerHigh straights.FiveHigh a b
 
--- the number of its score
+-- the points of its score
 abbrev pub points : List Card → Option ℕ
 points cards = Some (high_points straights.FiveHigh cards)
 

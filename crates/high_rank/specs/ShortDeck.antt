@@ -1,8 +1,8 @@
 -- The high order of the deck of 36, six to ace: a flush is above a full house, and an ace begins A6789, the least straight, topped by the nine.
 use Rattle.std.specs.Prelude.{◌&&◌, ◌==◌, ℕ, ◌-◌, Bool, List, [], ◌∷◌, Option, Some}
 use Rattle.card_set.specs.declared.card.Card.{Card}
-use Rattle.card_set.specs.Ranks.{high_ace, one_suit}
-use Rattle.card_set.specs.Classes.{four_of_a_kind, full_house, three_of_a_kind, two_pair, one_pair, no_pair, place, IsBelow}
+use Rattle.card_set.specs.Ranks.{high_ace, is_one_suit}
+use Rattle.card_set.specs.Classes.{has_four_of_a_kind, has_full_house, has_three_of_a_kind, has_two_pair, has_one_pair, has_no_pair, place, IsBelow}
 use Rattle.hand_order.specs.Digits.{class_above}
 use Rattle.hand_order.specs.declared.straights.LowStraight.TheVariants as straights
 use Rattle.hand_order.specs.Straights.{is_straight, deciding_ranks}
@@ -11,15 +11,15 @@ use Rattle.hand_order.specs.Straights.{is_straight, deciding_ranks}
 unfoldable pub short_class : List Card → ℕ
 short_class cards =
     place (
-    (is_straight straights.NineHigh cards && one_suit cards)
-    ∷ four_of_a_kind high_ace cards
-    ∷ one_suit cards
-    ∷ full_house high_ace cards
+    (is_straight straights.NineHigh cards && is_one_suit cards)
+    ∷ has_four_of_a_kind high_ace cards
+    ∷ is_one_suit cards
+    ∷ has_full_house high_ace cards
     ∷ is_straight straights.NineHigh cards
-    ∷ three_of_a_kind high_ace cards
-    ∷ two_pair high_ace cards
-    ∷ one_pair high_ace cards
-    ∷ no_pair high_ace cards
+    ∷ has_three_of_a_kind high_ace cards
+    ∷ has_two_pair high_ace cards
+    ∷ has_one_pair high_ace cards
+    ∷ has_no_pair high_ace cards
     ∷ []
     )
 
@@ -27,7 +27,7 @@ short_class cards =
 abbrev pub IsWeaker : List Card → List Card → Type 0
 IsWeaker a b = IsBelow short_class (deciding_ranks straights.NineHigh) a b
 
--- the number of its score
+-- the points of its score
 abbrev pub points : List Card → Option ℕ
 points cards = Some (class_above (8 - short_class cards) (deciding_ranks straights.NineHigh cards))
 

@@ -5,7 +5,7 @@ use Rattle.card_set.specs.Ranks.{high_ace, ranks_of}
 use Rattle.card_set.specs.UpCards.{up_high_class}
 use Rattle.hand_order.specs.Digits.{class_above}
 
--- the number of their score
+-- the points of their score
 abbrev pub up_high_points : List Card → ℕ
 up_high_points cards = class_above (4 - up_high_class cards) (ranks_of high_ace cards)
 

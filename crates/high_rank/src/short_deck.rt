@@ -29,7 +29,7 @@ impl HandOrder for ShortDeckHigh {
     fn score(cards: &CardRow) -> Option<Score> {
         let look = look_at(cards, LowStraight::NineHigh);
         Some(Score {
-            value: class_above(short_class(&look), look.deciding.as_slice()),
+            points: class_above(short_class(&look), look.deciding.as_slice()),
         })
     }
 

@@ -14,16 +14,16 @@ use hand_order::{Ace, Score, class_above, count_of_ranks, ranks_of};
 /// It compares up-cards with as many others.
 pub fn up_high(cards: &CardRow) -> Score
     requires { AreUpCards (cards_of cards.now) }
-    ensures number { result.value ≡ up_high_points (cards_of cards.now) }
+    ensures points { result.points ≡ up_high_points (cards_of cards.now) }
     ensures ordered { (other : List Card) → AreUpCards other → length other ≡ length (cards_of cards.now)
-        → ((up_high_points other < result.value) ↔ IsWeakerUpHigh other (cards_of cards.now)) }
+        → ((up_high_points other < result.points) ↔ IsWeakerUpHigh other (cards_of cards.now)) }
 {
     let fours = count_of_ranks(cards, Ace::High, 4);
     let threes = count_of_ranks(cards, Ace::High, 3);
     let pairs = count_of_ranks(cards, Ace::High, 2);
     let ranks = ranks_of(cards, Ace::High);
     Score {
-        value: class_above(up_class(fours, threes, pairs), ranks.as_slice()),
+        points: class_above(up_class(fours, threes, pairs), ranks.as_slice()),
     }
 }
 

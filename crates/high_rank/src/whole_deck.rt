@@ -22,7 +22,7 @@ impl HandOrder for High {
 
     fn score(cards: &CardRow) -> Option<Score> {
         Some(Score {
-            value: high_number(cards, LowStraight::FiveHigh),
+            points: high_number(cards, LowStraight::FiveHigh),
         })
     }
 

@@ -12,6 +12,6 @@ IsHand cards = Unit {0}
 abbrev pub IsWeaker : List Card → List Card → Type 0
 IsWeaker a b = IsWeakerHigh straights.Nothing b a
 
--- the number of its score
+-- the points of its score
 abbrev pub points : List Card → Option ℕ
 points cards = Some (16 ^ 6 - high_points straights.Nothing cards)

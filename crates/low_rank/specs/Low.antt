@@ -5,7 +5,7 @@ use Rattle.card_set.specs.Ranks.{low_ace, ranks_of}
 use Rattle.card_set.specs.UpCards.{low_class}
 use Rattle.hand_order.specs.Digits.{class_above}
 
--- the number of their score
+-- the points of their score
 abbrev pub low_points : List Card → ℕ
 low_points cards = 16 ^ 6 - class_above (low_class cards) (ranks_of low_ace cards)
 

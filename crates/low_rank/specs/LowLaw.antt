@@ -5,7 +5,7 @@ use Rattle.std.specs.Prelude.{nat_le}
 use Rattle.std.proofs.lemmas.Bool.{and_parts}
 use Rattle.std.proofs.lemmas.Option.{cond_some}
 use Rattle.card_set.specs.declared.card.Card.{Card}
-use Rattle.card_set.specs.Classes.{place, no_pair, one_pair, two_pair, three_of_a_kind, full_house, four_of_a_kind}
+use Rattle.card_set.specs.Classes.{place, has_no_pair, has_one_pair, has_two_pair, has_three_of_a_kind, has_full_house, has_four_of_a_kind}
 use Rattle.card_set.specs.Different.{AllDifferent}
 use Rattle.card_set.specs.Ranks.{low_ace, ranks_of}
 use Rattle.card_set.specs.UpCards.{low_class, IsWeakerLow}
@@ -56,12 +56,12 @@ lawful_deuce_seven = lawful_by_numbers (AreHeld 5) deuce.IsWeaker (λ cards. 16 
     (λ less. law.0 (omega arith), λ weaker. let greater = law.1 weaker in omega arith))
 
 -- cards without a pair have the best class
-best_class : (cards : List Card) → no_pair low_ace cards ≡ true → low_class cards ≡ 0
+best_class : (cards : List Card) → has_no_pair low_ace cards ≡ true → low_class cards ≡ 0
 unfolding low_class
-best_class cards none = ap (λ (b : Bool). place (b ∷ one_pair low_ace cards ∷ two_pair low_ace cards ∷ three_of_a_kind low_ace cards ∷ full_house low_ace cards ∷ four_of_a_kind low_ace cards ∷ [])) none
+best_class cards none = ap (λ (b : Bool). place (b ∷ has_one_pair low_ace cards ∷ has_two_pair low_ace cards ∷ has_three_of_a_kind low_ace cards ∷ has_full_house low_ace cards ∷ has_four_of_a_kind low_ace cards ∷ [])) none
 
-qualified_points : (cards : List Card) (value : ℕ) → eight.points cards ≡ Some value → (eight.qualifies cards ≡ true) × (low_points cards ≡ value)
-qualified_points cards value is = cond_some (eight.qualifies cards) (low_points cards) value is
+qualified_points : (cards : List Card) (value : ℕ) → eight.points cards ≡ Some value → (eight.is_qualified cards ≡ true) × (low_points cards ≡ value)
+qualified_points cards value is = cond_some (eight.is_qualified cards) (low_points cards) value is
 
 points_there : (test : Bool) (value : ℕ) → IsSome (cond test (Some value) None) ↔ (test ≡ true)
 points_there true value = (λ some. refl, λ is. refl)
@@ -71,12 +71,12 @@ eight_ordered : (a b : List Card) (low high : ℕ) → AreHeld 5 a → AreHeld 5
 eight_ordered a b low high held_a held_b is_low is_high =
     let good_a = qualified_points a low is_low in
     let good_b = qualified_points b high is_high in
-    let class_a = best_class a (and_parts (no_pair low_ace a) (list_all (λ card. nat_le (low_ace card.rank) 8) a) good_a.0).0 in
-    let class_b = best_class b (and_parts (no_pair low_ace b) (list_all (λ card. nat_le (low_ace card.rank) 8) b) good_b.0).0 in
+    let class_a = best_class a (and_parts (has_no_pair low_ace a) (list_all (λ card. nat_le (low_ace card.rank) 8) a) good_a.0).0 in
+    let class_b = best_class b (and_parts (has_no_pair low_ace b) (list_all (λ card. nat_le (low_ace card.rank) 8) b) good_b.0).0 in
     let law = low_ordered a b (omega (arith, held_a.0)) (held_a.0 ∙ sym held_b.0) held_a.1 held_b.1 in (
       λ less. elim (law.0 (omega (arith, good_a.1, good_b.1))) [ inl worse ↦ absurd (omega arith) | inr rest ↦ rest.1 ],
       λ weaker. let less = law.1 (inr (class_a ∙ sym class_b, weaker)) in omega (arith, good_a.1, good_b.1),
     )
 
 pub lawful_eight_low : IsLawful (AreHeld 5) eight.IsHand eight.IsWeaker eight.points
-lawful_eight_low = lawful_by_order (AreHeld 5) eight.IsHand eight.IsWeaker eight.points (λ cards are. points_there (eight.qualifies cards) (low_points cards)) eight_ordered
+lawful_eight_low = lawful_by_order (AreHeld 5) eight.IsHand eight.IsWeaker eight.points (λ cards are. points_there (eight.is_qualified cards) (low_points cards)) eight_ordered

@@ -12,6 +12,6 @@ IsHand cards = Unit {0}
 abbrev pub IsWeaker : List Card → List Card → Type 0
 IsWeaker a b = IsWeakerLow a b
 
--- the number of its score
+-- the points of its score
 abbrev pub points : List Card → Option ℕ
 points cards = Some (low_points cards)

@@ -22,7 +22,7 @@ impl HandOrder for DeuceSeven {
 
     fn score(cards: &CardRow) -> Option<Score> {
         Some(Score {
-            value: 0x100_0000 - high_number(cards, LowStraight::Nothing),
+            points: 0x100_0000 - high_number(cards, LowStraight::Nothing),
         })
     }
 

@@ -15,9 +15,9 @@ use hand_order::{Ace, Score, class_above, count_of_ranks, ranks_of};
 /// It compares up-cards with as many others.
 pub fn up_low(cards: &CardRow) -> Score
     requires { AreUpCards (cards_of cards.now) }
-    ensures number { result.value ≡ low_points (cards_of cards.now) }
+    ensures points { result.points ≡ low_points (cards_of cards.now) }
     ensures ordered { (other : List Card) → AreUpCards other → length other ≡ length (cards_of cards.now)
-        → ((low_points other < result.value) ↔ IsWeakerLow other (cards_of cards.now)) }
+        → ((low_points other < result.points) ↔ IsWeakerLow other (cards_of cards.now)) }
 {
     low_score(cards)
 }
@@ -26,14 +26,14 @@ pub fn up_low(cards: &CardRow) -> Score
 pub fn low_score(cards: &CardRow) -> Score
     requires few { length (cards_of cards.now) ≤ 5 }
     requires different { AllDifferent (cards_of cards.now) }
-    ensures { result.value ≡ low_points (cards_of cards.now) }
+    ensures { result.points ≡ low_points (cards_of cards.now) }
 {
     let fours = count_of_ranks(cards, Ace::Low, 4);
     let threes = count_of_ranks(cards, Ace::Low, 3);
     let pairs = count_of_ranks(cards, Ace::Low, 2);
     let ranks = ranks_of(cards, Ace::Low);
     Score {
-        value: 0x100_0000 - class_above(class_of(fours, threes, pairs), ranks.as_slice()),
+        points: 0x100_0000 - class_above(class_of(fours, threes, pairs), ranks.as_slice()),
     }
 }
 

@@ -4,7 +4,7 @@ ghost use Rattle.std.specs.List.{list_all};
 ghost use Rattle.std.specs.Prelude.{nat_le};
 ghost use Rattle.card_set.specs.Ranks.{low_ace};
 ghost use Rattle.card_set.specs.Row.{cards_of};
-ghost use Rattle.low_rank.specs.EightLow.{qualifies};
+ghost use Rattle.low_rank.specs.EightLow.{is_qualified};
 
 use crate::low::low_score;
 use card_set::{Card, CardRow, Rank};
@@ -66,7 +66,7 @@ impl HandOrder for EightLow {
 
 // Whether the ranks are different and none is above eight.
 fn is_qualified(cards: &CardRow) -> bool
-    ensures { result ≡ qualifies (cards_of cards.now) }
+    ensures { result ≡ is_qualified (cards_of cards.now) }
 {
     count_of_ranks(cards, Ace::Low, 4) == 0
         && count_of_ranks(cards, Ace::Low, 3) == 0

@@ -4,7 +4,7 @@ use Rattle.std.specs.List.{list_any}
 use Rattle.card_set.specs.declared.card.Card.{Card}
 use Rattle.card_set.specs.declared.card.Slot.{Slot}
 use Rattle.card_set.specs.declared.card.Slot.TheVariants as slots
-use Rattle.card_set.specs.Deck.{same_card}
+use Rattle.card_set.specs.Deck.{is_same_card}
 use Rattle.play_event.specs.declared.code.Code.{Code}
 use Rattle.play_event.specs.Openers.{is_unknown, known_cards}
 use Rattle.play_event.specs.Places.{Place, is_held_by, is_up}
@@ -13,7 +13,7 @@ use Rattle.play_event.specs.Places.{Place, is_held_by, is_up}
 abbrev pub without : Slot → List Card → List Card
 without slots.Unknown names = names
 without (slots.Known card) [] = []
-without (slots.Known card) (name ∷ rest) = if same_card card name then rest else (name ∷ without (slots.Known card) rest)
+without (slots.Known card) (name ∷ rest) = if is_same_card card name then rest else (name ∷ without (slots.Known card) rest)
 
 -- the names that no known card of these places bears, each card taking one name
 abbrev pub other_names : List Place → List Card → List Card
@@ -22,7 +22,7 @@ other_names (place ∷ rest) names = other_names rest (without place.slot names)
 
 -- a card is among the names
 abbrev pub is_named : Card → List Card → Bool
-is_named card names = list_any (same_card card) names
+is_named card names = list_any (is_same_card card) names
 
 -- what a covered place becomes, and the names and blanks that are left for the next
 pub record Found : Type 0 where

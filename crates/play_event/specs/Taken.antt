@@ -4,7 +4,7 @@ use Rattle.std.specs.List.{list_any}
 use Rattle.card_set.specs.declared.card.Card.{Card}
 use Rattle.card_set.specs.declared.card.Slot.{Slot}
 use Rattle.card_set.specs.declared.card.Slot.TheVariants as slots
-use Rattle.card_set.specs.Deck.{ranks_below, same_card}
+use Rattle.card_set.specs.Deck.{ranks_below, is_same_card}
 use Rattle.play_event.specs.declared.code.Code.{Code}
 use Rattle.play_event.specs.Streets.{deck_of}
 use Rattle.play_event.specs.Openers.{is_unknown}
@@ -16,7 +16,7 @@ in_deck code card = if deck_of code == 36 then nat_le 4 (ranks_below card.rank) 
 
 -- a slot bears this card
 abbrev pub bears : Card → Slot → Bool
-bears card (slots.Known other) = same_card card other
+bears card (slots.Known other) = is_same_card card other
 bears card slots.Unknown = false
 
 -- two slots bear one card

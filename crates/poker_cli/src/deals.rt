@@ -1,7 +1,7 @@
 // Which cards are owed and which are taken, looked up in the steps.
 ghost use Rattle.std.specs.Prelude.{◌≡◌, ◌+◌, ◌*◌, ◌≤◌, ◌<◌, ◌++◌, false, List, length, take, drop, Some, nat_lt};
 ghost use Rattle.std.specs.List.{list_any};
-ghost use Rattle.card_set.specs.Deck.{same_card};
+ghost use Rattle.card_set.specs.Deck.{is_same_card};
 ghost use Rattle.play_event.specs.declared.code.Code.TheVariants as games;
 ghost use Rattle.play_event.specs.Dealing as definition;
 ghost use Rattle.play_event.specs.Table.{places_of};
@@ -74,7 +74,7 @@ pub fn deal_due(setup: &Setup, past: &Past<'_>) -> bool
 
 /// Both are one card.
 pub fn same(a: Card, b: Card) -> bool
-    ensures { result ≡ same_card a b }
+    ensures { result ≡ is_same_card a b }
 {
     a == b
 }

@@ -5,7 +5,7 @@ use Rattle.std.proofs.lemmas.Bool.{true≢false}
 use Rattle.card_set.specs.declared.card.Card.{Card}
 use Rattle.card_set.specs.Different.{AllDifferent}
 use Rattle.hand_order.specs.declared.best.Pick.{Pick}
-use Rattle.hand_order.specs.Best.{Beats, IsBest, IsLess, IsWorth}
+use Rattle.hand_order.specs.Best.{Beats, IsBest, IsLess, IsPointsOfHolding}
 use Rattle.hand_order.specs.Choices.{AreHeld, CanPick, allowed}
 use Rattle.hand_order.specs.Order.{IsLawful}
 use Rattle.hand_order.proofs.Held.{held_allowed}
@@ -39,7 +39,7 @@ flip A B same = (same.1, same.0)
 pub record IsJudged (held : ℕ) (is_hand : List Card → Type 0) (is_weaker : List Card → List Card → Type 0) (points : List Card → Option ℕ) (pick : Pick) (hole board : List Card) (worth : Option ℕ) : Type 0 where
   pub usable : CanPick held pick hole board
   pub different : AllDifferent (hole ++ board)
-  pub worth_is : IsWorth is_hand is_weaker points (allowed pick hole board) worth
+  pub worth_is : IsPointsOfHolding is_hand is_weaker points (allowed pick hole board) worth
 
 -- one seat beats another in the order exactly where it is worth more
 pub judged_beats : (held : ℕ) (is_hand : List Card → Type 0) (is_weaker : List Card → List Card → Type 0) (points : List Card → Option ℕ) (order : Order) (pick : Pick) (hole other board : List Card) (ours theirs : Option ℕ) → IsLawful (AreHeld held) is_hand is_weaker points → IsOrder order held is_hand is_weaker → IsJudged held is_hand is_weaker points pick hole board ours → IsJudged held is_hand is_weaker points pick other board theirs → IsLess theirs ours ↔ Beats order.is_hand order.is_weaker (allowed pick hole board) (allowed pick other board)
@@ -55,7 +55,7 @@ judged_beats held is_hand is_weaker points order pick hole other board ours thei
     )
 
 -- a seat has a hand in the order exactly where it is worth something
-pub judged_hand : (is_hand : List Card → Type 0) (is_weaker : List Card → List Card → Type 0) (points : List Card → Option ℕ) (order : Order) (options : List (List Card)) (worth : Option ℕ) → ((cards : List Card) → is_hand cards ↔ order.is_hand cards) → IsWorth is_hand is_weaker points options worth → IsTrue (is_some worth) ↔ HasHand order options
+pub judged_hand : (is_hand : List Card → Type 0) (is_weaker : List Card → List Card → Type 0) (points : List Card → Option ℕ) (order : Order) (options : List (List Card)) (worth : Option ℕ) → ((cards : List Card) → is_hand cards ↔ order.is_hand cards) → IsPointsOfHolding is_hand is_weaker points options worth → IsTrue (is_some worth) ↔ HasHand order options
 judged_hand is_hand is_weaker points order options None same none = (λ some. absurd (cc (some)), λ (choice, among, hand). absurd (none choice among ((same choice).1 hand)))
 judged_hand is_hand is_weaker points order options (Some value) same best = (λ some. (best.best, best.is_best.among, (same best.best).0 best.is_best.hand), λ has. refl)
 

@@ -6,4 +6,4 @@ use Rattle.showdown_split.specs.declared.scores.Scores.{Scores}
 
 -- what seat number n is worth, none where it has no hand
 abbrev pub worth_of : Scores → ℕ → Option ℕ
-worth_of scores n = option_map (λ (s : Score). s.value) (slice_index_or scores.scores (n - 1) None)
+worth_of scores n = option_map (λ (s : Score). s.points) (slice_index_or scores.scores (n - 1) None)

@@ -4,7 +4,7 @@ ghost use Rattle.std.specs.Option.{option_map};
 ghost use Rattle.card_set.specs.Different.{AllDifferent};
 ghost use Rattle.card_set.specs.Row.{cards_of};
 ghost use Rattle.chip_ledger.specs.LiveRow.{flag_of};
-ghost use Rattle.hand_order.specs.Best.{IsWorth};
+ghost use Rattle.hand_order.specs.Best.{IsPointsOfHolding};
 ghost use Rattle.hand_order.specs.Choices.{CanPick, allowed};
 ghost use Rattle.showdown_split.specs.Alike.{AreJudged};
 ghost use Rattle.showdown_split.specs.Hands.{holding, showdown_of};
@@ -23,8 +23,8 @@ fn score_of<O: HandOrder>(hands: &HandRow, board: &CardRow, pick: Pick, seat: Se
     requires in_row { seat.number ≤ hands.now.seats }
     requires usable { CanPick O.HELD pick (holding hands.now seat.number) (cards_of board.now) }
     requires different { AllDifferent (holding hands.now seat.number ++ cards_of board.now) }
-    ensures { IsWorth O.is_hand O.is_weaker O.points
-        (allowed pick (holding hands.now seat.number) (cards_of board.now)) (option_map (λ s. s.value) result) }
+    ensures { IsPointsOfHolding O.is_hand O.is_weaker O.points
+        (allowed pick (holding hands.now seat.number) (cards_of board.now)) (option_map (λ s. s.points) result) }
 {
     let hole = known_row(&hands.get(seat));
     best_of::<O>(&hole, board, pick)
@@ -38,7 +38,7 @@ fn scores_of<O: HandOrder>(hands: &HandRow, board: &CardRow, shown: &LiveRow, pi
     requires different { (n : ℕ) → 1 ≤ n → n ≤ shown.now.seats → flag_of shown.now n ≡ true
         → AllDifferent (holding hands.now n ++ cards_of board.now) }
     ensures { (n : ℕ) → 1 ≤ n → n ≤ shown.now.seats → flag_of shown.now n ≡ true
-        → IsWorth O.is_hand O.is_weaker O.points
+        → IsPointsOfHolding O.is_hand O.is_weaker O.points
         (allowed pick (holding hands.now n) (cards_of board.now)) (worth_of result n) }
 {
     let mut scores = Scores::new();
@@ -59,7 +59,7 @@ fn low_scores<V: Variant>(hands: &HandRow, board: &CardRow, shown: &LiveRow) -> 
     requires different { (n : ℕ) → 1 ≤ n → n ≤ shown.now.seats → flag_of shown.now n ≡ true
         → AllDifferent (holding hands.now n ++ cards_of board.now) }
     ensures two { V.SPLIT ≡ true → (n : ℕ) → 1 ≤ n → n ≤ shown.now.seats → flag_of shown.now n ≡ true
-        → IsWorth V.Second.is_hand V.Second.is_weaker V.Second.points
+        → IsPointsOfHolding V.Second.is_hand V.Second.is_weaker V.Second.points
         (allowed V.PICK (holding hands.now n) (cards_of board.now)) (worth_of result n) }
     ensures one { V.SPLIT ≡ false → (n : ℕ) → worth_of result n ≡ None }
 {

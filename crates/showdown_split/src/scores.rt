@@ -24,14 +24,14 @@ impl Scores {
 
     /// The score of the seat.
     pub fn get(&self, seat: Seat) -> Option<Score>
-        ensures { option_map (λ s. s.value) result ≡ worth_of self.now seat.number }
+        ensures { option_map (λ s. s.points) result ≡ worth_of self.now seat.number }
     {
         self.scores[seat.number as usize - 1]
     }
 
     /// Gives the seat this score.
     pub fn set(&mut self, seat: Seat, score: Option<Score>)
-        ensures score { worth_of self.new seat.number ≡ option_map (λ s. s.value) score }
+        ensures score { worth_of self.new seat.number ≡ option_map (λ s. s.points) score }
         ensures others { (n : ℕ) → 1 ≤ n → n ≢ seat.number → worth_of self.new n ≡ worth_of self.old n }
     {
         self.scores[seat.number as usize - 1] = score;

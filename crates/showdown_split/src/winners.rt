@@ -12,7 +12,7 @@ use hand_order::{Score, better_score};
 
 /// The best score of the seats that contend, none where none of them has a hand.
 pub fn best(contending: &LiveRow, scores: &Scores) -> Option<Score>
-    ensures { option_map (λ s. s.value) result
+    ensures { option_map (λ s. s.points) result
         ≡ best_to (flag_of contending.now) (worth_of scores.now) contending.now.seats }
 {
     let mut best = None;
@@ -31,7 +31,7 @@ fn better_of_seat(
     seat: Seat,
 ) -> Option<Score>
     requires { seat.number ≤ contending.now.seats }
-    ensures { let worth = option_map (λ s. s.value) score in option_map (λ s. s.value) result
+    ensures { let worth = option_map (λ s. s.points) score in option_map (λ s. s.points) result
         ≡ (if flag_of contending.now seat.number then better worth (worth_of scores.now seat.number) else worth) }
 {
     if contending.get(seat) {
@@ -62,11 +62,11 @@ pub fn winners(contending: &LiveRow, scores: &Scores) -> LiveRow
 
 // Both are the same score, or none.
 fn is_same(first: Option<Score>, second: Option<Score>) -> bool
-    ensures { result ≡ same_worth (option_map (λ s. s.value) first) (option_map (λ s. s.value) second) }
+    ensures { result ≡ same_worth (option_map (λ s. s.points) first) (option_map (λ s. s.points) second) }
 {
     match (first, second) {
         (None, None) => true,
-        (Some(x), Some(y)) => x.value == y.value,
+        (Some(x), Some(y)) => x.points == y.points,
         (None, Some(_)) | (Some(_), None) => false,
     }
 }

@@ -12,12 +12,12 @@ judge-requires g t c =
 pub returns-then-need-eq0 : goal.returns-then-need-eq0
 returns-then-need-eq0 g t c =
     let e = c.if-need-eq0.true in
-    rw e (c.judge.ensures ∙ sym (greatest-zero (g.J.Judge.worth c.args.judge.now) (cards_of c.args.chosen) (drop c.args.from (cards_of c.args.cards.now))))
+    rw e (c.judge.ensures ∙ sym (greatest-zero (g.J.Judge.points c.args.judge.now) (cards_of c.args.chosen) (drop c.args.from (cards_of c.args.cards.now))))
 
 pub returns-then-from-cards : goal.returns-then-from-cards
 returns-then-from-cards g t c =
     let e = drop-past c.args.cards.now c.args.from c.if-from-cards.true in
-    rw e (sym (greatest-empty (λ more. g.J.Judge.worth c.args.judge.now (cards_of c.args.chosen ++ more)) c.args.need (omega arith)))
+    rw e (sym (greatest-empty (λ more. g.J.Judge.points c.args.judge.now (cards_of c.args.chosen ++ more)) c.args.need (omega arith)))
 
 pub best_choice-requires : goal.best_choice-requires
 best_choice-requires g t c κs within =
@@ -50,4 +50,4 @@ best_choice-requires-2 g t c κs within =
 
 pub returns : goal.returns
 returns g t c =
-    best_step (g.J.Judge.worth c.args.judge.now) (cards_of c.args.chosen) (cards_of c.push.new.self) (cards_of c.args.cards.now) (get_or c.args.cards.now.cards c.args.from filler_card) c.args.from c.args.need _ _ _ (omega arith) c.push.ensures.entries (drop-row c.args.cards.now c.args.from (omega arith)) c.better_score.ensures c.best_choice.ensures c.best_choice-2.ensures
+    best_step (g.J.Judge.points c.args.judge.now) (cards_of c.args.chosen) (cards_of c.push.new.self) (cards_of c.args.cards.now) (get_or c.args.cards.now.cards c.args.from filler_card) c.args.from c.args.need _ _ _ (omega arith) c.push.ensures.entries (drop-row c.args.cards.now c.args.from (omega arith)) c.better_score.ensures c.best_choice.ensures c.best_choice-2.ensures

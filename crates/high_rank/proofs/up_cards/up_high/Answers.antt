@@ -11,8 +11,8 @@ class_above-requires-clause-below c =
     let same = ap (with_digits 0) (c.as_slice.ensures ∙ c.ranks_of-ranks.ensures) in
     omega (arith, same, ranks_below aces.High (cards_of c.args.cards.now) (omega (arith, c.requires.few)))
 
-pub returns-clause-number : goal.returns-clause-number
-returns-clause-number c =
+pub returns-clause-points : goal.returns-clause-points
+returns-clause-points c =
     c.class_above.ensures
     ∙ up_number_is (cards_of c.args.cards.now) c.count_of_ranks-fours.result c.count_of_ranks-threes.result c.count_of_ranks-pairs.result c.up_class.result c.as_slice.result.now c.count_of_ranks-fours.ensures c.count_of_ranks-threes.ensures c.count_of_ranks-pairs.ensures c.up_class.ensures (c.as_slice.ensures ∙ c.ranks_of-ranks.ensures)
 

@@ -3,7 +3,7 @@ use Rattle.std.proofs.Common.{◌≡◌, ℕ, true, IsTrue, ◌↔◌, sym, ◌�
 use Rattle.std.specs.Option.{is_some}
 use Rattle.card_set.specs.Row.{cards_of}
 use Rattle.hand_order.specs.declared.best.Pick.{Pick}
-use Rattle.hand_order.specs.Best.{Beats, IsLess, IsWorth}
+use Rattle.hand_order.specs.Best.{Beats, IsLess, IsPointsOfHolding}
 use Rattle.hand_order.specs.Choices.{CanPick, allowed}
 use Rattle.play_event.specs.Games.{game_of}
 use Rattle.variant_table.specs.Orders.{award_of, second_of}
@@ -32,7 +32,7 @@ returns g c contending inside =
       usable = c.requires.usable n range.0 range.1 range.2;
       different = c.requires.different n range.0 range.1 range.2;
       worth_is =
-          subst (λ (pick : Pick). IsWorth award.is_hand award.is_weaker award.points (allowed pick (holding hands n) board) (high n)) c.PICK.ensures
+          subst (λ (pick : Pick). IsPointsOfHolding award.is_hand award.is_weaker award.points (allowed pick (holding hands n) board) (high n)) c.PICK.ensures
           (c.scores_of-high.ensures n range.0 range.1 range.2);
     } in
     let later : v.SPLIT ≡ true → (n : ℕ) → contending n ≡ true → IsJudged second.HELD second.is_hand second.is_weaker second.points v.PICK (holding hands n) board (low n) =

@@ -29,7 +29,7 @@ returns-in-None-clause-shares c =
     let row = c.args.contending.now in
     let high = worth_of c.args.high.now in
     let low = worth_of c.args.low.now in
-    let none = best_flagged row low ∙ sym c.best.ensures ∙ ap (option_map (λ (s : Score). s.value)) c.in-None.is in
+    let none = best_flagged row low ∙ sym c.best.ensures ∙ ap (option_map (λ (s : Score). s.points)) c.in-None.is in
     inl (no_low_shown row.seats (is_flagged row) high low (flagged_inside row) none, marked_parts row c.winners.result high c.args.chips (amount_of c.divide.result) c.winners.ensures.seats c.winners.ensures.flags c.divide.ensures.parts)
 
 pub returns-in-Some-clause-shares : goal.returns-in-Some-clause-shares
@@ -37,12 +37,12 @@ returns-in-Some-clause-shares c =
     let row = c.args.contending.now in
     let high = worth_of c.args.high.now in
     let low = worth_of c.args.low.now in
-    let best = best_flagged row low ∙ sym c.best.ensures ∙ ap (option_map (λ (s : Score). s.value)) c.in-Some.is in
+    let best = best_flagged row low ∙ sym c.best.ensures ∙ ap (option_map (λ (s : Score). s.points)) c.in-Some.is in
     let first = c.winners-in-Some in
     let second = c.winners-in-Some-2 in
     let same = c.divide-in-Some.ensures.seats ∙ first.ensures.seats in
     inr (
-      low_shown row.seats (is_flagged row) high low c.in-Some.field-0.value best,
+      low_shown row.seats (is_flagged row) high low c.in-Some.field-0.points best,
       record {
         high = amount_of c.divide-in-Some.result;
         low = amount_of c.divide-in-Some-2.result;

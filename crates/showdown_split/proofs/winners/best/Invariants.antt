@@ -7,4 +7,4 @@ use Rattle.showdown_split.specs.Worths.{best_to}
 use Rattle.showdown_split.proofs.winners.best.Given as goal
 
 abbrev pub invariant-loop-index : goal.invariant-loop-index
-invariant-loop-index l = option_map (λ s. s.value) l.best ≡ best_to (flag_of l.contending) (worth_of l.scores) l.index
+invariant-loop-index l = option_map (λ s. s.points) l.best ≡ best_to (flag_of l.contending) (worth_of l.scores) l.index
