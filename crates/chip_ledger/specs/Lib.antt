@@ -4,4 +4,5 @@ pub mod SeatRow
 pub mod LiveRow
 pub mod Fillers
 pub mod PotRow
+pub mod RakeRow
 pub mod Pots

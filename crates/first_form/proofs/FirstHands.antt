@@ -4,6 +4,7 @@ use Rattle.std.specs.List.{list_all}
 use Rattle.std.proofs.lemmas.Bool.{and_parts, leb-true}
 use Rattle.toml.specs.Data.{Data, Items, Members, get_member, as_array}
 use Rattle.chip_ledger.specs.declared.rows.SeatRow.{SeatRow}
+use Rattle.chip_ledger.specs.RakeRow.{no_rakes}
 use Rattle.play_event.specs.declared.code.Code.TheVariants as games
 use Rattle.play_event.specs.declared.setup.Setup.{Setup}
 use Rattle.play_event.specs.Code.{code_text}
@@ -63,10 +64,11 @@ record IsFirstSetup (setup : Setup) : Type 0 where
   blinds_within : IsWithin most_chips setup.blinds
   least_bet : 1 ≤ setup.min_bet
   least_bet_within : setup.min_bet ≤ most_chips
+  rakes_none : setup.rakes ≡ no_rakes
 
 -- the setup with these parts
 abbrev setup_with : SeatRow → SeatRow → SeatRow → ℕ → Setup
-setup_with stacks antes blinds least = record { code = games.NT; stacks = stacks; antes = antes; dead_antes = false; blinds = blinds; bring_in = 0; small_bet = 0; big_bet = 0; min_bet = least }
+setup_with stacks antes blinds least = record { code = games.NT; stacks = stacks; antes = antes; dead_antes = false; blinds = blinds; bring_in = 0; small_bet = 0; big_bet = 0; min_bet = least; rakes = no_rakes }
 
 setup_parts : (game : List ℕ) (stacks antes blinds : SeatRow) (least : ℕ) (setup : Setup)
     → IsWithin most_chips stacks → IsWithin 0 antes → IsWithin most_chips blinds → (1 ≤ least) × (least ≤ most_chips)
@@ -89,6 +91,7 @@ setup_parts game stacks antes blinds least setup stacks_are antes_are blinds_are
       blinds_within = blinds_are;
       least_bet = least_is.0;
       least_bet_within = least_is.1;
+      rakes_none = refl;
     } in
     subst IsFirstSetup both.1 bounds
 
@@ -153,6 +156,7 @@ hand_with setup script bounds played =
       blinds_within = λ seat. bounds.blinds_within (seat - 1);
       least_bet = bounds.least_bet;
       least_bet_within = bounds.least_bet_within;
+      rakes_none = bounds.rakes_none;
       few = played.few;
       events = played.events;
       one_raise = played.one_raise;

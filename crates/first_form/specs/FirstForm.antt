@@ -4,6 +4,7 @@ use Rattle.std.specs.List.{list_any}
 use Rattle.std.specs.Option.{option_map}
 use Rattle.toml.specs.Data.{Data, Items, no_items, item, Members, no_members, member, get_member, as_str, as_integer, as_array}
 use Rattle.chip_ledger.specs.declared.rows.SeatRow.{SeatRow}
+use Rattle.chip_ledger.specs.RakeRow.{no_rakes}
 use Rattle.play_event.specs.declared.code.Code.TheVariants as games
 use Rattle.play_event.specs.declared.setup.Setup.{Setup}
 use Rattle.play_event.specs.Code.{code_text}
@@ -65,7 +66,7 @@ setup_said members = do
   blinds ← get_member (codes "blinds_or_straddles") members >>= row_said 0 most_chips
   least ← get_member (codes "min_bet") members >>= number_within 1 most_chips
   only_if (bytes_eq game (code_text games.NT) && (nat_le 3 stacks.seats && (antes.seats == stacks.seats && blinds.seats == stacks.seats)))
-      (record { code = games.NT; stacks = stacks; antes = antes; dead_antes = false; blinds = blinds; bring_in = 0; small_bet = 0; big_bet = 0; min_bet = least })
+      (record { code = games.NT; stacks = stacks; antes = antes; dead_antes = false; blinds = blinds; bring_in = 0; small_bet = 0; big_bet = 0; min_bet = least; rakes = no_rakes })
 
 -- the events of actions, of which the first has this number
 abbrev pub events_from : ℕ → ℕ → Items → Option (List Numbered)

@@ -1,5 +1,6 @@
 -- What a hand that was read says, and the form that the first hands have.
 use Rattle.std.specs.Prelude.{◌≡◌, ℕ, ◌+◌, ◌≤◌, Bool, true, false, List, length, map, filter, slice_get, Some}
+use Rattle.chip_ledger.specs.RakeRow.{no_rakes}
 use Rattle.chip_ledger.specs.SeatRow.{amount_of}
 use Rattle.play_event.specs.declared.code.Code.TheVariants as games
 use Rattle.play_event.specs.declared.event.Event.{Event}
@@ -50,6 +51,7 @@ pub record IsFirstHand (hand : Told) : Type 0 where
   pub blinds_within : (seat : ℕ) → amount_of hand.setup.blinds seat ≤ 1000000000000
   pub least_bet : 1 ≤ hand.setup.min_bet
   pub least_bet_within : hand.setup.min_bet ≤ 1000000000000
+  pub rakes_none : hand.setup.rakes ≡ no_rakes
   pub few : length hand.script ≤ 256
   pub events : (index : ℕ) (event : Numbered) → slice_get hand.script index ≡ Some event → IsFirstEvent hand.setup.stacks.seats event.1 × (event.0 ≡ index + 1)
   pub one_raise : length (filter (λ event. is_raise event.1) hand.script) ≤ 1

@@ -12,7 +12,7 @@ ghost use Rattle.first_form.specs.Hand.{is_raise as is_raise_said, numbered, tol
 use crate::action::{is_word, read_action};
 use crate::hand::Hand;
 use card_set::Memory;
-use chip_ledger::{MOST_CHIPS, SeatRow};
+use chip_ledger::{MOST_CHIPS, RakeRow, SeatRow};
 use play_event::{Code, Event, Kind, Script, Setup};
 use std::alloc::Global;
 use toml::{Table, Value};
@@ -90,6 +90,7 @@ fn read_setup(table: &Table) -> Option<Setup>
         small_bet: 0,
         big_bet: 0,
         min_bet,
+        rakes: RakeRow::none(),
     })
 }
 

@@ -6,6 +6,7 @@ use Rattle.card_set.specs.declared.card.Slot.{Slot}
 use Rattle.card_set.specs.declared.card.Slot.TheVariants as slots
 use Rattle.card_set.specs.declared.card.Rank.TheVariants as ranks
 use Rattle.card_set.specs.declared.card.Suit.TheVariants as suits
+use Rattle.chip_ledger.specs.RakeRow.{no_rakes}
 use Rattle.play_event.specs.declared.code.Code.TheVariants as games
 use Rattle.play_event.specs.declared.event.Spelled.TheVariants as spelled
 use Rattle.play_event.specs.declared.reason.Illegal.{Illegal}
@@ -31,6 +32,7 @@ no_limit stacks antes blinds stacks_fit antes_fit blinds_fit least =
       small_bet = 0;
       big_bet = 0;
       min_bet = least;
+      rakes = no_rakes;
     }
 
 -- three seats with the blinds 1 and 2 and stacks of 100

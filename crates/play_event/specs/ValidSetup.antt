@@ -1,6 +1,8 @@
 -- Which setups are those of a hand: the numbers fit the game.
 use Rattle.std.specs.Prelude.{◌≡◌, ℕ, ◌≤◌, Bool, true, false, not, nat_lt}
 use Rattle.std.specs.List.{list_any}
+use Rattle.chip_ledger.specs.declared.rows.TheConstants.{MOST_AMOUNT}
+use Rattle.chip_ledger.specs.RakeRow.{rake_of}
 use Rattle.chip_ledger.specs.SeatRow.{amount_of}
 use Rattle.play_event.specs.declared.setup.Setup.{Setup}
 use Rattle.play_event.specs.Games.{Limit, Fixed, Pot, NoLimit, game_of}
@@ -45,3 +47,4 @@ pub record IsValid (setup : Setup) : Type 0 where
   pub dead_antes : setup.dead_antes ≡ true → has_antes setup ≡ true
   pub heads_up : setup.stacks.seats ≡ 2 → amount_of setup.blinds 2 ≤ amount_of setup.blinds 1
   pub stud : is_stud setup.code ≡ true → (seat : ℕ) → amount_of setup.blinds seat ≡ 0
+  pub rakes : (pot : ℕ) → rake_of setup.rakes pot ≤ MOST_AMOUNT

@@ -1,5 +1,6 @@
 -- Words for hands that are written out: setups and events.
 use Rattle.std.specs.Prelude.{ℕ, Bool, false, List, Option, Some, None, IsTrue}
+use Rattle.chip_ledger.specs.RakeRow.{no_rakes}
 use Rattle.play_event.specs.declared.code.Code.{Code}
 use Rattle.play_event.specs.declared.event.Spelled.TheVariants as spelled
 use Rattle.play_event.specs.declared.setup.Setup.{Setup}
@@ -22,6 +23,7 @@ hand_of code dead bring_in small big least stacks antes blinds stacks_fit antes_
       small_bet = small;
       big_bet = big;
       min_bet = least;
+      rakes = no_rakes;
     }
 
 -- betting always reopens, folds are not free, and raises have these caps

@@ -1,6 +1,6 @@
-// A setup is what stands before the first card: the game, the stacks, what is posted, and the bet sizes.
+// A setup is what stands before the first card: the game, the stacks, what is posted, the bet sizes, and the rakes.
 use crate::code::Code;
-use chip_ledger::SeatRow;
+use chip_ledger::{RakeRow, SeatRow};
 
 /// What a hand begins with. Amounts are chips; a row's first seat is p1, the first after the button where
 /// there are blinds, and the last seat is the button.
@@ -23,6 +23,8 @@ pub struct Setup {
     pub big_bet: u64,
     /// The least bet, in no limit and pot limit; else 0.
     pub min_bet: u64,
+    /// What the house takes from each pot.
+    pub rakes: RakeRow,
 }
 
 /// When a seat that has moved may raise again.
