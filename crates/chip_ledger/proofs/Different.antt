@@ -1,28 +1,14 @@
 -- The different numbers of a list rise, and are exactly its numbers.
-use Rattle.std.proofs.Common.{◌≡◌, ℕ, ◌+◌, ◌<◌, ◌≤◌, Bool, true, false, ◌||◌, ◌==◌, cond, List, [], ◌∷◌, length, refl, sym, ap, ◌∙◌, subst, arith, nat_lt, filter, fold, Some, Option, min, slice_get, ⊎_elim}
-use Rattle.std.specs.Bool.{⊤}
+use Rattle.std.proofs.Common.{◌≡◌, ℕ, ◌+◌, ◌<◌, ◌≤◌, Bool, true, false, ◌||◌, ◌==◌, cond, List, [], ◌∷◌, length, refl, sym, ap, ◌∙◌, subst, arith, nat_lt, filter, fold, Some, Option, min, slice_get}
 use Rattle.std.specs.Option.{option_map_or}
 use Rattle.std.specs.List.{list_any, All}
-use Rattle.std.proofs.lemmas.Bool.{ltb-true, eqb-true, lt-ltb, le-ltb, cases_lt}
+use Rattle.std.proofs.lemmas.Bool.{ltb-true, eqb-true, lt-ltb}
 use Rattle.std.proofs.lemmas.List.Elements.{All-head, All-tail}
-use Rattle.std.proofs.lemmas.Bool.Decides.{nat_tests}
+use Rattle.list_laws.proofs.Rising.{Rising}
+use Rattle.list_laws.proofs.Lists.{first_of_kept}
+use Rattle.list_laws.proofs.Numbers.{above_from_tests}
+use Rattle.list_laws.proofs.Tests.{or_again, or_swap, or_regroup, or_false}
 use Rattle.chip_ledger.specs.Pots.{with_number, different}
-
-or_again : (a b : Bool) → (a || b) ≡ (a || (a || b))
-or_again true b = refl
-or_again false b = refl
-
-or_swap : (a b c : Bool) → (a || (b || c)) ≡ (b || (a || c))
-or_swap true true c = refl
-or_swap true false c = refl
-or_swap false true c = refl
-or_swap false false c = refl
-
-or_regroup : (a b c : Bool) → (a || (b || c)) ≡ ((b || a) || c)
-or_regroup true true c = refl
-or_regroup true false c = refl
-or_regroup false true c = refl
-or_regroup false false c = refl
 
 -- the three places of a new number: at an equal one, before the first, or further on
 any_placed : (p : ℕ → Bool) (x y : ℕ) (ys placed : List ℕ) (same less : Bool)
@@ -50,18 +36,9 @@ any_added p ys (x ∷ xs) =
     ∙ ap (λ b. list_any p xs || b) (list_any-with_number p ys x)
     ∙ or_regroup (list_any p xs) (p x) (list_any p ys)
 
-or_none : (b : Bool) → (b || false) ≡ b
-or_none true = refl
-or_none false = refl
-
 -- a test passes at one of the different numbers exactly where it passes at one of the numbers
 pub list_any-different : (p : ℕ → Bool) (xs : List ℕ) → list_any p (different xs) ≡ list_any p xs
-list_any-different p xs = any_added p [] xs ∙ or_none (list_any p xs)
-
--- the numbers rise from low on
-abbrev pub Rising : ℕ → List ℕ → Type 0
-Rising low [] = ⊤
-Rising low (x ∷ xs) = (low ≤ x) × Rising (x + 1) xs
+list_any-different p xs = any_added p [] xs ∙ or_false (list_any p xs)
 
 rising_placed : (low x y : ℕ) (ys placed : List ℕ) (same less : Bool)
     → (same ≡ true → x ≡ y)
@@ -76,9 +53,6 @@ rising_placed low x y ys placed false true e l g b r ih = let h : x < y =
     l refl refl in (b, (omega arith, r.1))
 rising_placed low x y ys placed false false e l g b r ih = let h : y < x =
     g refl refl in (r.0, ih (omega arith))
-
-above_from_tests : (x y : ℕ) → (x == y) ≡ false → nat_lt x y ≡ false → y < x
-above_from_tests x y e l = grind (arith, nat_tests)
 
 Rising-with_number : (low : ℕ) (ys : List ℕ) (x : ℕ)
     → low ≤ x
@@ -104,39 +78,6 @@ pub Rising-different : (low : ℕ) (xs : List ℕ)
     → Rising low (different xs)
 Rising-different low xs h = rising_added low [] xs h tt
 
--- a number that no other is below passes the test of a lower one
-filter-above : (b z : ℕ) (zs : List ℕ) → b < z → filter (nat_lt b) (z ∷ zs) ≡ z ∷ filter (nat_lt b) zs
-filter-above b z zs h =
-    ap (λ t. cond t (z ∷ filter (nat_lt b) zs) (filter (nat_lt b) zs)) (lt-ltb b z h)
-
-filter-not_above : (b z : ℕ) (zs : List ℕ) → z ≤ b → filter (nat_lt b) (z ∷ zs) ≡ filter (nat_lt b) zs
-filter-not_above b z zs h =
-    ap (λ t. cond t (z ∷ filter (nat_lt b) zs) (filter (nat_lt b) zs)) (le-ltb b z h)
-
--- rising numbers are all above what their first is above
-pub filter-Rising : (b low : ℕ) (zs : List ℕ) → b < low → Rising low zs → filter (nat_lt b) zs ≡ zs
-filter-Rising b low [] h r = refl
-filter-Rising b low (z ∷ zs) h r =
-    filter-above b z zs (omega arith) ∙ ap (λ xs. z ∷ xs) (filter-Rising b (z + 1) zs (omega arith) r.1)
-
--- of rising numbers, those above the first that is above b are the others above b
-pub above_first : (b low x : ℕ) (zs rest : List ℕ)
-    → Rising low zs
-    → filter (nat_lt b) zs ≡ x ∷ rest
-    → (b < x) × (filter (nat_lt x) zs ≡ rest)
-above_first b low x [] rest r e = cc
-above_first b low x (z ∷ zs) rest r e =
-    ⊎_elim
-    (λ (h : b < z).
-    let f : z ∷ filter (nat_lt b) zs ≡ x ∷ rest = sym (filter-above b z zs h) ∙ e in
-    let same : z ≡ x = cc in
-    let tail : filter (nat_lt b) zs ≡ rest = cc in
-    (omega arith, filter-not_above x z zs (omega arith) ∙ filter-Rising x (z + 1) zs (omega arith) r.1 ∙ sym (filter-Rising b (z + 1) zs (omega arith) r.1) ∙ tail))
-    (λ (h : z ≤ b).
-    let further = above_first b (z + 1) x zs rest r.1 (sym (filter-not_above b z zs h) ∙ e) in
-    (further.0, filter-not_above x z zs (omega arith) ∙ further.1))
-    (cases_lt b z)
-
 -- the lesser of a number and one that may be there
 abbrev pub lesser : ℕ → Option ℕ → ℕ
 lesser v first = option_map_or (λ x. min v x) first v
@@ -148,10 +89,6 @@ nearer b v first = cond (nat_lt b v) (Some (lesser v first)) first
 -- the first number above b
 abbrev pub first_above : ℕ → List ℕ → Option ℕ
 first_above b xs = slice_get (filter (nat_lt b) xs) 0
-
-front : (c : Bool) (y : ℕ) (xs : List ℕ) → slice_get (cond c (y ∷ xs) xs) 0 ≡ cond c (Some y) (slice_get xs 0)
-front true y xs = refl
-front false y xs = refl
 
 -- the three places by the tests of both numbers
 near_same : (c : Bool) (y : ℕ) (o : Option ℕ)
@@ -181,22 +118,22 @@ first_placed : (b x y : ℕ) (ys placed : List ℕ) (same less : Bool)
     → first_above b (cond same (y ∷ ys) (cond less (x ∷ y ∷ ys) (y ∷ placed)))
     ≡ nearer b x (first_above b (y ∷ ys))
 first_placed b x y ys placed true less e l g ih =
-    let f = front (nat_lt b y) y (filter (nat_lt b) ys) in
+    let f = first_of_kept (nat_lt b y) y (filter (nat_lt b) ys) in
     let P : ℕ → Type 0 = λ z. first_above b (y ∷ ys) ≡ nearer b z (first_above b (y ∷ ys)) in
     subst P (sym (e refl)) (rw f (near_same (nat_lt b y) y (first_above b ys)))
 first_placed b x y ys placed false true e l g ih =
-    let f = front (nat_lt b y) y (filter (nat_lt b) ys) in
+    let f = first_of_kept (nat_lt b y) y (filter (nat_lt b) ys) in
     let h : x < y = l refl refl in
-    rw (front (nat_lt b x) x (filter (nat_lt b) (y ∷ ys)), f)
+    rw (first_of_kept (nat_lt b x) x (filter (nat_lt b) (y ∷ ys)), f)
     (near_before b x y (nat_lt b x) (nat_lt b y) (first_above b ys) h (λ t. lt-ltb b y (omega (arith, ltb-true b x t))))
 first_placed b x y ys placed false false e l g ih =
     let h : y < x = g refl refl in
-    rw (front (nat_lt b y) y (filter (nat_lt b) placed), front (nat_lt b y) y (filter (nat_lt b) ys), ih)
+    rw (first_of_kept (nat_lt b y) y (filter (nat_lt b) placed), first_of_kept (nat_lt b y) y (filter (nat_lt b) ys), ih)
     (near_after x y (nat_lt b x) (nat_lt b y) (first_above b ys) h (λ t. lt-ltb b x (omega (arith, ltb-true b y t))))
 
 pub first_above-with_number : (b : ℕ) (ys : List ℕ) (x : ℕ)
     → first_above b (with_number ys x) ≡ nearer b x (first_above b ys)
-first_above-with_number b [] x = front (nat_lt b x) x []
+first_above-with_number b [] x = first_of_kept (nat_lt b x) x []
 first_above-with_number b (y ∷ ys) x =
     first_placed b x y ys (with_number ys x) (x == y) (nat_lt x y) (eqb-true x y) (λ _. ltb-true x y)
     (above_from_tests x y) (first_above-with_number b ys x)

@@ -1,30 +1,20 @@
 -- A seat is among the flagged ones exactly where its flag is true.
-use Rattle.std.proofs.Common.{◌≡◌, ◌≢◌, ℕ, ◌-◌, ◌<◌, ◌≤◌, Bool, true, ◌&&◌, ◌==◌, List, [], ◌∷◌, get_or, refl, sym, ap, ◌∙◌, subst, arith, ⊎_elim}
+use Rattle.std.proofs.Common.{◌≡◌, ◌≢◌, ℕ, ◌-◌, ◌<◌, ◌≤◌, true, ◌&&◌, ◌==◌, [], get_or, refl, sym, ap, ◌∙◌, arith, ⊎_elim}
 use Rattle.std.specs.List.{list_any}
-use Rattle.std.proofs.lemmas.Bool.{and_from, and_parts, cases_lt, eq-eqb, eqb-true, or_cases, true≢false}
+use Rattle.std.proofs.lemmas.Bool.{and_from, cases_lt, eq-eqb, true≢false}
 use Rattle.std.proofs.lemmas.List.Folds.{list_any_at}
 use Rattle.std.proofs.lemmas.List.FromFn.{get_or-range_with_len, length-range_with_len}
+use Rattle.list_laws.proofs.Any.{any_found, list_any-filter}
 use Rattle.chip_ledger.specs.declared.rows.LiveRow.{LiveRow}
 use Rattle.chip_ledger.specs.LiveRow.{flag_of, flagged}
 use Rattle.chip_ledger.specs.Seat.{seats_of}
-use Rattle.chip_ledger.proofs.Lists.{list_any-filter}
-
-found : (f : ℕ → Bool) (n : ℕ) (ms : List ℕ) → list_any (λ m. f m && (m == n)) ms ≡ true → f n ≡ true
-found f n [] e = cc
-found f n (m ∷ ms) e =
-    ⊎_elim
-    (λ h.
-    let parts = and_parts (f m) (m == n) h in
-    subst (λ k. f k ≡ true) (eqb-true m n parts.1) parts.0)
-    (found f n ms)
-    (or_cases (f m && (m == n)) (list_any (λ k. f k && (k == n)) ms) e)
 
 -- a seat that is among the flagged ones has its flag
 pub flag-from_flagged : (row : LiveRow) (n : ℕ)
     → list_any (λ m. m == n) (flagged row) ≡ true
     → flag_of row n ≡ true
 flag-from_flagged row n h =
-    found (flag_of row) n (seats_of row.seats)
+    any_found (flag_of row) n (seats_of row.seats)
     (sym (list_any-filter (λ m. m == n) (flag_of row) (seats_of row.seats)) ∙ h)
 
 -- a seat that has its flag is among the flagged ones

@@ -5,7 +5,6 @@ pub mod Fillers
 pub mod SameEntries
 pub mod PotExamples
 pub mod Different
-pub mod Lists
 pub mod PotLevels
 pub mod PotSums
 pub mod PotSeats

@@ -1,16 +1,10 @@
 -- Lists and sums over the seats of a hand.
 use Rattle.std.proofs.Common.{◌≡◌, ℕ, ◌+◌, ◌≤◌, Bool, cond, ◌∷◌, [], ◌++◌, zero, suc, refl, sym, ap, ◌∙◌, arith, filter, map, sum, sum_by, add-one}
-use Rattle.std.specs.List.{range_with_len}
 use Rattle.std.proofs.lemmas.List.{map-append}
 use Rattle.std.proofs.lemmas.List.Elements.{filter-append}
 use Rattle.std.proofs.lemmas.List.Sums.{sum-map, sum_by_push}
+use Rattle.list_laws.proofs.Ranges.{range_more}
 use Rattle.chip_ledger.specs.Seat.{seats_of}
-
-range_more : (a n : ℕ) → range_with_len a (suc n) ≡ range_with_len a n ++ (a + n) ∷ []
-range_more a zero = let e : a ≡ a + 0 = omega arith in ap (λ x. x ∷ []) e
-range_more a (suc n) =
-    let e : a + 1 + n ≡ a + suc n = omega arith in
-    ap (λ xs. a ∷ xs) (range_more (a + 1) n ∙ ap (λ x. range_with_len (a + 1) n ++ x ∷ []) e)
 
 pub seats_of_more : (n : ℕ) → seats_of (n + 1) ≡ seats_of n ++ (n + 1) ∷ []
 seats_of_more n =

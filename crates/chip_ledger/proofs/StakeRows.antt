@@ -1,8 +1,11 @@
 -- What the stakes of two rows are, read from the rows.
-use Rattle.std.proofs.Common.{◌≡◌, ◌≢◌, ℕ, ◌-◌, ◌≤◌, Bool, true, false, ◌&&◌, cond, List, [], ◌∷◌, refl, sym, ap, ◌∙◌, arith, nat_le, map, filter, sum_by}
+use Rattle.std.proofs.Common.{◌≡◌, ◌≢◌, ℕ, ◌-◌, ◌≤◌, Bool, true, false, ◌&&◌, cond, List, [], ◌∷◌, refl, sym, ap, ◌∙◌, nat_le, map, filter, sum_by}
 use Rattle.std.specs.List.{list_any}
-use Rattle.std.proofs.lemmas.Bool.{le-leb, true_from_ne_false, or_parts}
+use Rattle.std.proofs.lemmas.Bool.{true_from_ne_false}
 use Rattle.std.proofs.lemmas.Simd.{map-map}
+use Rattle.list_laws.proofs.Sums.{sum_by-map}
+use Rattle.list_laws.proofs.Numbers.{and_zero}
+use Rattle.list_laws.proofs.Any.{nothing_kept, list_any-map}
 use Rattle.chip_ledger.specs.declared.rows.LiveRow.{LiveRow}
 use Rattle.chip_ledger.specs.declared.rows.SeatRow.{SeatRow}
 use Rattle.chip_ledger.specs.LiveRow.{flag_of, flagged}
@@ -10,7 +13,6 @@ use Rattle.chip_ledger.specs.SeatRow.{amount_of, total_of}
 use Rattle.chip_ledger.specs.PotRow.{stake_of, stakes_of}
 use Rattle.chip_ledger.specs.Pots.{Stake, after_return, kept, reaching, returned}
 use Rattle.chip_ledger.specs.Seat.{seats_of}
-use Rattle.chip_ledger.proofs.Lists.{list_any-map, sum_by-map}
 use Rattle.chip_ledger.proofs.PotSums.{stake_chips}
 use Rattle.chip_ledger.proofs.Seats.{filter-seats, map-seats, sum-seats}
 
@@ -28,10 +30,6 @@ seats_kept puts live q [] = refl
 seats_kept puts live q (n ∷ ns) =
     kept_seat puts live n (filter (λ m. q (stake_of puts live m)) ns)
     (filter q (map (stake_of puts live) ns)) (q (stake_of puts live n)) (seats_kept puts live q ns)
-
-and_zero : (b : Bool) (n : ℕ) → b ≡ (b && nat_le 0 n)
-and_zero true n = sym (le-leb 0 n (omega arith))
-and_zero false n = refl
 
 -- a row of flags that says of each seat whether it is live and reaches a level
 pub flagged-reaching : (row : LiveRow) (puts : SeatRow) (live : LiveRow) (level : ℕ)
@@ -74,12 +72,6 @@ returned-total puts back live seats given =
     sum_by-map (returned stakes) (stake_of puts live) (seats_of puts.seats)
     ∙ sym (sum-seats (amount_of back) (λ n. returned stakes (stake_of puts live n)) puts.seats given)
     ∙ ap (λ n. sum_by (amount_of back) (seats_of n)) (sym seats)
-
-nothing_kept : (p : ℕ → Bool) (ns : List ℕ) → list_any p ns ≡ false → filter p ns ≡ []
-nothing_kept p [] e = refl
-nothing_kept p (n ∷ ns) e =
-    let parts = or_parts (p n) (list_any p ns) e in
-    ap (λ t. cond t (n ∷ filter p ns) (filter p ns)) parts.0 ∙ nothing_kept p ns parts.1
 
 -- a live seat is among the stakes
 pub live_stake : (puts : SeatRow) (live : LiveRow)

@@ -7,6 +7,7 @@ use Rattle.std.proofs.lemmas.List.Elements.{filter-append}
 use Rattle.std.proofs.lemmas.List.Sums.{fold_push, sum_by_push}
 use Rattle.std.proofs.lemmas.List.Folds.{list_all-append, list_all_at}
 use Rattle.std.proofs.lemmas.List.FromFn.{get_or-map-range_with_len, length-map-range_with_len}
+use Rattle.list_laws.proofs.Tests.{and_one}
 use Rattle.chip_ledger.specs.declared.rows.LiveRow.{LiveRow}
 use Rattle.chip_ledger.specs.declared.rows.SeatRow.{SeatRow}
 use Rattle.chip_ledger.specs.LiveRow.{flag_of}
@@ -89,11 +90,6 @@ first_level_more b puts live n =
     ap (λ ts. first_above b (levels ts)) (stakes_upto_more puts live n)
     ∙ ap (first_above b) (levels-push stakes s)
     ∙ above_zero s.live b s.chips (levels stakes) (makes_level s) refl
-
-and_one : (a b : Bool) → (a && (b && true)) ≡ (a && b)
-and_one true true = refl
-and_one true false = refl
-and_one false b = refl
 
 -- whether all reach a level, with one seat more
 pub all_reach_more : (puts : SeatRow) (live : LiveRow) (n level : ℕ)

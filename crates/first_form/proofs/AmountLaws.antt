@@ -1,15 +1,12 @@
 -- Laws of the digits of an amount: more digits say no less.
-use Rattle.std.proofs.Common.{◌≡◌, ℕ, ◌+◌, ◌*◌, ◌<◌, ◌≤◌, Bool, true, false, ◌&&◌, nat_lt, List, [], ◌∷◌, length, drop, get_or, None, refl, sym, ap, ◌∙◌, arith}
+use Rattle.std.proofs.Common.{◌≡◌, ℕ, ◌+◌, ◌*◌, ◌<◌, Bool, true, false, ◌&&◌, nat_lt, List, length, drop, get_or, None, refl, sym, ap, ◌∙◌, arith}
 use Rattle.std.specs.Char.{digit_value, is_digit}
 use Rattle.std.specs.List.{list_all}
 use Rattle.std.specs.Str.Parse.{digits_value, digits_value_after}
 use Rattle.std.proofs.lemmas.Bool.{lt-leb}
 use Rattle.std.proofs.lemmas.List.{drop_more}
+use Rattle.list_laws.proofs.Numbers.{more_digits}
 use Rattle.first_form.specs.Action.{amount_said, most_chips, only_if}
-
-pub more_digits : (before : ℕ) (digits : List ℕ) → before ≤ digits_value_after 10 before digits
-more_digits before [] = omega arith
-more_digits before (digit ∷ digits) = omega (arith, more_digits (before * 10 + digit_value digit) digits)
 
 untold : (some all : Bool) (amount : ℕ) → only_if (some && (all && false)) amount ≡ None
 untold true true amount = refl

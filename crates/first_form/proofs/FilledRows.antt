@@ -1,9 +1,10 @@
 -- Laws of the numbers that are read into a row, and of the zeros behind them.
-use Rattle.std.proofs.Common.{◌≡◌, ℕ, zero, suc, ◌+◌, ◌-◌, ◌<◌, ◌≤◌, Bool, true, false, ◌&&◌, nat_le, List, [], ◌∷◌, ◌++◌, length, take, drop, set, get_or, replicate, Option, Some, None, refl, sym, ap, ◌∙◌, arith, append_assoc, IsTrue, length-append, subst, ◌⊎◌, inl, inr, ℤ, pos, negsuc, slice_index}
+use Rattle.std.proofs.Common.{◌≡◌, ℕ, ◌+◌, ◌-◌, ◌<◌, ◌≤◌, Bool, true, false, ◌&&◌, nat_le, List, [], ◌∷◌, ◌++◌, length, take, drop, set, get_or, replicate, Option, Some, None, refl, sym, ap, ◌∙◌, arith, append_assoc, IsTrue, length-append, subst, ◌⊎◌, inl, inr, ℤ, pos, negsuc, slice_index}
 use Rattle.std.specs.List.{list_all}
 use Rattle.std.specs.Option.{option_map}
 use Rattle.std.proofs.lemmas.Bool.{false≢true, and_parts, leb-true, le-leb, lt-leb}
 use Rattle.std.proofs.lemmas.List.{take_more_set, length-take-le}
+use Rattle.list_laws.proofs.Lists.{set_behind}
 use Rattle.toml.specs.Data.{Data, Items, no_items, item, as_integer}
 use Rattle.toml.specs.View.{view, items_view}
 use Rattle.toml.specs.declared.value.Value.{Value}
@@ -13,11 +14,6 @@ use Rattle.chip_ledger.proofs.Same.{seat_row_same}
 use Rattle.play_event.specs.Rows.{most, fits_row, filled, row_of}
 use Rattle.first_form.specs.Action.{◌>>=◌, only_if}
 use Rattle.first_form.specs.FirstForm.{kept_within, number_within, numbers_within, made_if, seat_row}
-
-set_behind : (xs : List ℕ) (n x : ℕ) → 0 < n → set (xs ++ replicate n 0) (length xs) x ≡ (xs ++ x ∷ []) ++ replicate (n - 1) 0
-set_behind [] zero x some = absurd (omega (arith, some))
-set_behind [] (suc n) x some = ap (λ (m : ℕ). x ∷ replicate m 0) (omega arith)
-set_behind (y ∷ xs) n x some = ap (λ (l : List ℕ). y ∷ l) (set_behind xs n x some)
 
 -- one number more is a write at the first zero
 filled_more : (xs : List ℕ) (x : ℕ) → length xs < 10 → filled (xs ++ x ∷ []) ≡ set (filled xs) (length xs) x

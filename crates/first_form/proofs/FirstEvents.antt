@@ -1,10 +1,12 @@
 -- What an action of the first form says is an event of the first form.
-use Rattle.std.proofs.Common.{◌≡◌, ℕ, zero, suc, ◌+◌, ◌<◌, ◌≤◌, Bool, true, false, cond, ◌&&◌, nat_le, nat_lt, List, [], ◌∷◌, length, find, Option, Some, None, refl, arith, subst, bytes_eq, codes, eqb, slice_get}
+use Rattle.std.proofs.Common.{◌≡◌, ℕ, zero, suc, ◌+◌, ◌≤◌, Bool, true, false, ◌&&◌, nat_le, nat_lt, List, [], ◌∷◌, length, Option, Some, None, refl, arith, subst, bytes_eq, codes, eqb, slice_get}
 use Rattle.std.specs.Option.{option_map}
-use Rattle.std.specs.List.{list_any, list_all, range_with_len}
+use Rattle.std.specs.List.{list_any, list_all}
 use Rattle.std.specs.Char.{is_digit}
 use Rattle.std.specs.Str.Parse.{digits_value}
 use Rattle.std.proofs.lemmas.Bool.{and_parts, leb-true}
+use Rattle.list_laws.proofs.Options.{only, unless}
+use Rattle.list_laws.proofs.Ranges.{find_within}
 use Rattle.toml.specs.Data.{Items, no_items, item, as_str}
 use Rattle.card_set.specs.declared.card.Slot.{Slot}
 use Rattle.play_event.specs.declared.event.Spelled.TheVariants as spelled
@@ -14,23 +16,10 @@ use Rattle.first_form.specs.Action.{◌>>=◌, only_if, most_chips, commentary_s
 use Rattle.first_form.specs.FirstForm.{events_from}
 use Rattle.first_form.specs.Hand.{Numbered, IsFirstEvent}
 
--- a value that stands only if a test holds
-pub only : {A : Type 0} (test : Bool) (found : Option A) (value : A) → cond test found None ≡ Some value → found ≡ Some value
-only true found value is = is
-only false found value is = absurd (cc)
-
 -- a value that is what a test lets stand
 pub kept : {A : Type 0} (test : Bool) (found value : A) → only_if test found ≡ Some value → (test ≡ true) × (found ≡ value)
 kept true found value is = (refl, cc)
 kept false found value is = absurd (cc)
-
-find_within : (test : ℕ → Bool) (first count seat : ℕ) → find test (range_with_len first count) ≡ Some seat → (first ≤ seat) × (seat < first + count)
-find_within test first zero seat is = absurd (cc)
-find_within test first (suc count) seat is = found_within test first count seat (test first) is (find_within test (first + 1) count seat)
-  where
-    found_within : (test : ℕ → Bool) (first count seat : ℕ) (here : Bool) → cond here (Some first) (find test (range_with_len (first + 1) count)) ≡ Some seat → (find test (range_with_len (first + 1) count) ≡ Some seat → (first + 1 ≤ seat) × (seat < first + 1 + count)) → (first ≤ seat) × (seat < first + suc count)
-    found_within test first count seat true is later = let same : first ≡ seat = cc in (omega (arith, same), omega (arith, same))
-    found_within test first count seat false is later = let both = later is in (omega (arith, both.0), omega (arith, both.1))
 
 -- a seat that is named is a seat of the hand
 seat_within : (seats seat : ℕ) (word : List ℕ) → seat_said seats word ≡ Some seat → (1 ≤ seat) × (seat ≤ seats)
@@ -77,10 +66,6 @@ words_first seats (name ∷ verb ∷ amount ∷ []) event is =
 words_first seats (deal ∷ kind ∷ name ∷ cards ∷ []) event is =
     hole_of seats (seat_said seats name) (cards_said cards) event (λ seat named. seat_within seats seat name named) (only (bytes_eq deal (codes "d") && bytes_eq kind (codes "dh")) _ event is)
 words_first seats (one ∷ two ∷ three ∷ four ∷ five ∷ more) event is = absurd (cc)
-
-unless : {A : Type 0} (test : Bool) (found : Option A) (value : A) → cond test None found ≡ Some value → found ≡ Some value
-unless true found value is = absurd (cc)
-unless false found value is = is
 
 action_first : (seats : ℕ) (text : List ℕ) (event : Said) → action_said seats text ≡ Some event → IsFirstEvent seats event
 unfolding action_said

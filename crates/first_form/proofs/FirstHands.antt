@@ -2,6 +2,7 @@
 use Rattle.std.proofs.Common.{◌≡◌, ℕ, zero, suc, ◌-◌, ◌≤◌, Bool, true, false, ◌&&◌, nat_le, ◌==◌, List, [], ◌∷◌, ◌++◌, length, replicate, Option, Some, None, refl, arith, subst, bytes_eq, codes, eqb-true, IsTrue, slice_index}
 use Rattle.std.specs.List.{list_all}
 use Rattle.std.proofs.lemmas.Bool.{and_parts, leb-true}
+use Rattle.list_laws.proofs.Options.{only}
 use Rattle.toml.specs.Data.{Data, Items, Members, get_member, as_array}
 use Rattle.chip_ledger.specs.declared.rows.SeatRow.{SeatRow}
 use Rattle.chip_ledger.specs.RakeRow.{no_rakes}
@@ -13,7 +14,7 @@ use Rattle.first_form.specs.Action.{◌>>=◌, only_if, most_chips}
 use Rattle.first_form.specs.FirstForm.{numbers_within, number_within, made_if, seat_row, row_said, setup_said, events_from, raises_among, script_said, keys_fit, first_form}
 use Rattle.first_form.specs.Hand.{Told, Numbered, IsFirstHand}
 use Rattle.first_form.proofs.FilledRows.{AreRead, number_kept, numbers_read, count_items}
-use Rattle.first_form.proofs.FirstEvents.{kept, only, AreNumbered, events_first}
+use Rattle.first_form.proofs.FirstEvents.{kept, AreNumbered, events_first}
 
 filled_within : (least greatest : ℕ) (xs : List ℕ) (n : ℕ) → list_all (λ x. nat_le least x && nat_le x greatest) xs ≡ true → (k : ℕ) → slice_index (xs ++ replicate n 0) k ≤ greatest
 filled_within least greatest [] n within k = omega (arith, zeros n k)

@@ -1,7 +1,10 @@
 -- No legal event makes two places clash.
 use Rattle.std.proofs.Common.{◌≡◌, ◌≢◌, ℕ, ◌+◌, ◌≤◌, ◌==◌, Bool, true, false, ◌&&◌, ◌||◌, not, inl, inr, ◌⊎◌, Option, Some, None, is_some, List, [], ◌∷◌, ◌++◌, length, count_by, refl, sym, ◌∙◌, ap, subst, arith}
 use Rattle.std.specs.List.{list_any}
-use Rattle.std.proofs.lemmas.Bool.{or_parts, le-leb, eqb-true, eq-eqb}
+use Rattle.std.proofs.lemmas.Bool.{or_parts, le-leb, eqb-true}
+use Rattle.std.proofs.Math.Bool.{or_comm}
+use Rattle.list_laws.proofs.Numbers.{eq_true_both}
+use Rattle.list_laws.proofs.Tests.{and_false, false_true}
 use Rattle.card_set.specs.declared.card.Slot.{Slot}
 use Rattle.card_set.specs.declared.card.Slot.TheVariants as slots
 use Rattle.card_set.specs.Deck.{deck_place}
@@ -9,22 +12,7 @@ use Rattle.play_event.specs.declared.code.Code.{Code}
 use Rattle.play_event.specs.Places.{Place, places_dealt, after_deal, is_past_deck, is_in_group}
 use Rattle.play_event.specs.Taken.{clash, may_repeat, gone_before, bear_one, bears, in_deck, is_taken, has_repeat, stands_again, any_taken, any_misplaced, is_misplaced, is_foreign, newly_known}
 use Rattle.play_event.specs.Laws.{IsAmong, NoneClash}
-use Rattle.play_event.proofs.Kept.{AreKept, ComesFrom, comes_from, clash_kept, false_true}
-
--- clashing goes both ways
-or_swap : (a b : Bool) → (a || b) ≡ (b || a)
-or_swap true true = refl
-or_swap true false = refl
-or_swap false true = refl
-or_swap false false = refl
-
-eq_false_both : (a b : ℕ) (y : Bool) → (b == a) ≡ y → (a == b) ≡ false → (b == a) ≡ false
-eq_false_both a b true same is = false_true (sym is ∙ eq-eqb a b (sym (eqb-true b a same)))
-eq_false_both a b false same is = same
-
-eq_true_both : (a b : ℕ) (x : Bool) → (a == b) ≡ x → (b == a) ≡ x
-eq_true_both a b true is = eq-eqb b a (sym (eqb-true a b is))
-eq_true_both a b false is = eq_false_both a b (b == a) refl is
+use Rattle.play_event.proofs.Kept.{AreKept, ComesFrom, comes_from, clash_kept}
 
 one_card_both : (a b : Slot) → bear_one a b ≡ bear_one b a
 one_card_both (slots.Known a) (slots.Known b) = sym (eq_true_both (deck_place a) (deck_place b) (deck_place a == deck_place b) refl)
@@ -34,7 +22,7 @@ one_card_both slots.Unknown slots.Unknown = refl
 
 clash_both : (a b : Place) → clash a b ≡ clash b a
 clash_both a b =
-    ap (λ m. not m && bear_one a.slot b.slot) (or_swap (may_repeat a b) (may_repeat b a))
+    ap (λ m. not m && bear_one a.slot b.slot) (or_comm (may_repeat a b) (may_repeat b a))
     ∙ ap (λ s. not (may_repeat b a || may_repeat a b) && s) (one_card_both a.slot b.slot)
 
 -- where a test passes nowhere, it does not pass at a place of the list
@@ -101,10 +89,6 @@ not_one_of : (p : Slot → Bool) (cards : List Slot) (slot : Slot) → list_any 
 not_one_of p [] slot none among = absurd among
 not_one_of p (first ∷ rest) slot none (inl is) = ap p (sym is) ∙ (or_parts (p first) (list_any p rest) none).0
 not_one_of p (first ∷ rest) slot none (inr later) = not_one_of p rest slot (or_parts (p first) (list_any p rest) none).1 later
-
-and_false : (b : Bool) → (b && false) ≡ false
-and_false true = refl
-and_false false = refl
 
 -- cards that bear different cards do not clash
 different_clash : (a b : Place) → bear_one a.slot b.slot ≡ false → clash a b ≡ false

@@ -1,6 +1,8 @@
 -- What folds, discards and shows leave of a place: its number, and what is known of it; so they make no two known cards clash.
 use Rattle.std.proofs.Common.{◌≡◌, ℕ, zero, suc, Bool, true, false, ◌&&◌, ◌||◌, not, inl, inr, ◌⊎◌, Option, Some, None, is_none, List, [], ◌∷◌, map, refl, sym, ◌∙◌, ap, subst, if◌then◌else◌}
-use Rattle.std.proofs.lemmas.Bool.{and_parts}
+use Rattle.std.proofs.lemmas.Bool.{and_parts, and_from}
+use Rattle.list_laws.proofs.Options.{is_none_none}
+use Rattle.list_laws.proofs.Tests.{either_still, both_known, false_true}
 use Rattle.card_set.specs.declared.card.Card.{Card}
 use Rattle.card_set.specs.declared.card.Slot.{Slot}
 use Rattle.card_set.specs.declared.card.Slot.TheVariants as slots
@@ -24,28 +26,16 @@ kept_same count place = record { number = refl; past_deck = refl; gone = inl ref
 none_before : (when : Option ℕ) (number : ℕ) → when ≡ None → gone_before when number ≡ false
 none_before when number is = ap (λ g. gone_before g number) is
 
-pub false_true : {A : Type 0} → false ≡ true → A
-false_true is = absurd cc
-
 gone_still : (count : ℕ) (old new : Place) → IsKept count old new → (number : ℕ) → gone_before old.gone number ≡ true → gone_before new.gone number ≡ true
 gone_still count old new kept number is = elim (kept.gone) [
   | inl same ↦ ap (λ g. gone_before g number) same ∙ is
   | inr fresh ↦ false_true (sym (none_before old.gone number fresh.0) ∙ is)
 ]
 
-both_true : (a b : Bool) → a ≡ true → b ≡ true → (a && b) ≡ true
-both_true a b first second = ap (λ x. x && b) first ∙ second
-
 repeat_still : (count : ℕ) (a b a' b' : Place) → IsKept count a a' → IsKept count b b' → may_repeat a b ≡ true → may_repeat a' b' ≡ true
 repeat_still count a b a' b' kept_a kept_b is =
     let parts = and_parts a.past_deck (gone_before b.gone a.number) is in
-    both_true a'.past_deck (gone_before b'.gone a'.number) (kept_a.past_deck ∙ parts.0) (ap (gone_before b'.gone) kept_a.number ∙ gone_still count b b' kept_b a.number parts.1)
-
-either_still : (a b a' b' : Bool) → (a ≡ true → a' ≡ true) → (b ≡ true → b' ≡ true) → (a || b) ≡ true → (a' || b') ≡ true
-either_still true b a' b' first second is = ap (λ x. x || b') (first refl)
-either_still false true true b' first second is = refl
-either_still false true false b' first second is = second refl
-either_still false false a' b' first second is = false_true is
+    and_from a'.past_deck (gone_before b'.gone a'.number) (kept_a.past_deck ∙ parts.0) (ap (gone_before b'.gone) kept_a.number ∙ gone_still count b b' kept_b a.number parts.1)
 
 fewer_clash : (m m' s s' : Bool) → (m ≡ true → m' ≡ true) → s' ≡ s → (not m && s) ≡ false → (not m' && s') ≡ false
 fewer_clash m true s s' still same is = refl
@@ -76,9 +66,6 @@ pub record ComesFrom (count : ℕ) (before after : List Place) (new : Place) : T
 later_known : (b : Bool) (first : Place) (rest : List Place) (new : Place) → IsAmong rest new → IsAmong (if b then (first ∷ rest) else rest) new
 later_known true first rest new is = inr is
 later_known false first rest new is = is
-
-both_known : (a b : Bool) → a ≡ true → b ≡ false → (a && not b) ≡ true
-both_known a b first second = ap (λ x. x && not b) first ∙ ap not second
 
 now_known : (b : Bool) (first : Place) (rest : List Place) → b ≡ true → IsAmong (if b then (first ∷ rest) else rest) first
 now_known true first rest is = inl refl
@@ -116,10 +103,6 @@ comes_from count (old ∷ olds) (first ∷ news) kept new (inl is) =
 comes_from count (old ∷ olds) (first ∷ news) kept new (inr later) = comes_later count old first olds news new (comes_from count olds news kept.1 new later)
 
 -- a fold keeps each place
-is_none_none : (gone : Option ℕ) → is_none gone ≡ true → gone ≡ None
-is_none_none None is = refl
-is_none_none (Some count) is = false_true is
-
 pub held_is_there : (seat : ℕ) (place : Place) → is_held_by seat place ≡ true → place.gone ≡ None
 held_is_there seat place held = is_none_none place.gone (and_parts (same_owner place.owner (Some seat)) (is_none place.gone) held).1
 

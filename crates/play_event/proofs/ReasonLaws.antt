@@ -1,5 +1,6 @@
 -- Where an event is legal, no reason holds.
 use Rattle.std.proofs.Common.{◌≡◌, Bool, true, false, Some, None, List, [], ◌∷◌, refl, ◌∙◌, ap, if◌then◌else◌}
+use Rattle.list_laws.proofs.Options.{some_is_none}
 use Rattle.play_event.specs.declared.reason.Illegal.{Illegal}
 use Rattle.play_event.specs.declared.setup.Setup.{Setup}
 use Rattle.play_event.specs.declared.setup.Rules.{Rules}
@@ -11,7 +12,6 @@ use Rattle.play_event.specs.Table.{up_cards}
 use Rattle.play_event.specs.MoveReasons.{is_raise_too_big}
 use Rattle.play_event.specs.Reasons.{why, first_reason, all_reasons}
 use Rattle.play_event.specs.Laws.{NoneHold}
-use Rattle.play_event.proofs.StreetLaws.{some_is_none}
 
 first_at : (reason : Illegal) (b : Bool) (rest : List (Bool × Illegal)) → (first_reason rest ≡ None → NoneHold rest) → (if b then Some reason else first_reason rest) ≡ None → (b ≡ false) × NoneHold rest
 first_at reason true rest later is = absurd (some_is_none is)

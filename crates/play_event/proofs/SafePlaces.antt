@@ -3,6 +3,8 @@ use Rattle.std.proofs.Common.{◌≡◌, ℕ, ◌≤◌, Bool, true, false, ◌&
 use Rattle.std.specs.List.{list_any}
 use Rattle.std.proofs.lemmas.Bool.{and_parts}
 use Rattle.std.proofs.lemmas.List.{length-append}
+use Rattle.std.proofs.lemmas.Option.{same_Some}
+use Rattle.list_laws.proofs.Options.{some_is_none}
 use Rattle.card_set.specs.declared.card.Card.{Card}
 use Rattle.card_set.specs.declared.card.Slot.{Slot}
 use Rattle.card_set.specs.declared.card.Slot.TheVariants as slots
@@ -24,7 +26,6 @@ use Rattle.play_event.specs.MoveReasons.{actor_of}
 use Rattle.play_event.specs.Reasons.{why}
 use Rattle.play_event.specs.Scripts.{with_event, past_of, resolved_by}
 use Rattle.play_event.specs.Laws.{AreLegal, NoneClash}
-use Rattle.play_event.proofs.StreetLaws.{some_is_none, same_some}
 use Rattle.play_event.proofs.ReasonLaws.{no_reason_holds}
 use Rattle.play_event.proofs.Kept.{AreKept, ComesFrom, comes_from, fold_keeps, names_keep, IsMark, held_is_there}
 use Rattle.play_event.proofs.ClashLaws.{GoneWithin, kept_none_clash, deal_none_clash, among_append, are_dealt}
@@ -43,7 +44,7 @@ kept_length count (old ∷ olds) (new ∷ news) kept = omega (arith, kept_length
 gone_from : (before : List Place) (new : Place) (after : List Place) (count : ℕ) → GoneWithin before → ComesFrom (length before) before after new → new.gone ≡ Some count → count ≤ length before
 gone_from before new after count within from is = elim (from.kept.gone) [
   | inl same ↦ within from.old from.among count (sym same ∙ is)
-  | inr fresh ↦ let now : length before ≡ count = same_some (length before) count (sym fresh.1 ∙ is) in omega (arith, now)
+  | inr fresh ↦ let now : length before ≡ count = same_Some (length before) count (sym fresh.1 ∙ is) in omega (arith, now)
 ]
 
 kept_gone_within : (before after : List Place) → AreKept (length before) before after → GoneWithin before → GoneWithin after

@@ -2,7 +2,8 @@
 use Rattle.std.proofs.Common.{◌≡◌, ℕ, ◌+◌, ◌≤◌, ◌<◌, inl, inr, Option, Some, None, List, [], ◌∷◌, length, take, drop, reverse, get_or, slice_get, option_and_then, refl, sym, ◌∙◌, ap, arith}
 use Rattle.std.proofs.lemmas.Bool.{cases_lt}
 use Rattle.std.proofs.lemmas.List.{drop_more, drop_all, take_more, reverse-append}
-use Rattle.std.proofs.lemmas.Option.{slice_get_within, get_or_from_slice_get, slice_get-get_or}
+use Rattle.std.proofs.lemmas.Option.{slice_get_within, get_or_from_slice_get, slice_get-get_or, same_Some}
+use Rattle.list_laws.proofs.Options.{some_is_none}
 use Rattle.play_event.specs.declared.reason.Illegal.{Illegal}
 use Rattle.play_event.specs.declared.setup.Setup.{Setup}
 use Rattle.play_event.specs.declared.setup.Rules.{Rules}
@@ -11,7 +12,6 @@ use Rattle.play_event.specs.Past.{Past}
 use Rattle.play_event.specs.Reasons.{why}
 use Rattle.play_event.specs.Scripts.{past_of, past_after, with_event, why_at, IsLegal, IsFirstIllegal}
 use Rattle.play_event.specs.Computed.{refusal, refusal_from}
-use Rattle.play_event.proofs.StreetLaws.{some_is_none, same_some}
 
 -- the past after one event more
 past_more : (setup : Setup) (events : List Said) (count : ℕ) (event : Said) → slice_get events count ≡ Some event → past_after setup events (count + 1) ≡ with_event setup event (past_after setup events count)
@@ -78,7 +78,7 @@ walk_step setup rules before number event rest found = elim found [ Some reason 
 refused_step : (setup : Setup) (rules : Rules) (script : List Said) (count : ℕ) (event : Said) (more : List Said) (number : ℕ) (reason : Illegal) (found : Option Illegal) → IsNext script count event more → why setup rules (past_after setup script count) event ≡ found → (refusal_from setup rules (past_after setup script (count + 1)) (count + 1 + 1) more ≡ Some (number, reason) → IsRefused setup rules script (count + 1) number reason) → walk_step setup rules (past_after setup script count) (count + 1) event more found ≡ Some (number, reason) → IsRefused setup rules script count number reason
 unfolding walk_step
 refused_step setup rules script count event more number reason (Some first) next here later is =
-    let same : (count + 1, first) ≡ (number, reason) = same_some (count + 1, first) (number, reason) is in
+    let same : (count + 1, first) ≡ (number, reason) = same_Some (count + 1, first) (number, reason) is in
     record {
       index = count;
       counted = sym (ap (λ p. p.0) same);

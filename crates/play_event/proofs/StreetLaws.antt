@@ -1,7 +1,9 @@
 -- The street on which something is due is the first such street.
 use Rattle.std.proofs.Common.{◌≡◌, ℕ, zero, suc, ◌+◌, ◌-◌, ◌≤◌, ◌<◌, Bool, true, false, inl, inr, Option, Some, None, refl, sym, ◌∙◌, ap, arith, nat_le, unwrap_or, if◌then◌else◌}
 use Rattle.std.specs.Option.{option_map}
-use Rattle.std.proofs.lemmas.Bool.{cases_lt}
+use Rattle.std.proofs.lemmas.Bool.{cases_lt, true≢false}
+use Rattle.std.proofs.lemmas.Option.{same_Some}
+use Rattle.list_laws.proofs.Options.{some_is_none}
 use Rattle.play_event.specs.declared.reason.Due.{Due}
 use Rattle.play_event.specs.declared.reason.Due.TheVariants as dues
 use Rattle.play_event.specs.declared.setup.Setup.{Setup}
@@ -12,19 +14,10 @@ use Rattle.play_event.specs.Showing.{show_due}
 use Rattle.play_event.specs.Due.{turn, due_on, first_due, found_or, showdown, is_unfinished}
 use Rattle.play_event.specs.Laws.{IsFirstStreet}
 
-pub some_is_none : {A : Type 0} {x : A} → Some x ≡ None → ⊥
-some_is_none is = cc
-
-pub same_some : {A : Type 0} (x y : A) → Some x ≡ Some y → x ≡ y
-same_some x y is = ap (λ o. unwrap_or o x) is
-
-pub true_is_false : true ≡ false → ⊥
-true_is_false is = cc
-
 -- the first of so many streets on which something is due
 found_step : (on : ℕ → Option Due) (rest street found : ℕ) (due : Due) (here : Option Due) → on street ≡ here → (first_due on rest (street + 1) ≡ Some (found, due) → IsFirstStreet on (street + 1) found due) → found_or (option_map (λ d. (street, d)) here) (first_due on rest (street + 1)) ≡ Some (found, due) → IsFirstStreet on street found due
 found_step on rest street found due (Some first) here later is =
-    let same : (street, first) ≡ (found, due) = same_some (street, first) (found, due) is in
+    let same : (street, first) ≡ (found, due) = same_Some (street, first) (found, due) is in
     let street_is : street ≡ found = ap (λ p. p.0) same in
     let due_is : first ≡ due = ap (λ p. p.1) same in
     record {
@@ -79,9 +72,9 @@ turn_by setup past over found = if over then (newest_street past, dues.Over) els
 found_due : (setup : Setup) (past : Past) (street : ℕ) (due : Due) (over : Bool) (found : Option (ℕ × Due)) → found ≡ first_due (due_on setup past) (street_count setup.code + 1 - newest_street past) (newest_street past) → turn_by setup past over found ≡ (street, due) → is_unfinished due ≡ true → IsFirstStreet (due_on setup past) (newest_street past) street due
 unfolding turn_by
 found_due setup past street due true found walked is unfinished =
-    absurd (true_is_false (sym unfinished ∙ ap is_unfinished (sym (ap (λ p. p.1) is))))
+    absurd (true≢false (sym unfinished ∙ ap is_unfinished (sym (ap (λ p. p.1) is))))
 found_due setup past street due false None walked is unfinished =
-    absurd (true_is_false (sym unfinished ∙ ap is_unfinished (sym (ap (λ p. p.1) is)) ∙ shown_unfinished (show_due setup past)))
+    absurd (true≢false (sym unfinished ∙ ap is_unfinished (sym (ap (λ p. p.1) is)) ∙ shown_unfinished (show_due setup past)))
 found_due setup past street due false (Some there) walked is unfinished =
     street_found (due_on setup past) (street_count setup.code + 1 - newest_street past) (newest_street past) street due (sym walked ∙ ap Some is)
 

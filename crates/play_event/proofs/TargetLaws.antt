@@ -1,7 +1,7 @@
 -- The greatest legal target is legal, so a seat that may raise has a target.
 use Rattle.std.proofs.Common.{◌≡◌, ℕ, ◌+◌, ◌≤◌, ◌==◌, Bool, true, false, ◌&&◌, ◌||◌, inl, inr, min, nat_le, nat_lt, List, [], ◌∷◌, refl, ◌∙◌, ap, arith, if◌then◌else◌}
 use Rattle.std.specs.List.{list_any}
-use Rattle.std.proofs.lemmas.Bool.{cases_lt, le-leb, lt-ltb, eq-eqb}
+use Rattle.std.proofs.lemmas.Bool.{cases_lt, le-leb, lt-ltb, eq-eqb, or_left, or_right, and_from}
 use Rattle.play_event.specs.declared.setup.Setup.{Setup}
 use Rattle.play_event.specs.declared.setup.Reopen.{Reopen}
 use Rattle.play_event.specs.Games.{Limit, Fixed, Pot, NoLimit}
@@ -11,26 +11,13 @@ use Rattle.play_event.specs.Chips.{all_in}
 use Rattle.play_event.specs.Price.{price, full_raise, full_bet, greatest}
 use Rattle.play_event.specs.Targets.{floor, pot_ceiling, full_targets, is_target_in, greatest_target_in, is_legal_target, greatest_target}
 
-or_true : (b : Bool) → (b || true) ≡ true
-or_true true = refl
-or_true false = refl
-
-or_left : (a b : Bool) → a ≡ true → (a || b) ≡ true
-or_left a b is = ap (λ x. x || b) is
-
-or_right : (a b : Bool) → b ≡ true → (a || b) ≡ true
-or_right a b is = ap (λ x. a || x) is ∙ or_true a
-
-both : (a b : Bool) → a ≡ true → b ≡ true → (a && b) ≡ true
-both a b first second = ap (λ x. x && b) first ∙ second
-
 -- in pot limit: all-in where the ceiling is above it, and else the ceiling
 pot_target : (least ceiling chips : ℕ) → least ≤ ceiling → ((nat_le least (min chips ceiling) && nat_le (min chips ceiling) (min chips ceiling)) || ((min chips ceiling == chips) && nat_le (min chips ceiling) ceiling)) ≡ true
 pot_target least ceiling chips reach = elim (cases_lt ceiling chips) [
   | inl above ↦ or_left (nat_le least (min chips ceiling) && nat_le (min chips ceiling) (min chips ceiling)) ((min chips ceiling == chips) && nat_le (min chips ceiling) ceiling)
-      (both (nat_le least (min chips ceiling)) (nat_le (min chips ceiling) (min chips ceiling)) (le-leb least (min chips ceiling) (omega (arith, above, reach))) (le-leb (min chips ceiling) (min chips ceiling) (omega arith)))
+      (and_from (nat_le least (min chips ceiling)) (nat_le (min chips ceiling) (min chips ceiling)) (le-leb least (min chips ceiling) (omega (arith, above, reach))) (le-leb (min chips ceiling) (min chips ceiling) (omega arith)))
   | inr below ↦ or_right (nat_le least (min chips ceiling) && nat_le (min chips ceiling) (min chips ceiling)) ((min chips ceiling == chips) && nat_le (min chips ceiling) ceiling)
-      (both (min chips ceiling == chips) (nat_le (min chips ceiling) ceiling) (eq-eqb (min chips ceiling) chips (omega (arith, below))) (le-leb (min chips ceiling) ceiling (omega arith)))
+      (and_from (min chips ceiling == chips) (nat_le (min chips ceiling) ceiling) (eq-eqb (min chips ceiling) chips (omega (arith, below))) (le-leb (min chips ceiling) ceiling (omega arith)))
 ]
 
 -- the greatest of some numbers is one of them, where the first is above 0
@@ -54,11 +41,11 @@ greatest_among first second false false lone = greatest_one first
 fixed_target : (targets : List ℕ) (chips : ℕ) → list_any (λ full. greatest targets == full) targets ≡ true → ((list_any (λ full. min chips (greatest targets) == full) targets && nat_le (min chips (greatest targets)) chips) || ((min chips (greatest targets) == chips) && nat_lt (min chips (greatest targets)) (greatest targets))) ≡ true
 fixed_target targets chips among = elim (cases_lt chips (greatest targets)) [
   | inl short ↦ or_right (list_any (λ full. min chips (greatest targets) == full) targets && nat_le (min chips (greatest targets)) chips) ((min chips (greatest targets) == chips) && nat_lt (min chips (greatest targets)) (greatest targets))
-      (both (min chips (greatest targets) == chips) (nat_lt (min chips (greatest targets)) (greatest targets)) (eq-eqb (min chips (greatest targets)) chips (omega (arith, short))) (lt-ltb (min chips (greatest targets)) (greatest targets) (omega (arith, short))))
+      (and_from (min chips (greatest targets) == chips) (nat_lt (min chips (greatest targets)) (greatest targets)) (eq-eqb (min chips (greatest targets)) chips (omega (arith, short))) (lt-ltb (min chips (greatest targets)) (greatest targets) (omega (arith, short))))
   | inr reach ↦
       let is : min chips (greatest targets) ≡ greatest targets = omega (arith, reach) in
       or_left (list_any (λ full. min chips (greatest targets) == full) targets && nat_le (min chips (greatest targets)) chips) ((min chips (greatest targets) == chips) && nat_lt (min chips (greatest targets)) (greatest targets))
-      (both (list_any (λ full. min chips (greatest targets) == full) targets) (nat_le (min chips (greatest targets)) chips) (ap (λ (n : ℕ). list_any (λ full. n == full) targets) is ∙ among) (le-leb (min chips (greatest targets)) chips (omega (arith, is, reach))))
+      (and_from (list_any (λ full. min chips (greatest targets) == full) targets) (nat_le (min chips (greatest targets)) chips) (ap (λ (n : ℕ). list_any (λ full. n == full) targets) is ∙ among) (le-leb (min chips (greatest targets)) chips (omega (arith, is, reach))))
 ]
 
 target_in : (limit : Limit) (reopens : Reopen) (setup : Setup) (moves : List Move) (street seat : ℕ) → is_target_in limit reopens setup moves street seat (greatest_target_in limit setup moves street seat) ≡ true

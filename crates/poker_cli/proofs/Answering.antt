@@ -4,11 +4,6 @@ use Rattle.std.proofs.lemmas.Bool.{lt-ltb, le-ltb}
 use Rattle.poker_cli.specs.declared.status.Status.TheVariants as statuses
 use Rattle.poker_cli.specs.Answer.{Answer, refusal, most_input, answer_to, answer_to_document, document_of}
 
--- what holds anyway holds of what is there
-pub anyway : {A : Type 0} (found : Option A) (P : Type 0) → P → IfSome found (λ _. P)
-anyway (Some value) P holds = holds
-anyway None P holds = tt
-
 within : (bytes : List ℕ) → length bytes ≤ most_input → answer_to bytes ≡ answer_to_document (document_of bytes)
 unfolding answer_to
 within bytes few =

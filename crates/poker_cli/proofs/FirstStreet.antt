@@ -4,6 +4,7 @@ use Rattle.std.specs.List.{list_any, range_with_len}
 use Rattle.std.specs.Option.{option_or}
 use Rattle.std.proofs.lemmas.List.Folds.{find-append}
 use Rattle.std.proofs.Math.Bool.{or_assoc}
+use Rattle.list_laws.proofs.Tests.{or_false}
 use Rattle.card_set.specs.declared.card.Card.{Card}
 use Rattle.card_set.specs.declared.card.Slot.{Slot}
 use Rattle.play_event.specs.declared.code.Code.{Code}
@@ -32,10 +33,6 @@ board_owed : (code : Code) (dealt : ℕ) → code ≡ games.NT → board_cards_o
 board_owed code dealt game =
     let P : Code → Type 0 = λ c. board_cards_on c 1 - dealt ≡ 0 in
     subst P (sym game) (omega arith)
-
-or_false : (b : Bool) → (b || false) ≡ b
-or_false true = refl
-or_false false = refl
 
 -- a deal is due on the first street where some live seat lacks hole cards
 pub deal_due_first : (setup : Setup) (past : Past) → setup.code ≡ games.NT → deal_due setup past 1 ≡ list_any (λ seat. nat_lt 0 (hole_cards_owed setup past 1 seat)) (all_seats setup)

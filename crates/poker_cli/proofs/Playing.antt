@@ -1,9 +1,10 @@
 -- One event more of a hand that is played, and what that makes of its verdict.
-use Rattle.std.proofs.Common.{Result, Ok, Err, IfOk, ◌≡◌, ℕ, suc, ◌+◌, ◌-◌, ◌≤◌, Bool, true, false, ◌&&◌, not, List, [], ◌∷◌, length, map, take, reverse, get_or, slice_get, Option, Some, None, is_none, refl, sym, ◌∙◌, ap, arith, if◌then◌else◌, option_and_then}
+use Rattle.std.proofs.Common.{◌≡◌, ℕ, suc, ◌+◌, ◌-◌, ◌≤◌, Bool, true, false, ◌&&◌, not, List, [], ◌∷◌, length, map, take, reverse, get_or, slice_get, Option, Some, None, is_none, refl, sym, ◌∙◌, ap, arith, if◌then◌else◌, option_and_then}
 use Rattle.std.specs.Option.{option_map, option_map_or}
 use Rattle.std.specs.List.{range_with_len}
 use Rattle.std.proofs.lemmas.List.{take_more, reverse-append, length-map}
 use Rattle.std.proofs.lemmas.Option.{slice_get-map, slice_get_past, slice_get_within, get_or_from_slice_get}
+use Rattle.list_laws.proofs.Options.{some_is_none}
 use Rattle.play_event.specs.declared.code.Code.TheVariants as games
 use Rattle.play_event.specs.declared.event.Event.{Event}
 use Rattle.play_event.specs.declared.reason.Due.TheVariants as dues
@@ -147,11 +148,6 @@ ending_is setup script count played stage game seen all is =
     ∙ ap (λ b. if b then EndsEarly else Complete (map (finishing_stack setup (moves_of (past_seen played))) (all_seats setup))) (turn_at setup played stage game is)
     ∙ ended_by setup (past_seen played) stage
 
--- what holds of a value holds of what a result has
-pub along : {T E : Type 0} {P Q : T → Type 0} (result : Result T E) → ((value : T) → P value → Q value) → IfOk result P → IfOk result Q
-along (Ok value) goes is = goes value is
-along (Err error) goes is = tt
-
 -- the verdict where the first street is over
 pub verdict_beyond : (hand : Hand) (count : ℕ) (played : Past) → count ≤ length hand.script → past_seen played ≡ past_after hand.setup (events_of (map numbered hand.script)) count → is_beyond hand.setup (past_seen played) ≡ true → Stopped Beyond ≡ verdict_from (told hand) count
 verdict_beyond hand count played within seen beyond =
@@ -174,9 +170,6 @@ pub verdict_later : (hand : Hand) (count : ℕ) (played : Past) (stage : Stage) 
 verdict_later hand count played stage event found said game seen is at against none later =
     later
     ∙ sym (goes_on (told hand) count (omega (arith, slice_get_within hand.script count event at, length-map hand.script numbered)) (stop_next hand.setup hand.script count (past_seen played) event found seen (not_beyond hand.setup played stage game is) at against ∙ ap (option_map (Refused count event.at)) none))
-
-some_is_none : {A : Type 0} {x : A} → Some x ≡ None → ⊥
-some_is_none is = cc
 
 -- a legal event takes place on the first street
 on_first : (setup : Setup) (played : Past) (stage : Stage) (event : Said) → setup.code ≡ games.NT → IsFirstEvent setup.stacks.seats event → IsStage setup (past_seen played) stage → why setup history_rules (past_seen played) event ≡ None → (turn setup (past_seen played)).0 ≡ 1

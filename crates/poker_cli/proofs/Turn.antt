@@ -70,11 +70,6 @@ pub due_move : (setup : Setup) (before : past.Past) → setup.code ≡ games.NT 
 due_move setup before game deal move =
     due_without_deal setup before game deal ∙ ap (due_by false false false) move
 
--- and where neither comes, nothing is due
-pub due_nothing : (setup : Setup) (before : past.Past) → setup.code ≡ games.NT → deal_due setup before 1 ≡ false → move_due setup (moves_of before) 1 ≡ false → due_on setup before 1 ≡ None
-due_nothing setup before game deal move =
-    due_without_deal setup before game deal ∙ ap (due_by false false false) move
-
 -- hands of the first form show and muck nothing
 no_show : (setup : Setup) (before : past.Past) (event : Said) → IsFirstEvent setup.stacks.seats event → is_first_show setup before event ≡ false
 no_show setup before (said.Show seat cards) first = absurd first

@@ -1,49 +1,32 @@
 -- The flagged seats of a row, counted and found.
-use Rattle.std.proofs.Common.{◌≡◌, ◌≢◌, ◌<◌, ◌≤◌, ℕ, zero, suc, ◌+◌, ◌-◌, ◌*◌, ◌==◌, ◌&&◌, ◌||◌, Bool, true, false, cond, List, [], ◌∷◌, length, filter, sum_by, if◌then◌else◌, get_or, refl, sym, ◌∙◌, ap, arith, ⊎_elim, length-append}
-use Rattle.std.specs.List.{list_any, range_with_len}
-use Rattle.std.proofs.lemmas.Bool.{and_parts, eq-eqb, eqb-true, or_cases}
+use Rattle.std.proofs.Common.{◌≡◌, ◌≢◌, ◌≤◌, ℕ, zero, suc, ◌+◌, ◌-◌, ◌*◌, ◌==◌, ◌&&◌, Bool, true, false, cond, List, [], ◌∷◌, length, filter, sum_by, if◌then◌else◌, get_or, refl, sym, ◌∙◌, ap, arith, length-append}
+use Rattle.std.specs.List.{list_any}
+use Rattle.std.proofs.lemmas.Bool.{and_parts}
 use Rattle.std.proofs.lemmas.List.Elements.{filter-append}
 use Rattle.std.proofs.lemmas.List.Folds.{list_any_at}
 use Rattle.std.proofs.lemmas.List.FromFn.{get_or-range_with_len, length-range_with_len}
 use Rattle.std.proofs.Math.Nat.{mul-suc, mul-zero}
+use Rattle.list_laws.proofs.Lists.{empty_from}
+use Rattle.list_laws.proofs.Ranges.{any_within}
+use Rattle.list_laws.proofs.Any.{none_passes, found_some, list_any-filter}
+use Rattle.list_laws.proofs.Tests.{same_test}
 use Rattle.chip_ledger.specs.declared.rows.LiveRow.{LiveRow}
 use Rattle.chip_ledger.specs.LiveRow.{flag_of, flagged}
 use Rattle.chip_ledger.specs.Seat.{seats_of}
 use Rattle.chip_ledger.proofs.Flags.{flag-from_flagged, flagged-from_flag}
-use Rattle.chip_ledger.proofs.Lists.{list_any-filter}
 use Rattle.chip_ledger.proofs.Seats.{seats_of_more, sum_of_seats_more}
 use Rattle.variant_table.specs.Division.{count_to}
 use Rattle.showdown_split.specs.Worths.{is_flagged}
 
--- tests that are true together are the same
-pub same_test : (a b : Bool) → (a ≡ true → b ≡ true) → (b ≡ true → a ≡ true) → a ≡ b
-same_test true b to from = sym (to refl)
-same_test false true to from = from refl
-same_test false false to from = refl
-
--- a number that is found among those from one on lies among them
-inside : (q : ℕ → Bool) (n a len : ℕ) → list_any (λ m. q m && (m == n)) (range_with_len a len) ≡ true → (a ≤ n) × (n < a + len)
-inside q n a zero h = cc (h)
-inside q n a (suc len) h =
-    ⊎_elim
-    (λ (here : (q a && (a == n)) ≡ true). let same = eqb-true a n (and_parts (q a) (a == n) here).1 in (omega (arith, same), omega (arith, same)))
-    (λ (there : list_any (λ m. q m && (m == n)) (range_with_len (a + 1) len) ≡ true). let range = inside q n (a + 1) len there in (omega (arith, range.0), omega (arith, range.1)))
-    (or_cases (q a && (a == n)) (list_any (λ m. q m && (m == n)) (range_with_len (a + 1) len)) h)
-
 -- a flagged seat is one of the row's
 pub flagged_inside : (row : LiveRow) (n : ℕ) → is_flagged row n ≡ true → (1 ≤ n) × (n ≤ row.seats)
 flagged_inside row n h =
-    let range = inside (flag_of row) n 1 row.seats (sym (list_any-filter (λ m. m == n) (flag_of row) (seats_of row.seats)) ∙ h) in
+    let range = any_within (flag_of row) n 1 row.seats (sym (list_any-filter (λ m. m == n) (flag_of row) (seats_of row.seats)) ∙ h) in
     (range.0, omega (arith, range.1))
 
 -- a seat of the row is flagged exactly where its flag is true
 pub is_flagged-flag : (row : LiveRow) (n : ℕ) → 1 ≤ n → is_flagged row n ≡ flag_of row n
 is_flagged-flag row n low = same_test (is_flagged row n) (flag_of row n) (flag-from_flagged row n) (flagged-from_flag row n low)
-
--- a list that has some has a number that is found in it
-found_some : (xs : List ℕ) → xs ≢ [] → (k : ℕ) × (list_any (λ m. m == k) xs ≡ true)
-found_some [] some = absurd (some refl)
-found_some (x ∷ xs) some = (x, ap (λ (b : Bool). b || list_any (λ m. m == x) xs) (eq-eqb x x refl))
 
 pub some_flagged : (row : LiveRow) → flagged row ≢ [] → (k : ℕ) × (is_flagged row k ≡ true)
 some_flagged row some = found_some (flagged row) some
@@ -88,15 +71,6 @@ sum_for_each p chips (suc n) =
         let same : chips * (count_to p n + 0) ≡ chips * count_to p n = ap (λ (m : ℕ). chips * m) (omega arith) in
         omega arith
 
--- what passes nowhere passes at none of these
-none_passes : (p : ℕ → Bool) (xs : List ℕ) → ((x : ℕ) → p x ≡ false) → list_any p xs ≡ false
-none_passes p [] never = refl
-none_passes p (x ∷ xs) never = ap (λ (b : Bool). b || list_any p xs) (never x) ∙ none_passes p xs never
-
-empty_from : (xs : List ℕ) → ¬ (xs ≢ []) → xs ≡ []
-empty_from [] not = refl
-empty_from (x ∷ xs) not = absurd (not (λ none. cc (none)))
-
 -- where no seat of a row is flagged, a test that says the same passes nowhere
 pub none_flagged : (row : LiveRow) (test : ℕ → Bool) (seats : List ℕ) → ¬ (flagged row ≢ []) → ((n : ℕ) → is_flagged row n ≡ test n) → list_any test seats ≡ false
 none_flagged row test seats none same =
@@ -127,7 +101,3 @@ some_passes p seats n low high passes =
     let at : get_or (seats_of seats) (n - 1) 0 ≡ n = get_or-range_with_len 1 seats (n - 1) 0 (omega arith) ∙ omega arith in
     let long = length-range_with_len 1 seats in
     list_any_at p (seats_of seats) (n - 1) 0 (omega arith) (ap p at ∙ passes)
-
-pub and_false : (b : Bool) → (b && false) ≡ false
-and_false true = refl
-and_false false = refl

@@ -2,6 +2,7 @@
 use Rattle.std.proofs.Common.{◌≡◌, ◌++◌, ℕ, Bool, true, false, IsTrue, List, Option, Some, None, ◌↔◌, inl, inr, refl, sym, ◌∙◌, ap}
 use Rattle.std.specs.Option.{is_some}
 use Rattle.std.proofs.lemmas.Bool.{true≢false}
+use Rattle.list_laws.proofs.Tests.{flip}
 use Rattle.card_set.specs.declared.card.Card.{Card}
 use Rattle.card_set.specs.Different.{AllDifferent}
 use Rattle.hand_order.specs.declared.best.Pick.{Pick}
@@ -31,9 +32,6 @@ beats_like h k w v same alike options others beats = record {
     | inr other ↦ inr (other.0, best_like h k w v same alike others other.0 other.1, (alike other.0 beats.best).0 other.2)
   ];
 }
-
-flip : (A B : Type 0) → A ↔ B → B ↔ A
-flip A B same = (same.1, same.0)
 
 -- the cards of a seat that are judged in an order, and what they are worth there
 pub record IsJudged (held : ℕ) (is_hand : List Card → Type 0) (is_weaker : List Card → List Card → Type 0) (points : List Card → Option ℕ) (pick : Pick) (hole board : List Card) (worth : Option ℕ) : Type 0 where

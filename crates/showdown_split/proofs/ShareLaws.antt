@@ -3,16 +3,13 @@ use Rattle.std.proofs.Common.{◌≡◌, ◌<◌, ◌≤◌, ℕ, ◌+◌, ◌-�
 use Rattle.std.proofs.lemmas.Bool.{cases_lt, lt-ltb, true≢false}
 use Rattle.std.proofs.lemmas.Nat.{div-add-mod'}
 use Rattle.std.proofs.Math.Nat.{mod-lt}
+use Rattle.list_laws.proofs.Tests.{chosen}
 use Rattle.chip_ledger.specs.Pots.{PlainPot}
 use Rattle.play_event.specs.declared.code.Code.{Code}
 use Rattle.variant_table.specs.Division.{AreHalves, AreParts, count_to}
 use Rattle.variant_table.specs.Shares.{AreSharesOf, IsLowShown, Ranking, Showdown, contends, ranking_of}
 use Rattle.showdown_split.specs.Laws.{GoesToBest, HasNoPart, IsUnbeaten, LeavesNoneOut}
 use Rattle.showdown_split.proofs.Bests.{count_some}
-
-chosen : (b : Bool) (x : ℕ) → 0 < (if b then x else 0) → b ≡ true
-chosen true x some = refl
-chosen false x some = absurd (omega (arith, some))
 
 -- who has a part is unbeaten
 part_of_best : (seats : ℕ) (contending : ℕ → Bool) (beats : ℕ → ℕ → Type 0) (chips : ℕ) (share : ℕ → ℕ) → AreParts seats contending beats chips share → (seat : ℕ) → 1 ≤ seat → seat ≤ seats → 0 < share seat → IsUnbeaten contending beats seat

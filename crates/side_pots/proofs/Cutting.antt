@@ -1,9 +1,11 @@
 -- A pot that is cut at the next level leaves the pots of the levels above it to be cut.
-use Rattle.std.proofs.Common.{◌≡◌, ℕ, ◌+◌, ◌≤◌, Bool, true, false, cond, if◌then◌else◌, List, [], ◌∷◌, ◌++◌, None, Some, length, refl, sym, ap, ◌∙◌, subst, arith, append_assoc, map, filter, nat_le, nat_lt, slice_get, ◌&&◌, All}
+use Rattle.std.proofs.Common.{◌≡◌, ℕ, ◌+◌, ◌≤◌, Bool, true, false, cond, if◌then◌else◌, List, [], ◌∷◌, ◌++◌, None, Some, length, refl, sym, ap, ◌∙◌, subst, arith, append_assoc, map, nat_le, nat_lt, slice_get, ◌&&◌, All}
 use Rattle.std.proofs.lemmas.List.{append-nil, map-append}
 use Rattle.std.proofs.lemmas.Bool.{cond-false, cond-true, cond_both}
 use Rattle.std.proofs.lemmas.List.Elements.{All-push}
 use Rattle.std.proofs.lemmas.List.FromFn.{length-map-range_with_len}
+use Rattle.list_laws.proofs.Rising.{first_and_rest, above_first, filter-Rising}
+use Rattle.list_laws.proofs.Lists.{no_first}
 use Rattle.chip_ledger.specs.declared.pots.Pot.{Pot}
 use Rattle.chip_ledger.specs.declared.rows.LiveRow.{LiveRow}
 use Rattle.chip_ledger.specs.declared.rows.SeatRow.{SeatRow}
@@ -11,7 +13,6 @@ use Rattle.chip_ledger.specs.LiveRow.{flag_of, flagged}
 use Rattle.chip_ledger.specs.SeatRow.{amount_of}
 use Rattle.chip_ledger.specs.PotRow.{plain, stake_of, stakes_of}
 use Rattle.chip_ledger.specs.Pots.{PlainPot, Stake, all_reach, between, joining, layers, levels, pots_at, reaching, with_chips, with_dead}
-use Rattle.chip_ledger.proofs.Different.{above_first, filter-Rising}
 use Rattle.chip_ledger.proofs.PotLevels.{Rising-levels, length-levels}
 use Rattle.chip_ledger.proofs.StakeRows.{flagged-live, flagged-reaching}
 use Rattle.chip_ledger.proofs.PotSums.{stake_chips}
@@ -20,17 +21,6 @@ use Rattle.side_pots.specs.Levels.{levels_above}
 -- the pots of the levels above some chips, with the dead chips that are in no pot yet
 abbrev pub left_to_cut : List Stake → ℕ → ℕ → List PlainPot
 left_to_cut stakes below dead = with_chips (with_dead dead (layers stakes below (levels_above stakes below)))
-
-first_and_rest : (b low x : ℕ) (zs above : List ℕ)
-    → filter (nat_lt b) zs ≡ above
-    → slice_get above 0 ≡ Some x
-    → (rest : List ℕ) × (filter (nat_lt b) zs ≡ x ∷ rest)
-first_and_rest b low x zs [] e h = cc
-first_and_rest b low x zs (y ∷ rest) e h = (rest, e ∙ ap (λ z. z ∷ rest) (let same : y ≡ x = cc in same))
-
-no_first : (xs : List ℕ) → slice_get xs 0 ≡ None → xs ≡ []
-no_first [] e = refl
-no_first (x ∷ xs) e = cc
 
 -- the next level, and those above it
 pub levels_from_next : (stakes : List Stake) (below level : ℕ)

@@ -1,36 +1,13 @@
 -- The levels are the chips of live seats, in the words of lists.
-use Rattle.std.proofs.Common.{◌≡◌, ℕ, ◌+◌, ◌<◌, true, ◌&&◌, ◌==◌, List, [], ◌∷◌, get_or, nat_lt, sym, ◌∙◌, arith}
-use Rattle.std.specs.List.{All, AllPairs, Any, Contains, list_any}
+use Rattle.std.proofs.Common.{◌≡◌, ℕ, ◌<◌, true, ◌&&◌, ◌==◌, List, nat_lt, sym, ◌∙◌, arith}
+use Rattle.std.specs.List.{Any, list_any}
 use Rattle.std.proofs.lemmas.Bool.{and_from, and_parts, eq-eqb, eqb-true, lt-ltb, ltb-true}
-use Rattle.std.proofs.lemmas.List.{get_or_default}
-use Rattle.std.proofs.lemmas.List.Elements.{All-cons, All-nil}
-use Rattle.std.proofs.lemmas.List.Folds.{Any-from_list_any, list_any-from_Any, list_any_at}
-use Rattle.std.proofs.lemmas.List.Kept.{AllPairs-cons}
+use Rattle.std.proofs.lemmas.List.Folds.{Any-from_list_any, list_any-from_Any}
+use Rattle.list_laws.proofs.Rising.{pairs_rise}
+use Rattle.list_laws.proofs.Any.{any_from_contains, contains_from_any}
 use Rattle.chip_ledger.specs.Pots.{Stake, levels}
-use Rattle.chip_ledger.proofs.Different.{Rising}
 use Rattle.chip_ledger.proofs.PotLevels.{Rising-levels, list_any-levels, makes_level}
 use Rattle.side_pots.specs.Levels.{AreLevels}
-
-all_above : (x low : ℕ) (ys : List ℕ) → x < low → Rising low ys → All (λ y. x < y) ys
-all_above x low [] l r = All-nil (λ y. x < y)
-all_above x low (y ∷ ys) l r =
-    All-cons (λ z. x < z) y ys (omega arith) (all_above x (y + 1) ys (omega arith) r.1)
-
-pairs_rise : (low : ℕ) (xs : List ℕ) → Rising low xs → AllPairs (λ x y. x < y) xs
-pairs_rise low [] r = λ i j d before inside. absurd (omega arith)
-pairs_rise low (x ∷ xs) r =
-    AllPairs-cons (λ y z. y < z) x xs (all_above x (x + 1) xs (omega arith) r.1) (pairs_rise (x + 1) xs r.1)
-
--- the number is in the list exactly where the test for it passes at one of its elements
-any_from_contains : (xs : List ℕ) (x : ℕ) → Contains xs x → list_any (λ y. y == x) xs ≡ true
-any_from_contains xs x (k, inside, at) =
-    list_any_at (λ y. y == x) xs k x inside (eq-eqb (get_or xs k x) x at)
-
-contains_from_any : (xs : List ℕ) (x : ℕ) → list_any (λ y. y == x) xs ≡ true → Contains xs x
-contains_from_any xs x h =
-    let one = Any-from_list_any (λ y. y == x) xs h in
-    let same = eqb-true one.1 x one.4 in
-    (one.0, one.2, get_or_default xs one.0 x one.1 one.2 ∙ one.3 ∙ same)
 
 -- a live seat has these chips, which are above 0
 abbrev HasChips : List Stake → ℕ → Type 0

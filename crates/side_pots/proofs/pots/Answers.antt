@@ -4,11 +4,11 @@ use Rattle.std.specs.List.{All}
 use Rattle.std.proofs.lemmas.Bool.{ltb-true}
 use Rattle.std.proofs.lemmas.List.Elements.{All-weaker, filter_passes}
 use Rattle.std.proofs.lemmas.List.Sums.{get_or-le-sum_by}
+use Rattle.list_laws.proofs.Sums.{sum_by-map}
 use Rattle.chip_ledger.specs.declared.pots.Pot.{Pot}
 use Rattle.chip_ledger.specs.SeatRow.{total_of}
 use Rattle.chip_ledger.specs.PotRow.{plain, pots_in, stakes_of}
 use Rattle.chip_ledger.specs.Pots.{PlainPot, Stake, after_return, levels, pots_at, pots_of, with_chips}
-use Rattle.chip_ledger.proofs.Lists.{sum_by-map}
 use Rattle.chip_ledger.proofs.PlainPots.{All-plain, AllPairs-plain, flag-from_may_win, may_win-from_flag}
 use Rattle.chip_ledger.proofs.PotSeats.{IsWinnable, Nests, pots_nested, pots_winnable}
 use Rattle.chip_ledger.proofs.PotSums.{pot_chips, pots_sum}

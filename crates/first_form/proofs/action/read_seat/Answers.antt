@@ -1,7 +1,7 @@
 use Rattle.std.proofs.Common.{◌≡◌, ◌+◌, ◌-◌, arith, bytes_eq, false, ◌∙◌, ap, find}
 use Rattle.std.specs.List.{range_with_len}
+use Rattle.list_laws.proofs.Ranges.{find_next}
 use Rattle.first_form.specs.Action.{seat_name}
-use Rattle.first_form.proofs.SeatLaws.{find_next}
 use Rattle.first_form.proofs.action.read_seat.Goals as goal
 
 pub loop-index-preserved : goal.loop-index-preserved

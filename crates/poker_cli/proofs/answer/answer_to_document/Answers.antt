@@ -1,8 +1,8 @@
 use Rattle.std.proofs.Common.{◌∙◌, ap, sym}
+use Rattle.list_laws.proofs.Options.{along}
 use Rattle.toml.specs.View.{table_view}
 use Rattle.poker_cli.specs.Answer as definition
 use Rattle.poker_cli.proofs.Documents.{document_is}
-use Rattle.poker_cli.proofs.Playing.{along}
 use Rattle.poker_cli.proofs.answer.answer_to_document.Goals as goal
 
 pub returns-in-Ok : goal.returns-in-Ok

@@ -1,10 +1,11 @@
 use Rattle.std.proofs.Common.{arith}
 use Rattle.std.proofs.lemmas.List.{length-map}
 use Rattle.std.proofs.lemmas.Option.{slice_get_within}
+use Rattle.list_laws.proofs.Options.{along}
 use Rattle.first_form.specs.Hand.{numbered}
 use Rattle.poker_cli.specs.Outcome.{verdict_of}
 use Rattle.poker_cli.specs.Steps.{resolved_step}
-use Rattle.poker_cli.proofs.Playing.{along, event_at, verdict_beyond, verdict_ended, verdict_refused, verdict_later, played_more}
+use Rattle.poker_cli.proofs.Playing.{event_at, verdict_beyond, verdict_ended, verdict_refused, verdict_later, played_more}
 use Rattle.poker_cli.proofs.play.+play_on.Goals as goal
 
 pub returns-in_default : goal.returns-in_default

@@ -1,4 +1,4 @@
-use Rattle.poker_cli.proofs.Answering.{anyway}
+use Rattle.list_laws.proofs.Options.{anyway}
 use Rattle.poker_cli.proofs.run.run.Goals as goal
 
 pub returns-in-Err-ReadFault-clause-line : goal.returns-in-Err-ReadFault-clause-line

@@ -3,6 +3,7 @@ use Rattle.std.proofs.Common.{◌≡◌, ◌≤◌, ◌*◌, ◌&&◌, ℕ, Bool
 use Rattle.std.specs.List.{list_any}
 use Rattle.std.proofs.lemmas.Bool.{and_from, le-leb, true≢false}
 use Rattle.std.proofs.Math.Nat.{mul-one}
+use Rattle.list_laws.proofs.Tests.{and_false}
 use Rattle.chip_ledger.specs.LiveRow.{flag_of, flagged}
 use Rattle.chip_ledger.specs.PotRow.{plain}
 use Rattle.chip_ledger.specs.Seat.{seats_of}
@@ -13,7 +14,7 @@ use Rattle.variant_table.specs.Shares.{AreContested, contends}
 use Rattle.showdown_split.specs.Scores.{worth_of}
 use Rattle.showdown_split.specs.Worths.{is_flagged, ranking_by, shown_only}
 use Rattle.showdown_split.proofs.Compared.{alike_itself, same_contested}
-use Rattle.showdown_split.proofs.Flagged.{and_false, flagged_both, flagged_inside, is_flagged-flag, length-flagged, none_flagged, several_flagged, some_flagged, some_passes, sum_for_each}
+use Rattle.showdown_split.proofs.Flagged.{flagged_both, flagged_inside, is_flagged-flag, length-flagged, none_flagged, several_flagged, some_flagged, some_passes, sum_for_each}
 use Rattle.showdown_split.proofs.pot.shares_of.Goals as goal
 
 pub returns-then-flags_to-eq1-clause-shares : goal.returns-then-flags_to-eq1-clause-shares

@@ -1,0 +1,99 @@
+-- Lemmas on a test that passes at some element of a list, or at none.
+use Rattle.std.proofs.Common.{Bool, List, [], ap, cond, false, filter, get_or, map, refl, subst, true, ℕ, ⊎_elim, ◌&&◌, ◌==◌, ◌||◌, ◌∙◌, ◌∷◌, ◌≡◌, ◌≢◌}
+use Rattle.std.proofs.lemmas.Bool.{and_parts, eq-eqb, eqb-true, or_cases, or_left, or_parts, or_right}
+use Rattle.std.proofs.lemmas.List.{get_or_default}
+use Rattle.std.proofs.lemmas.List.Folds.{Any-from_list_any, list_any_at}
+use Rattle.std.specs.List.{Contains, list_any}
+
+-- over a list that was mapped or filtered
+pub list_any-map : {X Y : Type 0} (p : Y → Bool) (f : X → Y) (xs : List X)
+    → list_any p (map f xs) ≡ list_any (λ x. p (f x)) xs
+list_any-map p f [] = refl
+list_any-map p f (x ∷ xs) = ap (λ b. p (f x) || b) (list_any-map p f xs)
+
+-- with one element more in front, if it is kept
+pub any_kept : {X : Type 0} (p : X → Bool) (x : X) (ys : List X) (kept rest : Bool)
+    → list_any p ys ≡ rest
+    → list_any p (cond kept (x ∷ ys) ys) ≡ ((kept && p x) || rest)
+any_kept p x ys true rest e = ap (λ b. p x || b) e
+any_kept p x ys false rest e = e
+
+pub list_any-filter : {X : Type 0} (p q : X → Bool) (xs : List X)
+    → list_any p (filter q xs) ≡ list_any (λ x. q x && p x) xs
+list_any-filter p q [] = refl
+list_any-filter p q (x ∷ xs) =
+    any_kept p x (filter q xs) (q x) (list_any (λ y. q y && p y) xs) (list_any-filter p q xs)
+
+-- tests that agree everywhere
+pub list_any-same : {X : Type 0} (p q : X → Bool)
+    → ((x : X) → p x ≡ q x)
+    → (xs : List X)
+    → list_any p xs ≡ list_any q xs
+list_any-same p q h [] = refl
+list_any-same p q h (x ∷ xs) =
+    ap (λ b. b || list_any p xs) (h x) ∙ ap (λ b. q x || b) (list_any-same p q h xs)
+
+-- a weaker test passes where a stronger one does
+pub list_any-weaker : {X : Type 0} (p q : X → Bool)
+    → ((x : X) → p x ≡ true → q x ≡ true)
+    → (xs : List X)
+    → list_any p xs ≡ true
+    → list_any q xs ≡ true
+list_any-weaker p q h [] e = e
+list_any-weaker p q h (x ∷ xs) e =
+    ⊎_elim (λ t. or_left (q x) (list_any q xs) (h x t))
+    (λ t. or_right (q x) (list_any q xs) (list_any-weaker p q h xs t)) (or_cases (p x) (list_any p xs) e)
+
+pub none_kept : {X : Type 0} (x : X) (ys : List X) (kept rest : Bool)
+    → (ys ≡ [] → rest ≡ false)
+    → cond kept (x ∷ ys) ys ≡ []
+    → (kept || rest) ≡ false
+none_kept x ys true rest h e = cc
+none_kept x ys false rest h e = h e
+
+-- a test that leaves nothing passes nowhere
+pub list_any-from_nothing : {X : Type 0} (p : X → Bool) (xs : List X)
+    → filter p xs ≡ []
+    → list_any p xs ≡ false
+list_any-from_nothing p [] e = refl
+list_any-from_nothing p (x ∷ xs) e =
+    none_kept x (filter p xs) (p x) (list_any p xs) (list_any-from_nothing p xs) e
+
+-- and one that passes nowhere leaves nothing
+pub nothing_kept : {X : Type 0} (p : X → Bool) (ns : List X) → list_any p ns ≡ false → filter p ns ≡ []
+nothing_kept p [] e = refl
+nothing_kept p (n ∷ ns) e =
+    let parts = or_parts (p n) (list_any p ns) e in
+    ap (λ t. cond t (n ∷ filter p ns) (filter p ns)) parts.0 ∙ nothing_kept p ns parts.1
+
+-- what passes nowhere passes at none of these
+pub none_passes : {X : Type 0} (p : X → Bool) (xs : List X) → ((x : X) → p x ≡ false) → list_any p xs ≡ false
+none_passes p [] never = refl
+none_passes p (x ∷ xs) never = ap (λ (b : Bool). b || list_any p xs) (never x) ∙ none_passes p xs never
+
+-- a list that has some has a number that is found in it
+pub found_some : (xs : List ℕ) → xs ≢ [] → (k : ℕ) × (list_any (λ m. m == k) xs ≡ true)
+found_some [] some = absurd (some refl)
+found_some (x ∷ xs) some = (x, ap (λ (b : Bool). b || list_any (λ m. m == x) xs) (eq-eqb x x refl))
+
+-- a number that is found among those that pass a test passes it
+pub any_found : (f : ℕ → Bool) (n : ℕ) (ms : List ℕ) → list_any (λ m. f m && (m == n)) ms ≡ true → f n ≡ true
+any_found f n [] e = cc
+any_found f n (m ∷ ms) e =
+    ⊎_elim
+    (λ h.
+    let parts = and_parts (f m) (m == n) h in
+    subst (λ k. f k ≡ true) (eqb-true m n parts.1) parts.0)
+    (any_found f n ms)
+    (or_cases (f m && (m == n)) (list_any (λ k. f k && (k == n)) ms) e)
+
+-- the number is in the list exactly where the test for it passes at one of its elements
+pub any_from_contains : (xs : List ℕ) (x : ℕ) → Contains xs x → list_any (λ y. y == x) xs ≡ true
+any_from_contains xs x (k, inside, at) =
+    list_any_at (λ y. y == x) xs k x inside (eq-eqb (get_or xs k x) x at)
+
+pub contains_from_any : (xs : List ℕ) (x : ℕ) → list_any (λ y. y == x) xs ≡ true → Contains xs x
+contains_from_any xs x h =
+    let one = Any-from_list_any (λ y. y == x) xs h in
+    let same = eqb-true one.1 x one.4 in
+    (one.0, one.2, get_or_default xs one.0 x one.1 one.2 ∙ one.3 ∙ same)

@@ -1,0 +1,65 @@
+-- Lemmas on tests that are joined by and, or and not.
+use Rattle.std.proofs.Common.{Bool, ap, arith, false, if◌then◌else◌, not, refl, sym, true, ℕ, ◌&&◌, ◌<◌, ◌||◌, ◌↔◌, ◌∙◌, ◌≡◌}
+
+-- what never holds proves anything
+pub false_true : {A : Type 0} → false ≡ true → A
+false_true is = absurd cc
+
+-- what was said before adds nothing
+pub or_again : (a b : Bool) → (a || b) ≡ (a || (a || b))
+or_again true b = refl
+or_again false b = refl
+
+-- three tests in another order
+pub or_swap : (a b c : Bool) → (a || (b || c)) ≡ (b || (a || c))
+or_swap true true c = refl
+or_swap true false c = refl
+or_swap false true c = refl
+or_swap false false c = refl
+
+pub or_regroup : (a b c : Bool) → (a || (b || c)) ≡ ((b || a) || c)
+or_regroup true true c = refl
+or_regroup true false c = refl
+or_regroup false true c = refl
+or_regroup false false c = refl
+
+-- what never holds adds nothing to either, and leaves nothing of both
+pub or_false : (b : Bool) → (b || false) ≡ b
+or_false true = refl
+or_false false = refl
+
+pub and_false : (b : Bool) → (b && false) ≡ false
+and_false true = refl
+and_false false = refl
+
+-- a last test that always holds adds nothing
+pub and_one : (a b : Bool) → (a && (b && true)) ≡ (a && b)
+and_one true true = refl
+and_one true false = refl
+and_one false b = refl
+
+-- one of two still holds where each is kept
+pub either_still : (a b a' b' : Bool) → (a ≡ true → a' ≡ true) → (b ≡ true → b' ≡ true) → (a || b) ≡ true → (a' || b') ≡ true
+either_still true b a' b' first second is = ap (λ x. x || b') (first refl)
+either_still false true true b' first second is = refl
+either_still false true false b' first second is = second refl
+either_still false false a' b' first second is = false_true is
+
+-- one test holds and another does not
+pub both_known : (a b : Bool) → a ≡ true → b ≡ false → (a && not b) ≡ true
+both_known a b first second = ap (λ x. x && not b) first ∙ ap not second
+
+-- tests that are true together are the same
+pub same_test : (a b : Bool) → (a ≡ true → b ≡ true) → (b ≡ true → a ≡ true) → a ≡ b
+same_test true b to from = sym (to refl)
+same_test false true to from = from refl
+same_test false false to from = refl
+
+-- what is above 0 comes from the case that holds
+pub chosen : (b : Bool) (x : ℕ) → 0 < (if b then x else 0) → b ≡ true
+chosen true x some = refl
+chosen false x some = absurd (omega (arith, some))
+
+-- what holds exactly where another holds, the other way round
+pub flip : (A B : Type 0) → A ↔ B → B ↔ A
+flip A B same = (same.1, same.0)
