@@ -3,6 +3,7 @@ pub mod Classes
 pub mod Deck
 pub mod Different
 pub mod Filler
+pub mod Known
 pub mod Ranks
 pub mod Row
 pub mod Spelling

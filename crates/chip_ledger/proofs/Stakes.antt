@@ -13,7 +13,8 @@ use Rattle.chip_ledger.specs.declared.rows.SeatRow.{SeatRow}
 use Rattle.chip_ledger.specs.LiveRow.{flag_of}
 use Rattle.chip_ledger.specs.SeatRow.{amount_of}
 use Rattle.chip_ledger.specs.PotRow.{stake_of, stakes_of}
-use Rattle.chip_ledger.specs.Pots.{Stake, all_reach, between, different, folded_above, greatest, greatest_other, levels, with_number}
+use Rattle.chip_ledger.specs.Greatest.{greatest}
+use Rattle.chip_ledger.specs.Pots.{Stake, all_reach, between, different, folded_above, greatest_other, levels, with_number}
 use Rattle.chip_ledger.specs.Seat.{seats_of}
 use Rattle.chip_ledger.proofs.Different.{first_above, first_above-with_number, lesser}
 use Rattle.chip_ledger.proofs.PotLevels.{makes_level}
@@ -37,10 +38,15 @@ sum_of_stakes_more f puts live n =
     ap (sum_by f) (stakes_upto_more puts live n)
     ∙ sum_by_push f (stakes_upto puts live n) (stake_of puts live (n + 1))
 
+-- the greatest of some numbers and of one more
+greatest-push : (numbers : List ℕ) (n : ℕ) → greatest (numbers ++ n ∷ []) ≡ max (greatest numbers) n
+greatest-push [] n = omega arith
+greatest-push (first ∷ rest) n = omega (arith, greatest-push rest n)
+
 one_more : (kept : Bool) (chips : List ℕ) (s : Stake)
     → greatest (chips ++ map (λ (t : Stake). t.chips) (cond kept (s ∷ []) []))
     ≡ (if kept then max (greatest chips) s.chips else greatest chips)
-one_more true chips s = fold_push max 0 chips s.chips
+one_more true chips s = greatest-push chips s.chips
 one_more false chips s = ap greatest (append-nil chips)
 
 greatest_other-push : (stakes : List Stake) (s : Stake) (seat : ℕ)

@@ -5,4 +5,5 @@ pub mod LiveRow
 pub mod Fillers
 pub mod PotRow
 pub mod RakeRow
+pub mod Greatest
 pub mod Pots

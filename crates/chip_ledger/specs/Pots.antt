@@ -1,6 +1,7 @@
 -- The pots of a hand: what is returned, the levels at which chips are cut, and who may win each pot.
-use Rattle.std.specs.Prelude.{ℕ, ◌+◌, ◌-◌, ◌==◌, ◌&&◌, ◌||◌, Bool, not, if◌then◌else◌, List, [], ◌∷◌, min, max, nat_lt, nat_le, map, filter, fold, sum, sum_by}
+use Rattle.std.specs.Prelude.{ℕ, ◌+◌, ◌-◌, ◌==◌, ◌&&◌, ◌||◌, Bool, not, if◌then◌else◌, List, [], ◌∷◌, min, nat_lt, nat_le, map, filter, fold, sum, sum_by}
 use Rattle.std.specs.List.{list_all, list_any}
+use Rattle.chip_ledger.specs.Greatest.{greatest}
 
 -- a seat at the end of a hand: its number, the chips that it put and that count, and whether it is live
 pub record Stake : Type 0 where
@@ -24,10 +25,6 @@ counted dead_antes put ante = if dead_antes then put - ante else put
 -- the dead chips of a hand: the antes of all seats, where antes are dead
 abbrev pub dead_chips : Bool → List ℕ → ℕ
 dead_chips dead_antes antes = if dead_antes then sum antes else 0
-
--- the greatest of some numbers, and 0 where there is none
-abbrev pub greatest : List ℕ → ℕ
-greatest xs = fold max 0 xs
 
 -- what every seat but this one put at most, folded seats too
 abbrev pub greatest_other : List Stake → ℕ → ℕ

@@ -11,7 +11,8 @@ use Rattle.toml.specs.declared.value.Value.{Value}
 use Rattle.toml.proofs.Views.{items_view-drop}
 use Rattle.chip_ledger.specs.declared.rows.SeatRow.{SeatRow}
 use Rattle.chip_ledger.proofs.Same.{seat_row_same}
-use Rattle.play_event.specs.Rows.{most, fits_row, filled, row_of}
+use Rattle.chip_ledger.specs.declared.rows.TheConstants.{MOST_AMOUNT}
+use Rattle.play_event.specs.Rows.{is_row, filled, row_of}
 use Rattle.first_form.specs.Action.{◌>>=◌, only_if}
 use Rattle.first_form.specs.FirstForm.{kept_within, number_within, numbers_within, made_if, seat_row}
 
@@ -91,15 +92,15 @@ pub count_items-view : (values : List Value) → count_items (items_view values)
 count_items-view [] = refl
 count_items-view (value ∷ values) = omega (arith, count_items-view values)
 
-each_most : (least greatest : ℕ) (xs : List ℕ) → greatest ≤ most → list_all (λ x. nat_le least x && nat_le x greatest) xs ≡ true → list_all (λ x. nat_le x most) xs ≡ true
+each_most : (least greatest : ℕ) (xs : List ℕ) → greatest ≤ MOST_AMOUNT → list_all (λ x. nat_le least x && nat_le x greatest) xs ≡ true → list_all (λ x. nat_le x MOST_AMOUNT) xs ≡ true
 each_most least greatest [] few within = refl
 each_most least greatest (x ∷ xs) few within =
     let parts = and_parts (nat_le least x && nat_le x greatest) (list_all (λ y. nat_le least y && nat_le y greatest) xs) within in
     let below = leb-true x greatest (and_parts (nat_le least x) (nat_le x greatest) parts.0).1 in
-    rw (le-leb x most (omega (arith, below, few)), each_most least greatest xs few parts.1) refl
+    rw (le-leb x MOST_AMOUNT (omega (arith, below, few)), each_most least greatest xs few parts.1) refl
 
 -- two to ten numbers that were read fit a row
-pub read_fits : (least greatest count : ℕ) (xs : List ℕ) → AreRead least greatest count xs → greatest ≤ most → 2 ≤ count → count ≤ 10 → IsTrue (fits_row xs)
+pub read_fits : (least greatest count : ℕ) (xs : List ℕ) → AreRead least greatest count xs → greatest ≤ MOST_AMOUNT → 2 ≤ count → count ≤ 10 → IsTrue (is_row xs)
 read_fits least greatest count xs read few some ten =
     rw (le-leb 2 (length xs) (omega (arith, read.count_is, some)), le-leb (length xs) 10 (omega (arith, read.count_is, ten)), each_most least greatest xs few read.within) refl
 
@@ -112,18 +113,18 @@ not_made true make bad = absurd (false≢true (sym bad))
 not_made false make bad = refl
 
 -- a row with these amounts is the row that they say
-pub row_made : (xs : List ℕ) (row : SeatRow) → IsTrue (fits_row xs) → row.seats ≡ length xs → row.amounts ≡ filled xs → seat_row xs ≡ Some row
+pub row_made : (xs : List ℕ) (row : SeatRow) → IsTrue (is_row xs) → row.seats ≡ length xs → row.amounts ≡ filled xs → seat_row xs ≡ Some row
 unfolding seat_row
-row_made xs row fits seats amounts = made (fits_row xs) (row_of xs) row (λ ok. seat_row_same (row_of xs ok) row (sym seats) (sym amounts)) fits
+row_made xs row fits seats amounts = made (is_row xs) (row_of xs) row (λ ok. seat_row_same (row_of xs ok) row (sym seats) (sym amounts)) fits
 
-unfit : (xs : List ℕ) → (length xs < 2) ⊎ (10 < length xs) → fits_row xs ≡ false
+unfit : (xs : List ℕ) → (length xs < 2) ⊎ (10 < length xs) → is_row xs ≡ false
 unfit xs (inl few) = rw (lt-leb 2 (length xs) few) refl
 unfit xs (inr many) = rw (le-leb 2 (length xs) (omega (arith, many)), lt-leb (length xs) 10 many) refl
 
 no_row_from : (values : List Value) (found : Option (List ℕ)) → (length values < 2) ⊎ (10 < length values) → ((xs : List ℕ) → found ≡ Some xs → length xs ≡ length values) → (found >>= seat_row) ≡ None
 unfolding seat_row
 no_row_from values None bad count = refl
-no_row_from values (Some xs) bad count = not_made (fits_row xs) (row_of xs) (unfit xs (subst (λ n. (n < 2) ⊎ (10 < n)) (sym (count xs refl)) bad))
+no_row_from values (Some xs) bad count = not_made (is_row xs) (row_of xs) (unfit xs (subst (λ n. (n < 2) ⊎ (10 < n)) (sym (count xs refl)) bad))
 
 -- fewer than two values or more than ten are no row
 pub no_row : (least greatest : ℕ) (values : List Value) → (length values < 2) ⊎ (10 < length values) → (numbers_within least greatest (items_view values) >>= seat_row) ≡ None
@@ -137,9 +138,9 @@ pub record FillsRow (least greatest : ℕ) (values : List Value) (amounts : List
   pub are : numbers_within least greatest (items_view values) ≡ Some numbers
   pub amounts_are : amounts ≡ filled numbers
   pub count : length numbers ≡ length values
-  pub fits : IsTrue (fits_row numbers)
+  pub fits : IsTrue (is_row numbers)
 
-fills_from : (least greatest : ℕ) (values : List Value) (amounts : List ℕ) (found : Option (List ℕ)) → numbers_within least greatest (items_view values) ≡ found → greatest ≤ most → 2 ≤ length values → length values ≤ 10 → option_map filled found ≡ Some amounts → FillsRow least greatest values amounts
+fills_from : (least greatest : ℕ) (values : List Value) (amounts : List ℕ) (found : Option (List ℕ)) → numbers_within least greatest (items_view values) ≡ found → greatest ≤ MOST_AMOUNT → 2 ≤ length values → length values ≤ 10 → option_map filled found ≡ Some amounts → FillsRow least greatest values amounts
 fills_from least greatest values amounts None are few some ten is = absurd (cc)
 fills_from least greatest values amounts (Some xs) are few some ten is =
     let same : filled xs ≡ amounts = cc in
@@ -147,13 +148,13 @@ fills_from least greatest values amounts (Some xs) are few some ten is =
     let all = count_items-view values in
     record { numbers = xs; are = are; amounts_are = sym same; count = read.count_is ∙ all; fits = read_fits least greatest (count_items (items_view values)) xs read few (omega (arith, all, some)) (omega (arith, all, ten)) }
 
-pub fills_row : (least greatest : ℕ) (values : List Value) (amounts : List ℕ) → greatest ≤ most → 2 ≤ length values → length values ≤ 10 → option_map filled (numbers_within least greatest (items_view values)) ≡ Some amounts → FillsRow least greatest values amounts
+pub fills_row : (least greatest : ℕ) (values : List Value) (amounts : List ℕ) → greatest ≤ MOST_AMOUNT → 2 ≤ length values → length values ≤ 10 → option_map filled (numbers_within least greatest (items_view values)) ≡ Some amounts → FillsRow least greatest values amounts
 fills_row least greatest values amounts few some ten is = fills_from least greatest values amounts (numbers_within least greatest (items_view values)) refl few some ten is
 
 -- amounts that fill a row keep what a row keeps
 pub record KeepRow (seats : ℕ) (amounts : List ℕ) : Type 0 where
   pub full : length amounts ≡ 10
-  pub bounded : (k : ℕ) → slice_index amounts k ≤ most
+  pub bounded : (k : ℕ) → slice_index amounts k ≤ MOST_AMOUNT
   pub filler : (k : ℕ) → seats ≤ k → slice_index amounts k ≡ 0
 
 pub keep_row : (least greatest : ℕ) (values : List Value) (amounts : List ℕ) → FillsRow least greatest values amounts → KeepRow (length values) amounts

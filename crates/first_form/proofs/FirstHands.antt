@@ -9,7 +9,7 @@ use Rattle.chip_ledger.specs.RakeRow.{no_rakes}
 use Rattle.play_event.specs.declared.code.Code.TheVariants as games
 use Rattle.play_event.specs.declared.setup.Setup.{Setup}
 use Rattle.play_event.specs.Code.{code_text}
-use Rattle.play_event.specs.Rows.{fits_row, row_of, zeros}
+use Rattle.play_event.specs.Rows.{is_row, row_of, zeros}
 use Rattle.first_form.specs.Action.{◌>>=◌, only_if, most_chips}
 use Rattle.first_form.specs.FirstForm.{numbers_within, number_within, made_if, seat_row, row_said, setup_said, events_from, raises_among, script_said, keys_fit, first_form}
 use Rattle.first_form.specs.Hand.{Told, Numbered, IsFirstHand}
@@ -36,7 +36,7 @@ row_of_numbers : (least greatest count : ℕ) (found : Option (List ℕ)) (row :
 unfolding seat_row
 row_of_numbers least greatest count None row read is = absurd (cc)
 row_of_numbers least greatest count (Some xs) row read is =
-    made_row (fits_row xs) (row_of xs) row (IsWithin greatest) (λ fits. filled_within least greatest xs (10 - length xs) (read xs refl).within) is
+    made_row (is_row xs) (row_of xs) row (IsWithin greatest) (λ fits. filled_within least greatest xs (10 - length xs) (read xs refl).within) is
 
 row_of_items : (least greatest : ℕ) (items : Option Items) (row : SeatRow) → (items >>= numbers_within least greatest >>= seat_row) ≡ Some row → IsWithin greatest row
 row_of_items least greatest None row is = absurd (cc)

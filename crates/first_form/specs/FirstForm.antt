@@ -8,7 +8,7 @@ use Rattle.chip_ledger.specs.RakeRow.{no_rakes}
 use Rattle.play_event.specs.declared.code.Code.TheVariants as games
 use Rattle.play_event.specs.declared.setup.Setup.{Setup}
 use Rattle.play_event.specs.Code.{code_text}
-use Rattle.play_event.specs.Rows.{row_of, fits_row}
+use Rattle.play_event.specs.Rows.{row_of, is_row}
 use Rattle.first_form.specs.Action.{◌>>=◌, only_if, most_chips, action_said}
 use Rattle.first_form.specs.Hand.{Told, Numbered, is_raise}
 
@@ -51,7 +51,7 @@ made_if false make = None
 
 -- the row of two to ten amounts
 unfoldable pub seat_row : List ℕ → Option SeatRow
-seat_row amounts = made_if (fits_row amounts) (row_of amounts)
+seat_row amounts = made_if (is_row amounts) (row_of amounts)
 
 -- a row of two to ten numbers from least to most
 unfoldable pub row_said : ℕ → ℕ → Data → Option SeatRow

@@ -12,7 +12,8 @@ use Rattle.play_event.specs.Said.{Said}
 use Rattle.play_event.specs.Past as past
 use Rattle.play_event.specs.Past.{Past, Move, Act, moves_of}
 use Rattle.play_event.specs.Chips.{chips_put, chips_left, street_chips, all_in, posted, chips_added}
-use Rattle.play_event.specs.Price.{price, greatest}
+use Rattle.play_event.specs.Price.{price}
+use Rattle.chip_ledger.specs.Greatest.{greatest}
 use Rattle.play_event.specs.Amounts.{call_target, raise_target, bring_in_target}
 use Rattle.play_event.specs.Targets.{greatest_target, greatest_target_in, pot_ceiling, full_targets}
 use Rattle.play_event.specs.Openers.{InTurn}

@@ -6,36 +6,36 @@ use Rattle.list_laws.proofs.Tests.{either_still, both_known, false_true}
 use Rattle.card_set.specs.declared.card.Card.{Card}
 use Rattle.card_set.specs.declared.card.Slot.{Slot}
 use Rattle.card_set.specs.declared.card.Slot.TheVariants as slots
-use Rattle.play_event.specs.Openers.{is_unknown}
-use Rattle.play_event.specs.Places.{Place, is_held_by, gone_now, folded_place, same_owner}
+use Rattle.card_set.specs.Known.{is_unknown}
+use Rattle.play_event.specs.Places.{Place, is_held_by, gone_now, folded_place, is_same_owner}
 use Rattle.play_event.specs.Naming.{found_by, after_names, is_named}
-use Rattle.play_event.specs.Taken.{clash, may_repeat, gone_before, bear_one, newly_known}
+use Rattle.play_event.specs.Taken.{is_clash, may_repeat, is_gone_before, is_one_card, newly_known}
 use Rattle.play_event.specs.Laws.{IsAmong}
 
 -- a place as an event left it, after so many deals: it may be gone now, and its card may be known now
 pub record IsKept (count : ℕ) (old new : Place) : Type 0 where
   pub number : new.number ≡ old.number
   pub past_deck : new.past_deck ≡ old.past_deck
-  pub gone : (new.gone ≡ old.gone) ⊎ ((old.gone ≡ None) × (new.gone ≡ Some count))
+  pub gone_after : (new.gone_after ≡ old.gone_after) ⊎ ((old.gone_after ≡ None) × (new.gone_after ≡ Some count))
   pub slot : (new.slot ≡ old.slot) ⊎ ((is_unknown old.slot ≡ true) × (is_unknown new.slot ≡ false))
 
 pub kept_same : (count : ℕ) (place : Place) → IsKept count place place
-kept_same count place = record { number = refl; past_deck = refl; gone = inl refl; slot = inl refl }
+kept_same count place = record { number = refl; past_deck = refl; gone_after = inl refl; slot = inl refl }
 
 -- what was gone before is gone before
-none_before : (when : Option ℕ) (number : ℕ) → when ≡ None → gone_before when number ≡ false
-none_before when number is = ap (λ g. gone_before g number) is
+none_before : (when : Option ℕ) (number : ℕ) → when ≡ None → is_gone_before when number ≡ false
+none_before when number is = ap (λ g. is_gone_before g number) is
 
-gone_still : (count : ℕ) (old new : Place) → IsKept count old new → (number : ℕ) → gone_before old.gone number ≡ true → gone_before new.gone number ≡ true
-gone_still count old new kept number is = elim (kept.gone) [
-  | inl same ↦ ap (λ g. gone_before g number) same ∙ is
-  | inr fresh ↦ false_true (sym (none_before old.gone number fresh.0) ∙ is)
+gone_still : (count : ℕ) (old new : Place) → IsKept count old new → (number : ℕ) → is_gone_before old.gone_after number ≡ true → is_gone_before new.gone_after number ≡ true
+gone_still count old new kept number is = elim (kept.gone_after) [
+  | inl same ↦ ap (λ g. is_gone_before g number) same ∙ is
+  | inr fresh ↦ false_true (sym (none_before old.gone_after number fresh.0) ∙ is)
 ]
 
 repeat_still : (count : ℕ) (a b a' b' : Place) → IsKept count a a' → IsKept count b b' → may_repeat a b ≡ true → may_repeat a' b' ≡ true
 repeat_still count a b a' b' kept_a kept_b is =
-    let parts = and_parts a.past_deck (gone_before b.gone a.number) is in
-    and_from a'.past_deck (gone_before b'.gone a'.number) (kept_a.past_deck ∙ parts.0) (ap (gone_before b'.gone) kept_a.number ∙ gone_still count b b' kept_b a.number parts.1)
+    let parts = and_parts a.past_deck (is_gone_before b.gone_after a.number) is in
+    and_from a'.past_deck (is_gone_before b'.gone_after a'.number) (kept_a.past_deck ∙ parts.0) (ap (is_gone_before b'.gone_after) kept_a.number ∙ gone_still count b b' kept_b a.number parts.1)
 
 fewer_clash : (m m' s s' : Bool) → (m ≡ true → m' ≡ true) → s' ≡ s → (not m && s) ≡ false → (not m' && s') ≡ false
 fewer_clash m true s s' still same is = refl
@@ -43,11 +43,11 @@ fewer_clash true false s s' still same is = false_true (still refl)
 fewer_clash false false s s' still same is = same ∙ is
 
 -- two places that did not clash, and whose cards are as known as before, do not clash
-pub clash_kept : (count : ℕ) (a b a' b' : Place) → IsKept count a a' → IsKept count b b' → a'.slot ≡ a.slot → b'.slot ≡ b.slot → clash a b ≡ false → clash a' b' ≡ false
+pub clash_kept : (count : ℕ) (a b a' b' : Place) → IsKept count a a' → IsKept count b b' → a'.slot ≡ a.slot → b'.slot ≡ b.slot → is_clash a b ≡ false → is_clash a' b' ≡ false
 clash_kept count a b a' b' kept_a kept_b slot_a slot_b is =
-    fewer_clash (may_repeat a b || may_repeat b a) (may_repeat a' b' || may_repeat b' a') (bear_one a.slot b.slot) (bear_one a'.slot b'.slot)
+    fewer_clash (may_repeat a b || may_repeat b a) (may_repeat a' b' || may_repeat b' a') (is_one_card a.slot b.slot) (is_one_card a'.slot b'.slot)
     (either_still (may_repeat a b) (may_repeat b a) (may_repeat a' b') (may_repeat b' a') (repeat_still count a b a' b' kept_a kept_b) (repeat_still count b a b' a' kept_b kept_a))
-    (ap (λ s. bear_one s b'.slot) slot_a ∙ ap (bear_one a.slot) slot_b) is
+    (ap (λ s. is_one_card s b'.slot) slot_a ∙ ap (is_one_card a.slot) slot_b) is
 
 -- each place is kept, in order
 abbrev pub AreKept : ℕ → List Place → List Place → Type 0
@@ -103,11 +103,11 @@ comes_from count (old ∷ olds) (first ∷ news) kept new (inl is) =
 comes_from count (old ∷ olds) (first ∷ news) kept new (inr later) = comes_later count old first olds news new (comes_from count olds news kept.1 new later)
 
 -- a fold keeps each place
-pub held_is_there : (seat : ℕ) (place : Place) → is_held_by seat place ≡ true → place.gone ≡ None
-held_is_there seat place held = is_none_none place.gone (and_parts (same_owner place.owner (Some seat)) (is_none place.gone) held).1
+pub held_is_there : (seat : ℕ) (place : Place) → is_held_by seat place ≡ true → place.gone_after ≡ None
+held_is_there seat place held = is_none_none place.gone_after (and_parts (is_same_owner place.owner (Some seat)) (is_none place.gone_after) held).1
 
-fold_one : (count : ℕ) (place : Place) (b : Bool) → (b ≡ true → place.gone ≡ None) → IsKept count place (if b then gone_now count place else place)
-fold_one count place true there = record { number = refl; past_deck = refl; gone = inr (there refl, refl); slot = inl refl }
+fold_one : (count : ℕ) (place : Place) (b : Bool) → (b ≡ true → place.gone_after ≡ None) → IsKept count place (if b then gone_now count place else place)
+fold_one count place true there = record { number = refl; past_deck = refl; gone_after = inr (there refl, refl); slot = inl refl }
 fold_one count place false there = kept_same count place
 
 pub fold_keeps : (seat count : ℕ) (placed : List Place) → AreKept count placed (map (folded_place seat count) placed)
@@ -119,27 +119,27 @@ pub record IsMark (count : ℕ) (mark : Place → Place) : Type 0 where
   pub slot : (place : Place) → (mark place).slot ≡ place.slot
   pub number : (place : Place) → (mark place).number ≡ place.number
   pub past_deck : (place : Place) → (mark place).past_deck ≡ place.past_deck
-  pub gone : (place : Place) → ((mark place).gone ≡ place.gone) ⊎ ((mark place).gone ≡ Some count)
+  pub gone_after : (place : Place) → ((mark place).gone_after ≡ place.gone_after) ⊎ ((mark place).gone_after ≡ Some count)
 
-gone_marked : (count : ℕ) (mark : Place → Place) → IsMark count mark → (place : Place) → place.gone ≡ None → ((mark place).gone ≡ place.gone) ⊎ ((place.gone ≡ None) × ((mark place).gone ≡ Some count))
-gone_marked count mark is place there = elim (is.gone place) [
+gone_marked : (count : ℕ) (mark : Place → Place) → IsMark count mark → (place : Place) → place.gone_after ≡ None → ((mark place).gone_after ≡ place.gone_after) ⊎ ((place.gone_after ≡ None) × ((mark place).gone_after ≡ Some count))
+gone_marked count mark is place there = elim (is.gone_after place) [
   | inl same ↦ inl same
   | inr now ↦ inr (there, now)
 ]
 
-marked_kept : (count : ℕ) (mark : Place → Place) → IsMark count mark → (place : Place) → place.gone ≡ None → IsKept count place (mark place)
-marked_kept count mark is place there = record { number = is.number place; past_deck = is.past_deck place; gone = gone_marked count mark is place there; slot = inl (is.slot place) }
+marked_kept : (count : ℕ) (mark : Place → Place) → IsMark count mark → (place : Place) → place.gone_after ≡ None → IsKept count place (mark place)
+marked_kept count mark is place there = record { number = is.number place; past_deck = is.past_deck place; gone_after = gone_marked count mark is place there; slot = inl (is.slot place) }
 
-known_kept : (count : ℕ) (mark : Place → Place) → IsMark count mark → (place : Place) (card : Card) → place.gone ≡ None → is_unknown place.slot ≡ true → IsKept count place (mark (record place { slot = slots.Known card }))
+known_kept : (count : ℕ) (mark : Place → Place) → IsMark count mark → (place : Place) (card : Card) → place.gone_after ≡ None → is_unknown place.slot ≡ true → IsKept count place (mark (record place { slot = slots.Known card }))
 known_kept count mark is place card there unknown =
     let named : Place = record place { slot = slots.Known card } in
-    record { number = is.number named; past_deck = is.past_deck named; gone = gone_marked count mark is named there; slot = inr (unknown, ap is_unknown (is.slot named)) }
+    record { number = is.number named; past_deck = is.past_deck named; gone_after = gone_marked count mark is named there; slot = inr (unknown, ap is_unknown (is.slot named)) }
 
-maybe_marked : (count : ℕ) (mark : Place → Place) → IsMark count mark → (place : Place) (b : Bool) → place.gone ≡ None → IsKept count place (if b then mark place else place)
+maybe_marked : (count : ℕ) (mark : Place → Place) → IsMark count mark → (place : Place) (b : Bool) → place.gone_after ≡ None → IsKept count place (if b then mark place else place)
 maybe_marked count mark is place true there = marked_kept count mark is place there
 maybe_marked count mark is place false there = kept_same count place
 
-found_kept : (count : ℕ) (mark : Place → Place) → IsMark count mark → (names : List Card) (slot : Slot) (others : List Card) (blanks : ℕ) (place : Place) → place.slot ≡ slot → place.gone ≡ None → IsKept count place (found_by mark names slot others blanks place).place
+found_kept : (count : ℕ) (mark : Place → Place) → IsMark count mark → (names : List Card) (slot : Slot) (others : List Card) (blanks : ℕ) (place : Place) → place.slot ≡ slot → place.gone_after ≡ None → IsKept count place (found_by mark names slot others blanks place).place
 found_kept count mark is names (slots.Known card) others blanks place here there = maybe_marked count mark is place (is_named card names) there
 found_kept count mark is names slots.Unknown (card ∷ others) blanks place here there = known_kept count mark is place card there (ap is_unknown here)
 found_kept count mark is names slots.Unknown [] zero place here there = kept_same count place
@@ -151,12 +151,12 @@ names_step count covers mark names others blanks place rest true (inl kept) late
 names_step count covers mark names others blanks place rest true (inr is) later = false_true (sym is)
 names_step count covers mark names others blanks place rest false kept later = (kept_same count place, later others blanks)
 
-names_covered : (count : ℕ) (mark : Place → Place) (names others : List Card) (blanks : ℕ) (place : Place) (b : Bool) → IsMark count mark → (b ≡ true → place.gone ≡ None) → IsKept count place (found_by mark names place.slot others blanks place).place ⊎ (b ≡ false)
+names_covered : (count : ℕ) (mark : Place → Place) (names others : List Card) (blanks : ℕ) (place : Place) (b : Bool) → IsMark count mark → (b ≡ true → place.gone_after ≡ None) → IsKept count place (found_by mark names place.slot others blanks place).place ⊎ (b ≡ false)
 names_covered count mark names others blanks place true is there = inl (found_kept count mark is names place.slot others blanks place refl (there refl))
 names_covered count mark names others blanks place false is there = inr refl
 
 -- names keep each place, where they cover cards alone that are not gone
-pub names_keep : (count : ℕ) (covers : Place → Bool) (mark : Place → Place) → IsMark count mark → ((place : Place) → covers place ≡ true → place.gone ≡ None) → (names others : List Card) (blanks : ℕ) (placed : List Place) → AreKept count placed (after_names covers mark names others blanks placed)
+pub names_keep : (count : ℕ) (covers : Place → Bool) (mark : Place → Place) → IsMark count mark → ((place : Place) → covers place ≡ true → place.gone_after ≡ None) → (names others : List Card) (blanks : ℕ) (placed : List Place) → AreKept count placed (after_names covers mark names others blanks placed)
 names_keep count covers mark is there names others blanks [] = tt
 names_keep count covers mark is there names others blanks (place ∷ rest) =
     names_step count covers mark names others blanks place rest (covers place) (names_covered count mark names others blanks place (covers place) is (there place))

@@ -15,12 +15,13 @@ use Rattle.play_event.specs.Said as said
 use Rattle.play_event.specs.Said.{Said}
 use Rattle.play_event.specs.Past.{Past, moves_of}
 use Rattle.play_event.specs.Due.{turn}
-use Rattle.play_event.specs.Openers.{InTurn, is_unknown, known_cards}
+use Rattle.play_event.specs.Openers.{InTurn}
+use Rattle.card_set.specs.Known.{is_unknown, known_cards}
 use Rattle.play_event.specs.Mover.{mover}
 use Rattle.play_event.specs.Places.{Place, is_held_by, is_up, places_dealt, after_deal, after_fold, is_past_deck, is_in_group, folded_place, gone_now}
-use Rattle.play_event.specs.Naming.{after_discard, after_show, discarded_now, other_names, blanks_in, is_covered, names_all}
+use Rattle.play_event.specs.Naming.{after_discard, after_show, discarded_now, other_names, blanks_in, is_covered, is_show_of_all}
 use Rattle.play_event.specs.Table.{places_of, up_cards}
-use Rattle.play_event.specs.Taken.{any_taken, any_misplaced, is_misplaced, newly_known}
+use Rattle.play_event.specs.Taken.{has_taken_card, has_misplaced_card, is_misplaced, newly_known}
 use Rattle.play_event.specs.CardReasons.{is_card_taken}
 use Rattle.play_event.specs.MoveReasons.{actor_of}
 use Rattle.play_event.specs.Reasons.{why}
@@ -41,8 +42,8 @@ kept_length count [] (new ∷ news) kept = absurd kept
 kept_length count (old ∷ olds) [] kept = absurd kept
 kept_length count (old ∷ olds) (new ∷ news) kept = omega (arith, kept_length count olds news kept.1)
 
-gone_from : (before : List Place) (new : Place) (after : List Place) (count : ℕ) → GoneWithin before → ComesFrom (length before) before after new → new.gone ≡ Some count → count ≤ length before
-gone_from before new after count within from is = elim (from.kept.gone) [
+gone_from : (before : List Place) (new : Place) (after : List Place) (count : ℕ) → GoneWithin before → ComesFrom (length before) before after new → new.gone_after ≡ Some count → count ≤ length before
+gone_from before new after count within from is = elim (from.kept.gone_after) [
   | inl same ↦ within from.old from.among count (sym same ∙ is)
   | inr fresh ↦ let now : length before ≡ count = same_Some (length before) count (sym fresh.1 ∙ is) in omega (arith, now)
 ]
@@ -51,7 +52,7 @@ kept_gone_within : (before after : List Place) → AreKept (length before) befor
 kept_gone_within before after kept within place among count is =
     omega (arith, kept_length (length before) before after kept, gone_from before place after count within (comes_from (length before) before after kept place among) is)
 
-kept_safe : (code : Code) (before after : List Place) → AreKept (length before) before after → any_misplaced code before after ≡ false → Safe before → Safe after
+kept_safe : (code : Code) (before after : List Place) → AreKept (length before) before after → has_misplaced_card code before after ≡ false → Safe before → Safe after
 kept_safe code before after kept fits safe = (kept_none_clash code (length before) before after kept fits safe.0, kept_gone_within before after kept safe.1)
 
 -- a deal
@@ -62,10 +63,10 @@ deal_gone_within code owner street cards placed within place among count is =
     let news : List Place = places_dealt owner street late index (length placed) cards in
     elim (among_append placed news place among) [
       | inl old ↦ omega (arith, within place old count is, length-append placed news)
-      | inr new ↦ absurd (some_is_none (sym is ∙ (are_dealt owner street late index (length placed) cards place new).gone))
+      | inr new ↦ absurd (some_is_none (sym is ∙ (are_dealt owner street late index (length placed) cards place new).gone_after))
     ]
 
-deal_safe : (code : Code) (owner : Option ℕ) (street : ℕ) (cards : List Slot) (placed : List Place) → any_taken code placed street cards ≡ false → Safe placed → Safe (after_deal code owner street cards placed)
+deal_safe : (code : Code) (owner : Option ℕ) (street : ℕ) (cards : List Slot) (placed : List Place) → has_taken_card code placed street cards ≡ false → Safe placed → Safe (after_deal code owner street cards placed)
 deal_safe code owner street cards placed free safe =
     (deal_none_clash code owner street cards placed safe.1 free safe.0, deal_gone_within code owner street cards placed safe.1)
 
@@ -91,25 +92,25 @@ fold_safe code seat placed safe =
 
 -- discards and shows
 discard_mark : (street count : ℕ) → IsMark count (discarded_now street count)
-discard_mark street count = record { slot = λ place. refl; number = λ place. refl; past_deck = λ place. refl; gone = λ place. inr refl }
+discard_mark street count = record { slot = λ place. refl; number = λ place. refl; past_deck = λ place. refl; gone_after = λ place. inr refl }
 
 show_mark : (count : ℕ) → IsMark count (λ (place : Place). place)
-show_mark count = record { slot = λ place. refl; number = λ place. refl; past_deck = λ place. refl; gone = λ place. inl refl }
+show_mark count = record { slot = λ place. refl; number = λ place. refl; past_deck = λ place. refl; gone_after = λ place. inl refl }
 
-discard_safe : (code : Code) (street seat : ℕ) (names : List Slot) (placed : List Place) → any_misplaced code placed (after_discard street seat names placed) ≡ false → Safe placed → Safe (after_discard street seat names placed)
+discard_safe : (code : Code) (street seat : ℕ) (names : List Slot) (placed : List Place) → has_misplaced_card code placed (after_discard street seat names placed) ≡ false → Safe placed → Safe (after_discard street seat names placed)
 discard_safe code street seat names placed fits safe =
     kept_safe code placed (after_discard street seat names placed)
     (names_keep (length placed) (is_held_by seat) (discarded_now street (length placed)) (discard_mark street (length placed)) (held_is_there seat) (known_cards names) (other_names (filter (is_held_by seat) placed) (known_cards names)) (blanks_in names) placed)
     fits safe
 
-covered_is_there : (code : Code) (seat : ℕ) (all : Bool) (place : Place) → is_covered code seat all place ≡ true → place.gone ≡ None
+covered_is_there : (code : Code) (seat : ℕ) (all : Bool) (place : Place) → is_covered code seat all place ≡ true → place.gone_after ≡ None
 covered_is_there code seat all place covered = held_is_there seat place (and_parts (is_held_by seat place) (all || not (is_up code place)) covered).0
 
-show_safe : (code : Code) (seat : ℕ) (names : List Card) (placed : List Place) → any_misplaced code placed (after_show code seat names placed) ≡ false → Safe placed → Safe (after_show code seat names placed)
+show_safe : (code : Code) (seat : ℕ) (names : List Card) (placed : List Place) → has_misplaced_card code placed (after_show code seat names placed) ≡ false → Safe placed → Safe (after_show code seat names placed)
 show_safe code seat names placed fits safe =
-    let covers : Place → Bool = is_covered code seat (names_all placed seat names) in
+    let covers : Place → Bool = is_covered code seat (is_show_of_all placed seat names) in
     kept_safe code placed (after_show code seat names placed)
-    (names_keep (length placed) covers (λ place. place) (show_mark (length placed)) (covered_is_there code seat (names_all placed seat names)) names (other_names (filter covers placed) names) 0 placed)
+    (names_keep (length placed) covers (λ place. place) (show_mark (length placed)) (covered_is_there code seat (is_show_of_all placed seat names)) names (other_names (filter covers placed) names) 0 placed)
     fits safe
 
 -- each legal event

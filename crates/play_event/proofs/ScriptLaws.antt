@@ -10,8 +10,7 @@ use Rattle.play_event.specs.declared.setup.Rules.{Rules}
 use Rattle.play_event.specs.Said.{Said}
 use Rattle.play_event.specs.Past.{Past}
 use Rattle.play_event.specs.Reasons.{why}
-use Rattle.play_event.specs.Scripts.{past_of, past_after, with_event, why_at, IsLegal, IsFirstIllegal}
-use Rattle.play_event.specs.Computed.{refusal, refusal_from}
+use Rattle.play_event.specs.Scripts.{past_of, past_after, with_event, why_at, HasNoIllegalEvent, IsFirstIllegal, illegal_event, illegal_event_from}
 
 -- the past after one event more
 past_more : (setup : Setup) (events : List Said) (count : ℕ) (event : Said) → slice_get events count ≡ Some event → past_after setup events (count + 1) ≡ with_event setup event (past_after setup events count)
@@ -73,9 +72,9 @@ here_or_later setup rules script count bound here later index least most = elim 
 
 -- one step of the walk
 walk_step : Setup → Rules → Past → ℕ → Said → List Said → Option Illegal → Option (ℕ × Illegal)
-walk_step setup rules before number event rest found = elim found [ Some reason ↦ Some (number, reason) | None ↦ refusal_from setup rules (with_event setup event before) (number + 1) rest ]
+walk_step setup rules before number event rest found = elim found [ Some reason ↦ Some (number, reason) | None ↦ illegal_event_from setup rules (with_event setup event before) (number + 1) rest ]
 
-refused_step : (setup : Setup) (rules : Rules) (script : List Said) (count : ℕ) (event : Said) (more : List Said) (number : ℕ) (reason : Illegal) (found : Option Illegal) → IsNext script count event more → why setup rules (past_after setup script count) event ≡ found → (refusal_from setup rules (past_after setup script (count + 1)) (count + 1 + 1) more ≡ Some (number, reason) → IsRefused setup rules script (count + 1) number reason) → walk_step setup rules (past_after setup script count) (count + 1) event more found ≡ Some (number, reason) → IsRefused setup rules script count number reason
+refused_step : (setup : Setup) (rules : Rules) (script : List Said) (count : ℕ) (event : Said) (more : List Said) (number : ℕ) (reason : Illegal) (found : Option Illegal) → IsNext script count event more → why setup rules (past_after setup script count) event ≡ found → (illegal_event_from setup rules (past_after setup script (count + 1)) (count + 1 + 1) more ≡ Some (number, reason) → IsRefused setup rules script (count + 1) number reason) → walk_step setup rules (past_after setup script count) (count + 1) event more found ≡ Some (number, reason) → IsRefused setup rules script count number reason
 unfolding walk_step
 refused_step setup rules script count event more number reason (Some first) next here later is =
     let same : (count + 1, first) ≡ (number, reason) = same_Some (count + 1, first) (number, reason) is in
@@ -88,7 +87,7 @@ refused_step setup rules script count event more number reason (Some first) next
       illegal = why_next setup rules script count event (Some first) next.next here ∙ ap Some (ap (λ p. p.1) same);
     }
 refused_step setup rules script count event more number reason None next here later is =
-    let found = later (ap (λ p. refusal_from setup rules p (count + 1 + 1) more) (past_more setup script count event next.next) ∙ is) in
+    let found = later (ap (λ p. illegal_event_from setup rules p (count + 1 + 1) more) (past_more setup script count event next.next) ∙ is) in
     record {
       index = found.index;
       counted = found.counted;
@@ -98,7 +97,7 @@ refused_step setup rules script count event more number reason None next here la
       illegal = found.illegal;
     }
 
-refused_from : (setup : Setup) (rules : Rules) (script rest : List Said) (count number : ℕ) (reason : Illegal) → rest ≡ drop count script → refusal_from setup rules (past_after setup script count) (count + 1) rest ≡ Some (number, reason) → IsRefused setup rules script count number reason
+refused_from : (setup : Setup) (rules : Rules) (script rest : List Said) (count number : ℕ) (reason : Illegal) → rest ≡ drop count script → illegal_event_from setup rules (past_after setup script count) (count + 1) rest ≡ Some (number, reason) → IsRefused setup rules script count number reason
 unfolding walk_step
 refused_from setup rules script [] count number reason left is = absurd (some_is_none (sym is))
 refused_from setup rules script (event ∷ more) count number reason left is =
@@ -106,12 +105,12 @@ refused_from setup rules script (event ∷ more) count number reason left is =
     refused_step setup rules script count event more number reason (why setup rules (past_after setup script count) event) next refl
     (refused_from setup rules script more (count + 1) number reason next.left) is
 
-legal_step : (setup : Setup) (rules : Rules) (script : List Said) (count : ℕ) (event : Said) (more : List Said) (found : Option Illegal) → IsNext script count event more → why setup rules (past_after setup script count) event ≡ found → (refusal_from setup rules (past_after setup script (count + 1)) (count + 1 + 1) more ≡ None → AreLegalFrom setup rules script (count + 1)) → walk_step setup rules (past_after setup script count) (count + 1) event more found ≡ None → AreLegalFrom setup rules script count
+legal_step : (setup : Setup) (rules : Rules) (script : List Said) (count : ℕ) (event : Said) (more : List Said) (found : Option Illegal) → IsNext script count event more → why setup rules (past_after setup script count) event ≡ found → (illegal_event_from setup rules (past_after setup script (count + 1)) (count + 1 + 1) more ≡ None → AreLegalFrom setup rules script (count + 1)) → walk_step setup rules (past_after setup script count) (count + 1) event more found ≡ None → AreLegalFrom setup rules script count
 unfolding walk_step AreLegalFrom
 legal_step setup rules script count event more (Some first) next here later is = absurd (some_is_none is)
 legal_step setup rules script count event more None next here later is =
     here_or_later setup rules script count (length script) (why_next setup rules script count event None next.next here)
-    (later (ap (λ p. refusal_from setup rules p (count + 1 + 1) more) (past_more setup script count event next.next) ∙ is))
+    (later (ap (λ p. illegal_event_from setup rules p (count + 1 + 1) more) (past_more setup script count event next.next) ∙ is))
 
 left_over : (script : List Said) (count : ℕ) → count < length script → [] ≡ drop count script → ⊥
 left_over [] count within left = omega (arith, within)
@@ -123,7 +122,7 @@ no_more script count left = elim (cases_lt count (length script)) [
   | inl within ↦ absurd (left_over script count within left)
 ]
 
-legal_from : (setup : Setup) (rules : Rules) (script rest : List Said) (count : ℕ) → rest ≡ drop count script → refusal_from setup rules (past_after setup script count) (count + 1) rest ≡ None → AreLegalFrom setup rules script count
+legal_from : (setup : Setup) (rules : Rules) (script rest : List Said) (count : ℕ) → rest ≡ drop count script → illegal_event_from setup rules (past_after setup script count) (count + 1) rest ≡ None → AreLegalFrom setup rules script count
 unfolding walk_step AreLegalFrom
 legal_from setup rules script [] count left is = λ index least most. absurd (omega (arith, no_more script count left, least, most))
 legal_from setup rules script (event ∷ more) count left is =
@@ -132,7 +131,7 @@ legal_from setup rules script (event ∷ more) count left is =
     (legal_from setup rules script more (count + 1) next.left) is
 
 -- a script that the walk refuses at an event has its first illegal event there
-pub refused_first : (setup : Setup) (rules : Rules) (script : List Said) (index : ℕ) (reason : Illegal) → refusal setup rules script ≡ Some (index + 1, reason) → IsFirstIllegal setup rules script index reason
+pub refused_first : (setup : Setup) (rules : Rules) (script : List Said) (index : ℕ) (reason : Illegal) → illegal_event setup rules script ≡ Some (index + 1, reason) → IsFirstIllegal setup rules script index reason
 refused_first setup rules script index reason is =
     let found = refused_from setup rules script script 0 (index + 1) reason refl is in
     let same : found.index ≡ index = omega (arith, found.counted) in
@@ -142,6 +141,6 @@ refused_first setup rules script index reason is =
     }
 
 -- and one that it does not refuse is legal
-pub legal_whole : (setup : Setup) (rules : Rules) (script : List Said) → refusal setup rules script ≡ None → IsLegal setup rules script
+pub legal_whole : (setup : Setup) (rules : Rules) (script : List Said) → illegal_event setup rules script ≡ None → HasNoIllegalEvent setup rules script
 unfolding AreLegalFrom
 legal_whole setup rules script is = λ index within. legal_from setup rules script script 0 refl is index (omega arith) within

@@ -10,7 +10,7 @@ use Rattle.play_event.specs.declared.setup.Setup.{Setup}
 use Rattle.play_event.specs.Games.{street_count}
 use Rattle.play_event.specs.Past.{Past, moves_of, newest_street}
 use Rattle.play_event.specs.Seats.{live_count}
-use Rattle.play_event.specs.Showing.{show_due}
+use Rattle.play_event.specs.Showing.{is_show_due}
 use Rattle.play_event.specs.Due.{turn, due_on, first_due, found_or, showdown, is_unfinished}
 use Rattle.play_event.specs.Laws.{IsFirstStreet}
 
@@ -74,7 +74,7 @@ unfolding turn_by
 found_due setup past street due true found walked is unfinished =
     absurd (true≢false (sym unfinished ∙ ap is_unfinished (sym (ap (λ p. p.1) is))))
 found_due setup past street due false None walked is unfinished =
-    absurd (true≢false (sym unfinished ∙ ap is_unfinished (sym (ap (λ p. p.1) is)) ∙ shown_unfinished (show_due setup past)))
+    absurd (true≢false (sym unfinished ∙ ap is_unfinished (sym (ap (λ p. p.1) is)) ∙ shown_unfinished (is_show_due setup past)))
 found_due setup past street due false (Some there) walked is unfinished =
     street_found (due_on setup past) (street_count setup.code + 1 - newest_street past) (newest_street past) street due (sym walked ∙ ap Some is)
 

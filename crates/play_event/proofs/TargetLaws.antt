@@ -8,7 +8,8 @@ use Rattle.play_event.specs.Games.{Limit, Fixed, Pot, NoLimit}
 use Rattle.play_event.specs.Streets.{limit_of, unit}
 use Rattle.play_event.specs.Past.{Move}
 use Rattle.play_event.specs.Chips.{all_in}
-use Rattle.play_event.specs.Price.{price, full_raise, full_bet, greatest}
+use Rattle.play_event.specs.Price.{price, full_raise, full_bet}
+use Rattle.chip_ledger.specs.Greatest.{greatest}
 use Rattle.play_event.specs.Targets.{floor, pot_ceiling, full_targets, is_target_in, greatest_target_in, is_legal_target, greatest_target}
 
 -- in pot limit: all-in where the ceiling is above it, and else the ceiling

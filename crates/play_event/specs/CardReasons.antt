@@ -12,11 +12,11 @@ use Rattle.play_event.specs.Said.{Said}
 use Rattle.play_event.specs.Past.{Past}
 use Rattle.play_event.specs.Dealing.{cards_owed, board_cards_owed, next_to_draw}
 use Rattle.play_event.specs.Showing.{has_to_show}
-use Rattle.play_event.specs.Openers.{is_unknown, known_cards}
+use Rattle.card_set.specs.Known.{is_unknown, known_cards}
 use Rattle.play_event.specs.Places.{Place, is_held_by}
-use Rattle.play_event.specs.Naming.{other_names, is_named, blanks_in, held_count, held_down_count, is_covered, names_all, after_discard, after_show}
+use Rattle.play_event.specs.Naming.{other_names, is_named, blanks_in, held_count, held_down_count, is_covered, is_show_of_all, after_discard, after_show}
 use Rattle.play_event.specs.Table.{up_cards}
-use Rattle.play_event.specs.Taken.{any_taken, any_misplaced}
+use Rattle.play_event.specs.Taken.{has_taken_card, has_misplaced_card}
 
 -- a number is that of a seat of the hand
 abbrev pub is_seat : Setup → ℕ → Bool
@@ -27,8 +27,8 @@ abbrev pub is_owed_nothing : Setup → Past → ℕ → ℕ → Bool
 is_owed_nothing setup past street seat = not (is_seat setup seat) || (cards_owed setup past street seat == 0)
 
 -- a seat draws next
-abbrev pub draws_next : Setup → Past → ℕ → ℕ → Bool
-draws_next setup past street seat = option_map_or (λ next. next == seat) (next_to_draw setup past street) false
+abbrev pub is_next_to_draw : Setup → Past → ℕ → ℕ → Bool
+is_next_to_draw setup past street seat = option_map_or (λ next. next == seat) (next_to_draw setup past street) false
 
 -- a seat of the hand is live, and did not show or muck
 abbrev pub may_show : Setup → Past → ℕ → Bool
@@ -54,15 +54,15 @@ is_wrong_count setup past placed street _ = false
 
 -- a card that is dealt, or that is named and taken to an unknown place, may not lie there
 abbrev pub is_card_taken : Code → List Place → ℕ → Said → Bool
-is_card_taken code placed street (said.Hole seat cards) = any_taken code placed street cards
-is_card_taken code placed street (said.Board cards) = any_taken code placed street (map (λ card. slots.Known card) cards)
-is_card_taken code placed street (said.Discard seat cards) = any_misplaced code placed (after_discard street seat cards placed)
-is_card_taken code placed street (said.Show seat cards) = any_misplaced code placed (after_show code seat cards placed)
+is_card_taken code placed street (said.Hole seat cards) = has_taken_card code placed street cards
+is_card_taken code placed street (said.Board cards) = has_taken_card code placed street (map (λ card. slots.Known card) cards)
+is_card_taken code placed street (said.Discard seat cards) = has_misplaced_card code placed (after_discard street seat cards placed)
+is_card_taken code placed street (said.Show seat cards) = has_misplaced_card code placed (after_show code seat cards placed)
 is_card_taken code placed street _ = false
 
 -- the names find no place: there are more that no known card bears, and blanks, than unknown cards
-abbrev pub find_no_place : List Place → List Card → ℕ → Bool
-find_no_place covered names blanks = nat_lt (count_by (λ place. is_unknown place.slot) covered) (length (other_names covered names) + blanks)
+abbrev pub has_no_place : List Place → List Card → ℕ → Bool
+has_no_place covered names blanks = nat_lt (count_by (λ place. is_unknown place.slot) covered) (length (other_names covered names) + blanks)
 
 -- a known card is not among the names
 abbrev pub is_left_out : List Card → Slot → Bool
@@ -70,11 +70,11 @@ is_left_out names (slots.Known card) = not (is_named card names)
 is_left_out names slots.Unknown = false
 
 -- a show names a card that the seat does not hold, or leaves out one that is known
-abbrev pub shows_others : List Place → List Card → Bool
-shows_others covered names = find_no_place covered names 0 || list_any (λ place. is_left_out names place.slot) covered
+abbrev pub is_show_of_others : List Place → List Card → Bool
+is_show_of_others covered names = has_no_place covered names 0 || list_any (λ place. is_left_out names place.slot) covered
 
 -- a card is named that the seat does not hold
 abbrev pub is_not_held : Code → List Place → Said → Bool
-is_not_held code placed (said.Discard seat cards) = find_no_place (filter (is_held_by seat) placed) (known_cards cards) (blanks_in cards)
-is_not_held code placed (said.Show seat cards) = shows_others (filter (is_covered code seat (names_all placed seat cards)) placed) cards
+is_not_held code placed (said.Discard seat cards) = has_no_place (filter (is_held_by seat) placed) (known_cards cards) (blanks_in cards)
+is_not_held code placed (said.Show seat cards) = is_show_of_others (filter (is_covered code seat (is_show_of_all placed seat cards)) placed) cards
 is_not_held code placed _ = false

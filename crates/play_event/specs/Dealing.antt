@@ -3,7 +3,7 @@ use Rattle.std.specs.Prelude.{ℕ, ◌+◌, ◌-◌, Bool, false, ◌&&◌, ◌|
 use Rattle.std.specs.List.{list_any}
 use Rattle.play_event.specs.declared.setup.Setup.{Setup}
 use Rattle.play_event.specs.Games.{hole_cards_on, board_cards_on}
-use Rattle.play_event.specs.Streets.{draws_on}
+use Rattle.play_event.specs.Streets.{has_draw}
 use Rattle.play_event.specs.Past.{Past, Resolved, Dealt, Boarded, Moved, Discarded, Shown, Mucked, moves_of}
 use Rattle.play_event.specs.Seats.{is_live, all_seats}
 
@@ -68,11 +68,11 @@ replacements_owed past street seat = cards_discarded past street seat - hole_car
 -- how many cards a seat is owed: in a draw for its discards, and else by the deal of the street
 abbrev pub cards_owed : Setup → Past → ℕ → ℕ → ℕ
 cards_owed setup past street seat =
-    if draws_on setup.code street then replacements_owed past street seat else hole_cards_owed setup past street seat
+    if has_draw setup.code street then replacements_owed past street seat else hole_cards_owed setup past street seat
 
 -- a deal is due: some live seat lacks hole cards of the street, or the board lacks some of its cards
-abbrev pub deal_due : Setup → Past → ℕ → Bool
-deal_due setup past street =
+abbrev pub is_deal_due : Setup → Past → ℕ → Bool
+is_deal_due setup past street =
     list_any (λ seat. nat_lt 0 (hole_cards_owed setup past street seat)) (all_seats setup)
     || nat_lt 0 (board_cards_owed setup past street)
 
@@ -81,7 +81,7 @@ abbrev pub next_to_draw : Setup → Past → ℕ → Option ℕ
 next_to_draw setup past street = find (λ seat. is_live (moves_of past) seat && not (has_drawn past street seat)) (all_seats setup)
 
 -- a draw is due: the street draws, and some live seat did not draw or is owed cards for its discards
-abbrev pub draw_due : Setup → Past → ℕ → Bool
-draw_due setup past street =
-    draws_on setup.code street
+abbrev pub is_draw_due : Setup → Past → ℕ → Bool
+is_draw_due setup past street =
+    has_draw setup.code street
     && (is_some (next_to_draw setup past street) || list_any (λ seat. nat_lt 0 (replacements_owed past street seat)) (all_seats setup))

@@ -10,8 +10,8 @@ use Rattle.play_event.specs.Streets.{is_stud}
 use Rattle.play_event.specs.Past.{Past, Move, Act, moves_of, moves_on, newest_street, is_raise, is_bring_in}
 use Rattle.play_event.specs.Seats.{is_able, all_seats, live_count, able_count}
 use Rattle.play_event.specs.Price.{price, owed}
-use Rattle.play_event.specs.Dealing.{deal_due, draw_due}
-use Rattle.play_event.specs.Showing.{show_due}
+use Rattle.play_event.specs.Dealing.{is_deal_due, is_draw_due}
+use Rattle.play_event.specs.Showing.{is_show_due}
 
 -- a seat has moved on this street since the price last rose there: at the event that raised it or after
 abbrev pub has_moved_since_rise : Setup → List Move → ℕ → ℕ → Bool
@@ -28,25 +28,25 @@ has_to_move setup moves street seat =
     && (if has_moved_since_rise setup moves street seat then false else (nat_lt 0 (owed setup moves street seat) || nat_le 2 (able_count setup moves)))
 
 -- a move is due: some seat has one to make
-abbrev pub move_due : Setup → List Move → ℕ → Bool
-move_due setup moves street = list_any (has_to_move setup moves street) (all_seats setup)
+abbrev pub is_move_due : Setup → List Move → ℕ → Bool
+is_move_due setup moves street = list_any (has_to_move setup moves street) (all_seats setup)
 
--- a move brought chips in: it is a bring-in or a raise
-abbrev pub opens_betting : Act → Bool
-opens_betting act = is_raise act || is_bring_in act
+-- a move opened the betting: it is a bring-in or a raise
+abbrev pub has_opened_betting : Act → Bool
+has_opened_betting act = is_raise act || is_bring_in act
 
 -- a bring-in is due: on the first street of stud, with two able seats or more, before any bring-in or raise
-abbrev pub bring_in_due : Setup → List Move → ℕ → Bool
-bring_in_due setup moves street =
-    is_stud setup.code && (street == 1) && nat_le 2 (able_count setup moves) && not (list_any (λ move. opens_betting move.act) (moves_on street moves))
+abbrev pub is_bring_in_due : Setup → List Move → ℕ → Bool
+is_bring_in_due setup moves street =
+    is_stud setup.code && (street == 1) && nat_le 2 (able_count setup moves) && not (list_any (λ move. has_opened_betting move.act) (moves_on street moves))
 
 -- what is due on this street, if something is
 abbrev pub due_on : Setup → Past → ℕ → Option Due
 due_on setup past street =
-    if deal_due setup past street then Some (dues.Deal street)
-    else if draw_due setup past street then Some (dues.Draw street)
-    else if bring_in_due setup (moves_of past) street then Some dues.BringIn
-    else if move_due setup (moves_of past) street then Some dues.Move
+    if is_deal_due setup past street then Some (dues.Deal street)
+    else if is_draw_due setup past street then Some (dues.Draw street)
+    else if is_bring_in_due setup (moves_of past) street then Some dues.BringIn
+    else if is_move_due setup (moves_of past) street then Some dues.Move
     else None
 
 -- the first where there is one, else the second
@@ -61,7 +61,7 @@ first_due on (suc rest) street = found_or (option_map (λ due. (street, due)) (o
 
 -- after the last street each live seat shows or mucks, and then the hand is over
 abbrev pub showdown : Setup → Past → Due
-showdown setup past = if show_due setup past then dues.Show else dues.Over
+showdown setup past = if is_show_due setup past then dues.Show else dues.Over
 
 -- What is due, and on which street: on the street of the past, or on the first one after it that has
 -- something due. After the last street it is the showdown. With one live seat nothing is due.
@@ -89,11 +89,11 @@ is_after_betting dues.BringIn = false
 is_after_betting dues.Move = false
 
 -- an able seat owes chips
-abbrev pub some_able_owes : Setup → List Move → ℕ → Bool
-some_able_owes setup moves street = list_any (λ seat. is_able setup moves seat && nat_lt 0 (owed setup moves street seat)) (all_seats setup)
+abbrev pub has_able_seat_to_call : Setup → List Move → ℕ → Bool
+has_able_seat_to_call setup moves street = list_any (λ seat. is_able setup moves seat && nat_lt 0 (owed setup moves street seat)) (all_seats setup)
 
 -- the hand is settled: two or more seats are live, and no betting can come any more
 abbrev pub is_settled : Setup → List Move → ℕ × Due → Bool
 is_settled setup moves now =
     nat_le 2 (live_count setup moves)
-    && (is_after_betting now.1 || (nat_le (able_count setup moves) 1 && not (some_able_owes setup moves now.0)))
+    && (is_after_betting now.1 || (nat_le (able_count setup moves) 1 && not (has_able_seat_to_call setup moves now.0)))

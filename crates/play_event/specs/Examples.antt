@@ -13,14 +13,14 @@ use Rattle.play_event.specs.declared.reason.Illegal.{Illegal}
 use Rattle.play_event.specs.declared.setup.Setup.{Setup}
 use Rattle.play_event.specs.Said.{Said, Hole, Fold, Raise}
 use Rattle.play_event.specs.HistoryRules.{history_rules}
-use Rattle.play_event.specs.Rows.{row_of, fits_row}
+use Rattle.play_event.specs.Rows.{row_of, is_row}
 use Rattle.play_event.specs.Past.{moves_of}
 use Rattle.play_event.specs.Seats.{all_seats}
 use Rattle.play_event.specs.Finish.{finishing_stack}
 use Rattle.play_event.specs.Scripts.{why_at, first_illegal, past_of}
 
 -- a hand of no-limit hold'em without antes, with these stacks and blinds
-abbrev pub no_limit : (stacks antes blinds : List ℕ) → IsTrue (fits_row stacks) → IsTrue (fits_row antes) → IsTrue (fits_row blinds) → ℕ → Setup
+abbrev pub no_limit : (stacks antes blinds : List ℕ) → IsTrue (is_row stacks) → IsTrue (is_row antes) → IsTrue (is_row blinds) → ℕ → Setup
 no_limit stacks antes blinds stacks_fit antes_fit blinds_fit least =
     record {
       code = games.NT;

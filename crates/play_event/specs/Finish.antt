@@ -5,7 +5,8 @@ use Rattle.play_event.specs.declared.setup.Setup.{Setup}
 use Rattle.play_event.specs.Past.{Move}
 use Rattle.play_event.specs.Chips.{chips_put, chips_left}
 use Rattle.play_event.specs.Seats.{is_live, all_seats}
-use Rattle.play_event.specs.Price.{greatest, all_chips_put}
+use Rattle.play_event.specs.Price.{all_chips_put}
+use Rattle.chip_ledger.specs.Greatest.{greatest}
 
 -- the chips of a seat that can be returned to it: all that it put, and its ante only where antes are not dead
 abbrev pub counted_put : Setup → List Move → ℕ → ℕ

@@ -6,7 +6,7 @@ use Rattle.play_event.specs.declared.setup.Setup.{Setup}
 use Rattle.play_event.specs.declared.setup.Rules.{Rules}
 use Rattle.play_event.specs.Said.{Said}
 use Rattle.play_event.specs.Places.{Place}
-use Rattle.play_event.specs.Taken.{clash}
+use Rattle.play_event.specs.Taken.{is_clash}
 use Rattle.play_event.specs.Reasons.{why}
 use Rattle.play_event.specs.Scripts.{past_of}
 
@@ -33,4 +33,4 @@ IsAmong (first ∷ rest) place = (first ≡ place) ⊎ IsAmong rest place
 
 -- no two of the places clash
 abbrev pub NoneClash : List Place → Type 0
-NoneClash placed = (a b : Place) → IsAmong placed a → IsAmong placed b → a.number ≢ b.number → clash a b ≡ false
+NoneClash placed = (a b : Place) → IsAmong placed a → IsAmong placed b → a.number ≢ b.number → is_clash a b ≡ false

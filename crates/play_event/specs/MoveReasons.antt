@@ -82,6 +82,7 @@ chips_to_call setup moves street seat = call_target setup moves street seat - st
 abbrev pub stated_and_due : ℕ → ℕ → Bool × Illegal
 stated_and_due stated due = (not (stated == due), reasons.AmountDiffers stated due)
 
+-- whether a call states other chips than it adds, beside its reason; no other event does
 abbrev pub amount_row : Setup → List Move → ℕ → InTurn → Said → Bool × Illegal
 amount_row setup moves street turn (said.Call named (Some stated)) = stated_and_due stated (chips_to_call setup moves street (actor_of named turn))
 amount_row setup moves street turn _ = (false, reasons.AmountDiffers 0 0)

@@ -6,7 +6,7 @@ use Rattle.card_set.specs.declared.card.Slot.{Slot}
 use Rattle.card_set.specs.declared.card.Slot.TheVariants as slots
 use Rattle.card_set.specs.Deck.{is_same_card}
 use Rattle.play_event.specs.declared.code.Code.{Code}
-use Rattle.play_event.specs.Openers.{is_unknown, known_cards}
+use Rattle.card_set.specs.Known.{is_unknown, known_cards}
 use Rattle.play_event.specs.Places.{Place, is_held_by, is_up}
 
 -- the names without one that is this card
@@ -53,20 +53,22 @@ blanks_in names = count_by is_unknown names
 
 -- a card that is discarded now on a street is gone, after so many deals
 abbrev pub discarded_now : ℕ → ℕ → Place → Place
-discarded_now street count place = record place { gone = Some count; discarded = street }
+discarded_now street count place = record place { gone_after = Some count; discarded = street }
 
 -- the places after a discard, which covers the cards that the seat holds
 abbrev pub after_discard : ℕ → ℕ → List Slot → List Place → List Place
 after_discard street seat names placed =
     after_names (is_held_by seat) (discarded_now street (length placed)) (known_cards names) (other_names (filter (is_held_by seat) placed) (known_cards names)) (blanks_in names) placed
 
--- how many cards a seat holds, and how many of them face down
+-- how many cards a seat holds
 abbrev pub held_count : List Place → ℕ → ℕ
 held_count placed seat = count_by (is_held_by seat) placed
 
+-- a seat holds the card face down
 abbrev pub is_held_down : Code → ℕ → Place → Bool
 is_held_down code seat place = is_held_by seat place && not (is_up code place)
 
+-- how many cards a seat holds face down
 abbrev pub held_down_count : Code → List Place → ℕ → ℕ
 held_down_count code placed seat = count_by (is_held_down code seat) placed
 
@@ -75,11 +77,11 @@ abbrev pub is_covered : Code → ℕ → Bool → Place → Bool
 is_covered code seat all place = is_held_by seat place && (all || not (is_up code place))
 
 -- a show of so many cards names all that the seat holds
-abbrev pub names_all : List Place → ℕ → List Card → Bool
-names_all placed seat names = length names == held_count placed seat
+abbrev pub is_show_of_all : List Place → ℕ → List Card → Bool
+is_show_of_all placed seat names = length names == held_count placed seat
 
 -- the places after a show, which marks nothing
 abbrev pub after_show : Code → ℕ → List Card → List Place → List Place
 after_show code seat names placed =
-    let covers = is_covered code seat (names_all placed seat names) in
+    let covers = is_covered code seat (is_show_of_all placed seat names) in
     after_names covers (λ place. place) names (other_names (filter covers placed) names) 0 placed

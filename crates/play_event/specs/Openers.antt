@@ -3,17 +3,17 @@ use Rattle.std.specs.Prelude.{ℕ, ◌+◌, ◌*◌, Bool, true, false, ◌&&◌
 use Rattle.std.specs.List.{list_any}
 use Rattle.card_set.specs.declared.card.Card.{Card}
 use Rattle.card_set.specs.declared.card.Slot.{Slot}
-use Rattle.card_set.specs.declared.card.Slot.TheVariants as slots
 use Rattle.card_set.specs.Deck.{deck_place, suits_before}
+use Rattle.card_set.specs.Known.{is_unknown, known_cards}
 use Rattle.card_set.specs.Ranks.{high_ace, low_ace, ranks_of}
 use Rattle.card_set.specs.UpCards.{up_high_class, low_class}
+use Rattle.chip_ledger.specs.Greatest.{greatest}
 use Rattle.chip_ledger.specs.SeatRow.{amount_of}
 use Rattle.play_event.specs.declared.setup.Setup.{Setup}
 use Rattle.play_event.specs.Games.{Opener, Blinds, LowUp, HighUp}
 use Rattle.play_event.specs.Streets.{opener_of}
 use Rattle.play_event.specs.Past.{Move}
 use Rattle.play_event.specs.Seats.{all_seats, is_able}
-use Rattle.play_event.specs.Price.{greatest}
 
 -- whose turn it is: no seat's, a seat's, or not known where an up-card that decides it is unknown
 pub data InTurn : Type 0 where
@@ -50,17 +50,6 @@ blinds_opener setup street =
     then (if setup.stacks.seats == 2 then 2 else seat_after setup (last_big_blind setup))
     else 1
 
--- a slot is unknown
-abbrev pub is_unknown : Slot → Bool
-is_unknown slots.Unknown = true
-is_unknown (slots.Known card) = false
-
--- the known cards of some slots
-abbrev pub known_cards : List Slot → List Card
-known_cards [] = []
-known_cards (slots.Known card ∷ rest) = card ∷ known_cards rest
-known_cards (slots.Unknown ∷ rest) = known_cards rest
-
 -- where a single up-card stands: the first card counts
 abbrev pub card_stands : (Card → ℕ) → List Card → ℕ
 card_stands stands [] = 0
@@ -76,22 +65,22 @@ is_lower [] others = false
 is_lower (height ∷ rest) [] = false
 is_lower (height ∷ rest) (other ∷ others) = nat_lt height other || ((height == other) && is_lower rest others)
 
--- up-cards are worse, the ace high: their class is, or it is the same and the first rank that differs is lower
-abbrev pub is_worse_high : List Card → List Card → Bool
-is_worse_high a b = nat_lt (up_high_class b) (up_high_class a) || ((up_high_class a == up_high_class b) && is_lower (ranks_of high_ace a) (ranks_of high_ace b))
+-- up-cards are weaker, the ace high: their class is, or it is the same and the first rank that differs is lower
+abbrev pub is_weaker_up_high : List Card → List Card → Bool
+is_weaker_up_high a b = nat_lt (up_high_class b) (up_high_class a) || ((up_high_class a == up_high_class b) && is_lower (ranks_of high_ace a) (ranks_of high_ace b))
 
--- up-cards are worse in razz: their class is, or it is the same and the first rank that differs is higher
-abbrev pub is_worse_low : List Card → List Card → Bool
-is_worse_low a b = nat_lt (low_class b) (low_class a) || ((low_class a == low_class b) && is_lower (ranks_of low_ace b) (ranks_of low_ace a))
+-- up-cards are weaker in razz: their class is, or it is the same and the first rank that differs is higher
+abbrev pub is_weaker_low : List Card → List Card → Bool
+is_weaker_low a b = nat_lt (low_class b) (low_class a) || ((low_class a == low_class b) && is_lower (ranks_of low_ace b) (ranks_of low_ace a))
 
 -- The up-cards of one seat open before those of another. The first street is opened by the lowest card, in razz by the
 -- highest; a later street by the best cards, in razz by the lowest.
-abbrev pub opens_before : Opener → Bool → List Card → List Card → Bool
-opens_before LowUp true a b = nat_lt (card_stands deck_place a) (card_stands deck_place b)
-opens_before HighUp true a b = nat_lt (card_stands razz_place b) (card_stands razz_place a)
-opens_before LowUp false a b = is_worse_high b a
-opens_before HighUp false a b = is_worse_low b a
-opens_before Blinds first a b = false
+abbrev pub is_opener_before : Opener → Bool → List Card → List Card → Bool
+is_opener_before LowUp true a b = nat_lt (card_stands deck_place a) (card_stands deck_place b)
+is_opener_before HighUp true a b = nat_lt (card_stands razz_place b) (card_stands razz_place a)
+is_opener_before LowUp false a b = is_weaker_up_high b a
+is_opener_before HighUp false a b = is_weaker_low b a
+is_opener_before Blinds first a b = false
 
 -- the able seats
 abbrev pub able_seats : Setup → List Move → List ℕ
@@ -100,14 +89,14 @@ able_seats setup moves = filter (is_able setup moves) (all_seats setup)
 -- the first of the able seats before which no other opens
 abbrev pub up_cards_opener : Setup → UpCards → List Move → ℕ → Option ℕ
 up_cards_opener setup ups moves street =
-    find (λ seat. not (list_any (λ other. opens_before (opener_of setup.code) (street == 1) (known_cards (ups other)) (known_cards (ups seat))) (able_seats setup moves))) (able_seats setup moves)
+    find (λ seat. not (list_any (λ other. is_opener_before (opener_of setup.code) (street == 1) (known_cards (ups other)) (known_cards (ups seat))) (able_seats setup moves))) (able_seats setup moves)
 
 -- an up-card of an able seat is unknown
-abbrev pub some_up_card_unknown : Setup → UpCards → List Move → Bool
-some_up_card_unknown setup ups moves = list_any (λ seat. list_any is_unknown (ups seat)) (able_seats setup moves)
+abbrev pub has_unknown_up_card : Setup → UpCards → List Move → Bool
+has_unknown_up_card setup ups moves = list_any (λ seat. list_any is_unknown (ups seat)) (able_seats setup moves)
 
 -- who opens a street
 abbrev pub opener_by : Opener → Setup → UpCards → List Move → ℕ → InTurn
 opener_by Blinds setup ups moves street = TheSeat (blinds_opener setup street)
-opener_by LowUp setup ups moves street = if some_up_card_unknown setup ups moves then Undecided else in_turn (up_cards_opener setup ups moves street)
-opener_by HighUp setup ups moves street = if some_up_card_unknown setup ups moves then Undecided else in_turn (up_cards_opener setup ups moves street)
+opener_by LowUp setup ups moves street = if has_unknown_up_card setup ups moves then Undecided else in_turn (up_cards_opener setup ups moves street)
+opener_by HighUp setup ups moves street = if has_unknown_up_card setup ups moves then Undecided else in_turn (up_cards_opener setup ups moves street)

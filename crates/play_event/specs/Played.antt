@@ -6,8 +6,7 @@ use Rattle.play_event.specs.declared.played.Act.TheVariants as acts
 use Rattle.play_event.specs.declared.played.Move as moves
 use Rattle.play_event.specs.declared.played.Place as places
 use Rattle.play_event.specs.Past.{Act, Folded, Called, Raised, BroughtIn}
-use Rattle.play_event.specs.Places.{Place}
-use Rattle.play_event.specs.Trace.{TracedMove}
+use Rattle.play_event.specs.Trace.{TracedMove, TracedPlace}
 
 -- what a seat did
 abbrev pub act_said : rows.Act → Act
@@ -31,7 +30,7 @@ move_said move =
     }
 
 -- a row says where a card lies: whose it is, its street, the card as far as it is known, and the draw that discarded it
-pub record IsPlace (row : places.Place) (place : Place) : Type 0 where
+pub record IsPlace (row : places.Place) (place : TracedPlace) : Type 0 where
   pub owner : option_map (λ seat. seat.number) row.owner ≡ place.owner
   pub street : row.street ≡ place.street
   pub slot : row.slot ≡ place.slot

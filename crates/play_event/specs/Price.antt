@@ -1,15 +1,11 @@
 -- What it costs to stay in, and by how much a raise has to go above it.
 use Rattle.std.specs.Prelude.{ℕ, ◌+◌, ◌-◌, ◌*◌, ◌&&◌, ◌||◌, ◌==◌, nat_le, max, if◌then◌else◌, List, [], ◌∷◌, map, sum}
+use Rattle.chip_ledger.specs.Greatest.{greatest}
 use Rattle.play_event.specs.declared.setup.Setup.{Setup}
 use Rattle.play_event.specs.Past.{Move, is_raise, is_bring_in}
 use Rattle.play_event.specs.Streets.{unit}
 use Rattle.play_event.specs.Chips.{chips_put, street_chips}
 use Rattle.play_event.specs.Seats.{all_seats}
-
--- the greatest of some numbers, and 0 of none
-abbrev pub greatest : List ℕ → ℕ
-greatest [] = 0
-greatest (n ∷ rest) = max n (greatest rest)
 
 -- the price: the most chips of this street that any seat has put
 abbrev pub price : Setup → List Move → ℕ → ℕ

@@ -22,20 +22,20 @@ abbrev pub raises_on : List Move → ℕ → ℕ
 raises_on moves street = count_by (λ move. is_raise move.act) (moves_on street moves)
 
 -- the raises of this street are fewer than its cap; a street past the fourth has none
-abbrev pub within_cap : Option (List ℕ) → List Move → ℕ → Bool
-within_cap None moves street = true
-within_cap (Some caps) moves street = nat_lt 4 street || nat_lt (raises_on moves street) (slice_index caps (street - 1))
+abbrev pub is_within_cap : Option (List ℕ) → List Move → ℕ → Bool
+is_within_cap None moves street = true
+is_within_cap (Some caps) moves street = nat_lt 4 street || nat_lt (raises_on moves street) (slice_index caps (street - 1))
 
 -- what a seat owes reopens the betting to it: a full raise, or in fixed limit half a unit
-abbrev pub owes_full_raise : Limit → Setup → List Move → ℕ → ℕ → Bool
-owes_full_raise NoLimit setup moves street seat = nat_le (full_raise setup moves street) (owed setup moves street seat)
-owes_full_raise Pot setup moves street seat = nat_le (full_raise setup moves street) (owed setup moves street seat)
-owes_full_raise Fixed setup moves street seat = nat_le (unit setup street) (2 * owed setup moves street seat)
+abbrev pub is_full_raise_owed : Limit → Setup → List Move → ℕ → ℕ → Bool
+is_full_raise_owed NoLimit setup moves street seat = nat_le (full_raise setup moves street) (owed setup moves street seat)
+is_full_raise_owed Pot setup moves street seat = nat_le (full_raise setup moves street) (owed setup moves street seat)
+is_full_raise_owed Fixed setup moves street seat = nat_le (unit setup street) (2 * owed setup moves street seat)
 
 -- the betting is open to a seat: always, or where it has not moved on this street or owes enough
 abbrev pub is_reopened : Reopen → Setup → List Move → ℕ → ℕ → Bool
 is_reopened reopen.Always setup moves street seat = true
-is_reopened reopen.Full setup moves street seat = not (has_moved moves street seat) || owes_full_raise (limit_of setup.code) setup moves street seat
+is_reopened reopen.Full setup moves street seat = not (has_moved moves street seat) || is_full_raise_owed (limit_of setup.code) setup moves street seat
 
 -- another seat is able
 abbrev pub has_able_opponent : Setup → List Move → ℕ → Bool
@@ -46,7 +46,7 @@ abbrev pub may_raise : Setup → Rules → List Move → ℕ → ℕ → Bool
 may_raise setup rules moves street seat =
     has_able_opponent setup moves seat
     && nat_lt (price setup moves street) (all_in setup moves street seat)
-    && within_cap rules.caps moves street
+    && is_within_cap rules.caps moves street
     && is_reopened rules.reopen setup moves street seat
 
 -- whatever the rules of the notation, a raise needs rules by which betting always reopens: where full raises alone

@@ -16,7 +16,7 @@ use Rattle.play_event.specs.Openers.{InTurn}
 use Rattle.play_event.specs.Mover.{mover}
 use Rattle.play_event.specs.Places.{Place}
 use Rattle.play_event.specs.Table.{places_of, up_cards}
-use Rattle.play_event.specs.CardReasons.{is_owed_nothing, draws_next, may_show, is_wrong_count, is_card_taken, is_not_held}
+use Rattle.play_event.specs.CardReasons.{is_owed_nothing, is_next_to_draw, may_show, is_wrong_count, is_card_taken, is_not_held}
 use Rattle.play_event.specs.MoveReasons.{is_other_seat, is_undecided_move, has_nothing_to_call, is_raise_closed, is_raise_too_small, is_raise_too_big, amount_row}
 
 -- the first reason whose condition holds, if one does
@@ -77,7 +77,7 @@ is_wrong_seat setup past street in_turn (said.Fold named) = is_other_seat setup 
 is_wrong_seat setup past street in_turn (said.Call named stated) = is_other_seat setup (moves_of past) named in_turn
 is_wrong_seat setup past street in_turn (said.Raise named amount) = is_other_seat setup (moves_of past) named in_turn
 is_wrong_seat setup past street in_turn (said.BringIn named) = is_other_seat setup (moves_of past) named in_turn
-is_wrong_seat setup past street in_turn (said.Discard seat cards) = not (draws_next setup past street seat)
+is_wrong_seat setup past street in_turn (said.Discard seat cards) = not (is_next_to_draw setup past street seat)
 is_wrong_seat setup past street in_turn (said.Show seat cards) = not (may_show setup past seat)
 is_wrong_seat setup past street in_turn (said.Muck seat) = not (may_show setup past seat)
 

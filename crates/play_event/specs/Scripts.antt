@@ -1,5 +1,5 @@
 -- A script as it took place: the past after each of its events, its first illegal event, and whether it ends early.
-use Rattle.std.specs.Prelude.{◌≡◌, ℕ, ◌<◌, Bool, List, [], ◌∷◌, length, take, reverse, find, slice_get, Option, Some, None, option_and_then, is_some}
+use Rattle.std.specs.Prelude.{◌≡◌, ℕ, ◌+◌, ◌<◌, Bool, List, [], ◌∷◌, length, take, reverse, find, slice_get, Option, Some, None, option_and_then, is_some}
 use Rattle.std.specs.List.{range_with_len}
 use Rattle.play_event.specs.declared.reason.Illegal.{Illegal}
 use Rattle.play_event.specs.declared.setup.Setup.{Setup}
@@ -68,9 +68,9 @@ why_at setup rules script index = option_and_then (why setup rules (past_after s
 abbrev pub first_illegal : Setup → Rules → List Said → Option ℕ
 first_illegal setup rules script = find (λ index. is_some (why_at setup rules script index)) (range_with_len 0 (length script))
 
--- each event is legal after those before it
-abbrev pub IsLegal : Setup → Rules → List Said → Type 0
-IsLegal setup rules script = (index : ℕ) → index < length script → why_at setup rules script index ≡ None
+-- a script has no illegal event: each is legal after those before it
+abbrev pub HasNoIllegalEvent : Setup → Rules → List Said → Type 0
+HasNoIllegalEvent setup rules script = (index : ℕ) → index < length script → why_at setup rules script index ≡ None
 
 -- the events before this one are legal, and this one is illegal for the reason
 pub record IsFirstIllegal (setup : Setup) (rules : Rules) (script : List Said) (index : ℕ) (reason : Illegal) : Type 0 where
@@ -78,5 +78,19 @@ pub record IsFirstIllegal (setup : Setup) (rules : Rules) (script : List Said) (
   pub illegal : why_at setup rules script index ≡ Some reason
 
 -- after the script a deal, a draw, a bring-in or a move is due
-abbrev pub ends_early : Setup → List Said → Bool
-ends_early setup script = is_unfinished (turn setup (past_after setup script (length script))).1
+abbrev pub has_early_end : Setup → List Said → Bool
+has_early_end setup script = is_unfinished (turn setup (past_after setup script (length script))).1
+
+-- the past of a whole script
+abbrev pub past_at_end : Setup → List Said → Past
+past_at_end setup script = past_of setup (reverse script)
+
+-- the first illegal event of a script, counted from the given number on, and why it is
+abbrev pub illegal_event_from : Setup → Rules → Past → ℕ → List Said → Option (ℕ × Illegal)
+illegal_event_from setup rules past number [] = None
+illegal_event_from setup rules past number (event ∷ rest) =
+    elim (why setup rules past event) [ Some reason ↦ Some (number, reason) | None ↦ illegal_event_from setup rules (with_event setup event past) (number + 1) rest ]
+
+-- the first illegal event of a script, counted from 1, and why it is
+abbrev pub illegal_event : Setup → Rules → List Said → Option (ℕ × Illegal)
+illegal_event setup rules script = illegal_event_from setup rules [] 1 script

@@ -36,5 +36,5 @@ abbrev pub has_to_show : Past → ℕ → Bool
 has_to_show past seat = is_live (moves_of past) seat && not (has_shown past seat || has_mucked past seat)
 
 -- some seat has still to show or muck
-abbrev pub show_due : Setup → Past → Bool
-show_due setup past = list_any (has_to_show past) (all_seats setup)
+abbrev pub is_show_due : Setup → Past → Bool
+is_show_due setup past = list_any (has_to_show past) (all_seats setup)

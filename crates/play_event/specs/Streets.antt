@@ -26,8 +26,8 @@ abbrev pub up_cards_on : Code → ℕ → ℕ
 up_cards_on code street = option_map_or (λ s. s.up) (slice_get (game_of code).streets (street - 1)) 0
 
 -- the street draws
-abbrev pub draws_on : Code → ℕ → Bool
-draws_on code street = option_map_or (λ s. s.draws) (slice_get (game_of code).streets (street - 1)) false
+abbrev pub has_draw : Code → ℕ → Bool
+has_draw code street = option_map_or (λ s. s.draws) (slice_get (game_of code).streets (street - 1)) false
 
 -- the bet size of the street
 abbrev pub size_on : Code → ℕ → Size
@@ -44,11 +44,11 @@ abbrev pub unit : Setup → ℕ → ℕ
 unit setup street = chips_of_size setup (size_on setup.code street)
 
 -- games without blinds begin with a bring-in: those that are opened by up-cards
-abbrev pub opens_by_up_cards : Opener → Bool
-opens_by_up_cards Blinds = false
-opens_by_up_cards LowUp = true
-opens_by_up_cards HighUp = true
+abbrev pub is_opened_by_up_cards : Opener → Bool
+is_opened_by_up_cards Blinds = false
+is_opened_by_up_cards LowUp = true
+is_opened_by_up_cards HighUp = true
 
 -- the game is a game of stud
 abbrev pub is_stud : Code → Bool
-is_stud code = opens_by_up_cards (opener_of code)
+is_stud code = is_opened_by_up_cards (opener_of code)

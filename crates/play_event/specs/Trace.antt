@@ -1,6 +1,7 @@
 -- What the trace of a hand keeps of its past: the moves, the places of the cards, and who showed and who mucked.
 use Rattle.std.specs.Prelude.{ℕ, Bool, ◌&&◌, nat_le, not, List, [], ◌∷◌, ◌++◌, map, filter, flat_map, Option, Some, None}
 use Rattle.std.specs.List.{list_any, range_with_len}
+use Rattle.card_set.specs.declared.card.Slot.{Slot}
 use Rattle.play_event.specs.declared.setup.Setup.{Setup}
 use Rattle.play_event.specs.Games.{Limit, Fixed, Pot, NoLimit, street_count}
 use Rattle.play_event.specs.Streets.{limit_of}
@@ -10,7 +11,7 @@ use Rattle.play_event.specs.Price.{price}
 use Rattle.play_event.specs.Amounts.{unit_target}
 use Rattle.play_event.specs.Raising.{is_closed}
 use Rattle.play_event.specs.Showing.{has_mucked}
-use Rattle.play_event.specs.Openers.{is_unknown}
+use Rattle.card_set.specs.Known.{is_unknown}
 use Rattle.play_event.specs.Places.{Place, is_in_group, is_held_by}
 use Rattle.play_event.specs.Table.{places_of}
 
@@ -51,6 +52,18 @@ abbrev pub traced_moves : Setup → List Move → List TracedMove
 traced_moves setup [] = []
 traced_moves setup (move ∷ before) = traced_moves setup before ++ traced_move setup move before ∷ []
 
+-- A place of the trace: whose card it is, the street on which it was dealt, the card as far as it is known, and the
+-- street of the draw that discarded it, or 0.
+pub record TracedPlace : Type 0 where
+  pub owner : Option ℕ
+  pub street : ℕ
+  pub slot : Slot
+  pub discarded : ℕ
+
+-- what the trace keeps of a place
+abbrev pub traced_place : Place → TracedPlace
+traced_place place = record { owner = place.owner; street = place.street; slot = place.slot; discarded = place.discarded }
+
 -- the owners of cards: the seats from p1 upward, and then the board
 abbrev pub owners : Setup → List (Option ℕ)
 owners setup = map Some (all_seats setup) ++ None ∷ []
@@ -64,20 +77,24 @@ abbrev pub places_on : Setup → List Place → ℕ → List Place
 places_on setup placed street = flat_map (λ owner. filter (is_in_group owner street) placed) (owners setup)
 
 -- the places by street, then by owner, then in the order of dealing
-abbrev pub traced_places : Setup → Past → List Place
-traced_places setup past = flat_map (places_on setup (places_of setup.code past)) (streets_of setup)
+abbrev pub ordered_places : Setup → Past → List Place
+ordered_places setup past = flat_map (places_on setup (places_of setup.code past)) (streets_of setup)
+
+-- the places of the trace
+abbrev pub traced_places : Setup → Past → List TracedPlace
+traced_places setup past = map traced_place (ordered_places setup past)
 
 -- the hand is contested: two or more seats are live at its end
 abbrev pub is_contested : Setup → Past → Bool
 is_contested setup past = nat_le 2 (live_count setup (moves_of past))
 
 -- a card that a seat holds is unknown
-abbrev pub holds_unknown : Setup → Past → ℕ → Bool
-holds_unknown setup past seat = list_any (λ place. is_held_by seat place && is_unknown place.slot) (places_of setup.code past)
+abbrev pub has_unknown_card : Setup → Past → ℕ → Bool
+has_unknown_card setup past seat = list_any (λ place. is_held_by seat place && is_unknown place.slot) (places_of setup.code past)
 
 -- a live seat of a contested hand is shown where it did not muck and all its cards are known
 abbrev pub is_shown : Setup → Past → ℕ → Bool
-is_shown setup past seat = is_contested setup past && is_live (moves_of past) seat && not (has_mucked past seat) && not (holds_unknown setup past seat)
+is_shown setup past seat = is_contested setup past && is_live (moves_of past) seat && not (has_mucked past seat) && not (has_unknown_card setup past seat)
 
 -- else it is mucked
 abbrev pub is_mucked : Setup → Past → ℕ → Bool

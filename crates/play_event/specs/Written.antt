@@ -7,11 +7,11 @@ use Rattle.play_event.specs.declared.setup.Setup.{Setup}
 use Rattle.play_event.specs.declared.setup.Rules.{Rules}
 use Rattle.play_event.specs.declared.setup.Reopen.TheVariants as reopen
 use Rattle.play_event.specs.Said.{Said, Hole, Board, Fold, Call, Raise, BringIn, Discard, Show, Muck}
-use Rattle.play_event.specs.Rows.{row_of, fits_row}
+use Rattle.play_event.specs.Rows.{row_of, is_row}
 use Rattle.play_event.specs.CardNames.{slots_named, cards_named}
 
 -- a hand of a game: bring-in, small bet, big bet and least bet; then stacks, antes and blinds
-abbrev pub hand_of : Code → Bool → (bring_in small big least : ℕ) → (stacks antes blinds : List ℕ) → IsTrue (fits_row stacks) → IsTrue (fits_row antes) → IsTrue (fits_row blinds) → Setup
+abbrev pub hand_of : Code → Bool → (bring_in small big least : ℕ) → (stacks antes blinds : List ℕ) → IsTrue (is_row stacks) → IsTrue (is_row antes) → IsTrue (is_row blinds) → Setup
 hand_of code dead bring_in small big least stacks antes blinds stacks_fit antes_fit blinds_fit =
     record {
       code = code;

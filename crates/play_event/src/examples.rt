@@ -3,19 +3,19 @@ ghost use Rattle.std.specs.Prelude.{◌≡◌, ◌++◌, [], ◌∷◌, true, fa
 ghost use Rattle.play_event.specs.declared.event.Spelled.TheVariants as spelled;
 ghost use Rattle.play_event.specs.declared.reason.Illegal.TheVariants as reasons;
 ghost use Rattle.play_event.specs.Said.{Hole, Fold, Raise};
-ghost use Rattle.play_event.specs.Scripts.{ends_early};
+ghost use Rattle.play_event.specs.Scripts.{has_early_end};
 ghost use Rattle.play_event.specs.Examples.{three_seats, deep_seats, short_seat, unseen, ace_of_hearts, king_of_hearts, three_deals, raised_to, folds, first_refusal, ends_with};
 
 /// The first street of no-limit hold'em on hands that are won by folds, or are refused. The function does
 /// nothing: its contract is computed from the rules. Events are counted from 0.
 pub fn hands_won_by_folds()
     ensures a_raise_and_two_folds { first_refusal three_seats (raised_to 6 ++ folds 1 ∷ folds 2 ∷ []) ≡ None }
-    ensures it_is_complete { ends_early three_seats (raised_to 6 ++ folds 1 ∷ folds 2 ∷ []) ≡ false }
+    ensures it_is_complete { has_early_end three_seats (raised_to 6 ++ folds 1 ∷ folds 2 ∷ []) ≡ false }
     ensures it_ends_with { ends_with three_seats (raised_to 6 ++ folds 1 ∷ folds 2 ∷ []) ≡ 99 ∷ 98 ∷ 103 ∷ [] }
     ensures deep_stacks { ends_with deep_seats (raised_to 6 ++ folds 1 ∷ folds 2 ∷ [])
         ≡ 999999999999 ∷ 999999999998 ∷ 1000000000003 ∷ [] }
     ensures cut_before_the_last_fold { first_refusal three_seats (raised_to 6 ++ folds 1 ∷ []) ≡ None }
-    ensures it_ends_early { ends_early three_seats (raised_to 6 ++ folds 1 ∷ []) ≡ true }
+    ensures it_ends_early { has_early_end three_seats (raised_to 6 ++ folds 1 ∷ []) ≡ true }
     ensures a_raise_to_three { first_refusal three_seats (raised_to 3) ≡ Some (3, Some reasons.RaiseTooSmall) }
     ensures a_raise_to_four { first_refusal three_seats (raised_to 4) ≡ None }
     ensures a_raise_above_the_stack { first_refusal three_seats (raised_to 101) ≡ Some (3, Some reasons.RaiseTooBig) }

@@ -20,8 +20,7 @@ ghost use Rattle.play_event.specs.Targets.{is_legal_target, greatest_target};
 ghost use Rattle.play_event.specs.Table.{places_of, up_cards};
 ghost use Rattle.play_event.specs.Reasons.{why, all_reasons};
 ghost use Rattle.play_event.specs.declared.reason.Illegal.{Illegal};
-ghost use Rattle.play_event.specs.Scripts.{past_of, with_event, IsLegal, IsFirstIllegal};
-ghost use Rattle.play_event.specs.Computed.{refusal};
+ghost use Rattle.play_event.specs.Scripts.{past_of, with_event, HasNoIllegalEvent, IsFirstIllegal, illegal_event};
 ghost use Rattle.play_event.specs.Laws.{IsFirstStreet, NoneHold, AreLegal, NoneClash};
 
 /// What is due is due on the first street, from that of the past on, on which something is. The function does
@@ -76,9 +75,9 @@ pub fn law_of_places()
 /// The walk by which the worked hands are computed tells the first illegal event of a script, or that it is legal.
 pub fn law_of_scripts()
     ensures refused { (setup : Setup) (rules : Rules) (script : List Said) (index : ℕ) (reason : Illegal)
-        → refusal setup rules script ≡ Some (index + 1, reason) → IsFirstIllegal setup rules script index reason }
+        → illegal_event setup rules script ≡ Some (index + 1, reason) → IsFirstIllegal setup rules script index reason }
     ensures legal { (setup : Setup) (rules : Rules) (script : List Said)
-        → refusal setup rules script ≡ None → IsLegal setup rules script }
+        → illegal_event setup rules script ≡ None → HasNoIllegalEvent setup rules script }
 {}
 
 /// A raise without actor, however it is spelled, has the reason and the outcome of a raise of the seat in turn to the

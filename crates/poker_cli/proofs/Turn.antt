@@ -13,8 +13,8 @@ use Rattle.play_event.specs.Past.{newest_street, moves_of}
 use Rattle.play_event.specs.Said as said
 use Rattle.play_event.specs.Said.{Said}
 use Rattle.play_event.specs.Seats.{live_count}
-use Rattle.play_event.specs.Dealing.{deal_due, draw_due}
-use Rattle.play_event.specs.Due.{turn, due_on, first_due, found_or, bring_in_due, move_due, showdown}
+use Rattle.play_event.specs.Dealing.{is_deal_due, is_draw_due}
+use Rattle.play_event.specs.Due.{turn, due_on, first_due, found_or, is_bring_in_due, is_move_due, showdown}
 use Rattle.play_event.specs.HistoryRules.{history_rules}
 use Rattle.play_event.specs.Reasons.{why, first_reason, all_reasons, later_reasons, may_come, is_first_show}
 use Rattle.first_form.specs.Hand.{IsFirstEvent}
@@ -54,19 +54,19 @@ due_by deal draw bring_in move =
     if deal then Some (dues.Deal 1) else if draw then Some (dues.Draw 1) else if bring_in then Some dues.BringIn else if move then Some dues.Move else None
 
 -- a deal comes before the moves
-pub due_deal : (setup : Setup) (before : past.Past) → deal_due setup before 1 ≡ true → due_on setup before 1 ≡ Some (dues.Deal 1)
+pub due_deal : (setup : Setup) (before : past.Past) → is_deal_due setup before 1 ≡ true → due_on setup before 1 ≡ Some (dues.Deal 1)
 due_deal setup before deal =
-    ap (λ b. due_by b (draw_due setup before 1) (bring_in_due setup (moves_of before) 1) (move_due setup (moves_of before) 1)) deal
+    ap (λ b. due_by b (is_draw_due setup before 1) (is_bring_in_due setup (moves_of before) 1) (is_move_due setup (moves_of before) 1)) deal
 
 -- without a deal the moves decide
-pub due_without_deal : (setup : Setup) (before : past.Past) → setup.code ≡ games.NT → deal_due setup before 1 ≡ false → due_on setup before 1 ≡ due_by false false false (move_due setup (moves_of before) 1)
+pub due_without_deal : (setup : Setup) (before : past.Past) → setup.code ≡ games.NT → is_deal_due setup before 1 ≡ false → due_on setup before 1 ≡ due_by false false false (is_move_due setup (moves_of before) 1)
 due_without_deal setup before game deal =
-    ap (λ b. due_by b (draw_due setup before 1) (bring_in_due setup (moves_of before) 1) (move_due setup (moves_of before) 1)) deal
-    ∙ ap (λ b. due_by false b (bring_in_due setup (moves_of before) 1) (move_due setup (moves_of before) 1)) (no_draw setup before game)
-    ∙ ap (λ b. due_by false false b (move_due setup (moves_of before) 1)) (no_bring_in setup (moves_of before) game)
+    ap (λ b. due_by b (is_draw_due setup before 1) (is_bring_in_due setup (moves_of before) 1) (is_move_due setup (moves_of before) 1)) deal
+    ∙ ap (λ b. due_by false b (is_bring_in_due setup (moves_of before) 1) (is_move_due setup (moves_of before) 1)) (no_draw setup before game)
+    ∙ ap (λ b. due_by false false b (is_move_due setup (moves_of before) 1)) (no_bring_in setup (moves_of before) game)
 
 -- then come the moves
-pub due_move : (setup : Setup) (before : past.Past) → setup.code ≡ games.NT → deal_due setup before 1 ≡ false → move_due setup (moves_of before) 1 ≡ true → due_on setup before 1 ≡ Some dues.Move
+pub due_move : (setup : Setup) (before : past.Past) → setup.code ≡ games.NT → is_deal_due setup before 1 ≡ false → is_move_due setup (moves_of before) 1 ≡ true → due_on setup before 1 ≡ Some dues.Move
 due_move setup before game deal move =
     due_without_deal setup before game deal ∙ ap (due_by false false false) move
 

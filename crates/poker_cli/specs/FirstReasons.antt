@@ -8,7 +8,7 @@ use Rattle.play_event.specs.HistoryRules.{history_rules}
 use Rattle.play_event.specs.Past.{Past, moves_of}
 use Rattle.play_event.specs.Dealing.{hole_cards_owed}
 use Rattle.play_event.specs.Table.{places_of}
-use Rattle.play_event.specs.Taken.{any_taken}
+use Rattle.play_event.specs.Taken.{has_taken_card}
 use Rattle.play_event.specs.CardReasons.{is_wrong_deal}
 use Rattle.play_event.specs.Raising.{may_raise}
 use Rattle.play_event.specs.MoveReasons.{is_below_targets, is_above_targets}
@@ -18,7 +18,7 @@ abbrev pub why_not_dealt : Setup → Past → ℕ → List Slot → List (Bool �
 why_not_dealt setup past seat cards =
     (hole_cards_owed setup past 1 seat == 0, reasons.WrongSeat)
     ∷ (is_wrong_deal (hole_cards_owed setup past 1 seat) (length cards), reasons.WrongCount)
-    ∷ (any_taken setup.code (places_of setup.code past) 1 cards, reasons.CardTaken)
+    ∷ (has_taken_card setup.code (places_of setup.code past) 1 cards, reasons.CardTaken)
     ∷ []
 
 -- a seat is named, and it is not that seat's turn

@@ -9,7 +9,7 @@ use Rattle.play_event.specs.Past.{Past, moves_of}
 use Rattle.play_event.specs.Seats.{live_count, all_seats}
 use Rattle.play_event.specs.Due.{due_on}
 use Rattle.play_event.specs.HistoryRules.{history_rules}
-use Rattle.play_event.specs.Scripts.{past_after, why_at, ends_early}
+use Rattle.play_event.specs.Scripts.{past_after, why_at, has_early_end}
 use Rattle.play_event.specs.Finish.{finishing_stack}
 use Rattle.first_form.specs.Hand.{Numbered, Told}
 
@@ -55,7 +55,7 @@ first_stop stop (count ∷ rest) = stop_or (stop count) (first_stop stop rest)
 -- what becomes of a script that does not stop
 unfoldable pub ending : Setup → List Numbered → Verdict
 ending setup script =
-    if ends_early setup (events_of script) then EndsEarly
+    if has_early_end setup (events_of script) then EndsEarly
     else Complete (map (finishing_stack setup (moves_of (past_after setup (events_of script) (length script)))) (all_seats setup))
 
 -- the verdict, by the first stop

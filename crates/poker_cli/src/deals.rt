@@ -5,7 +5,7 @@ ghost use Rattle.card_set.specs.Deck.{is_same_card};
 ghost use Rattle.play_event.specs.declared.code.Code.TheVariants as games;
 ghost use Rattle.play_event.specs.Dealing as definition;
 ghost use Rattle.play_event.specs.Table.{places_of};
-ghost use Rattle.play_event.specs.Taken.{bears, is_taken, stands_again, has_repeat, any_taken};
+ghost use Rattle.play_event.specs.Taken.{is_borne_by, is_taken, is_repeated, has_repeat, has_taken_card};
 ghost use Rattle.poker_cli.specs.Steps.{past_seen, steps_seen, cards_dealt};
 
 use crate::past::{Past, Step};
@@ -64,10 +64,10 @@ fn lacks_cards(setup: &Setup, past: &Past<'_>, seats: &[u8]) -> bool
 }
 
 /// Some live seat lacks hole cards.
-pub fn deal_due(setup: &Setup, past: &Past<'_>) -> bool
+pub fn is_deal_due(setup: &Setup, past: &Past<'_>) -> bool
     requires game { setup.now.code ≡ games.NT }
     requires few { steps_seen past.now ≤ 300 }
-    ensures { result ≡ definition.deal_due setup.now (past_seen past.now) 1 }
+    ensures { result ≡ definition.is_deal_due setup.now (past_seen past.now) 1 }
 {
     lacks_cards(setup, past, seats::seats(setup.stacks.seats))
 }
@@ -81,7 +81,7 @@ pub fn same(a: Card, b: Card) -> bool
 
 /// The slot bears the card.
 fn bears_card(card: Card, slot: Slot) -> bool
-    ensures { result ≡ bears card slot }
+    ensures { result ≡ is_borne_by card slot }
 {
     match slot {
         Slot::Known(other) => same(card, other),
@@ -91,14 +91,14 @@ fn bears_card(card: Card, slot: Slot) -> bool
 
 /// One of the slots bears the card.
 fn among(card: Card, slots: &[Slot]) -> bool
-    ensures { result ≡ list_any (bears card) slots.now }
+    ensures { result ≡ list_any (is_borne_by card) slots.now }
 {
     slots.iter().any(|slot| bears_card(card, *slot))
 }
 
 /// The step dealt the card.
 fn dealt_by(step: &Step, card: Card) -> bool
-    ensures { result ≡ list_any (bears card) (cards_dealt step.now) }
+    ensures { result ≡ list_any (is_borne_by card) (cards_dealt step.now) }
 {
     match step {
         Step::Dealt { cards, .. } => among(card, cards.as_slice()),
@@ -108,7 +108,7 @@ fn dealt_by(step: &Step, card: Card) -> bool
 
 /// The card lies on the table.
 fn on_table(setup: &Setup, past: &Past<'_>, card: Card) -> bool
-    ensures { result ≡ list_any (λ place. bears card place.slot) (places_of setup.now.code (past_seen past.now)) }
+    ensures { result ≡ list_any (λ place. is_borne_by card place.slot) (places_of setup.now.code (past_seen past.now)) }
 {
     match past {
         Past::Start => false,
@@ -141,7 +141,7 @@ fn some_taken(setup: &Setup, past: &Past<'_>, slots: &[Slot]) -> bool
 
 /// The slot's card is that of another slot.
 fn again(slot: Slot, others: &[Slot]) -> bool
-    ensures { result ≡ stands_again slot others.now }
+    ensures { result ≡ is_repeated slot others.now }
 {
     match slot {
         Slot::Known(card) => among(card, others),
@@ -163,7 +163,7 @@ fn repeated(slots: &[Slot]) -> bool
 #[tactic(auto, using(crate::proofs::FirstStreet::within_deck))]
 pub fn cards_taken(setup: &Setup, past: &Past<'_>, slots: &[Slot]) -> bool
     requires { setup.now.code ≡ games.NT }
-    ensures { result ≡ any_taken setup.now.code (places_of setup.now.code (past_seen past.now)) 1 slots.now }
+    ensures { result ≡ has_taken_card setup.now.code (places_of setup.now.code (past_seen past.now)) 1 slots.now }
 {
     some_taken(setup, past, slots) || repeated(slots)
 }

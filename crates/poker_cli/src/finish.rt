@@ -2,7 +2,7 @@
 ghost use Rattle.std.specs.Prelude.{◌≡◌, ◌*◌, ◌≤◌, ◌==◌, not, length, map, filter, sum, IfOk};
 ghost use Rattle.chip_ledger.specs.SeatRow.{amount_of};
 ghost use Rattle.play_event.specs.Chips as chips_definition;
-ghost use Rattle.play_event.specs.Price.{greatest};
+ghost use Rattle.chip_ledger.specs.Greatest.{greatest};
 ghost use Rattle.play_event.specs.Seats.{all_seats};
 ghost use Rattle.play_event.specs.Finish as definition;
 ghost use Rattle.poker_cli.specs.Steps.{moves_seen, steps_seen};

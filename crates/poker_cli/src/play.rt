@@ -40,7 +40,7 @@ fn stage_of(setup: &Setup, past: &Past<'_>) -> Option<Stage>
 {
     if seats::live_count(setup, past) <= 1 {
         Some(Stage::Over)
-    } else if deals::deal_due(setup, past) {
+    } else if deals::is_deal_due(setup, past) {
         Some(Stage::Dealing)
     } else if turns::some_move_due(setup, past) {
         Some(Stage::Betting)

@@ -4,6 +4,7 @@ ghost use Rattle.std.specs.List.{range_with_len};
 ghost use Rattle.chip_ledger.specs.Seat.{seats_of};
 ghost use Rattle.play_event.specs.Seats as definition;
 ghost use Rattle.play_event.specs.Chips.{street_chips};
+ghost use Rattle.chip_ledger.specs.Greatest.{greatest};
 ghost use Rattle.play_event.specs.Price as price_definition;
 ghost use Rattle.poker_cli.specs.Steps.{moves_seen, steps_seen};
 
@@ -78,7 +79,7 @@ pub fn able_count(setup: &Setup, past: &Past<'_>) -> usize
 /// The most chips of the street that any of these seats has put.
 fn most_chips(setup: &Setup, past: &Past<'_>, seats: &[u8]) -> u64
     requires { steps_seen past.now ≤ 300 }
-    ensures value { result ≡ price_definition.greatest (map (street_chips setup.now (moves_seen past.now) 1) seats.now) }
+    ensures value { result ≡ greatest (map (street_chips setup.now (moves_seen past.now) 1) seats.now) }
     ensures bounded { result ≤ 400000000000000 }
 {
     match seats {

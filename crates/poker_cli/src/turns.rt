@@ -3,8 +3,8 @@ ghost use Rattle.std.specs.Prelude.{◌≡◌, ◌≤◌, ◌<◌, ◌-◌, ◌+
 ghost use Rattle.std.specs.List.{list_any};
 ghost use Rattle.chip_ledger.specs.SeatRow.{amount_of};
 ghost use Rattle.play_event.specs.Past.{moves_on};
-ghost use Rattle.play_event.specs.Price.{greatest};
-ghost use Rattle.play_event.specs.Due.{has_moved_since_rise, has_to_move, move_due};
+ghost use Rattle.chip_ledger.specs.Greatest.{greatest};
+ghost use Rattle.play_event.specs.Due.{has_moved_since_rise, has_to_move, is_move_due};
 ghost use Rattle.play_event.specs.Openers as openers;
 ghost use Rattle.play_event.specs.Openers.{TheSeat, in_turn, blinds_opener};
 ghost use Rattle.play_event.specs.Mover as definition;
@@ -83,7 +83,7 @@ fn some_to_move(setup: &Setup, past: &Past<'_>, seats: &[u8]) -> bool
 /// Some seat has a move to make.
 pub fn some_move_due(setup: &Setup, past: &Past<'_>) -> bool
     requires { steps_seen past.now ≤ 300 }
-    ensures { result ≡ move_due setup.now (moves_seen past.now) 1 }
+    ensures { result ≡ is_move_due setup.now (moves_seen past.now) 1 }
 {
     some_to_move(setup, past, seats::seats(setup.stacks.seats))
 }

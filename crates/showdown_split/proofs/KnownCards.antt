@@ -4,7 +4,7 @@ use Rattle.std.proofs.lemmas.List.{take_more}
 use Rattle.card_set.specs.declared.card.Card.{Card}
 use Rattle.card_set.specs.declared.card.Slot.{Slot}
 use Rattle.card_set.specs.declared.card.Slot.TheVariants as slots
-use Rattle.showdown_split.specs.Known.{known_cards}
+use Rattle.card_set.specs.Known.{known_cards}
 
 known_append : (first second : List Slot) → known_cards (first ++ second) ≡ known_cards first ++ known_cards second
 known_append [] second = refl

@@ -8,7 +8,7 @@ use Rattle.chip_ledger.specs.LiveRow.{flag_of}
 use Rattle.play_event.specs.declared.card_rows.HandRow.{HandRow}
 use Rattle.play_event.specs.SeatSlots.{slots_of_hand}
 use Rattle.variant_table.specs.Shares.{Showdown}
-use Rattle.showdown_split.specs.Known.{known_cards}
+use Rattle.card_set.specs.Known.{known_cards}
 
 -- the known cards of seat number n
 abbrev pub holding : HandRow → ℕ → List Card

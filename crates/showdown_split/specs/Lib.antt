@@ -1,5 +1,4 @@
 -- The cards and scores of the seats at the end of a hand, and what a whole split gives.
-pub mod Known
 pub mod Hands
 pub mod Scores
 pub mod Worths

@@ -1,7 +1,7 @@
 // The cards of a seat are those of its slots that are known.
 ghost use Rattle.std.specs.Prelude.{◌≡◌, ◌≤◌, ◌<◌, ◌+◌, [], ◌∷◌, ◌++◌};
 ghost use Rattle.card_set.specs.Row.{cards_of, slots_of};
-ghost use Rattle.showdown_split.specs.Known.{known_cards};
+ghost use Rattle.card_set.specs.Known.{known_cards};
 
 use card_set::{CardRow, Slot, SlotRow};
 

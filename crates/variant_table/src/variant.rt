@@ -3,7 +3,7 @@ ghost use Rattle.std.specs.Prelude.{◌≡◌, ℕ, ◌≤◌, ◌-◌, Bool, So
 ghost use Rattle.card_set.specs.declared.card.Card.{Card};
 ghost use Rattle.play_event.specs.declared.code.Code.{Code};
 ghost use Rattle.play_event.specs.Games.{game_of};
-ghost use Rattle.play_event.specs.Taken.{in_deck};
+ghost use Rattle.play_event.specs.Taken.{is_in_deck};
 ghost use Rattle.hand_order.specs.declared.best.Pick.{Pick};
 ghost use Rattle.variant_table.specs.declared.limit.Limit.{Limit};
 ghost use Rattle.variant_table.specs.declared.limit.Opener.{Opener};
@@ -66,7 +66,7 @@ pub trait Variant {
 
     /// Whether the deck has this card.
     fn in_deck(card: Card) -> bool
-        ensures { result ≡ in_deck CODE card }
+        ensures { result ≡ is_in_deck CODE card }
     {
         Self::DECK != SHORT_DECK || place_of_rank(card.rank) >= place_of_rank(Rank::Six)
     }

@@ -1,7 +1,7 @@
 -- The cards so far are the known ones of the slots so far.
 use Rattle.std.proofs.Common.{◌≡◌, ◌≤◌, take}
 use Rattle.card_set.specs.Row.{cards_of}
-use Rattle.showdown_split.specs.Known.{known_cards}
+use Rattle.card_set.specs.Known.{known_cards}
 use Rattle.showdown_split.proofs.known.known_row.Given as goal
 
 abbrev pub invariant-loop-slot : goal.invariant-loop-slot

@@ -1,10 +1,15 @@
--- The cards that are known among slots.
-use Rattle.std.specs.Prelude.{List, [], ◌∷◌}
+-- Which slots are unknown, and the cards that are known among slots.
+use Rattle.std.specs.Prelude.{Bool, true, false, List, [], ◌∷◌}
 use Rattle.card_set.specs.declared.card.Card.{Card}
 use Rattle.card_set.specs.declared.card.Slot.{Slot}
 use Rattle.card_set.specs.declared.card.Slot.TheVariants as slots
 
--- the known cards, in order
+-- a slot is unknown
+abbrev pub is_unknown : Slot → Bool
+is_unknown slots.Unknown = true
+is_unknown (slots.Known card) = false
+
+-- the known cards of some slots, in order
 abbrev pub known_cards : List Slot → List Card
 known_cards [] = []
 known_cards (slots.Known card ∷ rest) = card ∷ known_cards rest

@@ -3,7 +3,7 @@ use Rattle.std.specs.List.{list_any}
 use Rattle.play_event.specs.Dealing.{hole_cards_owed}
 use Rattle.poker_cli.specs.Steps.{past_seen}
 use Rattle.poker_cli.proofs.FirstStreet.{deal_due_first}
-use Rattle.poker_cli.proofs.deals.deal_due.Goals as goal
+use Rattle.poker_cli.proofs.deals.is_deal_due.Goals as goal
 
 pub returns : goal.returns
 returns c =
