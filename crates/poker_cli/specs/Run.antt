@@ -1,5 +1,5 @@
 -- What a run of the program tells and leaves.
-use Rattle.std.specs.Prelude.{◌≡◌, ◌⊎◌, ℕ, List, [], codes, Option}
+use Rattle.std.specs.Prelude.{◌≡◌, ◌⊎◌, ℕ, List, [], codes, Option, Some, None, unwrap_or}
 use Rattle.std.specs.Io.KnownBytes.{Appends}
 use Rattle.host_io.specs.Faults.{Rose}
 use Rattle.host_io.specs.Bytes.{AppendsPart}
@@ -21,17 +21,18 @@ MayEnd answer statuses.BadInput = answer.status ≡ statuses.BadInput
 MayEnd answer statuses.Limit = answer.status ≡ statuses.Limit
 MayEnd answer statuses.Unbuilt = answer.status ≡ statuses.Unbuilt
 
--- The line of a status: none after Done; for a refused hand, a bad input, a limit and what is unbuilt that of the answer.
+-- The line of a status that depends on no input: none after Done, and those of faults and of words that are no command.
+abbrev pub fixed_line : Status → Option (List ℕ)
+fixed_line statuses.Usage = Some usage_line
+fixed_line statuses.ReadFault = Some (codes "read fault\n")
+fixed_line statuses.Memory = Some (codes "out of memory\n")
+fixed_line statuses.WriteFault = Some (codes "write fault\n")
+fixed_line statuses.Done = Some []
+fixed_line _ = None
+
+-- the line of a status: its fixed line, and else that of the answer
 abbrev pub line_of : Answer → Status → List ℕ
-line_of answer statuses.Usage = usage_line
-line_of answer statuses.ReadFault = codes "read fault\n"
-line_of answer statuses.Memory = codes "out of memory\n"
-line_of answer statuses.WriteFault = codes "write fault\n"
-line_of answer statuses.Done = []
-line_of answer statuses.Refused = answer.line
-line_of answer statuses.BadInput = answer.line
-line_of answer statuses.Limit = answer.line
-line_of answer statuses.Unbuilt = answer.line
+line_of answer status = unwrap_or (fixed_line status) answer.line
 
 -- a line is told whole, or a part of it where the count of faults rose
 abbrev pub TellsLine : (before now : ℕ) → Option (List ℕ) → Option (List ℕ) → List ℕ → Type 0

@@ -2,7 +2,7 @@ use Rattle.std.proofs.Common.{◌∙◌, ap, Err}
 use Rattle.poker_cli.specs.Answer.{answer_to_document, document_of}
 use Rattle.poker_cli.specs.Told.{answer_told}
 use Rattle.poker_cli.proofs.Answering.{answer_within, answer_beyond}
-use Rattle.poker_cli.proofs.run.reply.Goals as goal
+use Rattle.poker_cli.proofs.entry.reply.Goals as goal
 
 pub returns-in-Ok-answer_to_document-clause-answer : goal.returns-in-Ok-answer_to_document-clause-answer
 returns-in-Ok-answer_to_document-clause-answer g c =

@@ -4,16 +4,13 @@ ghost use Rattle.host_io.specs.Faults.{Rose};
 ghost use Rattle.poker_cli.specs.Answer as definition;
 ghost use Rattle.poker_cli.specs.Told.{answer_told};
 ghost use Rattle.poker_cli.specs.Words.{IsCheck, usage_line};
-ghost use Rattle.poker_cli.specs.Run.{MayEnd, TellsLine, Writes, WritesNothing, IsOwn, line_of};
+ghost use Rattle.poker_cli.specs.Run.{MayEnd, TellsLine, Writes, WritesNothing, IsOwn, fixed_line, line_of};
 
 use crate::answer::{self, Answer, MOST_INPUT};
 use crate::status::Status;
 use card_set::Memory;
 use host_io::{Failed, InFault, Shelf, Sink, Source, read_all, write_all};
 use std::alloc::Global;
-
-#[cfg(test)]
-mod tests;
 
 const USAGE: &[u8] = b"usage: handref check|replay|report|convert|game|load [options]\n";
 
@@ -40,8 +37,9 @@ pub fn run<S: Source, H: Shelf, K: Sink, D: Sink>(
     ensures written { IfSome (S.left input.old) (λ bytes. Writes (K.held out.old) (K.held out.new) (definition.answer_to bytes) result) }
     ensures nothing_written { WritesNothing result → out.new ≡ out.old }
 
-    // The line is told whole, unless the count of its sink rose.
+    // The line is told whole, unless the count of its sink rose. That of a fault depends on no input.
     ensures line { IfSome (S.left input.old) (λ bytes. TellsLine (D.faults diag.old) (D.faults diag.new) (D.held diag.old) (D.held diag.new) (line_of (definition.answer_to bytes) result)) }
+    ensures fixed_line { IfSome (fixed_line result) (TellsLine (D.faults diag.old) (D.faults diag.new) (D.held diag.old) (D.held diag.new)) }
     ensures quiet { result ≡ Status.Done → diag.new ≡ diag.old }
     ensures shelf { shelf.new ≡ shelf.old }
 {
