@@ -7,3 +7,6 @@ pub mod Numbers
 pub mod Lists
 pub mod Rising
 pub mod Options
+pub mod Counting
+pub mod Finding
+pub mod Earliest

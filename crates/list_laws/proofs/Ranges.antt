@@ -1,5 +1,5 @@
 -- Lemmas on numbers in a row, and on the first of them that passes a test.
-use Rattle.std.proofs.Common.{Bool, Some, [], add-zero, ap, arith, cond, drop, false, find, refl, suc, sym, true, zero, ℕ, ⊎_elim, ◌&&◌, ◌++◌, ◌+◌, ◌-◌, ◌<◌, ◌==◌, ◌∙◌, ◌∷◌, ◌≡◌, ◌≤◌}
+use Rattle.std.proofs.Common.{Bool, Some, [], add-zero, ap, arith, cond, drop, false, find, suc, sym, true, zero, ℕ, ⊎_elim, ◌&&◌, ◌++◌, ◌+◌, ◌-◌, ◌<◌, ◌==◌, ◌∙◌, ◌∷◌, ◌≡◌, ◌≤◌}
 use Rattle.std.proofs.lemmas.Bool.{and_parts, eqb-true, or_cases}
 use Rattle.std.specs.List.{list_any, range_with_len}
 

@@ -1,0 +1,52 @@
+-- Lemmas on how many elements of a list pass a test.
+use Rattle.std.proofs.Common.{◌≡◌, ℕ, zero, suc, ◌+◌, ◌<◌, ◌≤◌, Bool, cond, List, [], ◌∷◌, ◌++◌, refl, sym, ap, ◌∙◌, arith, count_by, true, false, ◌||◌}
+use Rattle.std.proofs.lemmas.Bool.{true≢false}
+use Rattle.std.specs.List.{range_with_len, list_any}
+use Rattle.std.proofs.lemmas.List.Sums.{sum_by-cons}
+
+-- one element more in front
+pub count_by-cons : {X : Type 0} (p : X → Bool) (x : X) (xs : List X) → count_by p (x ∷ xs) ≡ cond (p x) 1 0 + count_by p xs
+count_by-cons p x xs = sum_by-cons (λ x. cond (p x) 1 0) x xs
+
+-- one element more at the end
+pub count_by-push : {X : Type 0} (p : X → Bool) (xs : List X) (x : X) → count_by p (xs ++ x ∷ []) ≡ count_by p xs + cond (p x) 1 0
+count_by-push p [] x = count_by-cons p x [] ∙ omega arith
+count_by-push p (y ∷ xs) x = omega (arith, count_by-cons p y (xs ++ x ∷ []), count_by-push p xs x, count_by-cons p y xs)
+
+-- tests that agree at each number
+pub count_agree : (p q : ℕ → Bool) (first n : ℕ) → ((k : ℕ) → first ≤ k → k < first + n → p k ≡ q k) → count_by p (range_with_len first n) ≡ count_by q (range_with_len first n)
+count_agree p q first zero h = refl
+count_agree p q first (suc n) h =
+    let here : ◌≡◌ {A = ℕ} (cond (p first) 1 0) (cond (q first) 1 0) = ap (λ b. cond b 1 0) (h first (omega arith) (omega arith)) in
+    let later : count_by p (range_with_len (first + 1) n) ≡ count_by q (range_with_len (first + 1) n) = count_agree p q (first + 1) n (λ k low high. h k (omega (arith, low)) (omega (arith, high))) in
+    count_by-cons p first (range_with_len (first + 1) n)
+    ∙ ap (λ c. c + count_by p (range_with_len (first + 1) n)) here
+    ∙ ap (λ c. cond (q first) 1 0 + c) later
+    ∙ sym (count_by-cons q first (range_with_len (first + 1) n))
+
+counted_here : {X : Type 0} (p : X → Bool) (x : X) (rest : List X) (b : Bool) → (1 ≤ count_by p rest → list_any p rest ≡ true) → 1 ≤ cond b 1 0 + count_by p rest → (b || list_any p rest) ≡ true
+counted_here p x rest true later some = refl
+counted_here p x rest false later some = later (omega (arith, some))
+
+-- what counts one passes at one
+pub counted_some : {X : Type 0} (p : X → Bool) (xs : List X) → 1 ≤ count_by p xs → list_any p xs ≡ true
+counted_some p [] some = absurd (omega (arith, some))
+counted_some p (x ∷ xs) some = counted_here p x xs (p x) (counted_some p xs) (omega (arith, some, count_by-cons p x xs))
+
+-- a stronger test counts no more
+fewer_by : {X : Type 0} (p q : X → Bool) (x : X) (rest : List X) (a b : Bool) → (a ≡ true → b ≡ true) → count_by p rest ≤ count_by q rest → cond a 1 0 + count_by p rest ≤ cond b 1 0 + count_by q rest
+fewer_by p q x rest true true h later = omega (arith, later)
+fewer_by p q x rest true false h later = absurd (true≢false (sym (h refl)))
+fewer_by p q x rest false true h later = omega (arith, later)
+fewer_by p q x rest false false h later = omega (arith, later)
+
+pub counts_fewer : {X : Type 0} (p q : X → Bool) → ((x : X) → p x ≡ true → q x ≡ true) → (xs : List X) → count_by p xs ≤ count_by q xs
+counts_fewer p q h [] = omega arith
+counts_fewer p q h (x ∷ xs) = omega (arith, fewer_by p q x xs (p x) (q x) (h x) (counts_fewer p q h xs), count_by-cons p x xs, count_by-cons q x xs)
+
+-- a test that passes at each number
+pub count_all : (p : ℕ → Bool) (first n : ℕ) → ((k : ℕ) → p k ≡ true) → count_by p (range_with_len first n) ≡ n
+count_all p first zero all = refl
+count_all p first (suc n) all =
+    let one : ◌≡◌ {A = ℕ} (cond (p first) 1 0) 1 = ap (λ b. cond b 1 0) (all first) in
+    omega (arith, count_by-cons p first (range_with_len (first + 1) n), one, count_all p (first + 1) n all)

@@ -1,0 +1,56 @@
+-- Lemmas on the first element of a list that passes a test.
+use Rattle.std.proofs.Common.{◌≡◌, Bool, true, false, ◌||◌, cond, List, [], ◌∷◌, Some, is_some, find, refl, sym, ◌∙◌, ℕ, zero, suc, ◌+◌, ◌-◌, ◌<◌, ◌≤◌, ◌++◌, ap, arith}
+use Rattle.std.proofs.lemmas.Bool.{false_from_ne_true, true≢false}
+use Rattle.std.specs.List.{list_any, range_with_len}
+use Rattle.std.proofs.lemmas.List.Folds.{list_any-append}
+use Rattle.list_laws.proofs.Any.{list_any-weaker}
+use Rattle.list_laws.proofs.Tests.{or_false}
+
+found_by : {X : Type 0} (p : X → Bool) (x : X) (rest : List X) (b : Bool) → is_some (find p rest) ≡ list_any p rest → is_some (cond b (Some x) (find p rest)) ≡ (b || list_any p rest)
+found_by p x rest true later = refl
+found_by p x rest false later = later
+
+-- something is found where something passes
+pub some_found : {X : Type 0} (p : X → Bool) (xs : List X) → is_some (find p xs) ≡ list_any p xs
+some_found p [] = refl
+some_found p (x ∷ xs) = found_by p x xs (p x) (some_found p xs)
+
+-- a stronger test passes nowhere where a weaker one does not
+pub none_stronger : {X : Type 0} (p q : X → Bool) → ((x : X) → p x ≡ true → q x ≡ true) → (xs : List X) → list_any q xs ≡ false → list_any p xs ≡ false
+none_stronger p q h xs none = false_from_ne_true (list_any p xs) (λ some. true≢false (sym (list_any-weaker p q h xs some) ∙ none))
+
+-- one element more at the end
+pub list_any-push : {X : Type 0} (p : X → Bool) (xs : List X) (x : X) → list_any p (xs ++ x ∷ []) ≡ (list_any p xs || p x)
+list_any-push p xs x = list_any-append p xs (x ∷ []) ∙ ap (λ b. list_any p xs || b) (or_false (p x))
+
+-- tests that agree at each number
+pub any_agree : (p q : ℕ → Bool) (first n : ℕ) → ((k : ℕ) → first ≤ k → k < first + n → p k ≡ q k) → list_any p (range_with_len first n) ≡ list_any q (range_with_len first n)
+any_agree p q first zero h = refl
+any_agree p q first (suc n) h =
+    ap (λ b. b || list_any p (range_with_len (first + 1) n)) (h first (omega arith) (omega arith))
+    ∙ ap (λ b. q first || b) (any_agree p q (first + 1) n (λ k low high. h k (omega (arith, low)) (omega (arith, high))))
+
+pub find_agree : (p q : ℕ → Bool) (first n : ℕ) → ((k : ℕ) → first ≤ k → k < first + n → p k ≡ q k) → find p (range_with_len first n) ≡ find q (range_with_len first n)
+find_agree p q first zero h = refl
+find_agree p q first (suc n) h =
+    ap (λ b. cond b (Some first) (find p (range_with_len (first + 1) n))) (h first (omega arith) (omega arith))
+    ∙ ap (λ o. cond (q first) (Some first) o) (find_agree p q (first + 1) n (λ k low high. h k (omega (arith, low)) (omega (arith, high))))
+
+-- the first of the numbers, or the first of the others
+pub find_step : (p : ℕ → Bool) (first count : ℕ) → 1 ≤ count → find p (range_with_len first count) ≡ cond (p first) (Some first) (find p (range_with_len (first + 1) (count - 1)))
+find_step p first zero some = absurd (omega (arith, some))
+find_step p first (suc count) some =
+    let same : count ≡ suc count - 1 = omega arith in
+    ap (λ n. cond (p first) (Some first) (find p (range_with_len (first + 1) n))) same
+
+-- numbers in a row, in two parts
+pub range_split : (first a b : ℕ) → range_with_len first (a + b) ≡ range_with_len first a ++ range_with_len (first + a) b
+range_split first zero b =
+    let none : 0 + b ≡ b = omega arith in
+    let same : first ≡ first + 0 = omega arith in
+    ap (range_with_len first) none ∙ ap (λ n. range_with_len n b) same
+range_split first (suc a) b =
+    let more : suc a + b ≡ suc (a + b) = omega arith in
+    let same : first + 1 + a ≡ first + suc a = omega arith in
+    ap (range_with_len first) more
+    ∙ ap (λ xs. first ∷ xs) (range_split (first + 1) a b ∙ ap (λ n. range_with_len (first + 1) a ++ range_with_len n b) same)

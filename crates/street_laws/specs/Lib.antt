@@ -1,0 +1,7 @@
+-- Words for what is due next, street by street.
+pub mod Seats
+pub mod Dues
+pub mod Walk
+pub mod Done
+pub mod CardEvents
+pub mod Groups
