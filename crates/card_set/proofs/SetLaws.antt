@@ -1,49 +1,68 @@
--- The flags of a set of cards are those of the 52 cards.
-use Rattle.std.proofs.Common.{◌≡◌, ◌≢◌, ℕ, zero, suc, replicate, ◌<◌, Bool, false, List, [], ◌∷◌, length, get_or, set, map, count_by, refl, sym, ◌∙◌, ap, arith, get_or-set_same, get_or-set_other}
-use Rattle.std.specs.List.{range_with_len}
-use Rattle.std.proofs.lemmas.List.FromFn.{fill_by_all}
-use Rattle.std.proofs.lemmas.List.Sums.{length-filter}
+-- A set with one card more, and the cards of a set so far in the order of the deck.
+use Rattle.std.proofs.Common.{◌≡◌, ◌≢◌, ℕ, ◌+◌, ◌<◌, ◌≤◌, ◌||◌, Bool, true, false, cond, List, [], ◌∷◌, ◌++◌, length, filter, take, drop, get_or, ◌⊎◌, inl, inr, refl, sym, ◌∙◌, ap, arith, length-append, take-append-drop, length-take, take_all}
+use Rattle.std.proofs.lemmas.List.{take_more}
+use Rattle.std.proofs.lemmas.List.Elements.{filter_more, filter-append}
 use Rattle.card_set.specs.declared.card.Card.{Card}
-use Rattle.card_set.specs.declared.set.CardSet.{CardSet}
-use Rattle.card_set.specs.Deck.{deck_place}
-use Rattle.card_set.specs.CardSet.{is_in, every_card, count_of}
-use Rattle.card_set.proofs.DeckLaws.{deck_place-same}
-use Rattle.card_set.proofs.Counted.{count_by-cons}
+use Rattle.card_set.specs.declared.row.CardRow.{CardRow}
+use Rattle.card_set.specs.CardSet.{every_card, is_one_of}
+use Rattle.card_set.specs.Deck.{deck_place, is_same_card}
+use Rattle.card_set.specs.Filler.{filler_card}
+use Rattle.card_set.specs.Row.{cards_of}
+use Rattle.card_set.proofs.Counted.{passes_or_not}
+use Rattle.card_set.proofs.DeckLaws.{is_same_card-true, is_same_card-self}
+use Rattle.card_set.proofs.Listing.{deck_at, deck_length}
 
--- the places of the 52 cards are all places
-places : map deck_place every_card ≡ range_with_len 0 52
-unfolding every_card
-places = refl
+or_right : (a b : Bool) → b ≡ true → (a || b) ≡ true
+or_right true b is = refl
+or_right false b is = is
 
-count_by-map : {X Y : Type 0} (p : Y → Bool) (f : X → Y) (xs : List X) → count_by p (map f xs) ≡ count_by (λ x. p (f x)) xs
-count_by-map p f [] = refl
-count_by-map p f (x ∷ xs) = omega (arith, count_by-cons p (f x) (map f xs), count_by-cons (λ x. p (f x)) x xs, count_by-map p f xs)
+or_false : (b : Bool) → (b || false) ≡ b
+or_false true = refl
+or_false false = refl
 
--- the true flags are as many as the cards of the set
-pub flags_count : (cards : CardSet) → count_by (λ flag. flag) cards.flags ≡ count_of cards
-unfolding is_in
-flags_count cards =
-    ap (count_by (λ flag. flag)) (fill_by_all (λ k. get_or cards.flags k false) cards.flags 52 false cards.places (λ k within. refl) ∙ ap (map (λ k. get_or cards.flags k false)) (sym places))
-    ∙ count_by-map (λ flag. flag) (λ k. get_or cards.flags k false) (map deck_place every_card)
-    ∙ count_by-map (λ k. get_or cards.flags k false) deck_place every_card
-    ∙ sym (length-filter (λ card. get_or cards.flags (deck_place card) false) every_card)
+or_assoc : (a b c : Bool) → (a || (b || c)) ≡ ((a || b) || c)
+or_assoc true b c = refl
+or_assoc false b c = refl
 
--- other cards have other places
-pub other_place : (card other : Card) → other ≢ card → deck_place other ≢ deck_place card
-other_place card other apart same = apart (deck_place-same other card same)
+true_false : true ≡ false → ⊥
+true_false is = cc
 
--- a flag that is written stands at the place of its card
-pub flag_here : (flags : List Bool) (card : Card) (place : ℕ) (flag : Bool) → length flags ≡ 52 → place ≡ deck_place card → place < 52 → get_or (set flags place flag) (deck_place card) false ≡ flag
-flag_here flags card place flag long is within =
-    ap (λ (k : ℕ). get_or (set flags place flag) k false) (sym is) ∙ get_or-set_same flags place flag false (omega arith)
+-- a card at the end
+pub is_one_of-more : (card other : Card) (cards : List Card) → is_one_of card (cards ++ other ∷ []) ≡ (is_one_of card cards || is_same_card other card)
+is_one_of-more card other [] = or_false (is_same_card other card)
+is_one_of-more card other (first ∷ cards) =
+    ap (λ (b : Bool). is_same_card first card || b) (is_one_of-more card other cards) ∙ or_assoc (is_same_card first card) (is_one_of card cards) (is_same_card other card)
 
--- and the others stay
-pub flag_there : (flags : List Bool) (card other : Card) (place : ℕ) (flag : Bool) → place ≡ deck_place card → other ≢ card → get_or (set flags place flag) (deck_place other) false ≡ get_or flags (deck_place other) false
-flag_there flags card other place flag is apart =
-    get_or-set_other flags place (deck_place other) flag false (λ same. other_place card other apart (same ∙ is))
+-- a set with one card more has the cards so far and this one
+pub inserted : (before after : Card → Bool) (items : List Card) (i : ℕ) (put filler : Card) → i < length items → put ≡ get_or items i filler → ((card : Card) → before card ≡ is_one_of card (take i items)) → after put ≡ true → ((other : Card) → other ≢ put → after other ≡ before other) → (card : Card) → after card ≡ is_one_of card (take (i + 1) items)
+inserted before after items i put filler within is so_far inside others card =
+    by_test (passes_or_not (is_same_card put card))
+    ∙ sym (ap (is_one_of card) (take_more items i filler within ∙ ap (λ (c : Card). take i items ++ c ∷ []) (sym is)) ∙ is_one_of-more card put (take i items))
+  where
+    by_test : (is_same_card put card ≡ true) ⊎ (is_same_card put card ≡ false) → after card ≡ (is_one_of card (take i items) || is_same_card put card)
+    by_test (inl same) = ap after (sym (is_same_card-true put card same)) ∙ inside ∙ sym (or_right (is_one_of card (take i items)) (is_same_card put card) same)
+    by_test (inr apart) =
+        others card (λ same. true_false (sym (ap (is_same_card put) same ∙ is_same_card-self put) ∙ apart))
+        ∙ so_far card
+        ∙ sym (ap (λ (b : Bool). is_one_of card (take i items) || b) apart ∙ or_false (is_one_of card (take i items)))
 
--- no flag of an empty set is true
-pub no_flag : (n k : ℕ) → get_or (replicate n false) k false ≡ false
-no_flag zero k = refl
-no_flag (suc n) zero = refl
-no_flag (suc n) (suc k) = no_flag n k
+-- the card at the next place of the deck passes
+pub deck_more : (p : Card → Bool) (card : Card) (place : ℕ) (b : Bool) → deck_place card ≡ place → place < 52 → p card ≡ b → filter p (take (place + 1) every_card) ≡ filter p (take place every_card) ++ cond b (card ∷ []) []
+deck_more p card place b is within passes =
+    filter_more p every_card place filler_card (omega (arith, deck_length))
+    ∙ ap (λ (c : Card). filter p (take place every_card) ++ cond (p c) (c ∷ []) []) (deck_at card place is within)
+    ∙ ap (λ (t : Bool). filter p (take place every_card) ++ cond t (card ∷ []) []) passes
+
+-- the first cards that pass are no more than all
+pub deck_first-le : (p : Card → Bool) (k : ℕ) → length (filter p (take k every_card)) ≤ length (filter p every_card)
+deck_first-le p k =
+    let split = ap (length {A = Card}) (ap (filter p) (sym (take-append-drop k every_card)) ∙ filter-append p (take k every_card) (drop k every_card)) in
+    omega (arith, split, length-append (filter p (take k every_card)) (filter p (drop k every_card)))
+
+-- a row has as many cards as it says
+pub row_length : (row : CardRow) → length (cards_of row) ≡ row.len
+row_length row = omega (arith, length-take row.len row.cards, row.entries, row.fits)
+
+-- and past the last place they are all
+pub deck_all : (p : Card → Bool) (k : ℕ) → 52 ≤ k → filter p (take k every_card) ≡ filter p every_card
+deck_all p k past = ap (filter p) (take_all k every_card (omega (arith, deck_length)))

@@ -46,3 +46,49 @@ pub fn place_of_suit(suit: Suit) -> u8
         Suit::S => 3,
     }
 }
+
+/// The card at a place of the deck.
+pub fn card_at(place: u8) -> Card
+    requires { place < 52 }
+    ensures { deck_place result ≡ place }
+{
+    Card {
+        rank: rank_at(place / 4),
+        suit: suit_at(place % 4),
+    }
+}
+
+// The rank with so many below it.
+fn rank_at(place: u8) -> Rank
+    requires { place < 13 }
+    ensures { ranks_below result ≡ place }
+{
+    match place {
+        0 => Rank::Two,
+        1 => Rank::Three,
+        2 => Rank::Four,
+        3 => Rank::Five,
+        4 => Rank::Six,
+        5 => Rank::Seven,
+        6 => Rank::Eight,
+        7 => Rank::Nine,
+        8 => Rank::Ten,
+        9 => Rank::Jack,
+        10 => Rank::Queen,
+        11 => Rank::King,
+        _ => Rank::Ace,
+    }
+}
+
+// The suit with so many before it.
+fn suit_at(place: u8) -> Suit
+    requires { place < 4 }
+    ensures { suits_before result ≡ place }
+{
+    match place {
+        0 => Suit::C,
+        1 => Suit::D,
+        2 => Suit::H,
+        _ => Suit::S,
+    }
+}

@@ -9,7 +9,7 @@ mod set;
 mod spelling;
 
 pub use card::{Card, Rank, Slot, Suit};
-pub use deck::{place_in_deck, place_of_rank, place_of_suit};
+pub use deck::{card_at, place_in_deck, place_of_rank, place_of_suit};
 pub use memory::Memory;
 pub use row::{CardRow, ROW_ENTRIES, SlotRow};
 pub use set::CardSet;

@@ -1,33 +1,50 @@
-// A set of cards has each of the 52 cards once or not at all.
-ghost use Rattle.std.specs.Prelude.{◌≡◌, ◌≤◌, length, count_by};
+// A set of cards is 52 bits of one number: a suit's thirteen ranks stand side by side.
+ghost use Rattle.std.specs.Prelude.{◌<◌, ◌^◌};
 
-use crate::card::Card;
-use crate::deck::place_in_deck;
+use crate::card::{Card, Suit};
+use crate::deck::{card_at, place_of_rank, place_of_suit};
+use crate::row::CardRow;
 
 /// A set of cards.
 #[derive(Clone, Copy, Debug, PartialEq, Eq)]
 pub struct CardSet {
-    flags: [bool; 52],
-    ghost places: { length flags ≡ 52 },
+    // thirteen bits for each of c, d, h and s, each from the two to the ace
+    bits: u64,
+    ghost within: { bits < 2 ^ 52 },
 }
 
 impl CardSet {
-    ghost use Rattle.std.specs.Prelude.{◌≢◌, true, false};
+    ghost use Rattle.std.specs.Prelude.{◌≡◌, ◌≢◌, ◌≤◌, ◌==◌, true, false};
+    ghost use Rattle.std.specs.Int.{bit_at};
     ghost use Rattle.card_set.specs.declared.card.Card.{Card};
-    ghost use Rattle.card_set.specs.CardSet.{count_of, is_in};
+    ghost use Rattle.card_set.specs.declared.card.Rank.{Rank};
+    ghost use Rattle.card_set.specs.CardSet.{bit_place, count_of, is_in, is_one_of, listed};
+    ghost use Rattle.card_set.specs.Deck.{ranks_below};
+    ghost use Rattle.card_set.specs.Row.{cards_of};
 
     /// The set without cards.
     pub fn empty() -> Self
         ensures { (card : Card) → is_in result card ≡ false }
     {
-        CardSet { flags: [false; 52] }
+        CardSet { bits: 0 }
+    }
+
+    /// The set of the row's cards.
+    pub fn of(row: &CardRow) -> Self
+        ensures { (card : Card) → is_in result card ≡ is_one_of card (cards_of row.now) }
+    {
+        let mut set = CardSet::empty();
+        for card in row.as_slice() {
+            set.insert(*card);
+        }
+        set
     }
 
     /// Whether the card is in the set.
     pub fn has(&self, card: Card) -> bool
         ensures { result ≡ is_in self.now card }
     {
-        self.flags[usize::from(place_in_deck(card))]
+        self.bits >> Self::place_among_bits(card) & 1 == 1
     }
 
     /// Puts the card into the set; one that is in it stays.
@@ -35,7 +52,7 @@ impl CardSet {
         ensures inside { is_in self.new card ≡ true }
         ensures others { (other : Card) → other ≢ card → is_in self.new other ≡ is_in self.old other }
     {
-        self.flags[usize::from(place_in_deck(card))] = true;
+        self.bits |= 1 << Self::place_among_bits(card);
     }
 
     /// Takes the card out of the set; one that is not in it stays out.
@@ -43,21 +60,45 @@ impl CardSet {
         ensures outside { is_in self.new card ≡ false }
         ensures others { (other : Card) → other ≢ card → is_in self.new other ≡ is_in self.old other }
     {
-        self.flags[usize::from(place_in_deck(card))] = false;
+        self.bits &= !(1 << Self::place_among_bits(card));
     }
 
     /// How many cards are in the set.
     pub fn len(&self) -> u8
         ensures { result ≡ count_of self.now }
     {
-        count_true(&self.flags) as u8
+        self.bits.count_ones() as u8
     }
-}
 
-// How many of the flags are true.
-fn count_true(flags: &[bool]) -> usize
-    ensures number { result ≡ count_by (λ flag. flag) flags.now }
-    ensures within { result ≤ length flags.now }
-{
-    flags.iter().filter(|flag| **flag).count()
+    /// The ranks of the set's cards of a suit: bit 0 is the two and bit 12 the ace.
+    pub fn rank_mask(&self, suit: Suit) -> u16
+        ensures ranks { (rank : Rank) → (bit_at result (ranks_below rank) == 1)
+            ≡ is_in self.now (record { rank = rank; suit = suit }) }
+        ensures within { result < 2 ^ 13 }
+    {
+        (self.bits >> (13 * place_of_suit(suit)) & 0x1FFF) as u16
+    }
+
+    /// The cards of a set of at most seven, in the order of the deck.
+    pub fn to_row(&self) -> CardRow
+        requires { count_of self.now ≤ 7 }
+        ensures { cards_of result ≡ listed self.now }
+    {
+        let mut row = CardRow::new();
+        for place in 0..52 {
+            let card = card_at(place);
+            if self.has(card) {
+                row.push(card);
+            }
+        }
+        row
+    }
+
+    // The place of a card among the bits of a set.
+    fn place_among_bits(card: Card) -> u8
+        ensures place { result ≡ bit_place card }
+        ensures within { result < 52 }
+    {
+        13 * place_of_suit(card.suit) + place_of_rank(card.rank)
+    }
 }

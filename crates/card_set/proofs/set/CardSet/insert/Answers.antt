@@ -1,13 +1,14 @@
-use Rattle.std.proofs.Common.{true, arith, ◌∙◌}
 use Rattle.card_set.specs.CardSet.{is_in}
-use Rattle.card_set.proofs.SetLaws.{flag_here, flag_there}
+use Rattle.card_set.proofs.BitLaws.{set_within, set_here, set_there}
 use Rattle.card_set.proofs.set.CardSet.insert.Goals as goal
+
+pub invariant_of-self : goal.invariant_of-self
+invariant_of-self c = record { within = set_within c.args.self.now.bits c.place_among_bits.result c.args.self.now.within c.place_among_bits.ensures.within }
 
 pub returns-clause-inside : goal.returns-clause-inside
 unfolding is_in
-returns-clause-inside c =
-    flag_here c.args.self.now.flags c.args.card c.from.result true c.args.self.now.places (c.from.ensures ∙ c.place_in_deck.ensures.place) (omega (arith, c.from.ensures, c.place_in_deck.ensures.within))
+returns-clause-inside c = set_here c.args.self.now.bits c.place_among_bits.result c.args.card c.place_among_bits.ensures.within c.place_among_bits.ensures.place
 
 pub returns-clause-others : goal.returns-clause-others
 unfolding is_in
-returns-clause-others c = λ other apart. flag_there c.args.self.now.flags c.args.card other c.from.result true (c.from.ensures ∙ c.place_in_deck.ensures.place) apart
+returns-clause-others c = λ other apart. set_there c.args.self.now.bits c.place_among_bits.result c.args.card other c.place_among_bits.ensures.within c.place_among_bits.ensures.place apart

@@ -1,13 +1,14 @@
-use Rattle.std.proofs.Common.{false, arith, ◌∙◌}
 use Rattle.card_set.specs.CardSet.{is_in}
-use Rattle.card_set.proofs.SetLaws.{flag_here, flag_there}
+use Rattle.card_set.proofs.BitLaws.{clear_within, clear_here, clear_there}
 use Rattle.card_set.proofs.set.CardSet.remove.Goals as goal
+
+pub invariant_of-self : goal.invariant_of-self
+invariant_of-self c = record { within = clear_within c.args.self.now.bits c.place_among_bits.result c.args.self.now.within }
 
 pub returns-clause-outside : goal.returns-clause-outside
 unfolding is_in
-returns-clause-outside c =
-    flag_here c.args.self.now.flags c.args.card c.from.result false c.args.self.now.places (c.from.ensures ∙ c.place_in_deck.ensures.place) (omega (arith, c.from.ensures, c.place_in_deck.ensures.within))
+returns-clause-outside c = clear_here c.args.self.now.bits c.place_among_bits.result c.args.card c.place_among_bits.ensures.within c.place_among_bits.ensures.place
 
 pub returns-clause-others : goal.returns-clause-others
 unfolding is_in
-returns-clause-others c = λ other apart. flag_there c.args.self.now.flags c.args.card other c.from.result false (c.from.ensures ∙ c.place_in_deck.ensures.place) apart
+returns-clause-others c = λ other apart. clear_there c.args.self.now.bits c.place_among_bits.result c.args.card other c.place_among_bits.ensures.within c.place_among_bits.ensures.place apart

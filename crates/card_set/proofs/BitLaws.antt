@@ -1,0 +1,140 @@
+-- The bits of a set of cards: one that is set or cleared, those of a suit, and how many are set.
+use lib.Count.{ones}
+use Rattle.std.proofs.Common.{◌≡◌, ◌≢◌, ℕ, zero, suc, ◌+◌, ◌-◌, ◌*◌, ◌/◌, ◌%◌, ◌^◌, ◌<◌, ◌==◌, min, Bool, true, false, cond, sum_by, inl, inr, refl, sym, ◌∙◌, ap, subst, arith, eqb-true, bit_and, bit_or, count_ones, w64}
+use Rattle.std.specs.Int.{bit_at, bit_not}
+use Rattle.std.proofs.lemmas.Bool.{cases_lt, eqb-false}
+use Rattle.std.proofs.lemmas.List.Sums.{length-filter}
+use Rattle.std.proofs.lemmas.Nat.{shr-shr, or_lt, one_shl, and_le_l, ones_cat, ones-le}
+use Rattle.std.proofs.lemmas.Nat.Bits.{bit_at_lowest, bit_at-suc, bit_at_and, bit_at_ones, bit_at-lt, bit_at_clear_same, bit_at_clear_other, bit_at_set_same, bit_at_set_other}
+use Rattle.std.proofs.Math.Pow.{pow-lt}
+use Rattle.card_set.specs.declared.card.Card.{Card}
+use Rattle.card_set.specs.declared.card.Rank.{Rank}
+use Rattle.card_set.specs.declared.card.Rank.TheVariants as ranks
+use Rattle.card_set.specs.declared.set.CardSet.{CardSet}
+use Rattle.card_set.specs.CardSet.{bit_place, count_of, every_card, is_in}
+use Rattle.card_set.specs.Deck.{ranks_below}
+use Rattle.card_set.proofs.DeckLaws.{ranks_same, suits_before-few, suits_same}
+
+pub ranks_below-few : (rank : Rank) → ranks_below rank < 13
+ranks_below-few ranks.Two = omega arith
+ranks_below-few ranks.Three = omega arith
+ranks_below-few ranks.Four = omega arith
+ranks_below-few ranks.Five = omega arith
+ranks_below-few ranks.Six = omega arith
+ranks_below-few ranks.Seven = omega arith
+ranks_below-few ranks.Eight = omega arith
+ranks_below-few ranks.Nine = omega arith
+ranks_below-few ranks.Ten = omega arith
+ranks_below-few ranks.Jack = omega arith
+ranks_below-few ranks.Queen = omega arith
+ranks_below-few ranks.King = omega arith
+ranks_below-few ranks.Ace = omega arith
+
+-- cards with one bit are one
+pub bit_place-same : (a b : Card) → bit_place a ≡ bit_place b → a ≡ b
+bit_place-same a b same =
+    let few_a = ranks_below-few a.rank in
+    let few_b = ranks_below-few b.rank in
+    let rank : a.rank ≡ b.rank = ranks_same a.rank b.rank (omega (arith, same, few_a, few_b)) in
+    let suit : a.suit ≡ b.suit = suits_same a.suit b.suit (omega (arith, same, few_a, few_b)) in
+    ap (λ r. record { rank = r; suit = a.suit }) rank ∙ ap (λ s. record { rank = b.rank; suit = s }) suit
+
+-- other cards have other bits
+other_place : (card other : Card) (place : ℕ) → place ≡ bit_place card → other ≢ card → bit_place other ≢ place
+other_place card other place is apart same = apart (bit_place-same other card (same ∙ is))
+
+bit_place-few : (card : Card) → bit_place card < 52
+bit_place-few card = omega (arith, ranks_below-few card.rank, suits_before-few card.suit)
+
+-- a bit that is set stays within the number
+pub set_within : (bits place : ℕ) → bits < 2 ^ 52 → place < 52 → bit_or bits (1 * 2 ^ place % 2 ^ 64) < 2 ^ 52
+set_within bits place small within =
+    let one = one_shl place 64 (omega arith) in
+    or_lt 52 bits (1 * 2 ^ place % 2 ^ 64) small (subst (λ (n : ℕ). n < 2 ^ 52) (sym one) (pow-lt within))
+
+-- a bit that is set stands at the place of its card
+pub set_here : (bits place : ℕ) (card : Card) → place < 52 → place ≡ bit_place card → (bit_at (bit_or bits (1 * 2 ^ place % 2 ^ 64)) (bit_place card) == 1) ≡ true
+set_here bits place card within is =
+    ap (λ (k : ℕ). bit_at (bit_or bits (1 * 2 ^ place % 2 ^ 64)) k == 1) (sym is)
+    ∙ ap (λ (n : ℕ). n == 1) (bit_at_set_same w64 bits place (omega arith))
+
+-- and the others stay
+pub set_there : (bits place : ℕ) (card other : Card) → place < 52 → place ≡ bit_place card → other ≢ card → (bit_at (bit_or bits (1 * 2 ^ place % 2 ^ 64)) (bit_place other) == 1) ≡ (bit_at bits (bit_place other) == 1)
+set_there bits place card other within is apart = ap (λ (n : ℕ). n == 1) (bit_at_set_other w64 bits place (omega arith) (bit_place other) (other_place card other place is apart))
+
+-- a bit that is cleared stays within the number
+pub clear_within : (bits place : ℕ) → bits < 2 ^ 52 → bit_and bits (bit_not w64 (1 * 2 ^ place % 2 ^ 64)) < 2 ^ 52
+clear_within bits place small = omega (arith, and_le_l bits (bit_not w64 (1 * 2 ^ place % 2 ^ 64)), small)
+
+-- a bit that is cleared stands at the place of its card
+pub clear_here : (bits place : ℕ) (card : Card) → place < 52 → place ≡ bit_place card → (bit_at (bit_and bits (bit_not w64 (1 * 2 ^ place % 2 ^ 64))) (bit_place card) == 1) ≡ false
+clear_here bits place card within is =
+    ap (λ (k : ℕ). bit_at (bit_and bits (bit_not w64 (1 * 2 ^ place % 2 ^ 64))) k == 1) (sym is)
+    ∙ ap (λ (n : ℕ). n == 1) (bit_at_clear_same w64 bits place (omega arith))
+
+-- and the others stay
+pub clear_there : (bits place : ℕ) (card other : Card) → place < 52 → place ≡ bit_place card → other ≢ card → (bit_at (bit_and bits (bit_not w64 (1 * 2 ^ place % 2 ^ 64))) (bit_place other) == 1) ≡ (bit_at bits (bit_place other) == 1)
+clear_there bits place card other within is apart =
+    ap (λ (n : ℕ). n == 1) (bit_at_clear_other w64 bits place (omega arith) (bit_place other) (omega (arith, bit_place-few other)) (other_place card other place is apart))
+
+-- the bits of a suit
+pub suit_bits : (bits s k : ℕ) → k < 13 → bit_at (bit_and (bits / 2 ^ (13 * s)) (2 ^ 13 - 1)) k ≡ bit_at bits (13 * s + k)
+suit_bits bits s k within =
+    let one = bit_at_ones 13 k within in
+    let small = bit_at-lt (bits / 2 ^ (13 * s)) k in
+    bit_at_and (bits / 2 ^ (13 * s)) (2 ^ 13 - 1) k
+    ∙ ap (λ (n : ℕ). min (bit_at (bits / 2 ^ (13 * s)) k) n) one
+    ∙ omega arith
+    ∙ ap (λ (n : ℕ). n % 2) (shr-shr bits (13 * s) k)
+
+-- the sum of the first values of a function
+first_sum : (ℕ → ℕ) → ℕ → ℕ
+first_sum f zero = 0
+first_sum f (suc j) = f 0 + first_sum (λ k. f (suc k)) j
+
+first_sum-agree : (f g : ℕ → ℕ) (j : ℕ) → ((k : ℕ) → f k ≡ g k) → first_sum f j ≡ first_sum g j
+unfolding first_sum
+first_sum-agree f g zero same = refl
+first_sum-agree f g (suc j) same = omega (arith, same 0, first_sum-agree (λ k. f (suc k)) (λ k. g (suc k)) j (λ k. same (suc k)))
+
+no_ones : (n : ℕ) → n ≡ 0 → count_ones n ≡ 0
+no_ones n is = omega (arith, ones-le 0 n (omega arith))
+
+one_bit : (b : ℕ) → b < 2 → count_ones b ≡ b
+unfolding ones
+one_bit zero small = refl
+one_bit (suc zero) small = refl
+one_bit (suc (suc b)) small = absurd (omega arith)
+
+-- as many bits are set as the sum of the bits
+ones_sum : (j n : ℕ) → n < 2 ^ j → count_ones n ≡ first_sum (bit_at n) j
+unfolding first_sum
+ones_sum zero n small = no_ones n (omega arith)
+ones_sum (suc j) n small =
+    let split : n / 2 * 2 ^ 1 + n % 2 ≡ n = omega arith in
+    let half : n / 2 < 2 ^ j = omega arith in
+    ap count_ones (sym split)
+    ∙ ones_cat 1 (n / 2) (n % 2) (omega arith)
+    ∙ omega (arith, ones_sum j (n / 2) half, one_bit (n % 2) (omega arith), bit_at_lowest n, first_sum-agree (bit_at (n / 2)) (λ k. bit_at n (suc k)) j (λ k. sym (bit_at-suc n k)))
+
+-- the bits of the 52 cards are all bits
+all_places : (f : ℕ → ℕ) → sum_by (λ card. f (bit_place card)) every_card ≡ first_sum f 52
+unfolding every_card first_sum
+all_places f = omega arith
+
+-- a bit is set or not
+bit_counts : (n k : ℕ) → cond (bit_at n k == 1) 1 0 ≡ bit_at n k
+bit_counts n k = by_test (bit_at n k == 1) refl
+  where
+    by_test : (b : Bool) → (bit_at n k == 1) ≡ b → cond b 1 0 ≡ bit_at n k
+    by_test true is = sym (eqb-true (bit_at n k) 1 is)
+    by_test false is = let apart = eqb-false (bit_at n k) 1 is in elim (cases_lt 0 (bit_at n k)) [ inl some ↦ absurd (apart (omega (arith, bit_at-lt n k))) | inr none ↦ omega arith ]
+
+-- the bits that are set are as many as the cards of the set
+pub ones_count : (set : CardSet) → count_ones set.bits ≡ count_of set
+unfolding is_in
+ones_count set =
+    ones_sum 52 set.bits set.within
+    ∙ first_sum-agree (bit_at set.bits) (λ k. cond (bit_at set.bits k == 1) 1 0) 52 (λ k. sym (bit_counts set.bits k))
+    ∙ sym (all_places (λ k. cond (bit_at set.bits k == 1) 1 0))
+    ∙ sym (length-filter (λ card. bit_at set.bits (bit_place card) == 1) every_card)

@@ -1,0 +1,32 @@
+use Rattle.std.proofs.Common.{◌+◌, List, [], ◌∷◌, ◌++◌, length, take, filter, true, false, arith, sym, ap, ◌∙◌, append-nil, length-append}
+use Rattle.card_set.specs.declared.card.Card.{Card}
+use Rattle.card_set.specs.CardSet.{every_card, is_in}
+use Rattle.card_set.specs.Row.{cards_of}
+use Rattle.card_set.proofs.SetLaws.{deck_all, deck_more, deck_first-le, row_length}
+use Rattle.card_set.proofs.set.CardSet.to_row.Goals as goal
+use Rattle.card_set.proofs.set.CardSet.to_row.Goals.{then-has, else-has}
+
+pub push-requires : goal.push-requires
+push-requires c =
+    let set = c.args.self.now in
+    let place = c.loop-place.place in
+    let more = ap (length {A = Card}) (deck_more (is_in set) c.card_at-card.result place true c.card_at-card.ensures c.loop-place-test.true (sym c.has.ensures ∙ c.if-has.true)) in
+    let so_far = ap (length {A = Card}) c.loop-place.invariant in
+    omega (arith, more, so_far, c.requires, deck_first-le (is_in set) (place + 1), length-append (filter (is_in set) (take place every_card)) (c.card_at-card.result ∷ []), row_length c.loop-place.row)
+
+pub loop-place-preserved : goal.loop-place-preserved
+loop-place-preserved c =
+    let set = c.args.self.now in
+    let place = c.loop-place.place in
+    let card = c.card_at-card.result in
+    elim c.if-has.branch [
+      | then-has w ↦
+          ap cards_of w.row-is ∙ w.push.ensures.entries ∙ ap (λ (l : List Card). l ++ card ∷ []) c.loop-place.invariant
+          ∙ sym (deck_more (is_in set) card place true c.card_at-card.ensures c.loop-place-test.true (sym c.has.ensures ∙ w.if-has.true))
+      | else-has w ↦
+          ap cards_of w.row-is ∙ c.loop-place.invariant ∙ sym (append-nil (filter (is_in set) (take place every_card)))
+          ∙ sym (deck_more (is_in set) card place false c.card_at-card.ensures c.loop-place-test.true (sym c.has.ensures ∙ w.if-has.false))
+    ]
+
+pub returns : goal.returns
+returns c = c.loop-place.invariant ∙ deck_all (is_in c.args.self.now) c.loop-place.place (omega arith)
