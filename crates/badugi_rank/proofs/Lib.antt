@@ -1,1 +1,2 @@
+pub mod BadugiAlike
 pub mod ChoiceNumber

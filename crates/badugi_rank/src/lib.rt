@@ -8,9 +8,9 @@ ghost use Rattle.card_set.specs.Row.{cards_of};
 ghost use Rattle.card_set.specs.Different.{AllDifferent};
 ghost use Rattle.hand_order.specs.Choices.{choices};
 ghost use Rattle.hand_order.specs.Points.{greatest};
-ghost use Rattle.badugi_rank.specs.Badugi.{has_nothing_in_common, choice_points, has_in_common};
+ghost use Rattle.badugi_rank.specs.Badugi.{choice_points, has_in_common, has_nothing_in_common, points};
 
-use card_set::{Card, CardRow, place_of_suit};
+use card_set::{Card, CardRow, CardSet, place_of_suit};
 use hand_order::{
     Ace, HandOrder, Judge, Score, best_choice, better_score, class_above, height_of, ranks_of,
 };
@@ -21,7 +21,7 @@ use hand_order::{
 pub struct Badugi;
 
 impl HandOrder for Badugi {
-    ghost use Rattle.badugi_rank.specs.Badugi.{IsHand, IsWeaker, points};
+    ghost use Rattle.badugi_rank.specs.Badugi.{IsHand, IsWeaker};
     ghost use Rattle.badugi_rank.specs.BadugiLaw.{lawful_badugi};
 
     ghost HELD = { 4 };
@@ -35,16 +35,28 @@ impl HandOrder for Badugi {
     const HELD: u8 = 4;
 
     fn score(cards: &CardRow) -> Option<Score> {
-        better_score(
-            best_of_size(cards, 4),
-            better_score(
-                best_of_size(cards, 3),
-                better_score(best_of_size(cards, 2), best_of_size(cards, 1)),
-            ),
-        )
+        best_of_sizes(cards)
+    }
+
+    fn best_set(cards: &CardSet) -> Option<Score> {
+        best_of_sizes(&cards.to_row())
     }
 
     ghost lawful = { lawful_badugi };
+}
+
+// The best choice of four, three, two of the cards or one.
+fn best_of_sizes(cards: &CardRow) -> Option<Score>
+    requires { AllDifferent (cards_of cards.now) }
+    ensures { option_map (λ s. s.points) result ≡ points (cards_of cards.now) }
+{
+    better_score(
+        best_of_size(cards, 4),
+        better_score(
+            best_of_size(cards, 3),
+            better_score(best_of_size(cards, 2), best_of_size(cards, 1)),
+        ),
+    )
 }
 
 // The best choice of so many of the cards.

@@ -26,7 +26,7 @@ IsMade-map f x (y ∷ xs) (inl here) = record { origin = y; among = inl refl; ma
 IsMade-map f x (y ∷ xs) (inr there) = let is = IsMade-map f x xs there in record { origin = is.origin; among = inr is.among; made = is.made }
 
 -- a choice has the first card, or is one of the others
-choice_cases : (n : ℕ) (card : Card) (rest more : List Card) → IsAmong more (choices (suc n) (card ∷ rest)) → IsMade (λ others. card ∷ others) more (choices n rest) ⊎ IsAmong more (choices (suc n) rest)
+pub choice_cases : (n : ℕ) (card : Card) (rest more : List Card) → IsAmong more (choices (suc n) (card ∷ rest)) → IsMade (λ others. card ∷ others) more (choices n rest) ⊎ IsAmong more (choices (suc n) rest)
 unfolding choices
 choice_cases n card rest more among =
     elim (IsAmong-cases more (map (λ others. card ∷ others) (choices n rest)) (choices (suc n) rest) among) [
@@ -34,11 +34,11 @@ choice_cases n card rest more among =
       | inr without ↦ inr without
     ]
 
-no_choice : (n : ℕ) (more : List Card) → IsAmong more (choices (suc n) []) → ⊥
+pub no_choice : (n : ℕ) (more : List Card) → IsAmong more (choices (suc n) []) → ⊥
 unfolding choices
 no_choice n more among = among
 
-one_choice : (cards more : List Card) → IsAmong more (choices 0 cards) → more ≡ []
+pub one_choice : (cards more : List Card) → IsAmong more (choices 0 cards) → more ≡ []
 unfolding choices
 one_choice cards more (inl here) = here
 one_choice cards more (inr there) = elim there [ ]

@@ -61,7 +61,7 @@ five_cards cards held = record {
   flushes = λ suited. let once = all_once high_ace IsHeight-high_ace cards (once_in_suit high_ace IsHeight-high_ace cards held.1 suited) in omega (arith, held.0);
 }
 
-straights_of_five : (low : LowStraight) (cards : List Card) → is_straight low cards ≡ true → ranks_occurring high_ace cards 4 + ranks_occurring high_ace cards 3 + ranks_occurring high_ace cards 2 + ranks_occurring high_ace cards 1 ≡ 5
+pub straights_of_five : (low : LowStraight) (cards : List Card) → is_straight low cards ≡ true → ranks_occurring high_ace cards 4 + ranks_occurring high_ace cards 3 + ranks_occurring high_ace cards 2 + ranks_occurring high_ace cards 1 ≡ 5
 straights_of_five low cards is = sym (length-ranks_of high_ace cards) ∙ straight_of_five low (ranks_of high_ace cards) is
 
 -- how many ranks decide

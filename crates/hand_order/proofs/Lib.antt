@@ -1,9 +1,13 @@
+pub mod Alike
 pub mod Chosen
 pub mod Digits
 pub mod Greatest
 pub mod Held
+pub mod HighAlike
 pub mod HighLaw
 pub mod Lawful
 pub mod RankDigits
 pub mod Ranked
+pub mod SameChoices
+pub mod SetChoices
 pub mod Shapes

@@ -1,7 +1,8 @@
 -- The choices of cards that a holding allows.
-use Rattle.std.specs.Prelude.{◌≡◌, ◌≤◌, ◌+◌, ℕ, zero, suc, ◌⊎◌, List, [], ◌∷◌, ◌++◌, length, map}
+use Rattle.std.specs.Prelude.{◌≡◌, ◌≤◌, ◌+◌, ℕ, zero, suc, ◌⊎◌, List, [], ◌∷◌, ◌++◌, length, map, Option}
 use Rattle.std.specs.List.{flat_map}
 use Rattle.card_set.specs.declared.card.Card.{Card}
+use Rattle.card_set.specs.CardSet.{AreSameCards}
 use Rattle.card_set.specs.Different.{AllDifferent}
 use Rattle.hand_order.specs.declared.best.Pick.{Pick}
 use Rattle.hand_order.specs.declared.best.Pick.TheVariants as picks
@@ -28,6 +29,10 @@ CanPick held picks.AnyFive hole board = (held ≡ 5) × (5 ≤ length hole + len
 CanPick held picks.TwoAndThree hole board = (held ≡ 5) × (2 ≤ length hole) × (3 ≤ length board)
 CanPick held picks.AllHeld hole board = length hole ≡ held
 
+-- so many cards can be chosen from: five to seven where a hand has five, else as many as a hand has
+abbrev pub CanChoose : ℕ → ℕ → Type 0
+CanChoose held count = ((held ≡ 5) × (5 ≤ count) × (count ≤ 7)) ⊎ (count ≡ held)
+
 -- the choice is one of these
 abbrev pub IsAmong : List Card → List (List Card) → Type 0
 IsAmong choice [] = ⊥
@@ -40,3 +45,7 @@ AreHeld held cards = (length cards ≡ held) × AllDifferent cards
 -- at most four cards make so many different cards with each three of the board
 abbrev pub CanJoin : ℕ → List Card → List Card → Type 0
 CanJoin held cards board = (length cards ≤ 4) × ((more : List Card) → IsAmong more (choices 3 board) → AreHeld held (cards ++ more))
+
+-- points that do not look at the order of the cards
+abbrev pub AreAlike : (List Card → Option ℕ) → ℕ → Type 0
+AreAlike points held = (a b : List Card) → AreHeld held a → AreHeld held b → AreSameCards a b → points a ≡ points b

@@ -2,14 +2,15 @@
 ghost use Rattle.std.specs.Prelude.{◌≡◌, ℕ, ◌+◌, ◌≤◌, List, ◌++◌, drop, length, Option, IfSome, IfNone};
 ghost use Rattle.std.specs.Option.{option_map};
 ghost use Rattle.card_set.specs.declared.card.Card.{Card};
+ghost use Rattle.card_set.specs.CardSet.{count_of, IsListing};
 ghost use Rattle.card_set.specs.Row.{cards_of};
 ghost use Rattle.card_set.specs.Different.{AllDifferent};
-ghost use Rattle.hand_order.specs.Choices.{AreHeld, CanJoin, CanPick, IsAmong, allowed, choices, choices_of_both};
+ghost use Rattle.hand_order.specs.Choices.{AreAlike, AreHeld, CanJoin, CanPick, IsAmong, allowed, choices, choices_of_both};
 ghost use Rattle.hand_order.specs.Best.{HasNoHand, IsPointsOfBest};
 ghost use Rattle.hand_order.specs.Points.{better, greatest};
 
 use crate::order::{HandOrder, Score};
-use card_set::CardRow;
+use card_set::{CardRow, CardSet};
 use std::marker::PhantomData;
 
 /// Which choices of cards a holding allows.
@@ -46,21 +47,31 @@ fn greatest_score<O: HandOrder>(hole: &CardRow, board: &CardRow, pick: Pick) -> 
     match pick {
         Pick::AnyFive => any_five::<O>(hole, board),
         Pick::TwoAndThree => two_and_three::<O>(hole, board),
-        Pick::AllHeld => O::score(hole),
+        Pick::AllHeld => all_held::<O>(hole),
     }
 }
 
+// The best of the cards of both rows.
 fn any_five<O: HandOrder>(hole: &CardRow, board: &CardRow) -> Option<Score>
     requires held { O.HELD ≡ 5 }
+    requires enough { 5 ≤ length (cards_of hole.now) + length (cards_of board.now) }
     requires room { length (cards_of hole.now) + length (cards_of board.now) ≤ 7 }
     requires different { AllDifferent (cards_of hole.now ++ cards_of board.now) }
     ensures { option_map (λ s. s.points) result
         ≡ greatest O.points (choices 5 (cards_of hole.now ++ cards_of board.now)) }
 {
-    let judge = ByOrder::<O> { order: PhantomData };
-    best_choice(&judge, &joined(hole, board), 0, CardRow::new(), 5)
+    O::best_set(&CardSet::of(&joined(hole, board)))
 }
 
+// The only choice of all hole cards.
+fn all_held<O: HandOrder>(hole: &CardRow) -> Option<Score>
+    requires { AreHeld O.HELD (cards_of hole.now) }
+    ensures { option_map (λ s. s.points) result ≡ O.points (cards_of hole.now) }
+{
+    O::best_set(&CardSet::of(hole))
+}
+
+// The best of two hole cards with three cards of the board.
 fn two_and_three<O: HandOrder>(hole: &CardRow, board: &CardRow) -> Option<Score>
     requires held { O.HELD ≡ 5 }
     requires different { AllDifferent (cards_of hole.now ++ cards_of board.now) }
@@ -127,6 +138,19 @@ pub fn best_choice<J: Judge>(
         best_choice(judge, cards, from + 1, with, need - 1),
         best_choice(judge, cards, from + 1, chosen, need),
     )
+}
+
+/// The best choice of so many of a set's cards, each judged by itself.
+/// The judge may not look at the order of the cards.
+pub fn best_listed<J: Judge>(judge: &J, cards: &CardSet, held: u8) -> Option<Score>
+    requires room { held ≤ 7 }
+    requires few { count_of cards.now ≤ 7 }
+    requires accepted { (hand : List Card) → AreHeld held hand → J.accepts judge.now hand }
+    requires alike { AreAlike (J.points judge.now) held }
+    ensures { (listing : List Card) → IsListing cards.now listing
+        → option_map (λ s. s.points) result ≡ greatest (J.points judge.now) (choices held listing) }
+{
+    best_choice(judge, &cards.to_row(), 0, CardRow::new(), held)
 }
 
 /// The better of two scores, where none is the worst.

@@ -8,7 +8,7 @@ mod ranks;
 mod row;
 mod straights;
 
-pub use best::{Judge, Pick, best_choice, best_of, better_score};
+pub use best::{Judge, Pick, best_choice, best_listed, best_of, better_score};
 pub use look::{Look, high_number, look_at};
 pub use order::{HandOrder, Score};
 pub use ranks::{Ace, class_above, count_of_ranks, height_of, ranks_of};

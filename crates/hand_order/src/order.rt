@@ -2,11 +2,13 @@
 ghost use Rattle.std.specs.Prelude.{◌≡◌, ℕ, List, Option};
 ghost use Rattle.std.specs.Option.{option_map};
 ghost use Rattle.card_set.specs.declared.card.Card.{Card};
+ghost use Rattle.card_set.specs.CardSet.{count_of, IsListing};
 ghost use Rattle.card_set.specs.Row.{cards_of};
-ghost use Rattle.hand_order.specs.Choices.{AreHeld};
+ghost use Rattle.hand_order.specs.Choices.{AreHeld, CanChoose, choices};
 ghost use Rattle.hand_order.specs.Order.{IsLawful};
+ghost use Rattle.hand_order.specs.Points.{greatest};
 
-use card_set::CardRow;
+use card_set::{CardRow, CardSet};
 
 /// How good a hand is in its order: the greater score is the better hand, and equal scores share.
 /// Scores of different orders have nothing to do with one another.
@@ -36,6 +38,14 @@ pub trait HandOrder {
     fn score(cards: &CardRow) -> Option<Score>
         requires { AreHeld HELD (cards_of cards.now) }
         ensures { option_map (λ s. s.points) result ≡ points (cards_of cards.now) };
+
+    /// The best score of the choices of as many of the set's cards as a hand has, none where none is a hand.
+    /// Where a hand has five cards the set has five to seven, else as many as a hand.
+    /// A set stands for a list of its cards, in any order: the choices are those of the list.
+    fn best_set(cards: &CardSet) -> Option<Score>
+        requires { CanChoose HELD (count_of cards.now) }
+        ensures { (listing : List Card) → IsListing cards.now listing
+            → option_map (λ s. s.points) result ≡ greatest points (choices HELD listing) };
 
     /// Points are there exactly for hands of the order, less exactly for the weaker hand,
     /// and equal exactly for even hands; every two hands compare.

@@ -1,1 +1,2 @@
+pub mod ShortAlike
 pub mod UpHighLaw

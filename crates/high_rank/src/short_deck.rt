@@ -1,10 +1,12 @@
 // The high order of the short deck, with a flush above a full house.
 ghost use Rattle.std.specs.Prelude.{◌≡◌, ◌-◌};
 ghost use Rattle.card_set.specs.Classes.{place};
-ghost use Rattle.high_rank.specs.ShortDeck.{short_table};
+ghost use Rattle.card_set.specs.Row.{cards_of};
+ghost use Rattle.hand_order.specs.Choices.{AreHeld};
+ghost use Rattle.high_rank.specs.ShortDeck.{points, short_table};
 
-use card_set::CardRow;
-use hand_order::{HandOrder, Look, LowStraight, Score, class_above, look_at};
+use card_set::{CardRow, CardSet};
+use hand_order::{HandOrder, Judge, Look, LowStraight, Score, best_listed, class_above, look_at};
 
 /// The order of short-deck hold'em, of 36 cards from six to ace.
 /// The ace is low in A6789 only, and suits never break ties.
@@ -13,7 +15,7 @@ pub struct ShortDeckHigh;
 
 impl HandOrder for ShortDeckHigh {
     ghost use Rattle.high_rank.specs.High.{IsHand};
-    ghost use Rattle.high_rank.specs.ShortDeck.{IsWeaker, points};
+    ghost use Rattle.high_rank.specs.ShortDeck.{IsWeaker};
     ghost use Rattle.high_rank.specs.ShortDeckLaw.{lawful_short_deck};
 
     ghost HELD = { 5 };
@@ -27,13 +29,39 @@ impl HandOrder for ShortDeckHigh {
     const HELD: u8 = 5;
 
     fn score(cards: &CardRow) -> Option<Score> {
-        let look = look_at(cards, LowStraight::NineHigh);
-        Some(Score {
-            points: class_above(short_class(&look), look.deciding.as_slice()),
-        })
+        Some(short_score(cards))
+    }
+
+    fn best_set(cards: &CardSet) -> Option<Score> {
+        best_listed(&ShortHands, cards, 5)
     }
 
     ghost lawful = { lawful_short_deck };
+}
+
+// The score of a hand.
+fn short_score(cards: &CardRow) -> Score
+    requires { AreHeld 5 (cards_of cards.now) }
+    ensures { Some result.points ≡ points (cards_of cards.now) }
+{
+    let look = look_at(cards, LowStraight::NineHigh);
+    Score {
+        points: class_above(short_class(&look), look.deciding.as_slice()),
+    }
+}
+
+// Judges a whole hand.
+#[derive(Drop)]
+struct ShortHands;
+
+impl Judge for ShortHands {
+    ghost accepts = { λ judge cards. AreHeld 5 cards };
+
+    ghost points = { λ judge cards. points cards };
+
+    fn judge(&self, chosen: &CardRow) -> Option<Score> {
+        Some(short_score(chosen))
+    }
 }
 
 // The classes of the short deck, the best with the greatest number.

@@ -1,1 +1,2 @@
+pub mod LowAlike
 pub mod LowNumber

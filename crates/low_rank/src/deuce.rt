@@ -1,13 +1,18 @@
 // Deuce-to-seven reads the high order backwards.
-use card_set::CardRow;
-use hand_order::{HandOrder, LowStraight, Score, high_number};
+ghost use Rattle.std.specs.Prelude.{◌≡◌, Some};
+ghost use Rattle.card_set.specs.Row.{cards_of};
+ghost use Rattle.hand_order.specs.Choices.{AreHeld};
+ghost use Rattle.low_rank.specs.DeuceSeven.{points};
+
+use card_set::{CardRow, CardSet};
+use hand_order::{HandOrder, Judge, LowStraight, Score, best_listed, high_number};
 
 /// The order of deuce-to-seven draw. The ace is always high, so A2345 is no straight.
 #[derive(Clone, Copy, Debug)]
 pub struct DeuceSeven;
 
 impl HandOrder for DeuceSeven {
-    ghost use Rattle.low_rank.specs.DeuceSeven.{IsHand, IsWeaker, points};
+    ghost use Rattle.low_rank.specs.DeuceSeven.{IsHand, IsWeaker};
     ghost use Rattle.low_rank.specs.LowLaw.{lawful_deuce_seven};
 
     ghost HELD = { 5 };
@@ -21,10 +26,36 @@ impl HandOrder for DeuceSeven {
     const HELD: u8 = 5;
 
     fn score(cards: &CardRow) -> Option<Score> {
-        Some(Score {
-            points: 0x100_0000 - high_number(cards, LowStraight::Nothing),
-        })
+        Some(deuce_score(cards))
+    }
+
+    fn best_set(cards: &CardSet) -> Option<Score> {
+        best_listed(&DeuceHands, cards, 5)
     }
 
     ghost lawful = { lawful_deuce_seven };
+}
+
+// The score of a hand.
+fn deuce_score(cards: &CardRow) -> Score
+    requires { AreHeld 5 (cards_of cards.now) }
+    ensures { Some result.points ≡ points (cards_of cards.now) }
+{
+    Score {
+        points: 0x100_0000 - high_number(cards, LowStraight::Nothing),
+    }
+}
+
+// Judges a whole hand.
+#[derive(Drop)]
+struct DeuceHands;
+
+impl Judge for DeuceHands {
+    ghost accepts = { λ judge cards. AreHeld 5 cards };
+
+    ghost points = { λ judge cards. points cards };
+
+    fn judge(&self, chosen: &CardRow) -> Option<Score> {
+        Some(deuce_score(chosen))
+    }
 }

@@ -4,11 +4,14 @@ ghost use Rattle.std.specs.List.{list_all};
 ghost use Rattle.std.specs.Prelude.{nat_le};
 ghost use Rattle.card_set.specs.Ranks.{low_ace};
 ghost use Rattle.card_set.specs.Row.{cards_of};
+ghost use Rattle.std.specs.Option.{option_map};
+ghost use Rattle.hand_order.specs.Choices.{AreHeld};
+ghost use Rattle.low_rank.specs.EightLow as eight;
 ghost use Rattle.low_rank.specs.EightLow.{is_qualified};
 
 use crate::low::low_score;
-use card_set::{Card, CardRow, Rank};
-use hand_order::{Ace, HandOrder, Score, count_of_ranks};
+use card_set::{Card, CardRow, CardSet, Rank};
+use hand_order::{Ace, HandOrder, Judge, Score, best_listed, count_of_ranks};
 
 /// The order of razz, over any five cards: no pair is best, and the lower ranks are better.
 #[derive(Clone, Copy, Debug)]
@@ -30,6 +33,10 @@ impl HandOrder for RazzLow {
 
     fn score(cards: &CardRow) -> Option<Score> {
         Some(low_score(cards))
+    }
+
+    fn best_set(cards: &CardSet) -> Option<Score> {
+        best_listed(&RazzHands, cards, 5)
     }
 
     ghost lawful = { lawful_razz };
@@ -54,14 +61,26 @@ impl HandOrder for EightLow {
     const HELD: u8 = 5;
 
     fn score(cards: &CardRow) -> Option<Score> {
-        if is_qualified(cards) {
-            Some(low_score(cards))
-        } else {
-            None
-        }
+        eight_score(cards)
+    }
+
+    fn best_set(cards: &CardSet) -> Option<Score> {
+        best_listed(&EightHands, cards, 5)
     }
 
     ghost lawful = { lawful_eight_low };
+}
+
+// The score of five cards that qualify.
+fn eight_score(cards: &CardRow) -> Option<Score>
+    requires { AreHeld 5 (cards_of cards.now) }
+    ensures { option_map (λ s. s.points) result ≡ eight.points (cards_of cards.now) }
+{
+    if is_qualified(cards) {
+        Some(low_score(cards))
+    } else {
+        None
+    }
 }
 
 // Whether the ranks are different and none is above eight.
@@ -94,5 +113,37 @@ fn is_low(rank: Rank) -> bool
         | Rank::Seven
         | Rank::Eight => true,
         Rank::Nine | Rank::Ten | Rank::Jack | Rank::Queen | Rank::King => false,
+    }
+}
+
+// Judges a whole hand.
+#[derive(Drop)]
+struct RazzHands;
+
+impl Judge for RazzHands {
+    ghost use Rattle.low_rank.specs.Razz.{points};
+
+    ghost accepts = { λ judge cards. AreHeld 5 cards };
+
+    ghost points = { λ judge cards. points cards };
+
+    fn judge(&self, chosen: &CardRow) -> Option<Score> {
+        Some(low_score(chosen))
+    }
+}
+
+// Judges a whole hand.
+#[derive(Drop)]
+struct EightHands;
+
+impl Judge for EightHands {
+    ghost use Rattle.low_rank.specs.EightLow.{points};
+
+    ghost accepts = { λ judge cards. AreHeld 5 cards };
+
+    ghost points = { λ judge cards. points cards };
+
+    fn judge(&self, chosen: &CardRow) -> Option<Score> {
+        eight_score(chosen)
     }
 }

@@ -1,9 +1,20 @@
-use Rattle.std.proofs.Common.{sym, subst}
+use Rattle.std.proofs.Common.{ℕ, ◌++◌, inl, sym, ap, subst, arith, ◌∙◌, length-append}
+use Rattle.card_set.specs.CardSet.{IsListing}
 use Rattle.card_set.specs.Row.{cards_of}
 use Rattle.card_set.specs.Different.{AllDifferent}
-use Rattle.hand_order.proofs.Held.{held_start}
+use Rattle.hand_order.specs.Choices.{choices}
+use Rattle.hand_order.specs.Points.{greatest}
+use Rattle.hand_order.proofs.SetChoices.{listing_of, count_of-row}
 use Rattle.hand_order.proofs.best.any_five.Goals as goal
 
-pub best_choice-requires-clause-accepted : goal.best_choice-requires-clause-accepted
-best_choice-requires-clause-accepted g c = λ more among.
-    held_start g.O.HandOrder.HELD 5 (cards_of c.new.result) (cards_of c.joined.result) more c.requires.held c.new.ensures (subst AllDifferent (sym c.joined.ensures) c.requires.different) among
+pub best_set-requires : goal.best_set-requires
+best_set-requires g c =
+    let hole = cards_of c.args.hole.now in
+    let board = cards_of c.args.board.now in
+    let count = count_of-row c.of.result (cards_of c.joined.result) _ c.joined.ensures c.requires.different c.of.ensures in
+    inl (c.requires.held, omega (arith, count, length-append hole board, c.requires.enough), omega (arith, count, length-append hole board, c.requires.room))
+
+pub returns : goal.returns
+returns g c =
+    c.best_set.ensures _ (listing_of c.of.result (cards_of c.joined.result) _ c.joined.ensures c.requires.different c.of.ensures)
+    ∙ ap (λ (n : ℕ). greatest g.O.HandOrder.points (choices n (cards_of c.args.hole.now ++ cards_of c.args.board.now))) c.requires.held

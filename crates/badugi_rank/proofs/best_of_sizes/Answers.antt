@@ -1,7 +1,7 @@
 use Rattle.card_set.specs.Row.{cards_of}
 use Rattle.badugi_rank.specs.Badugi.{choice_points}
 use Rattle.badugi_rank.proofs.ChoiceNumber.{greatest-candidates}
-use Rattle.badugi_rank.proofs.BadugiHandOrder.score.Goals as goal
+use Rattle.badugi_rank.proofs.best_of_sizes.Goals as goal
 
 pub returns : goal.returns
 returns c =

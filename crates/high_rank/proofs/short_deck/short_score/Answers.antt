@@ -4,7 +4,7 @@ use Rattle.hand_order.specs.declared.straights.LowStraight.TheVariants as straig
 use Rattle.hand_order.specs.Digits.{with_digits}
 use Rattle.hand_order.proofs.HighLaw.{decide_below, table_number_is}
 use Rattle.high_rank.specs.ShortDeck.{short_class, short_table}
-use Rattle.high_rank.proofs.short_deck.ShortDeckHighHandOrder.score.Goals as goal
+use Rattle.high_rank.proofs.short_deck.short_score.Goals as goal
 
 pub class_above-requires-clause-below : goal.class_above-requires-clause-below
 class_above-requires-clause-below c =

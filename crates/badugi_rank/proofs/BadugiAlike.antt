@@ -1,0 +1,124 @@
+-- The points of a badugi hand do not depend on the order of its cards.
+use Rattle.std.proofs.Common.{◌≡◌, ◌≢◌, ◌-◌, ◌^◌, ◌≤◌, ◌<◌, ◌&&◌, ◌||◌, ◌==◌, ℕ, not, Bool, true, false, cond, List, [], ◌∷◌, ◌++◌, length, Option, Some, None, ◌⊎◌, inl, inr, refl, sym, ◌∙◌, ap, subst, arith, eqb-true, eq-eqb}
+use Rattle.std.specs.List.{list_all}
+use Rattle.std.proofs.lemmas.Bool.{and_parts, or_cases}
+use Rattle.card_set.specs.declared.card.Card.{Card}
+use Rattle.card_set.specs.declared.set.CardSet.{CardSet}
+use Rattle.card_set.specs.CardSet.{AreSameCards, count_of, is_one_of, listed, IsListing}
+use Rattle.card_set.specs.Deck.{is_same_card, suits_before}
+use Rattle.card_set.specs.Different.{Every, Lacks, AllDifferent}
+use Rattle.card_set.specs.Ranks.{low_ace, ranks_of}
+use Rattle.card_set.proofs.Counted.{passes_or_not}
+use Rattle.card_set.proofs.DeckLaws.{is_same_card-self, is_same_card-true}
+use Rattle.card_set.proofs.Listing.{count_of-listing, length-same, listed_listing, lacks_one_of, ranks_of-same, same_listings}
+use Rattle.hand_order.specs.Choices.{choices, AreAlike, AreHeld, CanChoose}
+use Rattle.hand_order.specs.Digits.{class_above}
+use Rattle.hand_order.specs.Points.{better, greatest}
+use Rattle.hand_order.proofs.Alike.{Passes, all_every, both_ways, every_all, every_map}
+use Rattle.hand_order.proofs.Greatest.{greatest-append}
+use Rattle.hand_order.proofs.SameChoices.{every_one_of, greatest-same, one_of_every}
+use Rattle.hand_order.proofs.SetChoices.{enough_to_choose, few_to_choose, only_choice}
+use Rattle.badugi_rank.specs.Badugi.{candidates, choice_points, has_in_common, has_nothing_in_common, points}
+
+-- cards that have something in common are one
+abbrev AreApart : List Card → Type 0
+AreApart cards = (a b : Card) → is_one_of a cards ≡ true → is_one_of b cards ≡ true → has_in_common a b ≡ true → a ≡ b
+
+not_is : (b : Bool) → not b ≡ true → b ≡ true → ⊥
+not_is true off on = absurd (cc)
+not_is false off on = absurd (cc)
+
+common_sym : (a b : Card) → has_in_common a b ≡ true → has_in_common b a ≡ true
+common_sym a b is =
+    elim (or_cases (low_ace b.rank == low_ace a.rank) (suits_before b.suit == suits_before a.suit) is) [
+      | inl rank ↦ left (low_ace a.rank == low_ace b.rank) (suits_before a.suit == suits_before b.suit) (eq-eqb (low_ace a.rank) (low_ace b.rank) (sym (eqb-true (low_ace b.rank) (low_ace a.rank) rank)))
+      | inr suit ↦ right (low_ace a.rank == low_ace b.rank) (suits_before a.suit == suits_before b.suit) (eq-eqb (suits_before a.suit) (suits_before b.suit) (sym (eqb-true (suits_before b.suit) (suits_before a.suit) suit)))
+    ]
+  where
+    left : (p q : Bool) → p ≡ true → (p || q) ≡ true
+    left true q is = refl
+    left false q is = absurd (cc)
+
+    right : (p q : Bool) → q ≡ true → (p || q) ≡ true
+    right true q is = refl
+    right false q is = is
+
+apart_from : (cards : List Card) → has_nothing_in_common cards ≡ true → AreApart cards
+apart_from [] nothing a b one other common = absurd (cc)
+apart_from (card ∷ rest) nothing a b one other common =
+    let parts = and_parts (list_all (λ next. not (has_in_common card next)) rest) (has_nothing_in_common rest) nothing in
+    let every = every_all (λ next. not (has_in_common card next)) rest parts.0 in
+    elim (or_cases (is_same_card card a) (is_one_of a rest) one) [
+      | inl first ↦ elim (or_cases (is_same_card card b) (is_one_of b rest) other) [
+        | inl second ↦ sym (is_same_card-true card a first) ∙ is_same_card-true card b second
+        | inr later ↦
+            let apart = one_of_every (Passes (λ next. not (has_in_common card next))) b rest every later in
+            absurd (not_is (has_in_common card b) apart (subst (λ (c : Card). has_in_common c b ≡ true) (sym (is_same_card-true card a first)) common))
+      ]
+      | inr early ↦ elim (or_cases (is_same_card card b) (is_one_of b rest) other) [
+        | inl second ↦
+            let apart = one_of_every (Passes (λ next. not (has_in_common card next))) a rest every early in
+            absurd (not_is (has_in_common card a) apart (common_sym a card (subst (λ (c : Card). has_in_common a c ≡ true) (sym (is_same_card-true card b second)) common)))
+        | inr later ↦ apart_from rest parts.1 a b early later common
+      ]
+    ]
+
+or_later : (p q : Bool) → q ≡ true → (p || q) ≡ true
+or_later true q is = refl
+or_later false q is = is
+
+and_both : (p q : Bool) → p ≡ true → q ≡ true → (p && q) ≡ true
+and_both true q one other = other
+and_both false q one other = one
+
+nothing_from : (cards : List Card) → AllDifferent cards → AreApart cards → has_nothing_in_common cards ≡ true
+nothing_from [] different apart = refl
+nothing_from (card ∷ rest) different apart =
+    and_both (list_all (λ next. not (has_in_common card next)) rest) (has_nothing_in_common rest)
+    (all_every (λ next. not (has_in_common card next)) rest (every_map (λ next. is_one_of next rest ≡ true) (Passes (λ next. not (has_in_common card next))) (λ next is. by_test next is (passes_or_not (has_in_common card next))) rest (every_one_of rest)))
+    (nothing_from rest different.1 (λ a b one other common. apart a b (or_later (is_same_card card a) (is_one_of a rest) one) (or_later (is_same_card card b) (is_one_of b rest) other) common))
+  where
+    first : is_one_of card (card ∷ rest) ≡ true
+    first = ap (λ (b : Bool). b || is_one_of card rest) (is_same_card-self card)
+
+    by_test : (next : Card) → is_one_of next rest ≡ true → (has_in_common card next ≡ true) ⊎ (has_in_common card next ≡ false) → not (has_in_common card next) ≡ true
+    by_test next is (inl common) =
+        let same = apart card next first (or_later (is_same_card card next) (is_one_of next rest) is) common in
+        let lacks = lacks_one_of card rest different.0 in
+        let there = subst (λ (c : Card). is_one_of c rest ≡ true) (sym same) is in
+        absurd (cc)
+    by_test next is (inr none) = ap not none
+
+nothing_same : (a b : List Card) → AllDifferent b → AreSameCards a b → has_nothing_in_common a ≡ true → has_nothing_in_common b ≡ true
+nothing_same a b different same nothing = nothing_from b different (λ x y one other common. apart_from a nothing x y (same x ∙ one) (same y ∙ other) common)
+
+pub choice_alike : (n : ℕ) → AreAlike choice_points n
+choice_alike n a b held_a held_b same =
+    ap (λ (t : Bool). cond t (Some (16 ^ 6 - class_above (4 - length a) (ranks_of low_ace a))) None) (both_ways (has_nothing_in_common a) (has_nothing_in_common b) (nothing_same a b held_b.1 same) (nothing_same b a held_a.1 (λ card. sym (same card))))
+    ∙ ap (λ (k : ℕ). cond (has_nothing_in_common b) (Some (16 ^ 6 - class_above (4 - k) (ranks_of low_ace a))) None) (held_a.0 ∙ sym held_b.0)
+    ∙ ap (λ (l : List ℕ). cond (has_nothing_in_common b) (Some (16 ^ 6 - class_above (4 - length b) l)) None) (ranks_of-same low_ace a b held_a.1 held_b.1 same)
+
+-- the points of a hand
+pub points_same : (a b : List Card) → AllDifferent a → AllDifferent b → AreSameCards a b → points a ≡ points b
+unfolding candidates
+points_same a b different_a different_b same =
+    let each = λ (n : ℕ). greatest-same choice_points n a b different_a different_b same (choice_alike n) in
+    greatest-append choice_points (choices 4 a) (choices 3 a ++ (choices 2 a ++ choices 1 a))
+    ∙ ap (λ (o : Option ℕ). better (greatest choice_points (choices 4 a)) o) (greatest-append choice_points (choices 3 a) (choices 2 a ++ choices 1 a) ∙ ap (λ (o : Option ℕ). better (greatest choice_points (choices 3 a)) o) (greatest-append choice_points (choices 2 a) (choices 1 a)))
+    ∙ ap (λ (o : Option ℕ). better o (better (greatest choice_points (choices 3 a)) (better (greatest choice_points (choices 2 a)) (greatest choice_points (choices 1 a))))) (each 4)
+    ∙ ap (λ (o : Option ℕ). better (greatest choice_points (choices 4 b)) (better o (better (greatest choice_points (choices 2 a)) (greatest choice_points (choices 1 a))))) (each 3)
+    ∙ ap (λ (o : Option ℕ). better (greatest choice_points (choices 4 b)) (better (greatest choice_points (choices 3 b)) (better o (greatest choice_points (choices 1 a))))) (each 2)
+    ∙ ap (λ (o : Option ℕ). better (greatest choice_points (choices 4 b)) (better (greatest choice_points (choices 3 b)) (better (greatest choice_points (choices 2 b)) o))) (each 1)
+    ∙ sym (greatest-append choice_points (choices 4 b) (choices 3 b ++ (choices 2 b ++ choices 1 b))
+    ∙ ap (λ (o : Option ℕ). better (greatest choice_points (choices 4 b)) o) (greatest-append choice_points (choices 3 b) (choices 2 b ++ choices 1 b) ∙ ap (λ (o : Option ℕ). better (greatest choice_points (choices 3 b)) o) (greatest-append choice_points (choices 2 b) (choices 1 b))))
+
+-- the points of four cards in the order of the deck are those of the only choice of each list
+pub set_points : (set : CardSet) (seen listing : List Card) → CanChoose 4 (count_of set) → seen ≡ listed set → IsListing set listing → points seen ≡ greatest points (choices 4 listing)
+set_points set seen listing can is lists =
+    ap points is
+    ∙ points_same (listed set) listing (listed_listing set).different lists.different (same_listings set (listed set) listing (listed_listing set) lists)
+    ∙ sym (only_choice points 4 listing (sym (count_of-listing set listing lists) ∙ four can))
+  where
+    four : CanChoose 4 (count_of set) → count_of set ≡ 4
+    four (inl five) = absurd (omega (arith, five.0))
+    four (inr all) = all
