@@ -26,7 +26,7 @@ clash_both a b =
     ∙ ap (λ s. not (may_repeat b a || may_repeat a b) && s) (one_card_both a.slot b.slot)
 
 -- where a test passes nowhere, it does not pass at a place of the list
-not_at : (p : Place → Bool) (placed : List Place) (place : Place) → list_any p placed ≡ false → IsAmong placed place → p place ≡ false
+pub not_at : (p : Place → Bool) (placed : List Place) (place : Place) → list_any p placed ≡ false → IsAmong placed place → p place ≡ false
 not_at p [] place none among = absurd among
 not_at p (first ∷ rest) place none (inl is) = ap p (sym is) ∙ (or_parts (p first) (list_any p rest) none).0
 not_at p (first ∷ rest) place none (inr later) = not_at p rest place (or_parts (p first) (list_any p rest) none).1 later

@@ -3,6 +3,8 @@ pub mod MoverLaws
 pub mod ReasonLaws
 pub mod ChipLaws
 pub mod TargetLaws
+pub mod FloorLaws
+pub mod UpCardLaws
 pub mod Kept
 pub mod ClashLaws
 pub mod SafePlaces

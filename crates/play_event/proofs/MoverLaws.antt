@@ -17,7 +17,7 @@ found_at : (p : ℕ → Bool) (first : ℕ) (rest : List ℕ) (seat : ℕ) (b : 
 found_at p first rest seat true here later is = ap p (sym (same_Some first seat is)) ∙ here
 found_at p first rest seat false here later is = later is
 
-found_passes : (p : ℕ → Bool) (seats : List ℕ) (seat : ℕ) → find p seats ≡ Some seat → p seat ≡ true
+pub found_passes : (p : ℕ → Bool) (seats : List ℕ) (seat : ℕ) → find p seats ≡ Some seat → p seat ≡ true
 found_passes p [] seat is = absurd (some_is_none (sym is))
 found_passes p (first ∷ rest) seat is = found_at p first rest seat (p first) refl (found_passes p rest seat) is
 
@@ -26,7 +26,7 @@ seat_of NoSeat = None
 seat_of Undecided = None
 seat_of (TheSeat seat) = Some seat
 
-found_in_turn : (found : Option ℕ) (seat : ℕ) → in_turn found ≡ TheSeat seat → found ≡ Some seat
+pub found_in_turn : (found : Option ℕ) (seat : ℕ) → in_turn found ≡ TheSeat seat → found ≡ Some seat
 unfolding seat_of
 found_in_turn None seat is = absurd (some_is_none (sym (ap seat_of is)))
 found_in_turn (Some other) seat is = ap seat_of is

@@ -17,7 +17,7 @@ first_at : (reason : Illegal) (b : Bool) (rest : List (Bool × Illegal)) → (fi
 first_at reason true rest later is = absurd (some_is_none is)
 first_at reason false rest later is = (refl, later is)
 
-none_hold : (reasons : List (Bool × Illegal)) → first_reason reasons ≡ None → NoneHold reasons
+pub none_hold : (reasons : List (Bool × Illegal)) → first_reason reasons ≡ None → NoneHold reasons
 none_hold [] is = tt
 none_hold (reason ∷ rest) is = first_at reason.1 reason.0 rest (none_hold rest) is
 
@@ -33,7 +33,7 @@ not_too_big setup rules past event is = (no_reason_holds setup rules past event 
 none_first : (reason : Bool × Illegal) (rest : List (Bool × Illegal)) → reason.0 ≡ false → first_reason rest ≡ None → first_reason (reason ∷ rest) ≡ None
 none_first reason rest not_this later = ap (λ b. if b then Some reason.1 else first_reason rest) not_this ∙ later
 
-none_found : (reasons : List (Bool × Illegal)) → NoneHold reasons → first_reason reasons ≡ None
+pub none_found : (reasons : List (Bool × Illegal)) → NoneHold reasons → first_reason reasons ≡ None
 none_found [] none = refl
 none_found (reason ∷ rest) none = none_first reason rest none.0 (none_found rest none.1)
 

@@ -91,10 +91,10 @@ fold_safe code seat placed safe =
     (ap (list_any (is_misplaced code (after_fold seat placed))) (fold_knows_nothing seat (length placed) placed)) safe
 
 -- discards and shows
-discard_mark : (street count : ℕ) → IsMark count (discarded_now street count)
+pub discard_mark : (street count : ℕ) → IsMark count (discarded_now street count)
 discard_mark street count = record { slot = λ place. refl; number = λ place. refl; past_deck = λ place. refl; gone_after = λ place. inr refl }
 
-show_mark : (count : ℕ) → IsMark count (λ (place : Place). place)
+pub show_mark : (count : ℕ) → IsMark count (λ (place : Place). place)
 show_mark count = record { slot = λ place. refl; number = λ place. refl; past_deck = λ place. refl; gone_after = λ place. inl refl }
 
 discard_safe : (code : Code) (street seat : ℕ) (names : List Slot) (placed : List Place) → has_misplaced_card code placed (after_discard street seat names placed) ≡ false → Safe placed → Safe (after_discard street seat names placed)

@@ -1,62 +1,239 @@
--- The greatest legal target is legal, so a seat that may raise has a target.
-use Rattle.std.proofs.Common.{◌≡◌, ℕ, ◌+◌, ◌≤◌, ◌==◌, Bool, true, false, ◌&&◌, ◌||◌, inl, inr, min, nat_le, nat_lt, List, [], ◌∷◌, refl, ◌∙◌, ap, arith, if◌then◌else◌}
+-- The least and the greatest legal target are legal, in each limit, and no legal target is outside them.
+use Rattle.std.proofs.Common.{◌≡◌, ℕ, ◌+◌, ◌<◌, ◌≤◌, Bool, true, false, ◌&&◌, ◌||◌, ◌==◌, nat_lt, nat_le, min, max, if◌then◌else◌, inl, inr, List, [], ◌∷◌, Option, Some, None, refl, sym, ap, ◌∙◌, arith}
 use Rattle.std.specs.List.{list_any}
-use Rattle.std.proofs.lemmas.Bool.{cases_lt, le-leb, lt-ltb, eq-eqb, or_left, or_right, and_from}
+use Rattle.std.proofs.lemmas.Bool.{cases_lt, lt-ltb, ltb-true, le-leb, leb-true, eq-eqb, eqb-true, and_parts, and_from, or_left, or_right, or_cases, true≢false}
+use Rattle.chip_ledger.specs.Greatest.{greatest}
 use Rattle.play_event.specs.declared.setup.Setup.{Setup}
 use Rattle.play_event.specs.declared.setup.Reopen.{Reopen}
+use Rattle.play_event.specs.declared.setup.Rules.{Rules}
 use Rattle.play_event.specs.Games.{Limit, Fixed, Pot, NoLimit}
 use Rattle.play_event.specs.Streets.{limit_of, unit}
 use Rattle.play_event.specs.Past.{Move}
 use Rattle.play_event.specs.Chips.{all_in}
 use Rattle.play_event.specs.Price.{price, full_raise, full_bet}
-use Rattle.chip_ledger.specs.Greatest.{greatest}
-use Rattle.play_event.specs.Targets.{floor, pot_ceiling, full_targets, is_target_in, greatest_target_in, is_legal_target, greatest_target}
+use Rattle.play_event.specs.Targets.{floor, pot_ceiling, full_targets, smallest, is_target_in, least_target_in, greatest_target_in, is_legal_target, least_target, greatest_target}
+use Rattle.play_event.specs.TurnTargets.{AreTargets}
 
--- in pot limit: all-in where the ceiling is above it, and else the ceiling
-pot_target : (least ceiling chips : ℕ) → least ≤ ceiling → ((nat_le least (min chips ceiling) && nat_le (min chips ceiling) (min chips ceiling)) || ((min chips ceiling == chips) && nat_le (min chips ceiling) ceiling)) ≡ true
-pot_target least ceiling chips reach = elim (cases_lt ceiling chips) [
-  | inl above ↦ or_left (nat_le least (min chips ceiling) && nat_le (min chips ceiling) (min chips ceiling)) ((min chips ceiling == chips) && nat_le (min chips ceiling) ceiling)
-      (and_from (nat_le least (min chips ceiling)) (nat_le (min chips ceiling) (min chips ceiling)) (le-leb least (min chips ceiling) (omega (arith, above, reach))) (le-leb (min chips ceiling) (min chips ceiling) (omega arith)))
-  | inr below ↦ or_right (nat_le least (min chips ceiling) && nat_le (min chips ceiling) (min chips ceiling)) ((min chips ceiling == chips) && nat_le (min chips ceiling) ceiling)
-      (and_from (min chips ceiling == chips) (nat_le (min chips ceiling) ceiling) (eq-eqb (min chips ceiling) chips (omega (arith, below))) (le-leb (min chips ceiling) ceiling (omega arith)))
-]
+-- a target is legal, where the amounts that bound it are these
+abbrev target_by : Limit → (floor least all_in ceiling : ℕ) → (fulls : List ℕ) → (target : ℕ) → Bool
+target_by NoLimit floor least all_in ceiling fulls target = (nat_le floor target && nat_le target all_in) || (target == all_in)
+target_by Pot floor least all_in ceiling fulls target = (nat_le least target && nat_le target (min all_in ceiling)) || ((target == all_in) && nat_le target ceiling)
+target_by Fixed floor least all_in ceiling fulls target = (list_any (λ full. target == full) fulls && nat_le target all_in) || ((target == all_in) && nat_lt target (greatest fulls))
 
--- the greatest of some numbers is one of them, where the first is above 0
-greatest_two : (first second : ℕ) → list_any (λ full. greatest (first ∷ second ∷ []) == full) (first ∷ second ∷ []) ≡ true
-greatest_two first second = elim (cases_lt first second) [
-  | inl above ↦ or_right (greatest (first ∷ second ∷ []) == first) (list_any (λ full. greatest (first ∷ second ∷ []) == full) (second ∷ []))
-      (or_left (greatest (first ∷ second ∷ []) == second) false (eq-eqb (greatest (first ∷ second ∷ [])) second (omega (arith, above))))
-  | inr below ↦ or_left (greatest (first ∷ second ∷ []) == first) (list_any (λ full. greatest (first ∷ second ∷ []) == full) (second ∷ []))
-      (eq-eqb (greatest (first ∷ second ∷ [])) first (omega (arith, below)))
-]
+abbrev least_by : Limit → (floor least all_in : ℕ) → (fulls : List ℕ) → ℕ
+least_by NoLimit floor least all_in fulls = min all_in floor
+least_by Pot floor least all_in fulls = min all_in least
+least_by Fixed floor least all_in fulls = min all_in (smallest fulls)
 
-greatest_one : (first : ℕ) → list_any (λ full. greatest (first ∷ []) == full) (first ∷ []) ≡ true
-greatest_one first = or_left (greatest (first ∷ []) == first) false (eq-eqb (greatest (first ∷ [])) first (omega arith))
+abbrev greatest_by : Limit → (all_in ceiling : ℕ) → (fulls : List ℕ) → ℕ
+greatest_by NoLimit all_in ceiling fulls = all_in
+greatest_by Pot all_in ceiling fulls = min all_in ceiling
+greatest_by Fixed all_in ceiling fulls = min all_in (greatest fulls)
 
-greatest_among : (first second : ℕ) (one above : Bool) (lone : ℕ) → list_any (λ full. greatest (if one then (lone ∷ []) else (first ∷ (if above then (second ∷ []) else []))) == full) (if one then (lone ∷ []) else (first ∷ (if above then (second ∷ []) else []))) ≡ true
-greatest_among first second true above lone = greatest_one lone
-greatest_among first second false true lone = greatest_two first second
-greatest_among first second false false lone = greatest_one first
+-- one full target, or two
+abbrev full_list : ℕ → Option ℕ → List ℕ
+full_list first None = first ∷ []
+full_list first (Some other) = first ∷ other ∷ []
 
--- in fixed limit: the greatest full target, or all-in where that is less
-fixed_target : (targets : List ℕ) (chips : ℕ) → list_any (λ full. greatest targets == full) targets ≡ true → ((list_any (λ full. min chips (greatest targets) == full) targets && nat_le (min chips (greatest targets)) chips) || ((min chips (greatest targets) == chips) && nat_lt (min chips (greatest targets)) (greatest targets))) ≡ true
-fixed_target targets chips among = elim (cases_lt chips (greatest targets)) [
-  | inl short ↦ or_right (list_any (λ full. min chips (greatest targets) == full) targets && nat_le (min chips (greatest targets)) chips) ((min chips (greatest targets) == chips) && nat_lt (min chips (greatest targets)) (greatest targets))
-      (and_from (min chips (greatest targets) == chips) (nat_lt (min chips (greatest targets)) (greatest targets)) (eq-eqb (min chips (greatest targets)) chips (omega (arith, short))) (lt-ltb (min chips (greatest targets)) (greatest targets) (omega (arith, short))))
-  | inr reach ↦
-      let is : min chips (greatest targets) ≡ greatest targets = omega (arith, reach) in
-      or_left (list_any (λ full. min chips (greatest targets) == full) targets && nat_le (min chips (greatest targets)) chips) ((min chips (greatest targets) == chips) && nat_lt (min chips (greatest targets)) (greatest targets))
-      (and_from (list_any (λ full. min chips (greatest targets) == full) targets) (nat_le (min chips (greatest targets)) chips) (ap (λ (n : ℕ). list_any (λ full. n == full) targets) is ∙ among) (le-leb (min chips (greatest targets)) chips (omega (arith, is, reach))))
-]
+abbrev any_full : ℕ → List ℕ → Bool
+any_full t fulls = list_any (λ full. t == full) fulls
 
-target_in : (limit : Limit) (reopens : Reopen) (setup : Setup) (moves : List Move) (street seat : ℕ) → is_target_in limit reopens setup moves street seat (greatest_target_in limit setup moves street seat) ≡ true
-target_in NoLimit reopens setup moves street seat =
-    or_right (nat_le (floor reopens setup moves street) (all_in setup moves street seat) && nat_le (all_in setup moves street seat) (all_in setup moves street seat)) (all_in setup moves street seat == all_in setup moves street seat) (eq-eqb (all_in setup moves street seat) (all_in setup moves street seat) refl)
-target_in Pot reopens setup moves street seat =
-    pot_target (price setup moves street + full_raise setup moves street) (pot_ceiling setup moves street seat) (all_in setup moves street seat) (omega arith)
-target_in Fixed reopens setup moves street seat =
-    fixed_target (full_targets setup moves street) (all_in setup moves street seat)
-    (greatest_among (price setup moves street + unit setup street) (full_bet setup moves street + unit setup street) (nat_lt (price setup moves street) (unit setup street)) (nat_lt (price setup moves street) (full_bet setup moves street + unit setup street)) (unit setup street))
+fixed_full : (fulls : List ℕ) (t all_in floor least ceiling : ℕ) → any_full t fulls ≡ true → t ≤ all_in → target_by Fixed floor least all_in ceiling fulls t ≡ true
+fixed_full fulls t all_in floor least ceiling any within = or_left (any_full t fulls && nat_le t all_in) ((t == all_in) && nat_lt t (greatest fulls)) (and_from (any_full t fulls) (nat_le t all_in) any (le-leb t all_in within))
+
+fixed_all_in : (fulls : List ℕ) (t all_in floor least ceiling : ℕ) → t ≡ all_in → t < greatest fulls → target_by Fixed floor least all_in ceiling fulls t ≡ true
+fixed_all_in fulls t all_in floor least ceiling is less = or_right (any_full t fulls && nat_le t all_in) ((t == all_in) && nat_lt t (greatest fulls)) (and_from (t == all_in) (nat_lt t (greatest fulls)) (eq-eqb t all_in is) (lt-ltb t (greatest fulls) less))
+
+first_full : (t a : ℕ) (rest : List ℕ) → t ≡ a → any_full t (a ∷ rest) ≡ true
+first_full t a rest is = or_left (t == a) (any_full t rest) (eq-eqb t a is)
+
+later_full : (t a : ℕ) (rest : List ℕ) → any_full t rest ≡ true → any_full t (a ∷ rest) ≡ true
+later_full t a rest is = or_right (t == a) (any_full t rest) is
+
+module _ (all_in floor least ceiling : ℕ) where
+  least_full : (a : ℕ) (other : Option ℕ) → target_by Fixed floor least all_in ceiling (full_list a other) (min all_in (smallest (full_list a other))) ≡ true
+  least_full a None = elim (cases_lt all_in a) [
+    | inl less ↦ fixed_all_in (a ∷ []) (min all_in a) all_in floor least ceiling (omega (arith, less)) (omega (arith, less))
+    | inr reach ↦ fixed_full (a ∷ []) (min all_in a) all_in floor least ceiling (first_full (min all_in a) a [] (omega (arith, reach))) (omega arith)
+  ]
+  least_full a (Some b) = elim (cases_lt all_in (min a b)) [
+    | inl less ↦ fixed_all_in (a ∷ b ∷ []) (min all_in (min a b)) all_in floor least ceiling (omega (arith, less)) (omega (arith, less))
+    | inr reach ↦ fixed_full (a ∷ b ∷ []) (min all_in (min a b)) all_in floor least ceiling (elim (cases_lt a b) [
+      | inl less ↦ first_full (min all_in (min a b)) a (b ∷ []) (omega (arith, less, reach))
+      | inr other ↦ later_full (min all_in (min a b)) a (b ∷ []) (first_full (min all_in (min a b)) b [] (omega (arith, other, reach)))
+    ]) (omega arith)
+  ]
+
+  greatest_full : (a : ℕ) (other : Option ℕ) → target_by Fixed floor least all_in ceiling (full_list a other) (min all_in (greatest (full_list a other))) ≡ true
+  greatest_full a None = elim (cases_lt all_in a) [
+    | inl less ↦ fixed_all_in (a ∷ []) (min all_in (max a 0)) all_in floor least ceiling (omega (arith, less)) (omega (arith, less))
+    | inr reach ↦ fixed_full (a ∷ []) (min all_in (max a 0)) all_in floor least ceiling (first_full (min all_in (max a 0)) a [] (omega (arith, reach))) (omega arith)
+  ]
+  greatest_full a (Some b) = elim (cases_lt all_in (max a b)) [
+    | inl less ↦ fixed_all_in (a ∷ b ∷ []) (min all_in (max a (max b 0))) all_in floor least ceiling (omega (arith, less)) (omega (arith, less))
+    | inr reach ↦ fixed_full (a ∷ b ∷ []) (min all_in (max a (max b 0))) all_in floor least ceiling (elim (cases_lt a b) [
+      | inl less ↦ later_full (min all_in (max a (max b 0))) a (b ∷ []) (first_full (min all_in (max a (max b 0))) b [] (omega (arith, less, reach)))
+      | inr other ↦ first_full (min all_in (max a (max b 0))) a (b ∷ []) (omega (arith, other, reach))
+    ]) (omega arith)
+  ]
+
+  full_is : (t a : ℕ) (other : Option ℕ) → any_full t (full_list a other) ≡ true → (smallest (full_list a other) ≤ t) × (t ≤ greatest (full_list a other))
+  full_is t a None any = elim (or_cases (t == a) false any) [
+    | inl is ↦ let same : t ≡ a = eqb-true t a is in (omega (arith, same), omega (arith, same))
+    | inr nothing ↦ absurd (true≢false (sym nothing))
+  ]
+  full_is t a (Some b) any = elim (or_cases (t == a) ((t == b) || false) any) [
+    | inl is ↦ let same : t ≡ a = eqb-true t a is in (omega (arith, same), omega (arith, same))
+    | inr later ↦ elim (or_cases (t == b) false later) [
+      | inl is ↦ let same : t ≡ b = eqb-true t b is in (omega (arith, same), omega (arith, same))
+      | inr nothing ↦ absurd (true≢false (sym nothing))
+    ]
+  ]
+
+  smallest_below : (a : ℕ) (other : Option ℕ) → smallest (full_list a other) ≤ greatest (full_list a other)
+  smallest_below a None = omega arith
+  smallest_below a (Some b) = omega arith
+
+  fixed_within : (a : ℕ) (other : Option ℕ) (t : ℕ) → target_by Fixed floor least all_in ceiling (full_list a other) t ≡ true → (min all_in (smallest (full_list a other)) ≤ t) × (t ≤ min all_in (greatest (full_list a other)))
+  fixed_within a other t legal = elim (or_cases (any_full t (full_list a other) && nat_le t all_in) ((t == all_in) && nat_lt t (greatest (full_list a other))) legal) [
+    | inl full ↦
+        let parts = and_parts (any_full t (full_list a other)) (nat_le t all_in) full in
+        let bounds = full_is t a other parts.0 in
+        let below : smallest (full_list a other) ≤ t = bounds.0 in
+        let above : t ≤ greatest (full_list a other) = bounds.1 in
+        let within : t ≤ all_in = leb-true t all_in parts.1 in
+        (omega (arith, below), omega (arith, above, within))
+    | inr all ↦
+        let parts = and_parts (t == all_in) (nat_lt t (greatest (full_list a other))) all in
+        let same : t ≡ all_in = eqb-true t all_in parts.0 in
+        let less : t < greatest (full_list a other) = ltb-true t (greatest (full_list a other)) parts.1 in
+        (omega (arith, same), omega (arith, same, less))
+  ]
+
+  -- in no limit
+  no_limit_least : target_by NoLimit floor least all_in ceiling [] (min all_in floor) ≡ true
+  no_limit_least = elim (cases_lt all_in floor) [
+    | inl less ↦ or_right (nat_le floor (min all_in floor) && nat_le (min all_in floor) all_in) (min all_in floor == all_in) (eq-eqb (min all_in floor) all_in (omega (arith, less)))
+    | inr reach ↦ or_left (nat_le floor (min all_in floor) && nat_le (min all_in floor) all_in) (min all_in floor == all_in) (and_from (nat_le floor (min all_in floor)) (nat_le (min all_in floor) all_in) (le-leb floor (min all_in floor) (omega (arith, reach))) (le-leb (min all_in floor) all_in (omega arith)))
+  ]
+
+  no_limit_greatest : target_by NoLimit floor least all_in ceiling [] all_in ≡ true
+  no_limit_greatest = or_right (nat_le floor all_in && nat_le all_in all_in) (all_in == all_in) (eq-eqb all_in all_in refl)
+
+  no_limit_within : (t : ℕ) → target_by NoLimit floor least all_in ceiling [] t ≡ true → (min all_in floor ≤ t) × (t ≤ all_in)
+  no_limit_within t legal = elim (or_cases (nat_le floor t && nat_le t all_in) (t == all_in) legal) [
+    | inl between ↦
+        let parts = and_parts (nat_le floor t) (nat_le t all_in) between in
+        let low : floor ≤ t = leb-true floor t parts.0 in
+        let high : t ≤ all_in = leb-true t all_in parts.1 in
+        (omega (arith, low), high)
+    | inr is ↦ let same : t ≡ all_in = eqb-true t all_in is in (omega (arith, same), omega (arith, same))
+  ]
+
+  -- in pot limit
+  pot_least : least ≤ ceiling → target_by Pot floor least all_in ceiling [] (min all_in least) ≡ true
+  pot_least under = elim (cases_lt all_in least) [
+    | inl less ↦ or_right (nat_le least (min all_in least) && nat_le (min all_in least) (min all_in ceiling)) ((min all_in least == all_in) && nat_le (min all_in least) ceiling) (and_from (min all_in least == all_in) (nat_le (min all_in least) ceiling) (eq-eqb (min all_in least) all_in (omega (arith, less))) (le-leb (min all_in least) ceiling (omega (arith, under))))
+    | inr reach ↦ or_left (nat_le least (min all_in least) && nat_le (min all_in least) (min all_in ceiling)) ((min all_in least == all_in) && nat_le (min all_in least) ceiling) (and_from (nat_le least (min all_in least)) (nat_le (min all_in least) (min all_in ceiling)) (le-leb least (min all_in least) (omega (arith, reach))) (le-leb (min all_in least) (min all_in ceiling) (omega (arith, under))))
+  ]
+
+  pot_greatest : least ≤ ceiling → target_by Pot floor least all_in ceiling [] (min all_in ceiling) ≡ true
+  pot_greatest under = elim (cases_lt all_in least) [
+    | inl less ↦ or_right (nat_le least (min all_in ceiling) && nat_le (min all_in ceiling) (min all_in ceiling)) ((min all_in ceiling == all_in) && nat_le (min all_in ceiling) ceiling) (and_from (min all_in ceiling == all_in) (nat_le (min all_in ceiling) ceiling) (eq-eqb (min all_in ceiling) all_in (omega (arith, less, under))) (le-leb (min all_in ceiling) ceiling (omega arith)))
+    | inr reach ↦ or_left (nat_le least (min all_in ceiling) && nat_le (min all_in ceiling) (min all_in ceiling)) ((min all_in ceiling == all_in) && nat_le (min all_in ceiling) ceiling) (and_from (nat_le least (min all_in ceiling)) (nat_le (min all_in ceiling) (min all_in ceiling)) (le-leb least (min all_in ceiling) (omega (arith, reach, under))) (le-leb (min all_in ceiling) (min all_in ceiling) (omega arith)))
+  ]
+
+  pot_within : (t : ℕ) → target_by Pot floor least all_in ceiling [] t ≡ true → (min all_in least ≤ t) × (t ≤ min all_in ceiling)
+  pot_within t legal = elim (or_cases (nat_le least t && nat_le t (min all_in ceiling)) ((t == all_in) && nat_le t ceiling) legal) [
+    | inl between ↦
+        let parts = and_parts (nat_le least t) (nat_le t (min all_in ceiling)) between in
+        let low : least ≤ t = leb-true least t parts.0 in
+        let high : t ≤ min all_in ceiling = leb-true t (min all_in ceiling) parts.1 in
+        (omega (arith, low), high)
+    | inr all ↦
+        let parts = and_parts (t == all_in) (nat_le t ceiling) all in
+        let same : t ≡ all_in = eqb-true t all_in parts.0 in
+        let under : t ≤ ceiling = leb-true t ceiling parts.1 in
+        (omega (arith, same), omega (arith, same, under))
+  ]
+
+  -- the ends of the legal targets, whatever the limit, where the full targets are these
+  pub record Ends (limit : Limit) (fulls : List ℕ) : Type 0 where
+    pub at_least : target_by limit floor least all_in ceiling fulls (least_by limit floor least all_in fulls) ≡ true
+    pub at_most : target_by limit floor least all_in ceiling fulls (greatest_by limit all_in ceiling fulls) ≡ true
+    pub within : (t : ℕ) → target_by limit floor least all_in ceiling fulls t ≡ true → (least_by limit floor least all_in fulls ≤ t) × (t ≤ greatest_by limit all_in ceiling fulls)
+
+  pub ends : (limit : Limit) (a : ℕ) (other : Option ℕ) → least ≤ ceiling → Ends limit (full_list a other)
+  ends NoLimit a other under = record { at_least = no_limit_least; at_most = no_limit_greatest; within = no_limit_within }
+  ends Pot a other under = record { at_least = pot_least under; at_most = pot_greatest under; within = pot_within }
+  ends Fixed a other under = record { at_least = least_full a other; at_most = greatest_full a other; within = fixed_within a other }
+
+full_ends : (all_in floor least ceiling : ℕ) (limit : Limit) (price size above : ℕ) (first second : Bool) → least ≤ ceiling → Ends all_in floor least ceiling limit (if first then (size ∷ []) else ((price + size) ∷ (if second then (above ∷ []) else [])))
+full_ends all_in floor least ceiling limit price size above true second under = ends all_in floor least ceiling limit size None under
+full_ends all_in floor least ceiling limit price size above false true under = ends all_in floor least ceiling limit (price + size) (Some above) under
+full_ends all_in floor least ceiling limit price size above false false under = ends all_in floor least ceiling limit (price + size) None under
+
+-- the amounts that bound the targets of a seat
+module _ (reopens : Reopen) (setup : Setup) (moves : List Move) (street seat : ℕ) where
+  abbrev the_floor : ℕ
+  the_floor = floor reopens setup moves street
+
+  abbrev the_least : ℕ
+  the_least = price setup moves street + full_raise setup moves street
+
+  abbrev the_all_in : ℕ
+  the_all_in = all_in setup moves street seat
+
+  abbrev the_ceiling : ℕ
+  the_ceiling = pot_ceiling setup moves street seat
+
+  abbrev the_fulls : List ℕ
+  the_fulls = full_targets setup moves street
+
+  plain_target : (limit : Limit) (target : ℕ) → is_target_in limit reopens setup moves street seat target ≡ target_by limit the_floor the_least the_all_in the_ceiling the_fulls target
+  plain_target NoLimit target = refl
+  plain_target Pot target = refl
+  plain_target Fixed target = refl
+
+  plain_least : (limit : Limit) → least_target_in limit reopens setup moves street seat ≡ least_by limit the_floor the_least the_all_in the_fulls
+  plain_least NoLimit = refl
+  plain_least Pot = refl
+  plain_least Fixed = refl
+
+  plain_greatest : (limit : Limit) → greatest_target_in limit setup moves street seat ≡ greatest_by limit the_all_in the_ceiling the_fulls
+  plain_greatest NoLimit = refl
+  plain_greatest Pot = refl
+  plain_greatest Fixed = refl
+
+  these_ends : (limit : Limit) → Ends the_all_in the_floor the_least the_ceiling limit the_fulls
+  these_ends limit = full_ends the_all_in the_floor the_least the_ceiling limit (price setup moves street) (unit setup street) (full_bet setup moves street + unit setup street) (nat_lt (price setup moves street) (unit setup street)) (nat_lt (price setup moves street) (full_bet setup moves street + unit setup street)) (omega arith)
+
+  least_in : (limit : Limit) → is_target_in limit reopens setup moves street seat (least_target_in limit reopens setup moves street seat) ≡ true
+  least_in limit =
+      ap (λ (t : ℕ). is_target_in limit reopens setup moves street seat t) (plain_least limit)
+      ∙ plain_target limit (least_by limit the_floor the_least the_all_in the_fulls)
+      ∙ (these_ends limit).at_least
+
+  greatest_in : (limit : Limit) → is_target_in limit reopens setup moves street seat (greatest_target_in limit setup moves street seat) ≡ true
+  greatest_in limit =
+      ap (λ (t : ℕ). is_target_in limit reopens setup moves street seat t) (plain_greatest limit)
+      ∙ plain_target limit (greatest_by limit the_all_in the_ceiling the_fulls)
+      ∙ (these_ends limit).at_most
+
+  none_outside : (limit : Limit) (target : ℕ) → is_target_in limit reopens setup moves street seat target ≡ true → (least_target_in limit reopens setup moves street seat ≤ target) × (target ≤ greatest_target_in limit setup moves street seat)
+  none_outside limit target legal =
+      let bounds = (these_ends limit).within target (sym (plain_target limit target) ∙ legal) in
+      let low : least_by limit the_floor the_least the_all_in the_fulls ≤ target = bounds.0 in
+      let high : target ≤ greatest_by limit the_all_in the_ceiling the_fulls = bounds.1 in
+      (omega (arith, low, plain_least limit), omega (arith, high, plain_greatest limit))
 
 pub greatest_is_legal : (reopens : Reopen) (setup : Setup) (moves : List Move) (street seat : ℕ) → is_legal_target reopens setup moves street seat (greatest_target setup moves street seat) ≡ true
-greatest_is_legal reopens setup moves street seat = target_in (limit_of setup.code) reopens setup moves street seat
+greatest_is_legal reopens setup moves street seat = greatest_in reopens setup moves street seat (limit_of setup.code)
+
+pub targets_end : (setup : Setup) (rules : Rules) (moves : List Move) (street seat : ℕ) → AreTargets setup rules moves street seat (least_target rules.reopen setup moves street seat) (greatest_target setup moves street seat) (all_in setup moves street seat)
+targets_end setup rules moves street seat = record {
+  least_legal = least_in rules.reopen setup moves street seat (limit_of setup.code);
+  greatest_legal = greatest_in rules.reopen setup moves street seat (limit_of setup.code);
+  within = none_outside rules.reopen setup moves street seat (limit_of setup.code);
+  all_in_is = refl;
+}

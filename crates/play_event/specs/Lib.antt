@@ -14,6 +14,7 @@ pub mod Mover
 pub mod Amounts
 pub mod Targets
 pub mod Raising
+pub mod TurnTargets
 pub mod Places
 pub mod Naming
 pub mod Table

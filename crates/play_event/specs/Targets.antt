@@ -51,9 +51,29 @@ greatest_target_in NoLimit setup moves street seat = all_in setup moves street s
 greatest_target_in Pot setup moves street seat = min (all_in setup moves street seat) (pot_ceiling setup moves street seat)
 greatest_target_in Fixed setup moves street seat = min (all_in setup moves street seat) (greatest (full_targets setup moves street))
 
+-- the least of some numbers, of which this is the first
+abbrev pub smallest_from : ℕ → List ℕ → ℕ
+smallest_from first [] = first
+smallest_from first (next ∷ rest) = min first (smallest_from next rest)
+
+-- the least of some numbers, and 0 of none
+abbrev pub smallest : List ℕ → ℕ
+smallest [] = 0
+smallest (first ∷ rest) = smallest_from first rest
+
+-- the least legal target: the least raise of the limit, or all-in where that is less
+abbrev pub least_target_in : Limit → Reopen → Setup → List Move → ℕ → ℕ → ℕ
+least_target_in NoLimit reopens setup moves street seat = min (all_in setup moves street seat) (floor reopens setup moves street)
+least_target_in Pot reopens setup moves street seat = min (all_in setup moves street seat) (price setup moves street + full_raise setup moves street)
+least_target_in Fixed reopens setup moves street seat = min (all_in setup moves street seat) (smallest (full_targets setup moves street))
+
 -- a target is legal in the game of the hand
 abbrev pub is_legal_target : Reopen → Setup → List Move → ℕ → ℕ → ℕ → Bool
 is_legal_target reopens setup moves street seat target = is_target_in (limit_of setup.code) reopens setup moves street seat target
+
+-- the least legal target in the game of the hand
+abbrev pub least_target : Reopen → Setup → List Move → ℕ → ℕ → ℕ
+least_target reopens setup moves street seat = least_target_in (limit_of setup.code) reopens setup moves street seat
 
 -- the greatest legal target in the game of the hand
 abbrev pub greatest_target : Setup → List Move → ℕ → ℕ → ℕ

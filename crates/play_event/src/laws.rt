@@ -6,8 +6,10 @@ ghost use Rattle.play_event.specs.Games.{street_count};
 ghost use Rattle.play_event.specs.Past.{Past, Move, moves_of, newest_street};
 ghost use Rattle.play_event.specs.Seats.{is_able, live_count};
 ghost use Rattle.play_event.specs.Due.{turn, due_on, first_due, has_to_move, is_unfinished};
-ghost use Rattle.play_event.specs.Openers.{UpCards, TheSeat};
+ghost use Rattle.play_event.specs.Openers.{UpCards, TheSeat, is_weaker_up_high, is_weaker_low};
 ghost use Rattle.play_event.specs.Mover.{mover};
+ghost use Rattle.card_set.specs.declared.card.Card.{Card};
+ghost use Rattle.card_set.specs.UpCards.{IsWeakerUpHigh, IsWeakerLow};
 ghost use Rattle.chip_ledger.specs.SeatRow.{amount_of};
 ghost use Rattle.play_event.specs.declared.setup.Rules.{Rules};
 ghost use Rattle.play_event.specs.declared.setup.Reopen.{Reopen};
@@ -15,8 +17,12 @@ ghost use Rattle.play_event.specs.declared.event.Spelled.{Spelled};
 ghost use Rattle.play_event.specs.declared.event.Spelled.TheVariants as spelled;
 ghost use Rattle.play_event.specs.Said.{Said, Raise};
 ghost use Rattle.play_event.specs.Amounts.{raise_target};
-ghost use Rattle.play_event.specs.Chips.{chips_put, chips_left};
-ghost use Rattle.play_event.specs.Targets.{is_legal_target, greatest_target};
+ghost use Rattle.play_event.specs.Chips.{chips_put, chips_left, all_in};
+ghost use Rattle.play_event.specs.Targets.{floor, least_target, greatest_target};
+ghost use Rattle.play_event.specs.TurnTargets.{AreTargets};
+ghost use Rattle.play_event.specs.Price.{price, full_raise};
+ghost use Rattle.play_event.specs.Streets.{limit_of};
+ghost use Rattle.play_event.specs.ValidSetup.{IsValid, is_fixed};
 ghost use Rattle.play_event.specs.Table.{places_of, up_cards};
 ghost use Rattle.play_event.specs.Reasons.{why, all_reasons};
 ghost use Rattle.play_event.specs.declared.reason.Illegal.{Illegal};
@@ -43,18 +49,41 @@ pub fn law_of_movers()
 /// After legal events no seat has put more than its stack, and what it put and what it has left are the stack.
 pub fn law_of_chips()
     ensures puts_within { (setup : Setup) (rules : Rules) (events : List Said)
-        → ((seat : ℕ) → amount_of setup.antes seat ≤ amount_of setup.stacks seat) → AreLegal setup rules events
+        → IsValid setup → AreLegal setup rules events
         → (seat : ℕ) → chips_put setup (moves_of (past_of setup events)) seat ≤ amount_of setup.stacks seat }
     ensures put_and_left { (setup : Setup) (rules : Rules) (events : List Said)
-        → ((seat : ℕ) → amount_of setup.antes seat ≤ amount_of setup.stacks seat) → AreLegal setup rules events
+        → IsValid setup → AreLegal setup rules events
         → (seat : ℕ) → chips_put setup (moves_of (past_of setup events)) seat + chips_left setup (moves_of (past_of setup events)) seat
         ≡ amount_of setup.stacks seat }
 {}
 
-/// The greatest legal target is legal, in each limit, so a seat that may raise has a target.
+/// The least and the greatest legal target are legal, in each limit, and no legal target is outside them; so a seat that
+/// may raise has a target.
 pub fn law_of_targets()
-    ensures { (reopens : Reopen) (setup : Setup) (moves : List Move) (street seat : ℕ)
-        → is_legal_target reopens setup moves street seat (greatest_target setup moves street seat) ≡ true }
+    ensures { (setup : Setup) (rules : Rules) (moves : List Move) (street seat : ℕ)
+        → AreTargets setup rules moves street seat (least_target rules.reopen setup moves street seat)
+        (greatest_target setup moves street seat) (all_in setup moves street seat) }
+{}
+
+/// After legal events the least raise that is not all-in, in no limit and pot limit, goes above the price, and no further
+/// above it than a full raise, also if betting always reopens.
+pub fn law_of_floors()
+    ensures above_price { (setup : Setup) (rules : Rules) (events : List Said) → IsValid setup
+        → is_fixed (limit_of setup.code) ≡ false → AreLegal setup rules events → (reopens : Reopen) (street : ℕ)
+        → price setup (moves_of (past_of setup events)) street
+        < floor reopens setup (moves_of (past_of setup events)) street }
+    ensures within_full_raise { (setup : Setup) (rules : Rules) (events : List Said) → IsValid setup
+        → is_fixed (limit_of setup.code) ≡ false → AreLegal setup rules events → (reopens : Reopen) (street : ℕ)
+        → floor reopens setup (moves_of (past_of setup events)) street
+        ≤ price setup (moves_of (past_of setup events)) street + full_raise setup (moves_of (past_of setup events)) street }
+{}
+
+/// The tests by which up-cards open a street agree with the orders of up-cards.
+pub fn law_of_up_cards()
+    ensures high { (a b : List Card)
+        → (is_weaker_up_high a b ≡ true → IsWeakerUpHigh a b) × (IsWeakerUpHigh a b → is_weaker_up_high a b ≡ true) }
+    ensures low { (a b : List Card)
+        → (is_weaker_low a b ≡ true → IsWeakerLow a b) × (IsWeakerLow a b → is_weaker_low a b ≡ true) }
 {}
 
 /// Where an event is legal, none of the twelve reasons holds, and where none holds it is legal.

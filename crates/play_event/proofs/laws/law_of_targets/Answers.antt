@@ -1,5 +1,5 @@
-use Rattle.play_event.proofs.TargetLaws.{greatest_is_legal}
+use Rattle.play_event.proofs.TargetLaws.{targets_end}
 use Rattle.play_event.proofs.laws.law_of_targets.Goals as goal
 
 pub returns : goal.returns
-returns c = greatest_is_legal
+returns c = targets_end
