@@ -12,3 +12,6 @@ pub mod Stakes
 pub mod StakeRows
 pub mod Flags
 pub mod PlainPots
+pub mod SolePot
+pub mod OneSeat
+pub mod NoRakes

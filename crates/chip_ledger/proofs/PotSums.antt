@@ -57,7 +57,7 @@ with_dead_sum : (dead : ℕ) (pot : PlainPot) (pots : List PlainPot)
 with_dead_sum dead pot pots =
     omega (arith, pot_chips-cons (pot.chips + dead) pot.eligible pots, pot_chips-cons pot.chips pot.eligible pots)
 
-pots_at_levels : (stakes : List Stake) (dead : ℕ) (xs : List ℕ)
+pub pots_at_levels : (stakes : List Stake) (dead : ℕ) (xs : List ℕ)
     → levels stakes ≡ xs
     → pot_chips (pots_at stakes dead xs) ≡ stake_chips stakes + dead
 unfolding pots_at layers

@@ -1,4 +1,4 @@
--- What is read from seats and rows, and the pots that chips make.
+-- What is read from seats and rows, the pots that chips make, and what is left of them after the rake.
 pub mod Seat
 pub mod SeatRow
 pub mod LiveRow
@@ -7,3 +7,4 @@ pub mod PotRow
 pub mod RakeRow
 pub mod Greatest
 pub mod Pots
+pub mod Rakes

@@ -18,6 +18,10 @@ pub record PlainPot : Type 0 where
 abbrev pub may_win : PlainPot → ℕ → Bool
 may_win pot seat = list_any (λ n. n == seat) pot.eligible
 
+-- what a seat gets of a pot that goes whole to the one seat that may win it
+abbrev pub whole_share : PlainPot → ℕ → ℕ
+whole_share pot seat = if may_win pot seat then pot.chips else 0
+
 -- the chips of a seat that count: what it put, but for its ante where antes are dead
 abbrev pub counted : Bool → ℕ → ℕ → ℕ
 counted dead_antes put ante = if dead_antes then put - ante else put

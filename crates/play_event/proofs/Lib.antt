@@ -10,3 +10,4 @@ pub mod ClashLaws
 pub mod SafePlaces
 pub mod ScriptLaws
 pub mod SpellingLaws
+pub mod StakeLaws

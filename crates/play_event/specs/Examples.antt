@@ -16,7 +16,7 @@ use Rattle.play_event.specs.HistoryRules.{history_rules}
 use Rattle.play_event.specs.Rows.{row_of, is_row}
 use Rattle.play_event.specs.Past.{moves_of}
 use Rattle.play_event.specs.Seats.{all_seats}
-use Rattle.play_event.specs.Finish.{finishing_stack}
+use Rattle.play_event.specs.Stakes.{stack_by_folds}
 use Rattle.play_event.specs.Scripts.{why_at, first_illegal, past_of}
 
 -- a hand of no-limit hold'em without antes, with these stacks and blinds
@@ -73,6 +73,6 @@ folds seat = Fold (Some seat)
 abbrev pub first_refusal : Setup → List Said → Option (ℕ × Option Illegal)
 first_refusal setup script = option_map (λ index. (index, why_at setup history_rules script index)) (first_illegal setup history_rules script)
 
--- what each seat ends with after a script
+-- what each seat ends with after a script that is won by folds
 abbrev pub ends_with : Setup → List Said → List ℕ
-ends_with setup script = map (finishing_stack setup (moves_of (past_of setup (reverse script)))) (all_seats setup)
+ends_with setup script = map (stack_by_folds setup (moves_of (past_of setup (reverse script)))) (all_seats setup)

@@ -28,7 +28,7 @@ pub mod Trace
 pub mod SlotRows
 pub mod SeatSlots
 pub mod Played
-pub mod Finish
+pub mod Stakes
 pub mod HistoryRules
 pub mod Rows
 pub mod Examples

@@ -10,6 +10,7 @@ mod played;
 mod reason;
 mod script;
 mod setup;
+mod stake_laws;
 #[cfg(test)]
 mod tests;
 mod worked_hands;
@@ -26,4 +27,5 @@ pub use played::{Act, Move, Place};
 pub use reason::{Due, Illegal};
 pub use script::Script;
 pub use setup::{Reopen, Rules, Setup};
+pub use stake_laws::law_of_folds;
 pub use worked_hands::{worked_cards, worked_ends, worked_raises, worked_traces};

@@ -1,7 +1,8 @@
 -- One event more of a hand that is played, and what that makes of its verdict.
-use Rattle.std.proofs.Common.{◌≡◌, ℕ, suc, ◌+◌, ◌-◌, ◌≤◌, Bool, true, false, ◌&&◌, not, List, [], ◌∷◌, length, map, take, reverse, get_or, slice_get, Option, Some, None, is_none, refl, sym, ◌∙◌, ap, arith, if◌then◌else◌, option_and_then}
+use Rattle.std.proofs.Common.{◌≡◌, ℕ, suc, ◌+◌, ◌-◌, ◌≤◌, Bool, true, false, ◌&&◌, not, List, [], ◌∷◌, length, map, take, reverse, get_or, slice_get, Option, Some, None, is_none, refl, sym, ◌∙◌, ap, subst, arith, if◌then◌else◌, option_and_then}
 use Rattle.std.specs.Option.{option_map, option_map_or}
 use Rattle.std.specs.List.{range_with_len}
+use Rattle.std.proofs.lemmas.Bool.{leb-true}
 use Rattle.std.proofs.lemmas.List.{take_more, reverse-append, length-map}
 use Rattle.std.proofs.lemmas.Option.{slice_get-map, slice_get_past, slice_get_within, get_or_from_slice_get}
 use Rattle.list_laws.proofs.Options.{some_is_none}
@@ -13,9 +14,9 @@ use Rattle.play_event.specs.declared.setup.Setup.{Setup}
 use Rattle.play_event.specs.Said.{Said, said_of}
 use Rattle.play_event.specs.Past as past
 use Rattle.play_event.specs.Past.{moves_of}
-use Rattle.play_event.specs.Seats.{all_seats}
+use Rattle.play_event.specs.Seats.{all_seats, live_count}
 use Rattle.play_event.specs.Due.{turn, due_on, is_unfinished}
-use Rattle.play_event.specs.Finish.{finishing_stack}
+use Rattle.play_event.specs.Stakes.{stack_by_folds}
 use Rattle.play_event.specs.HistoryRules.{history_rules}
 use Rattle.play_event.specs.Reasons.{why}
 use Rattle.play_event.specs.Scripts.{past_of, past_after, with_event, resolved_on, why_at}
@@ -130,7 +131,7 @@ turn_at setup played stages.Over game is = ap (λ t. is_unfinished t.1) (turn_ov
 turn_at setup played stages.Dealing game is = ap (λ t. is_unfinished t.1) (turn_on_first setup (past_seen played) (dues.Deal 1) game (newest_is_first played) is.0 (due_deal setup (past_seen played) is.1))
 turn_at setup played stages.Betting game is = ap (λ t. is_unfinished t.1) (turn_on_first setup (past_seen played) dues.Move game (newest_is_first played) is.0 (due_move setup (past_seen played) game is.1 is.2))
 
-ended_by : (setup : Setup) (before : past.Past) (stage : Stage) → (if unfinished_at stage then EndsEarly else Complete (map (finishing_stack setup (moves_of before)) (all_seats setup))) ≡ ended_at setup before stage
+ended_by : (setup : Setup) (before : past.Past) (stage : Stage) → (if unfinished_at stage then EndsEarly else Complete (map (stack_by_folds setup (moves_of before)) (all_seats setup))) ≡ ended_at setup before stage
 ended_by setup before stages.Over = refl
 ended_by setup before stages.Dealing = refl
 ended_by setup before stages.Betting = refl
@@ -143,9 +144,9 @@ ending_is setup script count played stage game seen all is =
     let listed : length (map numbered script) ≡ count = length-map script numbered ∙ sym all in
     let one : past_after setup (events_of (map numbered script)) (length (events_of (map numbered script))) ≡ past_seen played = ap (past_after setup (events_of (map numbered script))) whole ∙ sym seen in
     let other : past_after setup (events_of (map numbered script)) (length (map numbered script)) ≡ past_seen played = ap (past_after setup (events_of (map numbered script))) listed ∙ sym seen in
-    ap (λ p. if is_unfinished (turn setup p).1 then EndsEarly else Complete (map (finishing_stack setup (moves_of (past_after setup (events_of (map numbered script)) (length (map numbered script))))) (all_seats setup))) one
-    ∙ ap (λ p. if is_unfinished (turn setup (past_seen played)).1 then EndsEarly else Complete (map (finishing_stack setup (moves_of p)) (all_seats setup))) other
-    ∙ ap (λ b. if b then EndsEarly else Complete (map (finishing_stack setup (moves_of (past_seen played))) (all_seats setup))) (turn_at setup played stage game is)
+    ap (λ p. if is_unfinished (turn setup p).1 then EndsEarly else Complete (map (stack_by_folds setup (moves_of (past_after setup (events_of (map numbered script)) (length (map numbered script))))) (all_seats setup))) one
+    ∙ ap (λ p. if is_unfinished (turn setup (past_seen played)).1 then EndsEarly else Complete (map (stack_by_folds setup (moves_of p)) (all_seats setup))) other
+    ∙ ap (λ b. if b then EndsEarly else Complete (map (stack_by_folds setup (moves_of (past_seen played))) (all_seats setup))) (turn_at setup played stage game is)
     ∙ ended_by setup (past_seen played) stage
 
 -- the verdict where the first street is over
@@ -181,3 +182,7 @@ on_first setup played stages.Betting event game first is legal = ap (λ t. t.0) 
 pub played_more : (hand : Hand) (count : ℕ) (played : Past) (stage : Stage) (event : Event) (found : Option Illegal) (after : past.Resolved) → hand.setup.code ≡ games.NT → IsFirstEvent hand.setup.stacks.seats (said_of event) → past_seen played ≡ past_after hand.setup (events_of (map numbered hand.script)) count → IsStage hand.setup (past_seen played) stage → slice_get hand.script count ≡ Some event → found ≡ why hand.setup history_rules (past_seen played) (said_of event) → found ≡ None → after ≡ resolved_on hand.setup (past_seen played) 1 (said_of event) → after ∷ past_seen played ≡ past_after hand.setup (events_of (map numbered hand.script)) (count + 1)
 played_more hand count played stage event found after game first seen is at against none resolved =
     step_more hand.setup (events_of (map numbered hand.script)) count (past_seen played) (said_of event) after seen (said_at hand.script count event at) (on_first hand.setup played stage (said_of event) game first is (sym against ∙ none)) resolved
+
+-- where the hand is over one seat at most is live
+pub few_over : (setup : Setup) (before : past.Past) (stage : Stage) → stage ≡ stages.Over → IsStage setup before stage → live_count setup (moves_of before) ≤ 1
+few_over setup before stage is over = leb-true (live_count setup (moves_of before)) 1 (subst (IsStage setup before) is over)

@@ -3,7 +3,7 @@ use Rattle.std.specs.Prelude.{map}
 use Rattle.play_event.specs.declared.setup.Setup.{Setup}
 use Rattle.play_event.specs.Past.{Past, moves_of}
 use Rattle.play_event.specs.Seats.{all_seats}
-use Rattle.play_event.specs.Finish.{finishing_stack}
+use Rattle.play_event.specs.Stakes.{stack_by_folds}
 use Rattle.poker_cli.specs.declared.play.Outcome.{Outcome}
 use Rattle.poker_cli.specs.declared.play.Outcome.TheVariants as outcomes
 use Rattle.poker_cli.specs.declared.play.Stage.{Stage}
@@ -19,6 +19,6 @@ verdict_of (outcomes.Complete stacks) = Complete stacks.items
 
 -- what becomes of a hand whose script is over at this stage
 abbrev pub ended_at : Setup → Past → Stage → Verdict
-ended_at setup past stages.Over = Complete (map (finishing_stack setup (moves_of past)) (all_seats setup))
+ended_at setup past stages.Over = Complete (map (stack_by_folds setup (moves_of past)) (all_seats setup))
 ended_at setup past stages.Dealing = EndsEarly
 ended_at setup past stages.Betting = EndsEarly

@@ -10,7 +10,7 @@ use Rattle.play_event.specs.Seats.{live_count, all_seats}
 use Rattle.play_event.specs.Due.{due_on}
 use Rattle.play_event.specs.HistoryRules.{history_rules}
 use Rattle.play_event.specs.Scripts.{past_after, why_at, has_early_end}
-use Rattle.play_event.specs.Finish.{finishing_stack}
+use Rattle.play_event.specs.Stakes.{stack_by_folds}
 use Rattle.first_form.specs.Hand.{Numbered, Told}
 
 -- why a hand stops: its first street is over with two or more live seats, or an event is illegal: its index, the number of its action, and the reason
@@ -56,7 +56,7 @@ first_stop stop (count ∷ rest) = stop_or (stop count) (first_stop stop rest)
 unfoldable pub ending : Setup → List Numbered → Verdict
 ending setup script =
     if has_early_end setup (events_of script) then EndsEarly
-    else Complete (map (finishing_stack setup (moves_of (past_after setup (events_of script) (length script)))) (all_seats setup))
+    else Complete (map (stack_by_folds setup (moves_of (past_after setup (events_of script) (length script)))) (all_seats setup))
 
 -- the verdict, by the first stop
 abbrev pub verdict_by : Setup → List Numbered → Option Stop → Verdict

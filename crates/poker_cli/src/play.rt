@@ -1,6 +1,7 @@
 // A hand is played event by event, each after the steps before it, until it stops or its script ends.
 ghost use Rattle.std.specs.Prelude.{◌≡◌, ℕ, ◌+◌, ◌-◌, ◌≤◌, ◌<◌, true, map, length, slice_get, Some, MatchOption, IfOk};
 ghost use Rattle.std.specs.List.{range_with_len};
+ghost use Rattle.chip_ledger.specs.RakeRow.{no_rakes};
 ghost use Rattle.play_event.specs.declared.code.Code.TheVariants as games;
 ghost use Rattle.play_event.specs.declared.event.Event.{Event};
 ghost use Rattle.play_event.specs.Said.{said_of, kind_said};
@@ -111,6 +112,8 @@ pub enum Outcome {
 /// What becomes of a script whose events are all played.
 fn ended(alloc: Global, setup: &Setup, past: &Past<'_>, stage: Stage) -> Result<Outcome, Memory>
     requires few { steps_seen past.now ≤ 300 }
+    requires stage { IsStage setup.now (past_seen past.now) stage }
+    requires no_rakes { setup.now.rakes ≡ no_rakes }
     ensures { IfOk result (λ outcome. verdict_of outcome ≡ ended_at setup.now (past_seen past.now) stage) }
 {
     match stage {

@@ -1,10 +1,10 @@
 // Which seats are live and able, and what the price is, looked up in the setup and the steps.
 ghost use Rattle.std.specs.Prelude.{◌≡◌, ◌≤◌, ◌+◌, ◌-◌, All, length, map};
 ghost use Rattle.std.specs.List.{range_with_len};
+ghost use Rattle.chip_ledger.specs.Greatest.{greatest};
 ghost use Rattle.chip_ledger.specs.Seat.{seats_of};
 ghost use Rattle.play_event.specs.Seats as definition;
 ghost use Rattle.play_event.specs.Chips.{street_chips};
-ghost use Rattle.chip_ledger.specs.Greatest.{greatest};
 ghost use Rattle.play_event.specs.Price as price_definition;
 ghost use Rattle.poker_cli.specs.Steps.{moves_seen, steps_seen};
 

@@ -1,5 +1,6 @@
 -- Each clause is computed.
 use Rattle.std.proofs.Common.{refl}
+use Rattle.chip_ledger.specs.Pots.{after_return, layers, levels, pots_at, pots_of}
 use Rattle.play_event.specs.Due.{turn}
 use Rattle.play_event.specs.Reasons.{why}
 use Rattle.play_event.specs.Scripts.{with_event}
@@ -14,11 +15,11 @@ unfolding turn why with_event
 returns-clause-it_is_complete c = refl
 
 pub returns-clause-it_ends_with : goal.returns-clause-it_ends_with
-unfolding turn why with_event
+unfolding turn why with_event pots_of after_return levels layers pots_at
 returns-clause-it_ends_with c = refl
 
 pub returns-clause-deep_stacks : goal.returns-clause-deep_stacks
-unfolding turn why with_event
+unfolding turn why with_event pots_of after_return levels layers pots_at
 returns-clause-deep_stacks c = refl
 
 pub returns-clause-cut_before_the_last_fold : goal.returns-clause-cut_before_the_last_fold

@@ -1,6 +1,7 @@
 -- Each clause is computed.
 use Rattle.std.proofs.Common.{refl}
 use Rattle.card_set.specs.Spelling.{slot_spelled, rank_lettered, suit_lettered}
+use Rattle.chip_ledger.specs.Pots.{after_return, layers, levels, pots_at, pots_of}
 use Rattle.play_event.specs.Due.{turn}
 use Rattle.play_event.specs.Reasons.{why}
 use Rattle.play_event.specs.Scripts.{with_event}
@@ -47,7 +48,7 @@ unfolding turn why with_event slot_spelled rank_lettered suit_lettered
 returns-clause-a_second_show c = refl
 
 pub returns-clause-dead_antes : goal.returns-clause-dead_antes
-unfolding turn why with_event slot_spelled rank_lettered suit_lettered
+unfolding turn why with_event slot_spelled rank_lettered suit_lettered pots_of after_return levels layers pots_at
 returns-clause-dead_antes c = refl
 
 pub returns-clause-an_early_end : goal.returns-clause-an_early_end
