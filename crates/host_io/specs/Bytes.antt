@@ -11,10 +11,12 @@ Loses n (Some xs) (Some ys) = ys ≡ drop n xs
 abbrev pub LosesAtMost : ℕ → Option (List ℕ) → Option (List ℕ) → Type 0
 LosesAtMost n None new = ⊤
 LosesAtMost n (Some xs) None = ⊥
-LosesAtMost n (Some xs) (Some ys) = (ys ≡ drop (length xs - length ys) xs) × (length xs ≤ length ys + n)
+LosesAtMost n (Some xs) (Some ys) =
+    (ys ≡ drop (length xs - length ys) xs) × (length xs ≤ length ys + n)
 
 -- known bytes grow by a front of bs, and not by the whole of it
 abbrev pub AppendsPart : Option (List ℕ) → Option (List ℕ) → List ℕ → Type 0
 AppendsPart None new bs = ⊤
 AppendsPart (Some xs) None bs = ⊥
-AppendsPart (Some xs) (Some ys) bs = (ys ≡ xs ++ take (length ys - length xs) bs) × (length ys < length xs + length bs)
+AppendsPart (Some xs) (Some ys) bs =
+    (ys ≡ xs ++ take (length ys - length xs) bs) × (length ys < length xs + length bs)

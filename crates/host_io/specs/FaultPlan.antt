@@ -1,6 +1,6 @@
 -- Which calls of an object in memory fail, and how they are counted.
-use Rattle.std.specs.Prelude.{◌≡◌, ℕ, Bool, List, Contains, if◌then◌else◌}
-use Rattle.host_io.specs.Faults.{counted_up}
+use Rattle.std.specs.Prelude.{◌≡◌, ℕ, Bool, List, Contains}
+use Rattle.host_io.specs.Faults.{counted_up, count_after}
 use Rattle.host_io.specs.declared.fault_plan.FaultPlan.{FaultPlan}
 
 -- no call was made yet, and those will fail whose number is listed
@@ -17,4 +17,4 @@ FailsNext plan = Contains plan.fail_at.items plan.calls
 pub record CountsCall (old new : FaultPlan) (failed : Bool) : Type 0 where
   pub listed : new.fail_at.items ≡ old.fail_at.items
   pub numbered : new.calls ≡ counted_up old.calls
-  pub faults : new.faults ≡ (if failed then counted_up old.faults else old.faults)
+  pub faults : new.faults ≡ count_after failed old.faults

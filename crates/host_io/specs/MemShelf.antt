@@ -8,7 +8,8 @@ use Rattle.host_io.specs.declared.mem_shelf.MemShelf.{MemShelf}
 
 -- the bytes of the first file with the name
 abbrev pub file_named : List (String Global × Vec ℕ Global) → List ℕ → Option (List ℕ)
-file_named files name = option_map (λ file. file.1.items) (find (λ file. bytes_eq (string_bytes file.0) name) files)
+file_named files name =
+    option_map (λ file. file.1.items) (find (λ file. bytes_eq (string_bytes file.0) name) files)
 
 -- the bytes under each name
 abbrev pub shelf_files : MemShelf → List ℕ → Option (List ℕ)

@@ -11,6 +11,10 @@ bytes_held sink = sink.bytes.items
 abbrev pub room_left : MemSink → ℕ
 room_left sink = sink.room - length sink.bytes.items
 
+-- the most bytes that it takes in one call
+abbrev pub sink_piece : MemSink → ℕ
+sink_piece sink = sink.piece
+
 -- which of its calls fail
 abbrev pub sink_plan : MemSink → FaultPlan
 sink_plan sink = sink.plan

@@ -7,6 +7,10 @@ use Rattle.host_io.specs.declared.mem_source.MemSource.{MemSource}
 abbrev pub bytes_left : MemSource → List ℕ
 bytes_left source = drop source.given source.bytes.items
 
+-- the most bytes that it gives in one call
+abbrev pub source_piece : MemSource → ℕ
+source_piece source = source.piece
+
 -- which of its calls fail
 abbrev pub source_plan : MemSource → FaultPlan
 source_plan source = source.plan

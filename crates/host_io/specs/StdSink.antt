@@ -6,6 +6,7 @@ use Rattle.host_io.specs.declared.std_sink.StdSink.{StdSink}
 abbrev pub inner_writer : {W : Type 0} → StdSink W → W
 inner_writer sink = sink.inner
 
--- how often it failed: once for each error of the writer, and for each piece of which it took nothing
+-- how often it failed: once for each error of the writer, and for each piece of which it took
+-- nothing
 abbrev pub fault_count : {W : Type 0} → StdSink W → ℕ
 fault_count sink = sink.faults

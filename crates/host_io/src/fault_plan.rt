@@ -5,7 +5,8 @@ ghost use Rattle.host_io.specs.FaultPlan.{IsFresh, FailsNext, CountsCall};
 
 use crate::fault::{Failed, count_fault};
 
-// Which calls fail, how many there were, and how many of them failed. Both counts stand still at their last value.
+// Which calls fail, how many there were, and how many of them failed. Both counts stand still at
+// their last value.
 #[derive(Debug, Drop)]
 pub(crate) struct FaultPlan {
     fail_at: Vec<u64>,

@@ -3,6 +3,7 @@
 
 mod fault;
 mod fault_plan;
+mod file_shelf;
 mod mem_shelf;
 mod mem_sink;
 mod mem_source;
@@ -11,10 +12,9 @@ mod sink;
 mod source;
 mod std_sink;
 mod std_source;
-#[cfg(test)]
-mod tests;
 
 pub use fault::Failed;
+pub use file_shelf::FileShelf;
 pub use mem_shelf::MemShelf;
 pub use mem_sink::MemSink;
 pub use mem_source::MemSource;

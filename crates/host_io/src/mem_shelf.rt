@@ -1,4 +1,4 @@
-//! A shelf in memory answers by the first file with a name, and fails at the calls that a list names.
+//! A shelf in memory answers by the first file with a name, and fails at the calls that are listed.
 ghost use Rattle.std.specs.Prelude.{◌≡◌, ◌≤◌, ◌↔◌, Some, IfOk, IfSome, IsErrOf};
 ghost use Rattle.std.specs.Option.{option_copied};
 ghost use Rattle.host_io.specs.Faults.{Rose};
@@ -54,10 +54,12 @@ impl Shelf for MemShelf {
         ensures answer { IfOk result (IsAnswer (shelf_files self.old name.now) max) }
         ensures unchanged { shelf_files self.new ≡ shelf_files self.old }
         ensures later { (shelf_plan self.old).faults ≤ (shelf_plan self.new).faults }
-        ensures failed { IsErrOf result ShelfFault.Failed → Rose (shelf_plan self.old).faults (shelf_plan self.new).faults }
+        ensures failed { IsErrOf result ShelfFault.Failed →
+            Rose (shelf_plan self.old).faults (shelf_plan self.new).faults }
 
         ensures fails { IsErrOf result ShelfFault.Failed ↔ FailsNext (shelf_plan self.old) }
-        ensures counts { CountsCall (shelf_plan self.old) (shelf_plan self.new) (has_failed result) }
+        ensures counts { CountsCall (shelf_plan self.old) (shelf_plan self.new)
+            (has_failed result) }
     {
         self.plan.begin_call()?;
         match find_file(&self.files, name) {

@@ -1,5 +1,6 @@
-//! A sink in memory holds what it took in order, and fails at the calls that a list names and where it is full.
-ghost use Rattle.std.specs.Prelude.{◌≡◌, ◌⊎◌, ◌+◌, ◌-◌, ◌<◌, ◌≤◌, ◌↔◌, [], ◌++◌, min, length, vec_len, vec_capacity, Some, IfOk, OnErr, IsErr, is_err};
+//! A sink in memory holds what it took in order, and fails at the calls that are listed and where
+//! it is full.
+ghost use Rattle.std.specs.Prelude.{◌≡◌, ◌⊎◌, ◌+◌, ◌-◌, ◌^◌, ◌<◌, ◌≤◌, ◌↔◌, [], ◌++◌, min, length, vec_len, vec_capacity, Some, IfOk, OnErr, IsErr, is_err};
 ghost use Rattle.std.specs.Io.{WritesAtMost};
 ghost use Rattle.std.specs.Io.KnownBytes.{WriteAppends};
 ghost use Rattle.host_io.specs.Faults.{Rose};
@@ -11,29 +12,50 @@ use crate::sink::Sink;
 use card_set::Memory;
 use std::alloc::Global;
 
-/// A sink in memory, with room for a fixed number of bytes. Each call takes as many as there is room for.
+/// A sink in memory, with room for a fixed number of bytes. Each call takes as many as there is
+/// room for and fit one piece.
 #[derive(Debug, Drop)]
 pub struct MemSink {
     bytes: Vec<u8>,
     room: usize,
+    piece: usize,
     plan: FaultPlan,
     ghost within: { vec_len bytes ≤ room },
     ghost reserved: { room ≤ vec_capacity bytes },
+    ghost some: { 1 ≤ piece },
 }
 
 impl MemSink {
-    ghost use Rattle.host_io.specs.MemSink.{bytes_held, room_left, sink_plan};
+    ghost use Rattle.host_io.specs.MemSink.{bytes_held, room_left, sink_piece, sink_plan};
 
-    /// An empty sink with room for `room` bytes, that fails at the calls with these numbers, counted from 0.
-    /// It takes all its memory here.
+    /// An empty sink with room for `room` bytes, that fails at the calls with these numbers,
+    /// counted from 0. It takes all its memory here. Bytes of any number are one piece.
     pub fn new(alloc: Global, room: usize, fail_at: Vec<u64>) -> Result<MemSink, Memory>
         ensures held { IfOk result (λ sink. bytes_held sink ≡ []) }
         ensures room { IfOk result (λ sink. room_left sink ≡ room) }
+        ensures piece { IfOk result (λ sink. sink_piece sink ≡ 2 ^ 64 - 1) }
+        ensures plan { IfOk result (λ sink. IsFresh (sink_plan sink) fail_at.items) }
+    {
+        MemSink::in_pieces(alloc, room, usize::MAX, fail_at)
+    }
+
+    /// As `new`, and a call takes at most `piece` bytes.
+    pub fn in_pieces(
+        alloc: Global,
+        room: usize,
+        piece: usize,
+        fail_at: Vec<u64>,
+    ) -> Result<MemSink, Memory>
+        requires { 1 ≤ piece }
+        ensures held { IfOk result (λ sink. bytes_held sink ≡ []) }
+        ensures room { IfOk result (λ sink. room_left sink ≡ room) }
+        ensures piece { IfOk result (λ sink. sink_piece sink ≡ piece) }
         ensures plan { IfOk result (λ sink. IsFresh (sink_plan sink) fail_at.items) }
     {
         Ok(MemSink {
             bytes: Vec::with_capacity(alloc, room)?,
             room,
+            piece,
             plan: FaultPlan::new(fail_at),
         })
     }
@@ -56,7 +78,7 @@ fn push_reserved(held: &mut Vec<u8>, bytes: &[u8])
 }
 
 impl Sink for MemSink {
-    ghost use Rattle.host_io.specs.MemSink.{bytes_held, room_left, sink_plan};
+    ghost use Rattle.host_io.specs.MemSink.{bytes_held, room_left, sink_piece, sink_plan};
 
     ghost held = { λ sink. Some (bytes_held sink) };
 
@@ -65,14 +87,19 @@ impl Sink for MemSink {
     fn write(&mut self, bytes: &[u8]) -> Result<usize, Failed>
         ensures bound { WritesAtMost result bytes.now }
         ensures some { IfOk result (λ count. 0 < length bytes.now → 0 < count) }
-        ensures bytes { WriteAppends (Some (bytes_held self.old)) (Some (bytes_held self.new)) result bytes.now }
+        ensures bytes { WriteAppends (Some (bytes_held self.old)) (Some (bytes_held self.new))
+            result bytes.now }
         ensures later { (sink_plan self.old).faults ≤ (sink_plan self.new).faults }
-        ensures failed { OnErr result (Rose (sink_plan self.old).faults (sink_plan self.new).faults) }
+        ensures failed { OnErr result
+            (Rose (sink_plan self.old).faults (sink_plan self.new).faults) }
 
         ensures fails { IsErr result ↔ (FailsNext (sink_plan self.old)
             ⊎ ((0 < length bytes.now) × (room_left self.old ≡ 0))) }
-        ensures takes { IfOk result (λ count. count ≡ min (length bytes.now) (room_left self.old)) }
-        ensures room { room_left self.new + length (bytes_held self.new) ≡ room_left self.old + length (bytes_held self.old) }
+        ensures takes { IfOk result (λ count. count
+            ≡ min (min (length bytes.now) (sink_piece self.old)) (room_left self.old)) }
+        ensures piece { sink_piece self.new ≡ sink_piece self.old }
+        ensures room { room_left self.new + length (bytes_held self.new)
+            ≡ room_left self.old + length (bytes_held self.old) }
         ensures counts { CountsCall (sink_plan self.old) (sink_plan self.new) (is_err result) }
     {
         self.plan.begin_call()?;
@@ -80,7 +107,7 @@ impl Sink for MemSink {
         if room == 0 && !bytes.is_empty() {
             return Err(self.plan.fail());
         }
-        let count = bytes.len().min(room);
+        let count = bytes.len().min(self.piece).min(room);
         push_reserved(&mut self.bytes, &bytes[..count]);
         Ok(count)
     }

@@ -1,5 +1,5 @@
 //! A source in memory gives its bytes in order, and fails at the calls that a list names.
-ghost use Rattle.std.specs.Prelude.{◌≡◌, ◌+◌, ◌-◌, ◌≤◌, ◌↔◌, ◌++◌, min, length, take, drop, vec_len, Some, IfOk, OnErr, IsErr, is_err};
+ghost use Rattle.std.specs.Prelude.{◌≡◌, ◌+◌, ◌-◌, ◌^◌, ◌≤◌, ◌↔◌, ◌++◌, min, length, take, drop, vec_len, Some, IfOk, OnErr, IsErr, is_err};
 ghost use Rattle.std.specs.Io.{ReadsAtMost};
 ghost use Rattle.std.specs.Io.KnownBytes.{ReadConsumes};
 ghost use Rattle.host_io.specs.Faults.{Rose};
@@ -9,45 +9,62 @@ use crate::fault::Failed;
 use crate::fault_plan::FaultPlan;
 use crate::source::Source;
 
-/// Bytes in memory as a source. Each call gives as many as are left and fit the buffer.
+/// Bytes in memory as a source. Each call gives as many as are left and fit the buffer and one
+/// piece.
 #[derive(Debug, Drop)]
 pub struct MemSource {
     bytes: Vec<u8>,
     given: usize,
+    piece: usize,
     plan: FaultPlan,
     ghost within: { given ≤ vec_len bytes },
+    ghost some: { 1 ≤ piece },
 }
 
 impl MemSource {
-    ghost use Rattle.host_io.specs.MemSource.{bytes_left, source_plan};
+    ghost use Rattle.host_io.specs.MemSource.{bytes_left, source_piece, source_plan};
 
-    /// A source that has these bytes left, and fails at the calls with these numbers, counted from 0.
+    /// A source that has these bytes left, and fails at the calls with these numbers, counted
+    /// from 0. Bytes of any number are one piece.
     pub fn new(bytes: Vec<u8>, fail_at: Vec<u64>) -> MemSource
         ensures left { bytes_left result ≡ bytes.items }
+        ensures piece { source_piece result ≡ 2 ^ 64 - 1 }
+        ensures plan { IsFresh (source_plan result) fail_at.items }
+    {
+        MemSource::in_pieces(bytes, usize::MAX, fail_at)
+    }
+
+    /// As `new`, and a call gives at most `piece` bytes.
+    pub fn in_pieces(bytes: Vec<u8>, piece: usize, fail_at: Vec<u64>) -> MemSource
+        requires { 1 ≤ piece }
+        ensures left { bytes_left result ≡ bytes.items }
+        ensures piece { source_piece result ≡ piece }
         ensures plan { IsFresh (source_plan result) fail_at.items }
     {
         MemSource {
             bytes,
             given: 0,
+            piece,
             plan: FaultPlan::new(fail_at),
         }
     }
 }
 
-// Copies bytes from that place on to the start of the buffer, as many as there are and fit, and returns how many.
-fn copy_from(bytes: &[u8], start: usize, buf: &mut [u8]) -> usize
+// Copies bytes from that place on to the start of the buffer, as many as there are and fit, and at
+// most `most`, and returns how many.
+fn copy_from(bytes: &[u8], start: usize, most: usize, buf: &mut [u8]) -> usize
     requires { start ≤ length bytes.now }
-    ensures count { result ≡ min (length buf.old) (length bytes.now - start) }
+    ensures count { result ≡ min (min (length buf.old) most) (length bytes.now - start) }
     ensures copied { drop start bytes.now ≡ take result buf.new ++ drop (start + result) bytes.now }
 {
     let left = &bytes[start..];
-    let count = buf.len().min(left.len());
+    let count = buf.len().min(most).min(left.len());
     buf[..count].copy_from_slice(&left[..count]);
     count
 }
 
 impl Source for MemSource {
-    ghost use Rattle.host_io.specs.MemSource.{bytes_left, source_plan};
+    ghost use Rattle.host_io.specs.MemSource.{bytes_left, source_piece, source_plan};
 
     ghost left = { λ source. Some (bytes_left source) };
 
@@ -55,16 +72,20 @@ impl Source for MemSource {
 
     fn read(&mut self, buf: &mut [u8]) -> Result<usize, Failed>
         ensures bound { ReadsAtMost result buf.new }
-        ensures bytes { ReadConsumes (Some (bytes_left self.old)) (Some (bytes_left self.new)) result buf.new }
+        ensures bytes { ReadConsumes (Some (bytes_left self.old)) (Some (bytes_left self.new))
+            result buf.new }
         ensures later { (source_plan self.old).faults ≤ (source_plan self.new).faults }
-        ensures failed { OnErr result (Rose (source_plan self.old).faults (source_plan self.new).faults) }
+        ensures failed { OnErr result
+            (Rose (source_plan self.old).faults (source_plan self.new).faults) }
 
         ensures fails { IsErr result ↔ FailsNext (source_plan self.old) }
-        ensures gives { IfOk result (λ count. count ≡ min (length buf.old) (length (bytes_left self.old))) }
+        ensures gives { IfOk result (λ count. count
+            ≡ min (min (length buf.old) (source_piece self.old)) (length (bytes_left self.old))) }
+        ensures piece { source_piece self.new ≡ source_piece self.old }
         ensures counts { CountsCall (source_plan self.old) (source_plan self.new) (is_err result) }
     {
         self.plan.begin_call()?;
-        let count = copy_from(&self.bytes, self.given, buf);
+        let count = copy_from(&self.bytes, self.given, self.piece, buf);
         self.given += count;
         Ok(count)
     }

@@ -56,8 +56,10 @@ pub trait Shelf {
 
     /// The bytes under a name, if there are at most `max`. No call changes what lies on the shelf.
     fn fetch(&mut self, alloc: Global, name: &str, max: usize) -> Result<Fetched, ShelfFault>
-        ensures answer { IfOk result (λ fetched. IfSome (files self.old) (λ files. IsAnswer (files name.now) max fetched)) }
+        ensures answer { IfOk result (λ fetched.
+            IfSome (files self.old) (λ files. IsAnswer (files name.now) max fetched)) }
         ensures unchanged { files self.new ≡ files self.old }
         ensures later { faults self.old ≤ faults self.new }
-        ensures failed { IsErrOf result ShelfFault.Failed → Rose (faults self.old) (faults self.new) };
+        ensures failed { IsErrOf result ShelfFault.Failed →
+            Rose (faults self.old) (faults self.new) };
 }

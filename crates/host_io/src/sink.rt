@@ -15,8 +15,9 @@ pub trait Sink {
     /// How often the sink has failed. The count never falls.
     ghost faults: { Self → ℕ };
 
-    /// Takes bytes from the front of the piece, and holds them after the others. `Ok` has their number,
-    /// which is above zero for a piece that is not empty. After `Failed` the bytes held are as before.
+    /// Takes bytes from the front of the piece, and holds them after the others. `Ok` has their
+    /// number, which is above zero for a piece that is not empty. After `Failed` the bytes held are
+    /// as before.
     fn write(&mut self, bytes: &[u8]) -> Result<usize, Failed>
         ensures bound { WritesAtMost result bytes.now }
         ensures some { IfOk result (λ count. 0 < length bytes.now → 0 < count) }

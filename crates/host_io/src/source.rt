@@ -44,8 +44,8 @@ pub trait Source {
     ghost faults: { Self → ℕ };
 
     /// Takes bytes from the front of those that are left, and puts them at the start of the buffer.
-    /// `Ok` has their number. Zero of them for a buffer that is not empty is the end: no byte is left.
-    /// After `Failed` the bytes left are as before.
+    /// `Ok` has their number. Zero of them for a buffer that is not empty is the end: no byte is
+    /// left. After `Failed` the bytes left are as before.
     fn read(&mut self, buf: &mut [u8]) -> Result<usize, Failed>
         ensures bound { ReadsAtMost result buf.new }
         ensures bytes { ReadConsumes (left self.old) (left self.new) result buf.new }
@@ -61,12 +61,15 @@ pub fn read_all<S: Source>(alloc: Global, source: &mut S, max: usize) -> Result<
     ensures end { OnOk result (IsAtEnd (S.left source.new)) }
     ensures within { IfOk result (λ all. length all.items ≤ max) }
 
-    ensures too_long { IsErrOf result InFault.TooLong → IfSome (S.left source.old) (λ left. max < length left) }
-    ensures taken_too_long { IsErrOf result InFault.TooLong → Loses (max + 1) (S.left source.old) (S.left source.new) }
+    ensures too_long { IsErrOf result InFault.TooLong →
+        IfSome (S.left source.old) (λ left. max < length left) }
+    ensures taken_too_long { IsErrOf result InFault.TooLong →
+        Loses (max + 1) (S.left source.old) (S.left source.new) }
     ensures taken { LosesAtMost (max + 1) (S.left source.old) (S.left source.new) }
 
     ensures later { S.faults source.old ≤ S.faults source.new }
-    ensures read_fault { IsErrOf result InFault.ReadFault → Rose (S.faults source.old) (S.faults source.new) }
+    ensures read_fault { IsErrOf result InFault.ReadFault →
+        Rose (S.faults source.old) (S.faults source.new) }
 {
     let mut all = Vec::new(alloc);
     let mut piece = [0u8; PIECE];

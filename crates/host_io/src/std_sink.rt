@@ -1,8 +1,8 @@
 //! A writer of std is a sink that counts the writer's errors, and tells no bytes.
-ghost use Rattle.std.specs.Prelude.{◌≡◌, ◌<◌, ◌≤◌, length, None, IfOk, OnErr, is_err, if◌then◌else◌};
+ghost use Rattle.std.specs.Prelude.{◌≡◌, ◌<◌, ◌≤◌, length, None, IfOk, OnErr, is_err};
 ghost use Rattle.std.specs.Io.{WritesAtMost};
 ghost use Rattle.std.specs.Io.KnownBytes.{WriteAppends};
-ghost use Rattle.host_io.specs.Faults.{counted_up, Rose};
+ghost use Rattle.host_io.specs.Faults.{count_after, Rose};
 
 use crate::fault::{Failed, count_fault};
 use crate::sink::Sink;
@@ -43,8 +43,9 @@ impl<W: Write> Sink for StdSink<W> {
         ensures failed { OnErr result (Rose (fault_count self.old) (fault_count self.new)) }
 
         // What is taken goes to the writer, where the writer knows what it holds.
-        ensures passed_on { WriteAppends (W.contents (inner_writer self.old)) (W.contents (inner_writer self.new)) result bytes.now }
-        ensures counts { fault_count self.new ≡ (if is_err result then counted_up (fault_count self.old) else fault_count self.old) }
+        ensures passed_on { WriteAppends (W.contents (inner_writer self.old))
+            (W.contents (inner_writer self.new)) result bytes.now }
+        ensures counts { fault_count self.new ≡ count_after (is_err result) (fault_count self.old) }
     {
         match self.inner.write(bytes) {
             Ok(count) if count > 0 || bytes.is_empty() => Ok(count),

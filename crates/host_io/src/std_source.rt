@@ -1,8 +1,8 @@
 //! A reader of std is a source that counts the reader's errors, and tells no bytes.
-ghost use Rattle.std.specs.Prelude.{◌≡◌, ◌≤◌, None, OnErr, is_err, if◌then◌else◌};
+ghost use Rattle.std.specs.Prelude.{◌≡◌, ◌≤◌, None, OnErr, is_err};
 ghost use Rattle.std.specs.Io.{ReadsAtMost};
 ghost use Rattle.std.specs.Io.KnownBytes.{ReadConsumes};
-ghost use Rattle.host_io.specs.Faults.{counted_up, Rose};
+ghost use Rattle.host_io.specs.Faults.{count_after, Rose};
 
 use crate::fault::{Failed, count_fault};
 use crate::source::Source;
@@ -41,8 +41,9 @@ impl<R: Read> Source for StdSource<R> {
         ensures failed { OnErr result (Rose (fault_count self.old) (fault_count self.new)) }
 
         // What is given is what the reader gives, where the reader knows it.
-        ensures passed_on { ReadConsumes (R.remaining (inner_reader self.old)) (R.remaining (inner_reader self.new)) result buf.new }
-        ensures counts { fault_count self.new ≡ (if is_err result then counted_up (fault_count self.old) else fault_count self.old) }
+        ensures passed_on { ReadConsumes (R.remaining (inner_reader self.old))
+            (R.remaining (inner_reader self.new)) result buf.new }
+        ensures counts { fault_count self.new ≡ count_after (is_err result) (fault_count self.old) }
     {
         match self.inner.read(buf) {
             Ok(count) => Ok(count),
