@@ -1,0 +1,38 @@
+//! A row of the table names a device, how it is made, and what is asked of it.
+use std::alloc::{AllocError, Global};
+
+/// One case: `DEVICE PIECE CALL LIMIT TEXT`, where `-` stands for no piece and for no call.
+#[derive(Clone, Copy)]
+pub struct Case<'a> {
+    pub device: &'a str,
+    /// The most bytes of a call.
+    pub piece: Option<usize>,
+    /// The number of the call that fails, from 0.
+    pub failing: Option<u64>,
+    /// The most bytes to read, or the room to write.
+    pub limit: usize,
+    /// What is read or written, or the name that is looked for.
+    pub text: &'a str,
+}
+
+impl<'a> Case<'a> {
+    /// The case that the row says, none where the limit is no number.
+    pub fn of(row: &'a str) -> Option<Case<'a>> {
+        let mut words = row.split(' ');
+        Some(Case {
+            device: words.next()?,
+            piece: words.next()?.parse().ok(),
+            failing: words.next()?.parse().ok(),
+            limit: words.next()?.parse().ok()?,
+            text: words.next().unwrap_or(""),
+        })
+    }
+
+    /// The numbers of the calls that fail: one or none.
+    pub fn fail_at(&self, alloc: Global) -> Result<Vec<u64>, AllocError> {
+        match self.failing {
+            Some(number) => Ok(vec![in alloc; number]?),
+            None => Ok(Vec::new(alloc)),
+        }
+    }
+}
