@@ -1,5 +1,5 @@
 -- The hand of a document of the first form keeps the bounds of that form.
-use Rattle.std.proofs.Common.{◌≡◌, ℕ, zero, suc, ◌-◌, ◌≤◌, Bool, true, false, ◌&&◌, nat_le, ◌==◌, List, [], ◌∷◌, ◌++◌, length, replicate, Option, Some, None, refl, arith, subst, bytes_eq, codes, eqb-true, IsTrue, slice_index}
+use Rattle.std.proofs.Common.{◌≡◌, ℕ, zero, suc, ◌-◌, ◌≤◌, ◌<◌, Bool, true, false, ◌&&◌, nat_le, ◌==◌, List, [], ◌∷◌, ◌++◌, length, replicate, Option, Some, None, refl, arith, subst, bytes_eq, codes, eqb-true, IsTrue, slice_index}
 use Rattle.std.specs.List.{list_all}
 use Rattle.std.proofs.lemmas.Bool.{and_parts, leb-true}
 use Rattle.list_laws.proofs.Options.{only}
@@ -24,25 +24,36 @@ filled_within least greatest (x ∷ xs) n within zero =
 filled_within least greatest (x ∷ xs) n within (suc k) =
     filled_within least greatest xs n (and_parts (nat_le least x && nat_le x greatest) (list_all (λ y. nat_le least y && nat_le y greatest) xs) within).1 k
 
+-- each number that was read is at least the least
+filled_from : (least greatest : ℕ) (xs : List ℕ) (n : ℕ) → list_all (λ x. nat_le least x && nat_le x greatest) xs ≡ true → (k : ℕ) → k < length xs → least ≤ slice_index (xs ++ replicate n 0) k
+filled_from least greatest [] n within k inside = absurd (omega (arith, inside))
+filled_from least greatest (x ∷ xs) n within zero inside =
+    let here = (and_parts (nat_le least x && nat_le x greatest) (list_all (λ y. nat_le least y && nat_le y greatest) xs) within).0 in
+    leb-true least x (and_parts (nat_le least x) (nat_le x greatest) here).0
+filled_from least greatest (x ∷ xs) n within (suc k) inside =
+    filled_from least greatest xs n (and_parts (nat_le least x && nat_le x greatest) (list_all (λ y. nat_le least y && nat_le y greatest) xs) within).1 k (omega (arith, inside))
+
 made_row : (test : Bool) (make : IsTrue test → SeatRow) (row : SeatRow) (P : SeatRow → Type 0) → ((fits : IsTrue test) → P (make fits)) → made_if test make ≡ Some row → P row
 made_row true make row P each is = let same : make refl ≡ row = cc in subst P same (each refl)
 made_row false make row P each is = absurd (cc)
 
--- each amount of a row is at most the greatest
-abbrev IsWithin : ℕ → SeatRow → Type 0
-IsWithin greatest row = (k : ℕ) → slice_index row.amounts k ≤ greatest
+-- each amount of a row is at most the greatest, and that of each seat at least the least
+pub record IsWithin (least greatest : ℕ) (row : SeatRow) : Type 0 where
+  pub most : (k : ℕ) → slice_index row.amounts k ≤ greatest
+  pub from : (k : ℕ) → k < row.seats → least ≤ slice_index row.amounts k
 
-row_of_numbers : (least greatest count : ℕ) (found : Option (List ℕ)) (row : SeatRow) → ((xs : List ℕ) → found ≡ Some xs → AreRead least greatest count xs) → (found >>= seat_row) ≡ Some row → IsWithin greatest row
+row_of_numbers : (least greatest count : ℕ) (found : Option (List ℕ)) (row : SeatRow) → ((xs : List ℕ) → found ≡ Some xs → AreRead least greatest count xs) → (found >>= seat_row) ≡ Some row → IsWithin least greatest row
 unfolding seat_row
 row_of_numbers least greatest count None row read is = absurd (cc)
 row_of_numbers least greatest count (Some xs) row read is =
-    made_row (is_row xs) (row_of xs) row (IsWithin greatest) (λ fits. filled_within least greatest xs (10 - length xs) (read xs refl).within) is
+    let all = (read xs refl).within in
+    made_row (is_row xs) (row_of xs) row (IsWithin least greatest) (λ fits. record { most = filled_within least greatest xs (10 - length xs) all; from = filled_from least greatest xs (10 - length xs) all }) is
 
-row_of_items : (least greatest : ℕ) (items : Option Items) (row : SeatRow) → (items >>= numbers_within least greatest >>= seat_row) ≡ Some row → IsWithin greatest row
+row_of_items : (least greatest : ℕ) (items : Option Items) (row : SeatRow) → (items >>= numbers_within least greatest >>= seat_row) ≡ Some row → IsWithin least greatest row
 row_of_items least greatest None row is = absurd (cc)
 row_of_items least greatest (Some items) row is = row_of_numbers least greatest (count_items items) (numbers_within least greatest items) row (numbers_read least greatest items) is
 
-row_within : (least greatest : ℕ) (value : Option Data) (row : SeatRow) → (value >>= row_said least greatest) ≡ Some row → IsWithin greatest row
+row_within : (least greatest : ℕ) (value : Option Data) (row : SeatRow) → (value >>= row_said least greatest) ≡ Some row → IsWithin least greatest row
 unfolding row_said
 row_within least greatest None row is = absurd (cc)
 row_within least greatest (Some value) row is = row_of_items least greatest (as_array value) row is
@@ -54,25 +65,28 @@ number_of least greatest (Some value) number is =
     (leb-true least number both.0, leb-true number greatest both.1)
 
 -- the bounds of a setup of the first form
-record IsFirstSetup (setup : Setup) : Type 0 where
-  game : setup.code ≡ games.NT
-  least_seats : 3 ≤ setup.stacks.seats
-  same_antes : setup.antes.seats ≡ setup.stacks.seats
-  same_blinds : setup.blinds.seats ≡ setup.stacks.seats
-  no_antes : IsWithin 0 setup.antes
-  antes_not_dead : setup.dead_antes ≡ false
-  stacks_within : IsWithin most_chips setup.stacks
-  blinds_within : IsWithin most_chips setup.blinds
-  least_bet : 1 ≤ setup.min_bet
-  least_bet_within : setup.min_bet ≤ most_chips
-  rakes_none : setup.rakes ≡ no_rakes
+pub record IsFirstSetup (setup : Setup) : Type 0 where
+  pub game : setup.code ≡ games.NT
+  pub least_seats : 3 ≤ setup.stacks.seats
+  pub same_antes : setup.antes.seats ≡ setup.stacks.seats
+  pub same_blinds : setup.blinds.seats ≡ setup.stacks.seats
+  pub no_antes : IsWithin 0 0 setup.antes
+  pub antes_not_dead : setup.dead_antes ≡ false
+  pub stacks_within : IsWithin 1 most_chips setup.stacks
+  pub blinds_within : IsWithin 0 most_chips setup.blinds
+  pub no_bring_in : setup.bring_in ≡ 0
+  pub no_small_bet : setup.small_bet ≡ 0
+  pub no_big_bet : setup.big_bet ≡ 0
+  pub least_bet : 1 ≤ setup.min_bet
+  pub least_bet_within : setup.min_bet ≤ most_chips
+  pub rakes_none : setup.rakes ≡ no_rakes
 
 -- the setup with these parts
 abbrev setup_with : SeatRow → SeatRow → SeatRow → ℕ → Setup
 setup_with stacks antes blinds least = record { code = games.NT; stacks = stacks; antes = antes; dead_antes = false; blinds = blinds; bring_in = 0; small_bet = 0; big_bet = 0; min_bet = least; rakes = no_rakes }
 
 setup_parts : (game : List ℕ) (stacks antes blinds : SeatRow) (least : ℕ) (setup : Setup)
-    → IsWithin most_chips stacks → IsWithin 0 antes → IsWithin most_chips blinds → (1 ≤ least) × (least ≤ most_chips)
+    → IsWithin 1 most_chips stacks → IsWithin 0 0 antes → IsWithin 0 most_chips blinds → (1 ≤ least) × (least ≤ most_chips)
     → only_if (bytes_eq game (code_text games.NT) && (nat_le 3 stacks.seats && (antes.seats == stacks.seats && blinds.seats == stacks.seats))) (setup_with stacks antes blinds least) ≡ Some setup
     → IsFirstSetup setup
 setup_parts game stacks antes blinds least setup stacks_are antes_are blinds_are least_is is =
@@ -90,6 +104,9 @@ setup_parts game stacks antes blinds least setup stacks_are antes_are blinds_are
       antes_not_dead = refl;
       stacks_within = stacks_are;
       blinds_within = blinds_are;
+      no_bring_in = refl;
+      no_small_bet = refl;
+      no_big_bet = refl;
       least_bet = least_is.0;
       least_bet_within = least_is.1;
       rakes_none = refl;
@@ -97,9 +114,9 @@ setup_parts game stacks antes blinds least setup stacks_are antes_are blinds_are
     subst IsFirstSetup both.1 bounds
 
 setup_found : (game : Option (List ℕ)) (stacks antes blinds : Option SeatRow) (least : Option ℕ) (setup : Setup)
-    → ((row : SeatRow) → stacks ≡ Some row → IsWithin most_chips row)
-    → ((row : SeatRow) → antes ≡ Some row → IsWithin 0 row)
-    → ((row : SeatRow) → blinds ≡ Some row → IsWithin most_chips row)
+    → ((row : SeatRow) → stacks ≡ Some row → IsWithin 1 most_chips row)
+    → ((row : SeatRow) → antes ≡ Some row → IsWithin 0 0 row)
+    → ((row : SeatRow) → blinds ≡ Some row → IsWithin 0 most_chips row)
     → ((number : ℕ) → least ≡ Some number → (1 ≤ number) × (number ≤ most_chips))
     → (game >>= λ game. stacks >>= λ stacks. antes >>= λ antes. blinds >>= λ blinds. least >>= λ least.
     only_if (bytes_eq game (code_text games.NT) && (nat_le 3 stacks.seats && (antes.seats == stacks.seats && blinds.seats == stacks.seats))) (setup_with stacks antes blinds least)) ≡ Some setup
@@ -112,7 +129,7 @@ setup_found (Some game) (Some stacks) (Some antes) (Some blinds) None setup s a 
 setup_found (Some game) (Some stacks) (Some antes) (Some blinds) (Some least) setup s a b l is =
     setup_parts game stacks antes blinds least setup (s stacks refl) (a antes refl) (b blinds refl) (l least refl) is
 
-setup_first : (members : Members) (setup : Setup) → setup_said members ≡ Some setup → IsFirstSetup setup
+pub setup_first : (members : Members) (setup : Setup) → setup_said members ≡ Some setup → IsFirstSetup setup
 unfolding setup_said
 setup_first members setup is =
     setup_found _ _ _ _ _ setup
@@ -151,10 +168,10 @@ hand_with setup script bounds played =
       least_seats = bounds.least_seats;
       same_antes = bounds.same_antes;
       same_blinds = bounds.same_blinds;
-      no_antes = λ seat. omega (arith, bounds.no_antes (seat - 1));
+      no_antes = λ seat. omega (arith, bounds.no_antes.most (seat - 1));
       antes_not_dead = bounds.antes_not_dead;
-      stacks_within = λ seat. bounds.stacks_within (seat - 1);
-      blinds_within = λ seat. bounds.blinds_within (seat - 1);
+      stacks_within = λ seat. bounds.stacks_within.most (seat - 1);
+      blinds_within = λ seat. bounds.blinds_within.most (seat - 1);
       least_bet = bounds.least_bet;
       least_bet_within = bounds.least_bet_within;
       rakes_none = bounds.rakes_none;

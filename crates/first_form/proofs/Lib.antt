@@ -5,4 +5,5 @@ pub mod FirstEvents
 pub mod FirstHands
 pub mod ScriptLaws
 pub mod SeatLaws
+pub mod ValidSetups
 pub mod WordLaws

@@ -1,9 +1,10 @@
 //! A document of the first form is read as the hand that it says.
-ghost use Rattle.std.specs.Prelude.{◌≡◌, ◌≤◌, length, map, codes, bytes_eq, option_and_then, option_map, IfOk, Some};
+ghost use Rattle.std.specs.Prelude.{◌≡◌, ◌≤◌, length, map, codes, bytes_eq, option_and_then, option_map, IfOk, IfSome, Some};
 ghost use Rattle.toml.specs.Data.{as_str, get_member};
 ghost use Rattle.toml.specs.View.{items_view, table_view, view};
 ghost use Rattle.play_event.specs.Said.{kind_said, said_of};
 ghost use Rattle.play_event.specs.Rows.{filled};
+ghost use Rattle.play_event.specs.ValidSetup.{IsValid};
 ghost use Rattle.chip_ledger.specs.declared.rows.TheConstants.{MOST_AMOUNT};
 ghost use Rattle.first_form.specs.Action.{action_said};
 ghost use Rattle.first_form.specs.FirstForm.{events_from, first_form, key_fits, kept_within, keys_fit, number_within, numbers_within, raises_among, row_said, script_said, seat_row, setup_said};
@@ -21,6 +22,7 @@ use toml::{Table, Value};
 #[tactic(auto, unfolding(crate::specs::FirstForm::first_form))]
 pub fn read_hand(alloc: Global, table: &Table) -> Result<Option<Hand>, Memory>
     ensures read { IfOk result (λ hand. option_map told hand ≡ first_form (table_view table.now)) }
+    ensures valid { IfOk result (λ hand. IfSome hand (λ hand. IsValid hand.setup)) }
 {
     if !fits(table) {
         return Ok(None);
