@@ -98,14 +98,16 @@ fn read_setup(table: &Table) -> Option<Setup>
 
 // The value at a key.
 fn member<'a>(table: &'a Table, key: &str) -> Option<&'a Value>
-    ensures { option_map (λ value. view value.now) result ≡ get_member key.now (table_view table.now) }
+    ensures { option_map (λ value. view value.now) result
+        ≡ get_member key.now (table_view table.now) }
 {
     table.get(key)
 }
 
 // The text at a key.
 fn text_at<'a>(table: &'a Table, key: &str) -> Option<&'a str>
-    ensures { option_map (λ text. text.now) result ≡ option_and_then as_str (get_member key.now (table_view table.now)) }
+    ensures { option_map (λ text. text.now) result
+        ≡ option_and_then as_str (get_member key.now (table_view table.now)) }
 {
     match member(table, key) {
         Some(value) => value.as_str(),
@@ -116,14 +118,16 @@ fn text_at<'a>(table: &'a Table, key: &str) -> Option<&'a str>
 // The row of numbers from least to most at a key.
 fn row_at(table: &Table, key: &str, least: u64, most: u64) -> Option<SeatRow>
     requires { most ≤ MOST_AMOUNT }
-    ensures { result ≡ option_and_then (row_said least most) (get_member key.now (table_view table.now)) }
+    ensures { result ≡ option_and_then (row_said least most)
+        (get_member key.now (table_view table.now)) }
 {
     read_row(member(table, key)?, least, most)
 }
 
 // The number from least to most at a key.
 fn number_at(table: &Table, key: &str, least: u64, most: u64) -> Option<u64>
-    ensures { result ≡ option_and_then (number_within least most) (get_member key.now (table_view table.now)) }
+    ensures { result ≡ option_and_then (number_within least most)
+        (get_member key.now (table_view table.now)) }
 {
     read_number(member(table, key)?, least, most)
 }
@@ -163,7 +167,8 @@ fn read_row(value: &Value, least: u64, most: u64) -> Option<SeatRow>
 // The row of two to ten numbers from least to most.
 fn fill_row(values: &[Value], least: u64, most: u64) -> Option<SeatRow>
     requires { most ≤ MOST_AMOUNT }
-    ensures { result ≡ option_and_then seat_row (numbers_within least most (items_view values.now)) }
+    ensures { result ≡ option_and_then seat_row
+        (numbers_within least most (items_view values.now)) }
 {
     if values.len() < 2 || values.len() > 10 {
         return None;
@@ -191,7 +196,8 @@ fn read_amounts(values: &[Value], least: u64, most: u64) -> Option<[u64; 10]>
 #[tactic(auto, unfolding(crate::specs::FirstForm::script_said))]
 fn read_script(alloc: Global, seats: u8, value: &Value) -> Result<Option<Script>, Memory>
     requires { seats ≤ 10 }
-    ensures { IfOk result (λ script. option_map (map numbered) script ≡ script_said seats (view value.now)) }
+    ensures { IfOk result (λ script. option_map (map numbered) script
+        ≡ script_said seats (view value.now)) }
 {
     let Some(actions) = value.as_array() else {
         return Ok(None);
@@ -212,7 +218,8 @@ fn read_script(alloc: Global, seats: u8, value: &Value) -> Result<Option<Script>
 fn read_events(alloc: Global, seats: u8, actions: &[Value]) -> Result<Option<Script>, Memory>
     requires seats { seats ≤ 10 }
     requires few { length actions.now ≤ 256 }
-    ensures { IfOk result (λ script. option_map (map numbered) script ≡ events_from seats 1 (items_view actions.now)) }
+    ensures { IfOk result (λ script. option_map (map numbered) script
+        ≡ events_from seats 1 (items_view actions.now)) }
 {
     let mut script = Script::new(alloc);
     for (index, value) in actions.iter().enumerate() {
@@ -230,7 +237,8 @@ fn read_events(alloc: Global, seats: u8, actions: &[Value]) -> Result<Option<Scr
 // What an action says.
 fn read_event(seats: u8, value: &Value) -> Option<Kind>
     requires { seats ≤ 10 }
-    ensures { option_map kind_said result ≡ option_and_then (action_said seats) (as_str (view value.now)) }
+    ensures { option_map kind_said result
+        ≡ option_and_then (action_said seats) (as_str (view value.now)) }
 {
     read_action(seats, value.as_str()?)
 }
@@ -255,178 +263,5 @@ fn is_raise(event: Event) -> bool
     match event.kind {
         Kind::Raise { .. } => true,
         _ => false,
-    }
-}
-
-#[cfg(test)]
-mod tests {
-    use super::*;
-    use chip_ledger::Seat;
-    use play_event::Spelled;
-    use std::test::Fail;
-
-    // A hand for three seats in the first form, by its keys.
-    const USUAL: [(&str, &str); 6] = [
-        ("variant", "\"NT\""),
-        ("antes", "[0, 0, 0]"),
-        ("blinds_or_straddles", "[1, 2, 0]"),
-        ("min_bet", "2"),
-        ("starting_stacks", "[100, 100, 100]"),
-        ("actions", "[\"d dh p3 AhKh\", \"p3 cbr 6\", \"p1 f\"]"),
-    ];
-
-    // The document of the usual hand, but with this value at this key.
-    fn with(alloc: Global, key: &str, value: &str) -> Result<String, Fail> {
-        let mut text = String::new(alloc);
-        let mut stands = false;
-        for (known, usual) in USUAL {
-            text.push_str(known)?;
-            text.push_str(" = ")?;
-            if known == key {
-                stands = true;
-                text.push_str(value)?;
-            } else {
-                text.push_str(usual)?;
-            }
-            text.push_str("\n")?;
-        }
-        if !stands {
-            text.push_str(key)?;
-            text.push_str(" = ")?;
-            text.push_str(value)?;
-        }
-        Ok(text)
-    }
-
-    // Whether a document has the first form.
-    fn is_first(alloc: Global, text: &str) -> Result<bool, Fail> {
-        let table = toml::table_from_str(alloc, text)?;
-        Ok(read_hand(alloc, &table).map_err(|_| "memory")?.is_some())
-    }
-
-    #[test]
-    fn reads_the_first_form_and_no_other(rt: HostRuntime) -> Result<(), Fail> {
-        let alloc = rt.alloc();
-        let cases = [
-            ("variant", "\"NT\"", true),
-            ("variant", "\"FT\"", false),
-            ("variant", "1", false),
-            ("_note", "[1.5]", true),
-            ("\"\"", "1", false),
-            ("venue", "\"here\"", false),
-            ("antes", "[0, 0, 1]", false),
-            ("antes", "[0, 0]", false),
-            ("antes", "0", false),
-            ("blinds_or_straddles", "[0, 0, 1000000000000]", true),
-            ("blinds_or_straddles", "[0, 0, 1000000000001]", false),
-            ("blinds_or_straddles", "[1, 2, 0, 0]", false),
-            ("blinds_or_straddles", "[-1, 2, 0]", false),
-            ("min_bet", "1000000000000", true),
-            ("min_bet", "1000000000001", false),
-            ("min_bet", "0", false),
-            ("min_bet", "2.0", false),
-            ("starting_stacks", "[1, 1, 1000000000000]", true),
-            ("starting_stacks", "[100, 100, 1000000000001]", false),
-            ("starting_stacks", "[100, 100, 0]", false),
-            ("starting_stacks", "[100, 100.0, 100]", false),
-            ("starting_stacks", "[100, 100]", false),
-            ("actions", "[]", true),
-            ("actions", "\"p1 f\"", false),
-            ("actions", "[1]", false),
-            ("actions", "[\"  p1   f  \", \"d dh p2 ????\"]", true),
-            ("actions", "[\"\"]", false),
-            ("actions", "[\"p1 f # folds\"]", false),
-            ("actions", "[\"p1\\tf\"]", false),
-            ("actions", "[\"p1 f\\t\"]", false),
-            ("actions", "[\"p4 f\"]", false),
-            ("actions", "[\"p0 f\"]", false),
-            ("actions", "[\"p01 f\"]", false),
-            ("actions", "[\"P1 f\"]", false),
-            ("actions", "[\"p1 f f\"]", false),
-            ("actions", "[\"p1 cc\"]", false),
-            ("actions", "[\"d db AhKhQh\"]", false),
-            ("actions", "[\"p1 cbr 007\"]", true),
-            (
-                "actions",
-                "[\"p1 cbr 0000000000000000000000001000000000000\"]",
-                true,
-            ),
-            ("actions", "[\"p1 cbr 1000000000001\"]", false),
-            ("actions", "[\"p1 cbr 99999999999999999999999999\"]", false),
-            ("actions", "[\"p1 cbr 1.0\"]", false),
-            ("actions", "[\"p1 cbr +1\"]", false),
-            ("actions", "[\"p1 cbr\"]", false),
-            ("actions", "[\"p1 cbr 4\", \"p2 cbr 8\"]", false),
-            ("actions", "[\"d dh p1 2c3c4c5c6c7c8c\"]", true),
-            ("actions", "[\"d dh p1 2c3c4c5c6c7c8c9c\"]", false),
-            ("actions", "[\"d dh p1 ??Ah\"]", true),
-            ("actions", "[\"d dh p1 Ah?\"]", false),
-            ("actions", "[\"d dh p1 1h\"]", false),
-            ("actions", "[\"d dh p1\"]", false),
-        ];
-        for (key, value, first) in cases {
-            let text = with(alloc, key, value)?;
-            assert_eq!(rt; is_first(alloc, text.as_str())?, first, "{key} = {value}");
-        }
-        Ok(())
-    }
-
-    #[test]
-    fn reads_each_part(rt: HostRuntime) -> Result<(), Fail> {
-        let alloc = rt.alloc();
-        let text = with(alloc, "starting_stacks", "[100, 200, 300]")?;
-        let table = toml::table_from_str(alloc, text.as_str())?;
-        let hand = read_hand(alloc, &table)
-            .map_err(|_| "memory")?
-            .ok_or("another form")?;
-        assert_eq!(rt; hand.setup.code, Code::NT);
-        assert_eq!(rt;
-            hand.setup.stacks.amounts,
-            [100, 200, 300, 0, 0, 0, 0, 0, 0, 0]
-        );
-        assert_eq!(rt; hand.setup.blinds.amounts, [1, 2, 0, 0, 0, 0, 0, 0, 0, 0]);
-        assert_eq!(rt; hand.setup.antes.amounts, [0; 10]);
-        assert_eq!(rt; hand.setup.antes.seats, 3);
-        assert_eq!(rt; hand.setup.min_bet, 2);
-        assert_eq!(rt; hand.script.len(), 3);
-        if hand.script.len() == 3 {
-            let raise = Kind::Raise {
-                actor: Seat::new(3),
-                amount: Spelled::To(6),
-            };
-            let fold = Kind::Fold {
-                actor: Seat::new(1),
-            };
-            assert_eq!(rt; hand.script.get(1), Event { at: 2, kind: raise });
-            assert_eq!(rt; hand.script.get(2), Event { at: 3, kind: fold });
-        }
-        Ok(())
-    }
-
-    #[test]
-    fn counts_seats_and_actions(rt: HostRuntime) -> Result<(), Fail> {
-        let alloc = rt.alloc();
-        for (seats, first) in [(2, false), (3, true), (10, true), (11, false)] {
-            let mut row = String::from_str(alloc, "1")?;
-            let mut none = String::from_str(alloc, "0")?;
-            for _ in 1..seats {
-                row.push_str(", 1")?;
-                none.push_str(", 0")?;
-            }
-            let text = format!(in alloc;
-                "variant = \"NT\"\nantes = [{none}]\nblinds_or_straddles = [{none}]\nmin_bet = 1\nstarting_stacks = [{row}]\nactions = [\"p{seats} f\"]"
-            )?;
-            assert_eq!(rt; is_first(alloc, text.as_str())?, first, "{seats} seats");
-        }
-        for (count, first) in [(256, true), (257, false)] {
-            let mut actions = String::from_str(alloc, "[")?;
-            for _ in 0..count {
-                actions.push_str("\"p1 f\",")?;
-            }
-            actions.push_str("]")?;
-            let text = with(alloc, "actions", actions.as_str())?;
-            assert_eq!(rt; is_first(alloc, text.as_str())?, first, "{count} actions");
-        }
-        Ok(())
     }
 }

@@ -1,4 +1,5 @@
-//! A document of the first form is read as the hand that it says: one hand of no-limit hold'em, in few actions.
+//! A document of the first form is read as the hand that it says: one hand of no-limit hold'em, in
+//! few actions.
 #![tactic(auto)]
 
 pub mod action;

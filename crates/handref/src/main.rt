@@ -1,4 +1,5 @@
-//! The program `handref`: it runs on its words over the standard streams, and ends with the number of its status.
+//! The program `handref`: it runs on its words over the standard streams, and ends with the number
+//! of its status.
 #![tactic(auto)]
 
 use card_set::Memory;

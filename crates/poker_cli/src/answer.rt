@@ -1,4 +1,4 @@
-// What the program answers to the bytes of its input.
+//! What the program answers to the bytes of its input.
 ghost use Rattle.std.specs.Prelude.{◌≡◌, codes, IfOk, IfSome, string_bytes};
 ghost use Rattle.std.specs.Option.{option_map};
 ghost use Rattle.poker_cli.specs.Answer as definition;
@@ -27,20 +27,59 @@ pub struct Answer {
 /// The most bytes of an input.
 pub const MOST_INPUT: usize = 16_777_216;
 
-/// An answer without output.
-fn refusal(alloc: Global, status: Status, line: String) -> Answer
-    ensures { answer_told result ≡ definition.refusal status (string_bytes line) }
+/// The answer to bytes that are not too many.
+#[tactic(auto, using(crate::proofs::Documents::no_document))]
+pub fn answer_to_document(alloc: Global, bytes: &[u8]) -> Result<Answer, Memory>
+    ensures { IfOk result (λ answer. answer_told answer
+        ≡ definition.answer_to_document (definition.document_of bytes.now)) }
 {
-    Answer {
-        status,
-        output: String::new(alloc),
-        line,
+    match toml::table_from_slice(alloc, bytes) {
+        Ok(table) => answer_to_table(alloc, &table),
+        Err(error) => {
+            if error.is_memory() {
+                return Err(Memory);
+            }
+            Ok(refusal(
+                alloc,
+                Status::BadInput,
+                String::from_str(alloc, "bad input: Text\n")?,
+            ))
+        }
     }
 }
 
-/// The answer to a hand by what became of it.
+// The answer to a document that was read.
+fn answer_to_table(alloc: Global, table: &Table) -> Result<Answer, Memory>
+    ensures { IfOk result (λ answer. answer_told answer
+        ≡ definition.answer_to_hand (first_form (table_view table.now))) }
+{
+    let hand = read_hand(alloc, table)?;
+    answer_to_hand(alloc, hand)
+}
+
+// The answer to a hand, or to a document of another form.
+fn answer_to_hand(alloc: Global, hand: Option<Hand>) -> Result<Answer, Memory>
+    requires { IfSome hand (λ hand. IsFirstHand (told hand)) }
+    ensures { IfOk result (λ answer. answer_told answer
+        ≡ definition.answer_to_hand (option_map told hand)) }
+{
+    match hand {
+        Some(hand) => {
+            let outcome = play::play(alloc, &hand)?;
+            answer_by(alloc, hand.script.len(), &outcome)
+        }
+        None => Ok(refusal(
+            alloc,
+            Status::Unbuilt,
+            String::from_str(alloc, "unbuilt\n")?,
+        )),
+    }
+}
+
+// The answer to a hand by what became of it.
 fn answer_by(alloc: Global, events: usize, outcome: &Outcome) -> Result<Answer, Memory>
-    ensures { IfOk result (λ answer. answer_told answer ≡ definition.answer_by events (verdict_of outcome.now)) }
+    ensures { IfOk result (λ answer. answer_told answer
+        ≡ definition.answer_by events (verdict_of outcome.now)) }
 {
     match outcome {
         Outcome::Beyond => Ok(refusal(
@@ -64,59 +103,25 @@ fn answer_by(alloc: Global, events: usize, outcome: &Outcome) -> Result<Answer, 
     }
 }
 
-/// The answer to a hand, or to a document of another form.
-fn answer_to_hand(alloc: Global, hand: Option<Hand>) -> Result<Answer, Memory>
-    requires { IfSome hand (λ hand. IsFirstHand (told hand)) }
-    ensures { IfOk result (λ answer. answer_told answer ≡ definition.answer_to_hand (option_map told hand)) }
-{
-    match hand {
-        Some(hand) => {
-            let outcome = play::play(alloc, &hand)?;
-            answer_by(alloc, hand.script.len(), &outcome)
-        }
-        None => Ok(refusal(
-            alloc,
-            Status::Unbuilt,
-            String::from_str(alloc, "unbuilt\n")?,
-        )),
-    }
-}
-
-/// The answer to a document that was read.
-fn answer_to_table(alloc: Global, table: &Table) -> Result<Answer, Memory>
-    ensures { IfOk result (λ answer. answer_told answer ≡ definition.answer_to_hand (first_form (table_view table.now))) }
-{
-    let hand = read_hand(alloc, table)?;
-    answer_to_hand(alloc, hand)
-}
-
-/// The answer to bytes that are not too many.
-#[tactic(auto, using(crate::proofs::Documents::no_document))]
-pub fn answer_to_document(alloc: Global, bytes: &[u8]) -> Result<Answer, Memory>
-    ensures { IfOk result (λ answer. answer_told answer ≡ definition.answer_to_document (definition.document_of bytes.now)) }
-{
-    match toml::table_from_slice(alloc, bytes) {
-        Ok(table) => answer_to_table(alloc, &table),
-        Err(error) => {
-            if error.is_memory() {
-                return Err(Memory);
-            }
-            Ok(refusal(
-                alloc,
-                Status::BadInput,
-                String::from_str(alloc, "bad input: Text\n")?,
-            ))
-        }
-    }
-}
-
 /// The answer to an input that is too long.
 pub fn answer_to_excess(alloc: Global) -> Result<Answer, Memory>
-    ensures { IfOk result (λ answer. answer_told answer ≡ definition.refusal Status.Limit (codes "limit: input bytes 16777216\n")) }
+    ensures { IfOk result (λ answer. answer_told answer
+        ≡ definition.refusal Status.Limit (codes "limit: input bytes 16777216\n")) }
 {
     Ok(refusal(
         alloc,
         Status::Limit,
         String::from_str(alloc, "limit: input bytes 16777216\n")?,
     ))
+}
+
+// An answer without output.
+fn refusal(alloc: Global, status: Status, line: String) -> Answer
+    ensures { answer_told result ≡ definition.refusal status (string_bytes line) }
+{
+    Answer {
+        status,
+        output: String::new(alloc),
+        line,
+    }
 }

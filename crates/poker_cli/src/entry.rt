@@ -1,4 +1,4 @@
-// The top call: from the words and the input to the status, the output and the line.
+//! The top call: from the words and the input to the status, the output and the line.
 ghost use Rattle.std.specs.Prelude.{◌≡◌, ◌↔◌, [], ◌∷◌, map, codes, bytes_eq, IsTrue, IfOk, IfSome, IsErrOf, String, string_bytes};
 ghost use Rattle.host_io.specs.Faults.{Rose};
 ghost use Rattle.poker_cli.specs.Answer as definition;
@@ -14,8 +14,9 @@ use std::alloc::Global;
 
 const USAGE: &[u8] = b"usage: handref check|replay|report|convert|game|load [options]\n";
 
-/// Runs the program on its words, without its own name. It reads the input to its end, writes the output where
-/// all is done, and tells one line beside it where it is not. The shelf is not called yet.
+/// Runs the program on its words, without its own name. It reads the input to its end, writes the
+/// output where all is done, and tells one line beside it where it is not. The shelf is not called
+/// yet.
 pub fn run<S: Source, H: Shelf, K: Sink, D: Sink>(
     alloc: Global,
     words: &[String],
@@ -29,17 +30,24 @@ pub fn run<S: Source, H: Shelf, K: Sink, D: Sink>(
     ensures unread { result ≡ Status.Usage → input.new ≡ input.old }
 
     // Each status has its cause: the answer to the input, or a fault whose count rose in this call.
-    ensures status { IsCheck (map string_bytes words.now) → IfSome (S.left input.old) (λ bytes. MayEnd (definition.answer_to bytes) result) }
-    ensures read_fault { result ≡ Status.ReadFault → Rose (S.faults input.old) (S.faults input.new) }
+    ensures status { IsCheck (map string_bytes words.now)
+        → IfSome (S.left input.old) (λ bytes. MayEnd (definition.answer_to bytes) result) }
+    ensures read_fault { result ≡ Status.ReadFault
+        → Rose (S.faults input.old) (S.faults input.new) }
     ensures write_fault { result ≡ Status.WriteFault → Rose (K.faults out.old) (K.faults out.new) }
 
     // The output is written where all is done, and not before.
-    ensures written { IfSome (S.left input.old) (λ bytes. Writes (K.held out.old) (K.held out.new) (definition.answer_to bytes) result) }
+    ensures written { IfSome (S.left input.old)
+        (λ bytes. Writes (K.held out.old) (K.held out.new) (definition.answer_to bytes) result) }
     ensures nothing_written { WritesNothing result → out.new ≡ out.old }
 
-    // The line is told whole, unless the count of its sink rose. That of a fault depends on no input.
-    ensures line { IfSome (S.left input.old) (λ bytes. TellsLine (D.faults diag.old) (D.faults diag.new) (D.held diag.old) (D.held diag.new) (line_of (definition.answer_to bytes) result)) }
-    ensures fixed_line { IfSome (fixed_line result) (TellsLine (D.faults diag.old) (D.faults diag.new) (D.held diag.old) (D.held diag.new)) }
+    // The line is told whole, unless the count of its sink rose. That of a fault depends on no
+    // input.
+    ensures line { IfSome (S.left input.old) (λ bytes. TellsLine
+        (D.faults diag.old) (D.faults diag.new) (D.held diag.old) (D.held diag.new)
+        (line_of (definition.answer_to bytes) result)) }
+    ensures fixed_line { IfSome (fixed_line result) (TellsLine
+        (D.faults diag.old) (D.faults diag.new) (D.held diag.old) (D.held diag.new)) }
     ensures quiet { result ≡ Status.Done → diag.new ≡ diag.old }
     ensures shelf { shelf.new ≡ shelf.old }
 {
@@ -61,14 +69,7 @@ pub fn run<S: Source, H: Shelf, K: Sink, D: Sink>(
     }
 }
 
-/// The text is this word.
-fn same(text: &String, word: &str) -> bool
-    ensures { IsTrue result ↔ (string_bytes text.now ≡ word.now) }
-{
-    text.as_str() == word
-}
-
-/// The words are `check --from phh`.
+// The words are `check --from phh`.
 fn is_check(words: &[String]) -> bool
     ensures { IsTrue result ↔ IsCheck (map string_bytes words.now) }
 {
@@ -78,28 +79,20 @@ fn is_check(words: &[String]) -> bool
     same(command, "check") && same(option, "--from") && same(format, "phh")
 }
 
-/// Tells a line, as far as the sink takes it.
-fn tell<D: Sink>(diag: &mut D, line: &[u8])
-    ensures { TellsLine (D.faults diag.old) (D.faults diag.new) (D.held diag.old) (D.held diag.new) line.now }
+// The text is this word.
+fn same(text: &String, word: &str) -> bool
+    ensures { IsTrue result ↔ (string_bytes text.now ≡ word.now) }
 {
-    match write_all(diag, line) {
-        Ok(()) => {}
-        Err(Failed) => {}
-    }
+    text.as_str() == word
 }
 
-/// Why there is no answer.
-#[derive(Clone, Copy, Debug, PartialEq, Eq)]
-enum NoAnswer {
-    ReadFault,
-    Memory,
-}
-
-/// The answer to all that the source has left.
+// The answer to all that the source has left.
 fn reply<S: Source>(alloc: Global, input: &mut S) -> Result<Answer, NoAnswer>
-    ensures answer { IfOk result (λ answer. IfSome (S.left input.old) (λ bytes. answer_told answer ≡ definition.answer_to bytes)) }
+    ensures answer { IfOk result (λ answer. IfSome (S.left input.old)
+        (λ bytes. answer_told answer ≡ definition.answer_to bytes)) }
     ensures own { IfOk result (λ answer. IsOwn answer.status) }
-    ensures read_fault { IsErrOf result NoAnswer.ReadFault → Rose (S.faults input.old) (S.faults input.new) }
+    ensures read_fault { IsErrOf result NoAnswer.ReadFault
+        → Rose (S.faults input.old) (S.faults input.new) }
 {
     match read_all(alloc, input, MOST_INPUT) {
         Ok(bytes) => match answer::answer_to_document(alloc, &bytes) {
@@ -115,7 +108,14 @@ fn reply<S: Source>(alloc: Global, input: &mut S) -> Result<Answer, NoAnswer>
     }
 }
 
-/// Writes the output of an answer that is done, and else tells its line.
+// Why there is no answer.
+#[derive(Clone, Copy, Debug, PartialEq, Eq)]
+enum NoAnswer {
+    ReadFault,
+    Memory,
+}
+
+// Writes the output of an answer that is done, and else tells its line.
 fn deliver<K: Sink, D: Sink>(answer: &Answer, out: &mut K, diag: &mut D) -> Status
     requires { IsOwn answer.now.status }
     ensures read { result ≡ Status.ReadFault → ⊥ }
@@ -123,7 +123,9 @@ fn deliver<K: Sink, D: Sink>(answer: &Answer, out: &mut K, diag: &mut D) -> Stat
     ensures write_fault { result ≡ Status.WriteFault → Rose (K.faults out.old) (K.faults out.new) }
     ensures written { Writes (K.held out.old) (K.held out.new) (answer_told answer.now) result }
     ensures nothing_written { WritesNothing result → out.new ≡ out.old }
-    ensures line { TellsLine (D.faults diag.old) (D.faults diag.new) (D.held diag.old) (D.held diag.new) (line_of (answer_told answer.now) result) }
+    ensures line { TellsLine
+        (D.faults diag.old) (D.faults diag.new) (D.held diag.old) (D.held diag.new)
+        (line_of (answer_told answer.now) result) }
     ensures quiet { result ≡ Status.Done → diag.new ≡ diag.old }
 {
     match answer.status {
@@ -138,5 +140,16 @@ fn deliver<K: Sink, D: Sink>(answer: &Answer, out: &mut K, diag: &mut D) -> Stat
             tell(diag, answer.line.as_bytes());
             status
         }
+    }
+}
+
+// Tells a line, as far as the sink takes it.
+fn tell<D: Sink>(diag: &mut D, line: &[u8])
+    ensures { TellsLine
+        (D.faults diag.old) (D.faults diag.new) (D.held diag.old) (D.held diag.new) line.now }
+{
+    match write_all(diag, line) {
+        Ok(()) => {}
+        Err(Failed) => {}
     }
 }

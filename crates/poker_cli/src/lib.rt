@@ -1,4 +1,5 @@
-//! One call, `run`, makes the status, the output and the line of the program from its words and the bytes of its input.
+//! One call, `run`, makes the status, the output and the line of the program from its words and the
+//! bytes of its input.
 #![tactic(auto)]
 
 mod answer;

@@ -1,4 +1,4 @@
-// The past of a hand on the first street, the newest step first.
+//! The past of a hand on the first street, the newest step first.
 use card_set::SlotRow;
 use chip_ledger::{Chips, Seat};
 

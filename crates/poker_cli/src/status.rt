@@ -1,4 +1,4 @@
-// How the program ends: one status for each kind of answer, each with its number.
+//! How the program ends: one status for each kind of answer, each with its number.
 ghost use Rattle.std.specs.Prelude.{◌≡◌};
 ghost use Rattle.poker_cli.specs.Status.{status_number};
 

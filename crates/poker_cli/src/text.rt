@@ -1,4 +1,4 @@
-// The printed lines of an answer.
+//! The printed lines of an answer.
 ghost use Rattle.std.specs.Prelude.{◌≡◌, IfOk, OnOk, string_bytes, ◌++◌};
 ghost use Rattle.poker_cli.specs.Answer.{reason_text as reason_said, refused_line as refused_said, early_line as early_said, stacks_text, legal_lines as legal_said};
 
@@ -6,7 +6,17 @@ use card_set::Memory;
 use play_event::Illegal;
 use std::alloc::Global;
 
-/// What a reason is called.
+/// The line of a refused event.
+pub fn refused_line(alloc: Global, index: u32, at: u32, reason: Illegal) -> Result<String, Memory>
+    ensures { IfOk result (λ line. string_bytes line ≡ refused_said index at reason) }
+{
+    let event = u64::from(index) + 1;
+    let why = reason_text(alloc, reason)?;
+    let why = why.as_str();
+    Ok(format!(in alloc; "refused: hand 1: event {event}, action {at}: {why}\n")?)
+}
+
+// What a reason is called.
 fn reason_text(alloc: Global, reason: Illegal) -> Result<String, Memory>
     ensures { IfOk result (λ text. string_bytes text ≡ reason_said reason) }
 {
@@ -29,16 +39,6 @@ fn reason_text(alloc: Global, reason: Illegal) -> Result<String, Memory>
     Ok(String::from_str(alloc, name)?)
 }
 
-/// The line of a refused event.
-pub fn refused_line(alloc: Global, index: u32, at: u32, reason: Illegal) -> Result<String, Memory>
-    ensures { IfOk result (λ line. string_bytes line ≡ refused_said index at reason) }
-{
-    let event = u64::from(index) + 1;
-    let why = reason_text(alloc, reason)?;
-    let why = why.as_str();
-    Ok(format!(in alloc; "refused: hand 1: event {event}, action {at}: {why}\n")?)
-}
-
 /// The line of a hand whose script ends early.
 pub fn early_line(alloc: Global, events: usize) -> Result<String, Memory>
     ensures { IfOk result (λ line. string_bytes line ≡ early_said events) }
@@ -46,7 +46,17 @@ pub fn early_line(alloc: Global, events: usize) -> Result<String, Memory>
     Ok(format!(in alloc; "refused: hand 1: ends early after {events} events\n")?)
 }
 
-/// Puts the stacks at the end of a text, each behind a space.
+/// The two lines of a hand that is legal and complete.
+pub fn legal_lines(alloc: Global, stacks: &[u64]) -> Result<String, Memory>
+    ensures { IfOk result (λ lines. string_bytes lines ≡ legal_said stacks.now) }
+{
+    let mut text = String::from_str(alloc, "hand 1:")?;
+    push_stacks(&mut text, stacks)?;
+    text.push_str("\nlegal hands: 1\n")?;
+    Ok(text)
+}
+
+// Puts the stacks at the end of a text, each behind a space.
 fn push_stacks(text: &mut String, stacks: &[u64]) -> Result<(), Memory>
     ensures { OnOk result (string_bytes text.new ≡ string_bytes text.old ++ stacks_text stacks.now) }
 {
@@ -58,14 +68,4 @@ fn push_stacks(text: &mut String, stacks: &[u64]) -> Result<(), Memory>
             push_stacks(text, rest)
         }
     }
-}
-
-/// The two lines of a hand that is legal and complete.
-pub fn legal_lines(alloc: Global, stacks: &[u64]) -> Result<String, Memory>
-    ensures { IfOk result (λ lines. string_bytes lines ≡ legal_said stacks.now) }
-{
-    let mut text = String::from_str(alloc, "hand 1:")?;
-    push_stacks(&mut text, stacks)?;
-    text.push_str("\nlegal hands: 1\n")?;
-    Ok(text)
 }

@@ -1,4 +1,5 @@
-//! Rows of the rules are read from the input, one a line, and each is printed again with what the crates answer to it.
+//! Rows of the rules are read from the input, one a line, and each is printed again with what the
+//! crates answer to it.
 #![tactic(auto)]
 
 mod games;
@@ -16,7 +17,8 @@ fn main(rt: HostRuntime) -> io::Result<()> {
     Ok(())
 }
 
-// A row with its answer behind it. Headings, which begin with `#`, and empty lines stay as they are.
+// A row with its answer behind it. Headings, which begin with `#`, and empty lines stay as they
+// are.
 fn answered(alloc: Global, row: &str) -> Result<String, AllocError> {
     if row.is_empty() || row.starts_with('#') {
         return String::from_str(alloc, row);

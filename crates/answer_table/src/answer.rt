@@ -1,0 +1,50 @@
+// A row is answered by the status, the output and the line of its run.
+use crate::pieces::Pieces;
+use crate::row::{ROOM, Row, read_row};
+use card_set::Memory;
+use host_io::{MemShelf, MemSink, MemSource};
+use poker_cli::run;
+use std::alloc::Global;
+
+/// The status of a row's run, and what it left in the output and in the sink for lines, where it
+/// left anything.
+pub fn answer_to(alloc: Global, pieces: &Pieces, row: &str) -> Result<String, Memory> {
+    let Row {
+        words,
+        input,
+        files,
+        room,
+        fails,
+    } = read_row(alloc, pieces, row)?;
+    let mut source = MemSource::new(input, fails.read);
+    let mut shelf = MemShelf::new(files, fails.fetch);
+    let mut out = MemSink::new(alloc, room, fails.write)?;
+    let mut diag = MemSink::new(alloc, ROOM, fails.line)?;
+    let status = run(alloc, &words, &mut source, &mut shelf, &mut out, &mut diag);
+    let status = status.number();
+    let mut text = format!(in alloc; "status {status}")?;
+    push_named(&mut text, "output", out.held())?;
+    push_named(&mut text, "line", diag.held())?;
+    Ok(text)
+}
+
+// Puts bytes that are there behind their name.
+fn push_named(text: &mut String, name: &str, bytes: &[u8]) -> Result<(), Memory> {
+    if !bytes.is_empty() {
+        write!(text, ", {name} ")?;
+        for byte in bytes {
+            push_visible(text, *byte)?;
+        }
+    }
+    Ok(())
+}
+
+// Puts a byte so that it can be seen: its letter, or its escape.
+fn push_visible(text: &mut String, byte: u8) -> Result<(), Memory> {
+    match byte {
+        b'\n' => text.push_str("\\n")?,
+        b' '..=b'~' => text.push(char::from(byte))?,
+        _ => write!(text, "\\x{byte:02x}")?,
+    }
+    Ok(())
+}

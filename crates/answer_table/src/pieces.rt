@@ -1,0 +1,103 @@
+// Pieces of text that have names, and text that is put together from them.
+ghost use Rattle.std.specs.Prelude.{◌<◌};
+
+use card_set::Memory;
+use std::alloc::Global;
+
+/// Pieces of text by name.
+#[derive(Drop)]
+pub struct Pieces {
+    named: Vec<(String, Vec<u8>)>,
+}
+
+impl Pieces {
+    pub fn new(alloc: Global) -> Self {
+        Pieces {
+            named: Vec::new(alloc),
+        }
+    }
+
+    /// Names a piece of text, as `NAME = TEXT`.
+    pub fn define(&mut self, alloc: Global, definition: &str) -> Result<(), Memory> {
+        let (name, text) = parted(definition, " = ");
+        let bytes = self.bytes_of(alloc, text)?;
+        self.named.push((String::from_str(alloc, name)?, bytes))?;
+        Ok(())
+    }
+
+    /// The bytes of a text. In it `$(NAME)` is a piece, `$(NAME*3)` three of them, `\n` ends a
+    /// line, and `\xff` is a byte by its hexadecimal number.
+    pub fn bytes_of(&self, alloc: Global, text: &str) -> Result<Vec<u8>, Memory> {
+        let mut bytes = Vec::new(alloc);
+        let mut parts = text.split("$(");
+        if let Some(plain) = parts.next() {
+            push_plain(&mut bytes, plain)?;
+        }
+        for part in parts {
+            let (reference, plain) = parted(part, ")");
+            self.push_piece(&mut bytes, reference)?;
+            push_plain(&mut bytes, plain)?;
+        }
+        Ok(bytes)
+    }
+
+    /// The bytes of a piece. A name that no piece has stands for itself.
+    pub fn piece<'a>(&'a self, name: &'a str) -> &'a [u8] {
+        match self.named.iter().find(|piece| piece.0.as_str() == name) {
+            Some(piece) => piece.1.as_slice(),
+            None => name.as_bytes(),
+        }
+    }
+
+    // Puts a piece at the end, as often as its reference says.
+    fn push_piece(&self, bytes: &mut Vec<u8>, reference: &str) -> Result<(), Memory> {
+        let (name, times) = parted(reference, "*");
+        let times = times.parse::<u32>().unwrap_or(1);
+        let piece = self.piece(name);
+        for _ in 0..times {
+            bytes.extend_from_slice(piece)?;
+        }
+        Ok(())
+    }
+}
+
+/// What stands before the first separator, and what stands behind it.
+pub fn parted<'a>(text: &'a str, separator: &str) -> (&'a str, &'a str) {
+    match text.split_once(separator) {
+        Some(parts) => parts,
+        None => (text, ""),
+    }
+}
+
+// Puts text without pieces at the end.
+fn push_plain(bytes: &mut Vec<u8>, text: &str) -> Result<(), Memory> {
+    let mut parts = text.split('\\');
+    if let Some(plain) = parts.next() {
+        bytes.extend_from_slice(plain.as_bytes())?;
+    }
+    for part in parts {
+        match part.as_bytes() {
+            [b'n', plain @ ..] => {
+                bytes.push(b'\n')?;
+                bytes.extend_from_slice(plain)?;
+            }
+            [b'x', high, low, plain @ ..] => {
+                bytes.push(digit(*high) * 16 + digit(*low))?;
+                bytes.extend_from_slice(plain)?;
+            }
+            plain => bytes.extend_from_slice(plain)?,
+        }
+    }
+    Ok(())
+}
+
+// The number of a hexadecimal digit.
+fn digit(letter: u8) -> u8
+    ensures { result < 16 }
+{
+    match letter {
+        b'0'..=b'9' => letter - b'0',
+        b'a'..=b'f' => letter - b'a' + 10,
+        _ => 0,
+    }
+}

@@ -1,0 +1,75 @@
+// A row says which words the program is run on, over which devices, and how these fail.
+use crate::pieces::{Pieces, parted};
+use card_set::Memory;
+use std::alloc::Global;
+
+/// The words of a run, and its devices.
+#[derive(Drop)]
+pub struct Row {
+    pub words: Vec<String>,
+    pub input: Vec<u8>,
+    pub files: Vec<(String, Vec<u8>)>,
+    /// How many bytes the output takes.
+    pub room: usize,
+    pub fails: Fails,
+}
+
+/// The calls that fail, by their numbers from 0.
+#[derive(Drop)]
+pub struct Fails {
+    pub read: Vec<u64>,
+    pub fetch: Vec<u64>,
+    pub write: Vec<u64>,
+    pub line: Vec<u64>,
+}
+
+/// The room of an output that is not to be full.
+pub const ROOM: usize = 1_000;
+
+/// Reads a row: words, `<`, and the input. A word that begins with `@` is none of the program, but
+/// says of a device that a call fails (`@read=1`, `@fetch=0`, `@write=0`, `@line=0`), that the
+/// output takes few bytes (`@room=10`), or that a piece lies on the shelf (`@file=NAME:PIECE`).
+pub fn read_row(alloc: Global, pieces: &Pieces, row: &str) -> Result<Row, Memory> {
+    let (words, input) = parted(row, "<");
+    let input = input.strip_prefix(' ').unwrap_or(input);
+    let mut read = Row {
+        words: Vec::new(alloc),
+        input: pieces.bytes_of(alloc, input)?,
+        files: Vec::new(alloc),
+        room: ROOM,
+        fails: Fails {
+            read: Vec::new(alloc),
+            fetch: Vec::new(alloc),
+            write: Vec::new(alloc),
+            line: Vec::new(alloc),
+        },
+    };
+    for word in words.split_whitespace() {
+        match word.strip_prefix('@') {
+            Some(device) => read_device(alloc, pieces, &mut read, device)?,
+            None => read.words.push(String::from_str(alloc, word)?)?,
+        }
+    }
+    Ok(read)
+}
+
+// Takes into the row what a word says of a device.
+fn read_device(alloc: Global, pieces: &Pieces, row: &mut Row, word: &str) -> Result<(), Memory> {
+    let (device, value) = parted(word, "=");
+    let number = value.parse::<u32>().unwrap_or(0);
+    let call = u64::from(number);
+    match device.as_bytes() {
+        b"read" => row.fails.read.push(call)?,
+        b"fetch" => row.fails.fetch.push(call)?,
+        b"write" => row.fails.write.push(call)?,
+        b"line" => row.fails.line.push(call)?,
+        b"room" => row.room = number as usize,
+        b"file" => {
+            let (name, piece) = parted(value, ":");
+            let bytes = Vec::from_slice(alloc, pieces.piece(piece))?;
+            row.files.push((String::from_str(alloc, name)?, bytes))?;
+        }
+        _ => {}
+    }
+    Ok(())
+}
