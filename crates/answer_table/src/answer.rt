@@ -1,4 +1,4 @@
-// A row is answered by the status, the output and the line of its run.
+//! A row is answered by the status, the output and the line of its run.
 use crate::pieces::Pieces;
 use crate::row::{ROOM, Row, read_row};
 use card_set::Memory;

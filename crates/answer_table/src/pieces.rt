@@ -1,4 +1,4 @@
-// Pieces of text that have names, and text that is put together from them.
+//! Pieces of text that have names, and text that is put together from them.
 ghost use Rattle.std.specs.Prelude.{◌<◌};
 
 use card_set::Memory;

@@ -1,4 +1,4 @@
-// A row says which words the program is run on, over which devices, and how these fail.
+//! A row says which words the program is run on, over which devices, and how these fail.
 use crate::pieces::{Pieces, parted};
 use card_set::Memory;
 use std::alloc::Global;

@@ -1,3 +1,4 @@
+-- What a document of the first form says, from its actions up to its hand.
 pub mod Action
-pub mod FirstForm
 pub mod Hand
+pub mod FirstForm

@@ -1,4 +1,4 @@
-// A hand as it is read: its setup and its script.
+//! A hand as it is read: its setup and its script.
 use play_event::{Script, Setup};
 
 /// A hand that was read, and not yet played.

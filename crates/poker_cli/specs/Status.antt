@@ -1,5 +1,5 @@
 -- The number of each status.
-use Rattle.std.specs.Prelude.{ℕ}
+use Rattle.std.specs.Prelude.{◌≡◌, ℕ}
 use Rattle.poker_cli.specs.declared.status.Status.{Status}
 use Rattle.poker_cli.specs.declared.status.Status.TheVariants as statuses
 
@@ -14,3 +14,7 @@ status_number statuses.WriteFault = 6
 status_number statuses.Limit = 7
 status_number statuses.Memory = 8
 status_number statuses.Unbuilt = 12
+
+-- the number of a status
+abbrev pub IsStatusNumber : ℕ → Type 0
+IsStatusNumber number = (status : Status) × (number ≡ status_number status)

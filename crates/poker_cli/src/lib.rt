@@ -9,6 +9,7 @@ mod entry;
 mod finish;
 mod past;
 mod play;
+mod process;
 mod raises;
 mod reasons;
 mod seats;
@@ -17,4 +18,5 @@ mod text;
 mod turns;
 
 pub use entry::run;
+pub use process::run_process;
 pub use status::Status;

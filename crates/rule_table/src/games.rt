@@ -1,4 +1,4 @@
-// The tables of the eleven games: `games table CODE`, `games streets CODE`, `games dealt CODE`.
+//! The tables of the eleven games: `games table CODE`, `games streets CODE`, `games dealt CODE`.
 use crate::words;
 use card_set::{Card, Rank, Suit};
 use play_event::Code;
