@@ -1,5 +1,5 @@
 -- Lemmas on the first element of a list that passes a test.
-use Rattle.std.proofs.Common.{◌≡◌, Bool, true, false, ◌||◌, cond, List, [], ◌∷◌, Some, is_some, find, refl, sym, ◌∙◌, ℕ, zero, suc, ◌+◌, ◌-◌, ◌<◌, ◌≤◌, ◌++◌, ap, arith}
+use Rattle.std.proofs.Common.{◌≡◌, Bool, true, false, ◌||◌, cond, List, [], ◌∷◌, Some, is_some, find, refl, sym, ◌∙◌, ℕ, zero, suc, ◌+◌, ◌-◌, ◌<◌, ◌≤◌, ◌++◌, ap, arith, filter, ◌&&◌}
 use Rattle.std.proofs.lemmas.Bool.{false_from_ne_true, true≢false}
 use Rattle.std.specs.List.{list_any, range_with_len}
 use Rattle.std.proofs.lemmas.List.Folds.{list_any-append}
@@ -54,3 +54,12 @@ range_split first (suc a) b =
     let same : first + 1 + a ≡ first + suc a = omega arith in
     ap (range_with_len first) more
     ∙ ap (λ xs. first ∷ xs) (range_split (first + 1) a b ∙ ap (λ n. range_with_len (first + 1) a ++ range_with_len n b) same)
+
+-- the first of those that pass one test and another
+find_kept : {X : Type 0} (p q : X → Bool) (x : X) (rest : List X) (b : Bool) → find q (filter p rest) ≡ find (λ y. p y && q y) rest → find q (cond b (x ∷ filter p rest) (filter p rest)) ≡ cond (b && q x) (Some x) (find (λ y. p y && q y) rest)
+find_kept p q x rest true later = ap (λ o. cond (q x) (Some x) o) later
+find_kept p q x rest false later = later
+
+pub find-filter : {X : Type 0} (p q : X → Bool) (xs : List X) → find q (filter p xs) ≡ find (λ x. p x && q x) xs
+find-filter p q [] = refl
+find-filter p q (x ∷ xs) = find_kept p q x xs (p x) (find-filter p q xs)

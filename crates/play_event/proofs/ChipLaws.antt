@@ -5,7 +5,8 @@ use Rattle.std.proofs.lemmas.Bool.{ltb-false, eqb-true}
 use Rattle.chip_ledger.specs.SeatRow.{amount_of}
 use Rattle.play_event.specs.declared.setup.Setup.{Setup}
 use Rattle.play_event.specs.declared.setup.Rules.{Rules}
-use Rattle.play_event.specs.Games.{Limit, Fixed, Pot, NoLimit}
+use Rattle.play_event.specs.declared.limit.Limit.{Limit}
+use Rattle.play_event.specs.declared.limit.Limit.TheVariants as limits
 use Rattle.play_event.specs.Streets.{limit_of}
 use Rattle.play_event.specs.Said as said
 use Rattle.play_event.specs.Said.{Said}
@@ -48,9 +49,9 @@ moved_within setup moves street seat act target within most other =
 
 -- the greatest legal target is no more than all-in
 greatest_within : (limit : Limit) (setup : Setup) (moves : List Move) (street seat : ℕ) → greatest_target_in limit setup moves street seat ≤ all_in setup moves street seat
-greatest_within NoLimit setup moves street seat = omega arith
-greatest_within Pot setup moves street seat = min-le_left (all_in setup moves street seat) (pot_ceiling setup moves street seat)
-greatest_within Fixed setup moves street seat = min-le_left (all_in setup moves street seat) (greatest (full_targets setup moves street))
+greatest_within limits.No setup moves street seat = omega arith
+greatest_within limits.Pot setup moves street seat = min-le_left (all_in setup moves street seat) (pot_ceiling setup moves street seat)
+greatest_within limits.Fixed setup moves street seat = min-le_left (all_in setup moves street seat) (greatest (full_targets setup moves street))
 
 -- an event that takes place leaves each seat within its stack
 resolved_within : (setup : Setup) (before : Past) (street : ℕ) (turn : InTurn) (event : Said) → WithinStacks setup (moves_of before) → is_raise_too_big setup (moves_of before) street turn event ≡ false → WithinStacks setup (moves_of (resolved_by setup (moves_of before) street turn event ∷ before))

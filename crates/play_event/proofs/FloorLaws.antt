@@ -16,7 +16,10 @@ use Rattle.play_event.specs.declared.setup.Setup.{Setup}
 use Rattle.play_event.specs.declared.setup.Rules.{Rules}
 use Rattle.play_event.specs.declared.setup.Reopen.{Reopen}
 use Rattle.play_event.specs.declared.setup.Reopen.TheVariants as reopen
-use Rattle.play_event.specs.Games.{Limit, Fixed, Pot, NoLimit, Opener, Blinds, LowUp, HighUp}
+use Rattle.play_event.specs.declared.limit.Limit.{Limit}
+use Rattle.play_event.specs.declared.limit.Limit.TheVariants as limits
+use Rattle.play_event.specs.declared.limit.Opener.{Opener}
+use Rattle.play_event.specs.declared.limit.Opener.TheVariants as openers
 use Rattle.play_event.specs.Streets.{limit_of, opener_of, is_stud, is_opened_by_up_cards}
 use Rattle.play_event.specs.Said as said
 use Rattle.play_event.specs.Said.{Said}
@@ -289,10 +292,10 @@ round_passes p setup start any =
     ]
 
 -- in a game with blinds somebody is in turn where a move is due, and it is a seat of the hand
-blinds_by : (opener : Opener) → is_opened_by_up_cards opener ≡ false → opener ≡ Blinds
-blinds_by Blinds is = refl
-blinds_by LowUp is = false_true (sym is)
-blinds_by HighUp is = false_true (sym is)
+blinds_by : (opener : Opener) → is_opened_by_up_cards opener ≡ false → opener ≡ openers.Blinds
+blinds_by openers.Blinds is = refl
+blinds_by openers.LowUp is = false_true (sym is)
+blinds_by openers.HighUp is = false_true (sym is)
 
 opener_from_one : (setup : Setup) (street : ℕ) → 1 ≤ blinds_opener setup street
 opener_from_one setup street = by_street (street == 1) (setup.stacks.seats == 2)
@@ -428,12 +431,12 @@ legal_by true below above small even big = refl
 legal_by false below above small even big = even small big
 
 target_above : (limit : Limit) (reopens : Reopen) (setup : Setup) (moves : List Move) (street seat target : ℕ) → is_fixed limit ≡ false → price setup moves street < floor reopens setup moves street → 1 ≤ setup.min_bet → price setup moves street < all_in setup moves street seat → is_target_in limit reopens setup moves street seat target ≡ true → price setup moves street < target
-target_above Fixed reopens setup moves street seat target bounded low some chips legal = false_true (sym bounded)
-target_above NoLimit reopens setup moves street seat target bounded low some chips legal = elim (or_cases (nat_le (floor reopens setup moves street) target && nat_le target (all_in setup moves street seat)) (target == all_in setup moves street seat) legal) [
+target_above limits.Fixed reopens setup moves street seat target bounded low some chips legal = false_true (sym bounded)
+target_above limits.No reopens setup moves street seat target bounded low some chips legal = elim (or_cases (nat_le (floor reopens setup moves street) target && nat_le target (all_in setup moves street seat)) (target == all_in setup moves street seat) legal) [
   | inl between ↦ omega (arith, low, leb-true (floor reopens setup moves street) target (and_parts (nat_le (floor reopens setup moves street) target) (nat_le target (all_in setup moves street seat)) between).0)
   | inr all ↦ omega (arith, chips, eqb-true target (all_in setup moves street seat) all)
 ]
-target_above Pot reopens setup moves street seat target bounded low some chips legal = elim (or_cases (nat_le (price setup moves street + full_raise setup moves street) target && nat_le target (min (all_in setup moves street seat) (pot_ceiling setup moves street seat))) ((target == all_in setup moves street seat) && nat_le target (pot_ceiling setup moves street seat)) legal) [
+target_above limits.Pot reopens setup moves street seat target bounded low some chips legal = elim (or_cases (nat_le (price setup moves street + full_raise setup moves street) target && nat_le target (min (all_in setup moves street seat) (pot_ceiling setup moves street seat))) ((target == all_in setup moves street seat) && nat_le target (pot_ceiling setup moves street seat)) legal) [
   | inl between ↦ omega (arith, some, bet_below setup moves street, leb-true (price setup moves street + full_raise setup moves street) target (and_parts (nat_le (price setup moves street + full_raise setup moves street) target) (nat_le target (min (all_in setup moves street seat) (pot_ceiling setup moves street seat))) between).0)
   | inr all ↦ omega (arith, chips, eqb-true target (all_in setup moves street seat) (and_parts (target == all_in setup moves street seat) (nat_le target (pot_ceiling setup moves street seat)) all).0)
 ]

@@ -3,18 +3,10 @@ use Rattle.std.specs.Prelude.{ℕ, ◌+◌, ◌-◌, Bool, true, false, List, []
 use Rattle.std.specs.Option.{option_map_or}
 use Rattle.play_event.specs.declared.code.Code.{Code}
 use Rattle.play_event.specs.declared.code.Code.TheVariants as games
-
--- what bounds a raise
-pub data Limit : Type 0 where
-  Fixed : Limit
-  Pot : Limit
-  NoLimit : Limit
-
--- who moves first: the seat after the blinds, the lowest up-card, or the highest
-pub data Opener : Type 0 where
-  Blinds : Opener
-  LowUp : Opener
-  HighUp : Opener
+use Rattle.play_event.specs.declared.limit.Limit.{Limit}
+use Rattle.play_event.specs.declared.limit.Limit.TheVariants as limits
+use Rattle.play_event.specs.declared.limit.Opener.{Opener}
+use Rattle.play_event.specs.declared.limit.Opener.TheVariants as openers
 
 -- the bet size of a street: the small bet, the big bet, or the least bet
 pub data Size : Type 0 where
@@ -79,17 +71,17 @@ draw_streets cards = hole_street cards Small ∷ draw_street Small ∷ draw_stre
 
 -- the game with a code
 abbrev pub game_of : Code → Game
-game_of games.FT = record { deck = 52; limit = Fixed; opener = Blinds; hole = 2; board = 5; pick = AnyFive; split = false; seats = 10; streets = flop_streets 2 Small Big }
-game_of games.NT = record { deck = 52; limit = NoLimit; opener = Blinds; hole = 2; board = 5; pick = AnyFive; split = false; seats = 10; streets = flop_streets 2 Least Least }
-game_of games.NS = record { deck = 36; limit = NoLimit; opener = Blinds; hole = 2; board = 5; pick = AnyFive; split = false; seats = 10; streets = flop_streets 2 Least Least }
-game_of games.PO = record { deck = 52; limit = Pot; opener = Blinds; hole = 4; board = 5; pick = TwoAndThree; split = false; seats = 10; streets = flop_streets 4 Least Least }
-game_of games.FO8 = record { deck = 52; limit = Fixed; opener = Blinds; hole = 4; board = 5; pick = TwoAndThree; split = true; seats = 10; streets = flop_streets 4 Small Big }
-game_of games.F7S = record { deck = 52; limit = Fixed; opener = LowUp; hole = 7; board = 0; pick = AnyFive; split = false; seats = 7; streets = stud_streets }
-game_of games.F7S8 = record { deck = 52; limit = Fixed; opener = LowUp; hole = 7; board = 0; pick = AnyFive; split = true; seats = 7; streets = stud_streets }
-game_of games.FR = record { deck = 52; limit = Fixed; opener = HighUp; hole = 7; board = 0; pick = AnyFive; split = false; seats = 7; streets = stud_streets }
-game_of games.N2L1D = record { deck = 52; limit = NoLimit; opener = Blinds; hole = 5; board = 0; pick = AllHeld; split = false; seats = 6; streets = hole_street 5 Least ∷ draw_street Least ∷ [] }
-game_of games.F2L3D = record { deck = 52; limit = Fixed; opener = Blinds; hole = 5; board = 0; pick = AllHeld; split = false; seats = 6; streets = draw_streets 5 }
-game_of games.FB = record { deck = 52; limit = Fixed; opener = Blinds; hole = 4; board = 0; pick = AllHeld; split = false; seats = 6; streets = draw_streets 4 }
+game_of games.FT = record { deck = 52; limit = limits.Fixed; opener = openers.Blinds; hole = 2; board = 5; pick = AnyFive; split = false; seats = 10; streets = flop_streets 2 Small Big }
+game_of games.NT = record { deck = 52; limit = limits.No; opener = openers.Blinds; hole = 2; board = 5; pick = AnyFive; split = false; seats = 10; streets = flop_streets 2 Least Least }
+game_of games.NS = record { deck = 36; limit = limits.No; opener = openers.Blinds; hole = 2; board = 5; pick = AnyFive; split = false; seats = 10; streets = flop_streets 2 Least Least }
+game_of games.PO = record { deck = 52; limit = limits.Pot; opener = openers.Blinds; hole = 4; board = 5; pick = TwoAndThree; split = false; seats = 10; streets = flop_streets 4 Least Least }
+game_of games.FO8 = record { deck = 52; limit = limits.Fixed; opener = openers.Blinds; hole = 4; board = 5; pick = TwoAndThree; split = true; seats = 10; streets = flop_streets 4 Small Big }
+game_of games.F7S = record { deck = 52; limit = limits.Fixed; opener = openers.LowUp; hole = 7; board = 0; pick = AnyFive; split = false; seats = 7; streets = stud_streets }
+game_of games.F7S8 = record { deck = 52; limit = limits.Fixed; opener = openers.LowUp; hole = 7; board = 0; pick = AnyFive; split = true; seats = 7; streets = stud_streets }
+game_of games.FR = record { deck = 52; limit = limits.Fixed; opener = openers.HighUp; hole = 7; board = 0; pick = AnyFive; split = false; seats = 7; streets = stud_streets }
+game_of games.N2L1D = record { deck = 52; limit = limits.No; opener = openers.Blinds; hole = 5; board = 0; pick = AllHeld; split = false; seats = 6; streets = hole_street 5 Least ∷ draw_street Least ∷ [] }
+game_of games.F2L3D = record { deck = 52; limit = limits.Fixed; opener = openers.Blinds; hole = 5; board = 0; pick = AllHeld; split = false; seats = 6; streets = draw_streets 5 }
+game_of games.FB = record { deck = 52; limit = limits.Fixed; opener = openers.Blinds; hole = 4; board = 0; pick = AllHeld; split = false; seats = 6; streets = draw_streets 4 }
 
 -- what the street with this number, from 1, deals to each live seat
 abbrev pub hole_cards_on : Code → ℕ → ℕ

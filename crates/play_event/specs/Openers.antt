@@ -10,7 +10,8 @@ use Rattle.card_set.specs.UpCards.{up_high_class, low_class}
 use Rattle.chip_ledger.specs.Greatest.{greatest}
 use Rattle.chip_ledger.specs.SeatRow.{amount_of}
 use Rattle.play_event.specs.declared.setup.Setup.{Setup}
-use Rattle.play_event.specs.Games.{Opener, Blinds, LowUp, HighUp}
+use Rattle.play_event.specs.declared.limit.Opener.{Opener}
+use Rattle.play_event.specs.declared.limit.Opener.TheVariants as openers
 use Rattle.play_event.specs.Streets.{opener_of}
 use Rattle.play_event.specs.Past.{Move}
 use Rattle.play_event.specs.Seats.{all_seats, is_able}
@@ -76,11 +77,11 @@ is_weaker_low a b = nat_lt (low_class b) (low_class a) || ((low_class a == low_c
 -- The up-cards of one seat open before those of another. The first street is opened by the lowest card, in razz by the
 -- highest; a later street by the best cards, in razz by the lowest.
 abbrev pub is_opener_before : Opener → Bool → List Card → List Card → Bool
-is_opener_before LowUp true a b = nat_lt (card_stands deck_place a) (card_stands deck_place b)
-is_opener_before HighUp true a b = nat_lt (card_stands razz_place b) (card_stands razz_place a)
-is_opener_before LowUp false a b = is_weaker_up_high b a
-is_opener_before HighUp false a b = is_weaker_low b a
-is_opener_before Blinds first a b = false
+is_opener_before openers.LowUp true a b = nat_lt (card_stands deck_place a) (card_stands deck_place b)
+is_opener_before openers.HighUp true a b = nat_lt (card_stands razz_place b) (card_stands razz_place a)
+is_opener_before openers.LowUp false a b = is_weaker_up_high b a
+is_opener_before openers.HighUp false a b = is_weaker_low b a
+is_opener_before openers.Blinds first a b = false
 
 -- the able seats
 abbrev pub able_seats : Setup → List Move → List ℕ
@@ -97,6 +98,6 @@ has_unknown_up_card setup ups moves = list_any (λ seat. list_any is_unknown (up
 
 -- who opens a street
 abbrev pub opener_by : Opener → Setup → UpCards → List Move → ℕ → InTurn
-opener_by Blinds setup ups moves street = TheSeat (blinds_opener setup street)
-opener_by LowUp setup ups moves street = if has_unknown_up_card setup ups moves then Undecided else in_turn (up_cards_opener setup ups moves street)
-opener_by HighUp setup ups moves street = if has_unknown_up_card setup ups moves then Undecided else in_turn (up_cards_opener setup ups moves street)
+opener_by openers.Blinds setup ups moves street = TheSeat (blinds_opener setup street)
+opener_by openers.LowUp setup ups moves street = if has_unknown_up_card setup ups moves then Undecided else in_turn (up_cards_opener setup ups moves street)
+opener_by openers.HighUp setup ups moves street = if has_unknown_up_card setup ups moves then Undecided else in_turn (up_cards_opener setup ups moves street)

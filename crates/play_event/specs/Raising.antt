@@ -5,7 +5,8 @@ use Rattle.play_event.specs.declared.setup.Setup.{Setup}
 use Rattle.play_event.specs.declared.setup.Rules.{Rules}
 use Rattle.play_event.specs.declared.setup.Reopen.{Reopen}
 use Rattle.play_event.specs.declared.setup.Reopen.TheVariants as reopen
-use Rattle.play_event.specs.Games.{Limit, Fixed, Pot, NoLimit}
+use Rattle.play_event.specs.declared.limit.Limit.{Limit}
+use Rattle.play_event.specs.declared.limit.Limit.TheVariants as limits
 use Rattle.play_event.specs.Streets.{limit_of, unit}
 use Rattle.play_event.specs.Past.{Move, is_raise, moves_on}
 use Rattle.play_event.specs.Chips.{all_in}
@@ -28,9 +29,9 @@ is_within_cap (Some caps) moves street = nat_lt 4 street || nat_lt (raises_on mo
 
 -- what a seat owes reopens the betting to it: a full raise, or in fixed limit half a unit
 abbrev pub is_full_raise_owed : Limit → Setup → List Move → ℕ → ℕ → Bool
-is_full_raise_owed NoLimit setup moves street seat = nat_le (full_raise setup moves street) (owed setup moves street seat)
-is_full_raise_owed Pot setup moves street seat = nat_le (full_raise setup moves street) (owed setup moves street seat)
-is_full_raise_owed Fixed setup moves street seat = nat_le (unit setup street) (2 * owed setup moves street seat)
+is_full_raise_owed limits.No setup moves street seat = nat_le (full_raise setup moves street) (owed setup moves street seat)
+is_full_raise_owed limits.Pot setup moves street seat = nat_le (full_raise setup moves street) (owed setup moves street seat)
+is_full_raise_owed limits.Fixed setup moves street seat = nat_le (unit setup street) (2 * owed setup moves street seat)
 
 -- the betting is open to a seat: always, or where it has not moved on this street or owes enough
 abbrev pub is_reopened : Reopen → Setup → List Move → ℕ → ℕ → Bool

@@ -3,7 +3,10 @@ use Rattle.std.specs.Prelude.{ℕ, ◌-◌, Bool, true, false, slice_get}
 use Rattle.std.specs.Option.{option_map_or}
 use Rattle.play_event.specs.declared.code.Code.{Code}
 use Rattle.play_event.specs.declared.setup.Setup.{Setup}
-use Rattle.play_event.specs.Games.{Limit, Opener, Blinds, LowUp, HighUp, Size, Small, Big, Least, game_of}
+use Rattle.play_event.specs.declared.limit.Limit.{Limit}
+use Rattle.play_event.specs.declared.limit.Opener.{Opener}
+use Rattle.play_event.specs.declared.limit.Opener.TheVariants as openers
+use Rattle.play_event.specs.Games.{Size, Small, Big, Least, game_of}
 
 -- what bounds a raise
 abbrev pub limit_of : Code → Limit
@@ -45,9 +48,9 @@ unit setup street = chips_of_size setup (size_on setup.code street)
 
 -- games without blinds begin with a bring-in: those that are opened by up-cards
 abbrev pub is_opened_by_up_cards : Opener → Bool
-is_opened_by_up_cards Blinds = false
-is_opened_by_up_cards LowUp = true
-is_opened_by_up_cards HighUp = true
+is_opened_by_up_cards openers.Blinds = false
+is_opened_by_up_cards openers.LowUp = true
+is_opened_by_up_cards openers.HighUp = true
 
 -- the game is a game of stud
 abbrev pub is_stud : Code → Bool

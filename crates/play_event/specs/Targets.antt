@@ -4,7 +4,8 @@ use Rattle.std.specs.List.{list_any}
 use Rattle.play_event.specs.declared.setup.Setup.{Setup}
 use Rattle.play_event.specs.declared.setup.Reopen.{Reopen}
 use Rattle.play_event.specs.declared.setup.Reopen.TheVariants as reopen
-use Rattle.play_event.specs.Games.{Limit, Fixed, Pot, NoLimit}
+use Rattle.play_event.specs.declared.limit.Limit.{Limit}
+use Rattle.play_event.specs.declared.limit.Limit.TheVariants as limits
 use Rattle.play_event.specs.Streets.{limit_of, unit}
 use Rattle.play_event.specs.Past.{Move}
 use Rattle.play_event.specs.Chips.{all_in}
@@ -35,21 +36,21 @@ full_targets setup moves street =
 
 -- the legal targets: from the least raise up to all-in or the limit's greatest, and all-in itself where the limit reaches so far
 abbrev pub is_target_in : Limit → Reopen → Setup → List Move → ℕ → ℕ → ℕ → Bool
-is_target_in NoLimit reopens setup moves street seat target =
+is_target_in limits.No reopens setup moves street seat target =
     (nat_le (floor reopens setup moves street) target && nat_le target (all_in setup moves street seat))
     || (target == all_in setup moves street seat)
-is_target_in Pot reopens setup moves street seat target =
+is_target_in limits.Pot reopens setup moves street seat target =
     (nat_le (price setup moves street + full_raise setup moves street) target && nat_le target (min (all_in setup moves street seat) (pot_ceiling setup moves street seat)))
     || ((target == all_in setup moves street seat) && nat_le target (pot_ceiling setup moves street seat))
-is_target_in Fixed reopens setup moves street seat target =
+is_target_in limits.Fixed reopens setup moves street seat target =
     (list_any (λ full. target == full) (full_targets setup moves street) && nat_le target (all_in setup moves street seat))
     || ((target == all_in setup moves street seat) && nat_lt target (greatest (full_targets setup moves street)))
 
 -- the greatest legal target: all-in, or less where the limit bounds it
 abbrev pub greatest_target_in : Limit → Setup → List Move → ℕ → ℕ → ℕ
-greatest_target_in NoLimit setup moves street seat = all_in setup moves street seat
-greatest_target_in Pot setup moves street seat = min (all_in setup moves street seat) (pot_ceiling setup moves street seat)
-greatest_target_in Fixed setup moves street seat = min (all_in setup moves street seat) (greatest (full_targets setup moves street))
+greatest_target_in limits.No setup moves street seat = all_in setup moves street seat
+greatest_target_in limits.Pot setup moves street seat = min (all_in setup moves street seat) (pot_ceiling setup moves street seat)
+greatest_target_in limits.Fixed setup moves street seat = min (all_in setup moves street seat) (greatest (full_targets setup moves street))
 
 -- the least of some numbers, of which this is the first
 abbrev pub smallest_from : ℕ → List ℕ → ℕ
@@ -63,9 +64,9 @@ smallest (first ∷ rest) = smallest_from first rest
 
 -- the least legal target: the least raise of the limit, or all-in where that is less
 abbrev pub least_target_in : Limit → Reopen → Setup → List Move → ℕ → ℕ → ℕ
-least_target_in NoLimit reopens setup moves street seat = min (all_in setup moves street seat) (floor reopens setup moves street)
-least_target_in Pot reopens setup moves street seat = min (all_in setup moves street seat) (price setup moves street + full_raise setup moves street)
-least_target_in Fixed reopens setup moves street seat = min (all_in setup moves street seat) (smallest (full_targets setup moves street))
+least_target_in limits.No reopens setup moves street seat = min (all_in setup moves street seat) (floor reopens setup moves street)
+least_target_in limits.Pot reopens setup moves street seat = min (all_in setup moves street seat) (price setup moves street + full_raise setup moves street)
+least_target_in limits.Fixed reopens setup moves street seat = min (all_in setup moves street seat) (smallest (full_targets setup moves street))
 
 -- a target is legal in the game of the hand
 abbrev pub is_legal_target : Reopen → Setup → List Move → ℕ → ℕ → ℕ → Bool

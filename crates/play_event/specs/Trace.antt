@@ -3,7 +3,9 @@ use Rattle.std.specs.Prelude.{ℕ, Bool, ◌&&◌, nat_le, not, List, [], ◌∷
 use Rattle.std.specs.List.{list_any, range_with_len}
 use Rattle.card_set.specs.declared.card.Slot.{Slot}
 use Rattle.play_event.specs.declared.setup.Setup.{Setup}
-use Rattle.play_event.specs.Games.{Limit, Fixed, Pot, NoLimit, street_count}
+use Rattle.play_event.specs.declared.limit.Limit.{Limit}
+use Rattle.play_event.specs.declared.limit.Limit.TheVariants as limits
+use Rattle.play_event.specs.Games.{street_count}
 use Rattle.play_event.specs.Streets.{limit_of}
 use Rattle.play_event.specs.Past.{Past, Move, Act, moves_of, is_raise}
 use Rattle.play_event.specs.Seats.{is_live, live_count, all_seats}
@@ -29,9 +31,9 @@ pub record TracedMove : Type 0 where
 
 -- where a raise by the unit goes, in fixed limit alone
 abbrev pub unit_target_in : Limit → Setup → List Move → ℕ → ℕ → ℕ
-unit_target_in Fixed setup moves street seat = unit_target setup moves street seat
-unit_target_in Pot setup moves street seat = 0
-unit_target_in NoLimit setup moves street seat = 0
+unit_target_in limits.Fixed setup moves street seat = unit_target setup moves street seat
+unit_target_in limits.Pot setup moves street seat = 0
+unit_target_in limits.No setup moves street seat = 0
 
 -- a move after those before it
 abbrev pub traced_move : Setup → Move → List Move → TracedMove

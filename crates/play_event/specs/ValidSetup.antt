@@ -5,7 +5,9 @@ use Rattle.chip_ledger.specs.declared.rows.TheConstants.{MOST_AMOUNT}
 use Rattle.chip_ledger.specs.RakeRow.{rake_of}
 use Rattle.chip_ledger.specs.SeatRow.{amount_of}
 use Rattle.play_event.specs.declared.setup.Setup.{Setup}
-use Rattle.play_event.specs.Games.{Limit, Fixed, Pot, NoLimit, game_of}
+use Rattle.play_event.specs.declared.limit.Limit.{Limit}
+use Rattle.play_event.specs.declared.limit.Limit.TheVariants as limits
+use Rattle.play_event.specs.Games.{game_of}
 use Rattle.play_event.specs.Streets.{limit_of, is_stud}
 use Rattle.play_event.specs.Seats.{all_seats}
 
@@ -24,9 +26,9 @@ IsSizeWhere false chips = chips ≡ 0
 
 -- the limit is fixed
 abbrev pub is_fixed : Limit → Bool
-is_fixed Fixed = true
-is_fixed Pot = false
-is_fixed NoLimit = false
+is_fixed limits.Fixed = true
+is_fixed limits.Pot = false
+is_fixed limits.No = false
 
 -- some seat posts an ante
 abbrev pub has_antes : Setup → Bool

@@ -6,6 +6,7 @@ mod code;
 mod event;
 mod examples;
 mod laws;
+mod limit;
 mod played;
 mod reason;
 mod script;
@@ -23,6 +24,7 @@ pub use laws::{
     law_of_chips, law_of_floors, law_of_movers, law_of_places, law_of_reasons, law_of_scripts,
     law_of_spellings, law_of_streets, law_of_targets, law_of_up_cards,
 };
+pub use limit::{Limit, Opener};
 pub use played::{Act, Move, Place};
 pub use reason::{Due, Illegal};
 pub use script::Script;

@@ -14,7 +14,7 @@ use Rattle.play_event.specs.declared.reason.Due.TheVariants as dues
 use Rattle.play_event.specs.declared.reason.Due.{Due}
 use Rattle.play_event.specs.declared.setup.Setup.{Setup}
 use Rattle.street_laws.specs.CardEvents.{is_card_event, is_showing, is_card_said}
-use Rattle.street_laws.specs.Dues.{is_betting_due}
+use Rattle.play_event.specs.TurnTargets.{is_bet_due}
 
 pub at_street : (setup : Setup) (past : Past) (street : ℕ) (event : Said) → street_of (resolved_on setup past street event) ≡ street
 at_street setup past street (said.Hole seat cards) = refl
@@ -75,7 +75,7 @@ module _ (setup : Setup) (past : Past) (street : ℕ) (several : nat_le 2 (live_
   settled_at due (said.Discard seat cards) shows is other = absurd (true≢false (sym shows))
 
 -- where betting is due, no event of cards may come but a show of a settled hand
-betting_event : (setup : Setup) (past : Past) (street : ℕ) (due : Due) (event : Said) → is_betting_due due ≡ true → is_card_said event ≡ true → may_come setup past (street, due) event ≡ true → is_settled setup (moves_of past) (street, due) ≡ true
+pub betting_event : (setup : Setup) (past : Past) (street : ℕ) (due : Due) (event : Said) → is_bet_due due ≡ true → is_card_said event ≡ true → may_come setup past (street, due) event ≡ true → is_settled setup (moves_of past) (street, due) ≡ true
 betting_event setup past street dues.BringIn (said.Show seat cards) bets card is = is
 betting_event setup past street dues.Move (said.Show seat cards) bets card is = is
 betting_event setup past street dues.BringIn (said.Hole seat cards) bets card is = absurd (true≢false (sym is))
@@ -96,7 +96,7 @@ betting_event setup past street dues.Show event bets card is = absurd (true≢fa
 betting_event setup past street dues.Over event bets card is = absurd (true≢false (sym bets))
 
 -- at the showdown no event draws
-undrawn : (setup : Setup) (past : Past) (street : ℕ) (event : Said) → is_card_said event ≡ true → may_come setup past (street, dues.Show) event ≡ true → is_draw_due setup past street ≡ false → is_draw_due setup (resolved_on setup past street event ∷ past) street ≡ false
+pub undrawn : (setup : Setup) (past : Past) (street : ℕ) (event : Said) → is_card_said event ≡ true → may_come setup past (street, dues.Show) event ≡ true → is_draw_due setup past street ≡ false → is_draw_due setup (resolved_on setup past street event ∷ past) street ≡ false
 undrawn setup past street (said.Show seat cards) card is none = none
 undrawn setup past street (said.Muck seat) card is none = none
 undrawn setup past street (said.Hole seat cards) card is none = absurd (true≢false (sym is))

@@ -24,14 +24,14 @@ use Rattle.street_laws.proofs.SeatLists.{none_at}
 use Rattle.street_laws.proofs.TurnAfter.{due_by}
 
 -- nothing is due on a street
-nothing_by : (street : ℕ) (deal draw bring_in move : Bool) → due_by street deal draw bring_in move ≡ None → (deal ≡ false) × (draw ≡ false) × (bring_in ≡ false) × (move ≡ false)
+pub nothing_by : (street : ℕ) (deal draw bring_in move : Bool) → due_by street deal draw bring_in move ≡ None → (deal ≡ false) × (draw ≡ false) × (bring_in ≡ false) × (move ≡ false)
 nothing_by street true draw bring_in move is = absurd (some_is_none is)
 nothing_by street false true bring_in move is = absurd (some_is_none is)
 nothing_by street false false true move is = absurd (some_is_none is)
 nothing_by street false false false true is = absurd (some_is_none is)
 nothing_by street false false false false is = (refl, refl, refl, refl)
 
-show_over : dues.Show ≡ dues.Over → ⊥
+pub show_over : dues.Show ≡ dues.Over → ⊥
 show_over e = cc
 
 never_show : (street : ℕ) (deal draw bring_in move : Bool) → due_by street deal draw bring_in move ≡ Some dues.Show → ⊥
@@ -107,7 +107,7 @@ none_first setup past (said.BringIn named) none is = true≢false (sym is)
 none_first setup past (said.Discard seat cards) none is = true≢false (sym is)
 
 -- a legal event where the hand is over is the show or muck of its one live seat
-one_left : (setup : Setup) (rules : Rules) (past : Past) (event : Said) (street : ℕ) → turn setup past ≡ (street, dues.Over) → why setup rules past event ≡ None → (few : Bool) → nat_le (live_count setup (moves_of past)) 1 ≡ few → nat_le (live_count setup (moves_of past)) 1 ≡ true
+pub one_left : (setup : Setup) (rules : Rules) (past : Past) (event : Said) (street : ℕ) → turn setup past ≡ (street, dues.Over) → why setup rules past event ≡ None → (few : Bool) → nat_le (live_count setup (moves_of past)) 1 ≡ few → nat_le (live_count setup (moves_of past)) 1 ≡ true
 one_left setup rules past event street is legal true few = few
 one_left setup rules past event street is legal false few =
     let not_over : is_hand_over setup past dues.Over event ≡ false = sym (ap (λ (now : ℕ × Due). is_hand_over setup past now.1 event) is) ∙ (no_reason_holds setup rules past event legal).0 in

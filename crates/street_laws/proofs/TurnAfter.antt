@@ -22,7 +22,7 @@ use Rattle.play_event.specs.declared.reason.Due.{Due}
 use Rattle.play_event.specs.declared.setup.Setup.{Setup}
 use Rattle.street_laws.proofs.Later.{none_dealt, none_boarded, none_drawn}
 use Rattle.street_laws.proofs.StreetTables.{each_street}
-use Rattle.street_laws.specs.Dues.{is_betting_due}
+use Rattle.play_event.specs.TurnTargets.{is_bet_due}
 use Rattle.street_laws.specs.Walk.{none_later, street_cards}
 
 -- what is due on a street by the cases in their order
@@ -30,11 +30,11 @@ abbrev pub due_by : ℕ → (deal draw bring_in move : Bool) → Option Due
 due_by street deal draw bring_in move =
     if deal then Some (dues.Deal street) else if draw then Some (dues.Draw street) else if bring_in then Some dues.BringIn else if move then Some dues.Move else None
 
-bets_differ : {A : Type 0} (due other : Due) → due ≡ other → is_betting_due due ≡ true → is_betting_due other ≡ false → A
-bets_differ due other same is is_not = absurd (true≢false (sym is ∙ ap is_betting_due same ∙ is_not))
+bets_differ : {A : Type 0} (due other : Due) → due ≡ other → is_bet_due due ≡ true → is_bet_due other ≡ false → A
+bets_differ due other same is is_not = absurd (true≢false (sym is ∙ ap is_bet_due same ∙ is_not))
 
 -- where betting is due, no card is due
-dealt_by : (street : ℕ) (deal draw bring_in move : Bool) (due : Due) → due_by street deal draw bring_in move ≡ Some due → is_betting_due due ≡ true → (deal ≡ false) × (draw ≡ false)
+dealt_by : (street : ℕ) (deal draw bring_in move : Bool) (due : Due) → due_by street deal draw bring_in move ≡ Some due → is_bet_due due ≡ true → (deal ≡ false) × (draw ≡ false)
 dealt_by street true draw bring_in move due is bets = bets_differ due (dues.Deal street) (sym (same_Some (dues.Deal street) due is)) bets refl
 dealt_by street false true bring_in move due is bets = bets_differ due (dues.Draw street) (sym (same_Some (dues.Draw street) due is)) bets refl
 dealt_by street false false bring_in move due is bets = (refl, refl)
@@ -49,7 +49,7 @@ pub record AreDealt (setup : Setup) (past : Past) (street : ℕ) : Type 0 where
   pub dealt : is_deal_due setup past street ≡ false
   pub drawn : is_draw_due setup past street ≡ false
 
-pub cards_are_dealt : (setup : Setup) (past : Past) (street : ℕ) (due : Due) → turn setup past ≡ (street, due) → is_betting_due due ≡ true → is_unfinished due ≡ true → AreDealt setup past street
+pub cards_are_dealt : (setup : Setup) (past : Past) (street : ℕ) (due : Due) → turn setup past ≡ (street, due) → is_bet_due due ≡ true → is_unfinished due ≡ true → AreDealt setup past street
 cards_are_dealt setup past street due is bets unfinished =
     let first : IsFirstStreet (due_on setup past) (newest_street past) street due = due_is_first setup past street due is unfinished in
     let parts = dealt_by street (is_deal_due setup past street) (is_draw_due setup past street) (is_bring_in_due setup (moves_of past) street) (is_move_due setup (moves_of past) street) due first.is_due bets in

@@ -15,7 +15,7 @@ use Rattle.play_event.specs.declared.reason.Due.TheVariants as dues
 use Rattle.play_event.specs.declared.reason.Due.{Due}
 use Rattle.play_event.specs.declared.setup.Setup.{Setup}
 use Rattle.street_laws.proofs.TurnAfter.{AreDealt, cards_are_dealt, due_by}
-use Rattle.street_laws.specs.Dues.{is_betting_due}
+use Rattle.play_event.specs.TurnTargets.{is_bet_due}
 
 -- the hand is not settled where betting is due
 owes_by : (able since owes : Bool) (many : Bool) → many ≡ false → (able && (if since then false else (owes || many))) ≡ true → (able && owes) ≡ true
@@ -52,7 +52,7 @@ unsettled_by_bring_in setup moves street is =
     settled_by (nat_le 2 (live_count setup moves)) (nat_le (able_count setup moves) 1) (has_able_seat_to_call setup moves street) (inl (many_not_few (able_count setup moves) parts2.1))
 
 -- where betting is due each live seat has to show
-bets_unfinished : (due : Due) → is_betting_due due ≡ true → is_unfinished due ≡ true
+pub bets_unfinished : (due : Due) → is_bet_due due ≡ true → is_unfinished due ≡ true
 bets_unfinished dues.BringIn is = refl
 bets_unfinished dues.Move is = refl
 bets_unfinished (dues.Deal street) is = refl
@@ -71,7 +71,7 @@ bring_in_by street false true is = absurd cc
 bring_in_by street false false is = absurd cc
 
 module _ (setup : Setup) (past : Past) (street : ℕ) where
-  pub due_after_cards : (due : Due) → turn setup past ≡ (street, due) → is_betting_due due ≡ true → due_by street false false (is_bring_in_due setup (moves_of past) street) (is_move_due setup (moves_of past) street) ≡ Some due
+  pub due_after_cards : (due : Due) → turn setup past ≡ (street, due) → is_bet_due due ≡ true → due_by street false false (is_bring_in_due setup (moves_of past) street) (is_move_due setup (moves_of past) street) ≡ Some due
   due_after_cards due is bets =
       let are : AreDealt setup past street = cards_are_dealt setup past street due is bets (bets_unfinished due bets) in
       let first : IsFirstStreet (due_on setup past) (newest_street past) street due = due_is_first setup past street due is (bets_unfinished due bets) in
@@ -92,7 +92,7 @@ module _ (setup : Setup) (past : Past) (street : ℕ) where
       let parts2 = and_parts (is_stud setup.code && (street == 1)) (nat_le 2 (able_count setup (moves_of past))) parts.0 in
       (and_parts (is_stud setup.code) (street == 1) parts2.0).0
 
-  pub unsettled : (due : Due) → turn setup past ≡ (street, due) → is_betting_due due ≡ true → is_settled setup (moves_of past) (street, due) ≡ false
+  pub unsettled : (due : Due) → turn setup past ≡ (street, due) → is_bet_due due ≡ true → is_settled setup (moves_of past) (street, due) ≡ false
   unsettled dues.Move is bets = unsettled_by_move setup (moves_of past) street (move_by street (is_bring_in_due setup (moves_of past) street) (is_move_due setup (moves_of past) street) (due_after_cards dues.Move is bets))
   unsettled dues.BringIn is bets = unsettled_by_bring_in setup (moves_of past) street (bring_in_by street (is_bring_in_due setup (moves_of past) street) (is_move_due setup (moves_of past) street) (due_after_cards dues.BringIn is bets))
   unsettled (dues.Deal on) is bets = absurd (true≢false (sym bets))

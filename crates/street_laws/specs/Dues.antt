@@ -3,15 +3,6 @@ use Rattle.std.specs.Prelude.{◌≤◌, ℕ, Bool, true, false, ◌==◌}
 use Rattle.play_event.specs.declared.reason.Due.TheVariants as dues
 use Rattle.play_event.specs.declared.reason.Due.{Due}
 
--- a bring-in or a move is due
-abbrev pub is_betting_due : Due → Bool
-is_betting_due dues.BringIn = true
-is_betting_due dues.Move = true
-is_betting_due (dues.Deal street) = false
-is_betting_due (dues.Draw street) = false
-is_betting_due dues.Show = false
-is_betting_due dues.Over = false
-
 -- a deal or a draw is due
 abbrev pub is_deal_or_draw : Due → Bool
 is_deal_or_draw (dues.Deal street) = true

@@ -7,7 +7,7 @@ use Rattle.play_event.specs.Games as tables
 use Rattle.hand_order.specs.declared.best.Pick.{Pick}
 use Rattle.hand_order.specs.declared.best.Pick.TheVariants as picks
 use Rattle.variant_table.specs.Orders.{Order, award_of, second_of}
-use Rattle.variant_table.specs.Plain.{limit_of, opener_of, pick_of, plain_limit, plain_opener, plain_pick}
+use Rattle.variant_table.specs.Plain.{pick_of, plain_pick}
 use Rattle.variant_table.specs.Variants.{AreValuesOf, IsOrder, IsUsable, AddsUp}
 
 -- an order is itself
@@ -52,13 +52,13 @@ pub usable_second : (code : Code) (held : ℕ) (pick : Pick) → held ≡ (secon
 usable_second code held pick same same_pick = usable_award code held pick (same ∙ same_held code) same_pick
 
 -- the values of a game are its own
-pub values_of : (code : Code) → let game = game_of code in AreValuesOf game game.split (pick_of game.pick) (limit_of game.limit) (opener_of game.opener) game.deck game.seats (length game.streets)
+pub values_of : (code : Code) → let game = game_of code in AreValuesOf game game.split (pick_of game.pick) game.limit game.opener game.deck game.seats (length game.streets)
 values_of code =
     let game = game_of code in record {
       split_is = refl;
       pick_is = plain_back game.pick;
-      limit_is = limit_back game.limit;
-      opener_is = opener_back game.opener;
+      limit_is = refl;
+      opener_is = refl;
       deck_is = refl;
       seats_is = refl;
       streets_is = refl;
@@ -68,13 +68,3 @@ values_of code =
     plain_back tables.AnyFive = refl
     plain_back tables.TwoAndThree = refl
     plain_back tables.AllHeld = refl
-
-    limit_back : (limit : tables.Limit) → plain_limit (limit_of limit) ≡ limit
-    limit_back tables.Fixed = refl
-    limit_back tables.Pot = refl
-    limit_back tables.NoLimit = refl
-
-    opener_back : (opener : tables.Opener) → plain_opener (opener_of opener) ≡ opener
-    opener_back tables.Blinds = refl
-    opener_back tables.LowUp = refl
-    opener_back tables.HighUp = refl

@@ -1,21 +1,21 @@
 -- What each variant keeps: its constants and orders are those of its code, and its cards add up.
 use Rattle.std.specs.Prelude.{◌≡◌, ℕ, ◌+◌, ◌*◌, ◌≤◌, Bool, List, [], ◌∷◌, length, ◌↔◌}
 use Rattle.card_set.specs.declared.card.Card.{Card}
+use Rattle.play_event.specs.declared.limit.Limit.{Limit}
+use Rattle.play_event.specs.declared.limit.Opener.{Opener}
 use Rattle.play_event.specs.Games.{Game, game_of}
 use Rattle.play_event.specs.Games as tables
 use Rattle.hand_order.specs.declared.best.Pick.{Pick}
 use Rattle.hand_order.specs.Choices.{CanPick}
-use Rattle.variant_table.specs.declared.limit.Limit.{Limit}
-use Rattle.variant_table.specs.declared.limit.Opener.{Opener}
 use Rattle.variant_table.specs.Orders.{Order}
-use Rattle.variant_table.specs.Plain.{plain_limit, plain_opener, plain_pick}
+use Rattle.variant_table.specs.Plain.{plain_pick}
 
 -- the values are those of the game
 pub record AreValuesOf (game : Game) (split : Bool) (pick : Pick) (limit : Limit) (opener : Opener) (deck seats streets : ℕ) : Type 0 where
   pub split_is : split ≡ game.split
   pub pick_is : plain_pick pick ≡ game.pick
-  pub limit_is : plain_limit limit ≡ game.limit
-  pub opener_is : plain_opener opener ≡ game.opener
+  pub limit_is : limit ≡ game.limit
+  pub opener_is : opener ≡ game.opener
   pub deck_is : deck ≡ game.deck
   pub seats_is : seats ≡ game.seats
   pub streets_is : streets ≡ length game.streets

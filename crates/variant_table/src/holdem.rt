@@ -2,19 +2,19 @@
 ghost use Rattle.std.specs.Prelude.{false};
 ghost use Rattle.play_event.specs.declared.code.Code.TheVariants as codes;
 ghost use Rattle.hand_order.specs.declared.best.Pick.TheVariants as picks;
-ghost use Rattle.variant_table.specs.declared.limit.Limit.TheVariants as limits;
-ghost use Rattle.variant_table.specs.declared.limit.Opener.TheVariants as openers;
-ghost use Rattle.variant_table.specs.declared.limit.TheConstants.{SHORT_DECK, WHOLE_DECK};
+ghost use Rattle.play_event.specs.declared.limit.Limit.TheVariants as limits;
+ghost use Rattle.play_event.specs.declared.limit.Opener.TheVariants as openers;
+ghost use Rattle.variant_table.specs.declared.deck.TheConstants.{SHORT_DECK, WHOLE_DECK};
 ghost use Rattle.variant_table.specs.declared.street.TheConstants.{FLOP_SEATS};
 ghost use Rattle.variant_table.specs.Orders.{high_order, short_deck_order};
 ghost use Rattle.variant_table.specs.TableLaws.{same_order, values_of};
 
-use crate::limit::{Limit, Opener, SHORT_DECK, WHOLE_DECK};
+use crate::deck::{SHORT_DECK, WHOLE_DECK};
 use crate::street::{FLOP_SEATS, Size, Street, flop_street};
 use crate::variant::Variant;
 use hand_order::Pick;
 use high_rank::{High, ShortDeckHigh};
-use play_event::Code;
+use play_event::{Code, Limit, Opener};
 
 /// Fixed-limit Texas hold'em.
 #[derive(Clone, Copy, Debug)]

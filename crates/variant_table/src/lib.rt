@@ -1,9 +1,9 @@
 //! The eleven games as types: each has the table of its code, and one generic function over `Variant` plays them all.
 #![tactic(auto)]
 
+mod deck;
 mod draw;
 mod holdem;
-mod limit;
 mod omaha;
 mod street;
 mod stud;
@@ -12,8 +12,8 @@ mod variant;
 
 pub use draw::{F2L3D, FB, N2L1D};
 pub use holdem::{FT, NS, NT};
-pub use limit::{Limit, Opener};
 pub use omaha::{FO8, PO};
+pub use play_event::{Limit, Opener};
 pub use street::{Size, Street};
 pub use stud::{F7S, F7S8, FR};
 pub use table::{GameTable, table_of};

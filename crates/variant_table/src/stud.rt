@@ -3,21 +3,21 @@ ghost use Rattle.std.specs.Prelude.{◌≡◌, ◌≤◌, ◌-◌, Some, slice_g
 ghost use Rattle.play_event.specs.declared.code.Code.TheVariants as codes;
 ghost use Rattle.play_event.specs.Games.{stud_streets};
 ghost use Rattle.hand_order.specs.declared.best.Pick.TheVariants as picks;
-ghost use Rattle.variant_table.specs.declared.limit.Limit.TheVariants as limits;
-ghost use Rattle.variant_table.specs.declared.limit.Opener.TheVariants as openers;
-ghost use Rattle.variant_table.specs.declared.limit.TheConstants.{WHOLE_DECK};
+ghost use Rattle.play_event.specs.declared.limit.Limit.TheVariants as limits;
+ghost use Rattle.play_event.specs.declared.limit.Opener.TheVariants as openers;
+ghost use Rattle.variant_table.specs.declared.deck.TheConstants.{WHOLE_DECK};
 ghost use Rattle.variant_table.specs.declared.stud.TheConstants.{STUD_SEATS};
 ghost use Rattle.variant_table.specs.Orders.{eight_low_order, high_order, razz_order};
 ghost use Rattle.variant_table.specs.Plain.{plain_street};
 ghost use Rattle.variant_table.specs.TableLaws.{same_order, values_of};
 
-use crate::limit::{Limit, Opener, WHOLE_DECK};
+use crate::deck::WHOLE_DECK;
 use crate::street::{Size, Street, hole_cards};
 use crate::variant::Variant;
 use hand_order::Pick;
 use high_rank::High;
 use low_rank::{EightLow, RazzLow};
-use play_event::Code;
+use play_event::{Code, Limit, Opener};
 
 // The most seats of a stud game.
 const STUD_SEATS: u8 = 7;

@@ -6,13 +6,12 @@ ghost use Rattle.variant_table.specs.Tables.{IsTableOf, street_of};
 
 use crate::draw::{F2L3D, FB, N2L1D};
 use crate::holdem::{FT, NS, NT};
-use crate::limit::{Limit, Opener};
 use crate::omaha::{FO8, PO};
 use crate::street::{NO_STREET, Street};
 use crate::stud::{F7S, F7S8, FR};
 use crate::variant::Variant;
 use hand_order::Pick;
-use play_event::Code;
+use play_event::{Code, Limit, Opener};
 
 /// What is the same for all hands of a game.
 #[derive(Clone, Copy, Debug, PartialEq, Eq)]

@@ -5,18 +5,18 @@ ghost use Rattle.play_event.specs.declared.code.Code.{Code};
 ghost use Rattle.play_event.specs.Games.{game_of};
 ghost use Rattle.play_event.specs.Taken.{is_in_deck};
 ghost use Rattle.hand_order.specs.declared.best.Pick.{Pick};
-ghost use Rattle.variant_table.specs.declared.limit.Limit.{Limit};
-ghost use Rattle.variant_table.specs.declared.limit.Opener.{Opener};
+ghost use Rattle.play_event.specs.declared.limit.Limit.{Limit};
+ghost use Rattle.play_event.specs.declared.limit.Opener.{Opener};
 ghost use Rattle.variant_table.specs.Orders.{award_of, second_of};
 ghost use Rattle.variant_table.specs.Plain.{plain_street};
 ghost use Rattle.variant_table.specs.Variants.{AreValuesOf, IsOrder, IsUsable, AddsUp};
 ghost use Rattle.variant_table.specs.TableLaws.{table_adds_up, usable_award, usable_second};
 
-use crate::limit::{Limit, Opener, SHORT_DECK};
+use crate::deck::SHORT_DECK;
 use crate::street::Street;
 use card_set::{Card, Rank, place_of_rank};
 use hand_order::{HandOrder, Pick};
-use play_event::Code;
+use play_event::{Code, Limit, Opener};
 
 /// A game with its table.
 pub trait Variant {

@@ -1,4 +1,4 @@
-// What bounds a raise, who moves first, and the decks.
+// What bounds a raise, and who moves first.
 
 /// What bounds a bet or raise.
 #[derive(Clone, Copy, Debug, PartialEq, Eq, Hash)]
@@ -21,9 +21,3 @@ pub enum Opener {
     /// The seat with the highest up-card, which brings it in.
     HighUp,
 }
-
-/// How many cards the whole deck has.
-pub const WHOLE_DECK: u8 = 52;
-
-/// How many cards the short deck has, from the six up.
-pub const SHORT_DECK: u8 = 36;

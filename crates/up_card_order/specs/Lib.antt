@@ -1,0 +1,3 @@
+-- Heights in order, and the classes of up-cards.
+pub mod HeightRow
+pub mod UpClass

@@ -1,0 +1,43 @@
+// Heights in order, for any up-cards that a row holds.
+ghost use Rattle.std.specs.Prelude.{◌≡◌, ℕ, ◌+◌, ◌<◌, ◌≤◌, [], ◌∷◌, ◌++◌, length};
+
+/// Heights in order: the first `len` of `heights`.
+#[derive(Clone, Copy, Debug)]
+pub struct Heights {
+    pub len: u8,
+    pub heights: [u8; 56],
+    ghost fits: { len ≤ 56 },
+    ghost entries: { length heights ≡ 56 },
+}
+
+impl Heights {
+    ghost use Rattle.up_card_order.specs.HeightRow.{heights_in};
+
+    /// A row without heights.
+    pub fn new() -> Self
+        ensures empty { heights_in result ≡ [] }
+        ensures len { result.len ≡ 0 }
+    {
+        Heights {
+            len: 0,
+            heights: [0; 56],
+        }
+    }
+
+    /// Puts a height after the others.
+    pub fn push(&mut self, height: u8)
+        requires { self.old.len < 56 }
+        ensures entries { heights_in self.new ≡ heights_in self.old ++ height ∷ [] }
+        ensures longer { self.new.len ≡ self.old.len + 1 }
+    {
+        self.heights[self.len as usize] = height;
+        self.len += 1;
+    }
+
+    /// The heights, in order.
+    pub fn as_slice(&self) -> &[u8]
+        ensures { result.now ≡ heights_in self.now }
+    {
+        &self.heights[..self.len as usize]
+    }
+}

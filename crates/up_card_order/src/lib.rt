@@ -1,0 +1,7 @@
+//! Whose up-cards open a street before another's, as the rules of stud compare them.
+#![tactic(auto)]
+
+mod comparing;
+mod heights;
+
+pub use comparing::{has_unknown, is_opener_before, known};
