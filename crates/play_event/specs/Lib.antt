@@ -31,9 +31,4 @@ pub mod Played
 pub mod Stakes
 pub mod HistoryRules
 pub mod Rows
-pub mod Examples
-pub mod CardNames
-pub mod Written
-pub mod Computed
-pub mod WorkedHands
 pub mod Laws

@@ -4,7 +4,6 @@
 mod card_rows;
 mod code;
 mod event;
-mod examples;
 mod laws;
 mod limit;
 mod played;
@@ -14,12 +13,10 @@ mod setup;
 mod stake_laws;
 #[cfg(test)]
 mod tests;
-mod worked_hands;
 
 pub use card_rows::{HandRow, UpRow};
 pub use code::Code;
 pub use event::{Event, Kind, Spelled};
-pub use examples::hands_won_by_folds;
 pub use laws::{
     law_of_chips, law_of_floors, law_of_movers, law_of_places, law_of_reasons, law_of_scripts,
     law_of_spellings, law_of_streets, law_of_targets, law_of_up_cards,
@@ -30,4 +27,3 @@ pub use reason::{Due, Illegal};
 pub use script::Script;
 pub use setup::{Reopen, Rules, Setup};
 pub use stake_laws::law_of_folds;
-pub use worked_hands::{worked_cards, worked_ends, worked_raises, worked_traces};
