@@ -1,0 +1,13 @@
+-- The numbers are those of the past.
+use Rattle.std.proofs.Common.{ℕ, sym, ap}
+use Rattle.play_event.specs.declared.reason.Due.{Due}
+use Rattle.street_laws.proofs.DueStreets.{here_within}
+use Rattle.betting_core.proofs.betting.Betting.due.Goals as goal
+
+pub returns-clause-stands : goal.returns-clause-stands
+returns-clause-stands g c = λ past stands. sym (ap (λ (p : ℕ × Due). p.1) stands.turn_is)
+
+pub returns-clause-within : goal.returns-clause-within
+returns-clause-within g c =
+    let whole = c.args.self.now in
+    here_within whole.table.due whole.table.street g.V.Variant.STREETS whole.here whole.first whole.last

@@ -1,0 +1,452 @@
+// The betting of a hand of one game: its running numbers, and the game's table.
+ghost use Rattle.std.specs.Prelude.{◌≡◌, ◌≤◌, ◌<◌, ◌∷◌, [], ℕ, true, false, Some, None, IfErr, IfOk, IfSome, OnOk, OnErr, is_some};
+ghost use Rattle.play_event.specs.declared.reason.Due.TheVariants as dues;
+ghost use Rattle.play_event.specs.Games.{street_count};
+ghost use Rattle.play_event.specs.Past.{Past, moves_of};
+ghost use Rattle.chip_ledger.specs.LiveRow.{flag_of};
+ghost use Rattle.chip_ledger.specs.SeatRow.{amount_of};
+ghost use Rattle.play_event.specs.Chips.{chips_left, chips_put};
+ghost use Rattle.play_event.specs.Due.{is_settled, turn};
+ghost use Rattle.play_event.specs.Seats.{is_live};
+ghost use Rattle.play_event.specs.Openers.{TheSeat};
+ghost use Rattle.play_event.specs.TurnTargets.{AreTargets, has_targets, is_bet_due};
+ghost use Rattle.play_event.specs.Past as plays;
+ghost use Rattle.play_event.specs.Played.{act_said, move_said};
+ghost use Rattle.play_event.specs.Trace.{traced_move};
+ghost use Rattle.play_event.specs.Said as said;
+ghost use Rattle.betting_numbers.specs.SeatsSaid.{seat_said, turn_of};
+ghost use Rattle.play_event.specs.Streets.{is_stud, unit};
+ghost use Rattle.betting_numbers.specs.Seen.{all_in_seen};
+ghost use Rattle.betting_numbers.specs.Standing.{StandsFor};
+ghost use Rattle.betting_numbers.specs.Planned.{IsPlan, IsTurn, move_of};
+ghost use Rattle.street_laws.specs.CardEvents.{is_card_said};
+ghost use Rattle.street_laws.specs.Seats.{IsSeat};
+ghost use Rattle.betting_numbers.specs.UpTo.{StandsUpTo};
+ghost use Rattle.street_laws.specs.Done.{is_done};
+ghost use Rattle.street_laws.specs.Dues.{IsDueWithin, is_of_street, is_deal_or_draw, is_cards_due, is_before_moves};
+ghost use Rattle.betting_numbers.specs.Turn.{fits_due, IsDealtTo, IsSettledTo};
+ghost use Rattle.street_laws.specs.Walk.{street_cards};
+ghost use Rattle.play_event.specs.Reasons.{why};
+ghost use Rattle.play_event.specs.Said.{Said, said_of};
+ghost use Rattle.play_event.specs.Scripts.{with_event};
+ghost use Rattle.betting_numbers.specs.UpSeen.{HoldsUps};
+ghost use Rattle.play_event.specs.ValidSetup.{IsValid};
+
+use betting_numbers::{Plan, Table, Targets, first_full_bet, not_now, start};
+use chip_ledger::{LiveRow, Seat, SeatRow};
+use play_event::{Act, Due, Event, Illegal, Kind, Move as Moved, Rules, Setup, Spelled, UpRow};
+use std::marker::PhantomData;
+use variant_table::{Opener, Size, Variant};
+
+/// The betting of a hand of a game.
+#[derive(Drop)]
+pub struct Betting<V: Variant> {
+    pub table: Table,
+    pub game: PhantomData<V>,
+    pub ghost code: { table.setup.code ≡ V.CODE },
+    pub ghost first: { 1 ≤ table.street },
+    pub ghost last: { table.street ≤ V.STREETS },
+    pub ghost here: { is_of_street table.street table.due ≡ true },
+    pub ghost begins: { is_before_moves table.due ≡ true → table.last ≡ None },
+}
+
+// The game is a game of stud.
+fn stud<V: Variant>() -> bool
+    ensures { result ≡ is_stud V.CODE }
+{
+    match V::OPEN {
+        Opener::Blinds => false,
+        Opener::LowUp | Opener::HighUp => true,
+    }
+}
+
+// A bring-in or a move is due.
+fn betting_due(due: Due) -> bool
+    ensures { result ≡ is_bet_due due }
+{
+    match due {
+        Due::BringIn | Due::Move => true,
+        Due::Deal(_) | Due::Draw(_) | Due::Show | Due::Over => false,
+    }
+}
+
+// The cards with which a street begins.
+fn cards<V: Variant>(street: u8) -> Due
+    requires first { 1 ≤ street }
+    requires last { street ≤ V.STREETS }
+    ensures { result ≡ street_cards V.CODE street }
+{
+    if V::street(street).draws {
+        Due::Draw(street)
+    } else {
+        Due::Deal(street)
+    }
+}
+
+impl<V: Variant> Betting<V> {
+    /// The betting before the first card.
+    pub fn start(setup: &Setup, rules: &Rules) -> Self
+        requires valid { IsValid setup.now }
+        requires code { setup.now.code ≡ V.CODE }
+        ensures stands { StandsFor result.table [] }
+        ensures due { result.table.due ≡ dues.Deal 1 }
+        ensures setup { result.table.setup ≡ setup.now }
+        ensures rules { result.table.rules ≡ rules.now }
+    {
+        let size = match V::street(1).size {
+            Size::Small => setup.small_bet,
+            Size::Big => setup.big_bet,
+            Size::Least => setup.min_bet,
+        };
+        let full_bet = first_full_bet(setup, size);
+        Betting {
+            table: start(setup, rules, full_bet),
+            game: PhantomData,
+        }
+    }
+
+    // The bet size of the street.
+    fn unit(&self) -> u64
+        ensures { result ≡ unit self.now.table.setup self.now.table.street }
+    {
+        match V::street(self.table.street).size {
+            Size::Small => self.table.setup.small_bet,
+            Size::Big => self.table.setup.big_bet,
+            Size::Least => self.table.setup.min_bet,
+        }
+    }
+
+    // What is due after a move that led to these numbers.
+    fn settle(&mut self, mid: Table)
+        requires code { mid.setup.code ≡ V.CODE }
+        requires first { 1 ≤ mid.street }
+        requires last { mid.street ≤ V.STREETS }
+        ensures { IsSettledTo mid self.new.table }
+    {
+        let street = mid.street;
+        let mut table = mid;
+        if mid.live_count() <= 1 {
+            table.set_due(Due::Over);
+        } else if mid.is_move_due() {
+            table.set_due(Due::Move);
+        } else if street < V::STREETS {
+            table.next_street(cards::<V>(street + 1));
+        } else {
+            table.set_due(Due::Show);
+        }
+        self.table = table;
+    }
+
+    // The deal or the draw of the street is ended.
+    fn bet(&mut self)
+        requires { is_deal_or_draw self.old.table.due ≡ true }
+        ensures { IsDealtTo self.old.table self.new.table }
+    {
+        let street = self.table.street;
+        if self.table.is_bring_in_due(stud::<V>()) {
+            self.table.set_due(Due::BringIn);
+        } else if self.table.is_move_due() {
+            self.table.set_due(Due::Move);
+        } else if street < V::STREETS {
+            self.table.next_street(cards::<V>(street + 1));
+        } else {
+            self.table.set_due(Due::Show);
+        }
+    }
+
+    // Makes a legal move, and what comes behind it.
+    fn make(&mut self, seat: Seat, act: Act, target: u64)
+        requires in_hand { seat.number ≤ self.old.table.setup.stacks.seats }
+        requires reach { target ≤ all_in_seen self.old.table seat.number }
+        requires fits { fits_due (act_said act) self.old.table.due ≡ true }
+        ensures stands { (past : Past) → StandsFor self.old.table past → is_bet_due self.old.table.due ≡ true
+            → StandsFor self.new.table (plays.Moved (move_of self.old.table (moves_of past) seat.number (act_said act) target) ∷ past) }
+        ensures setup { self.new.table.setup ≡ self.old.table.setup }
+        ensures rules { self.new.table.rules ≡ self.old.table.rules }
+    {
+        let unit = self.unit();
+        let mut table = self.table;
+        table.make(seat, act, target, unit);
+        self.settle(table);
+    }
+
+    // Whose turn it is, if it is known.
+    fn turn_now(&self, up: &UpRow) -> Option<Seat>
+        requires row { up.now.seats ≡ self.now.table.setup.stacks.seats }
+        requires bets { is_bet_due self.now.table.due ≡ true }
+        ensures turn { (past : Past) → StandsFor self.now.table past → HoldsUps self.now.table.setup up.now past
+            → IsTurn self.now.table past (turn_of (seat_said result)) }
+        ensures in_hand { IfSome result (λ seat. seat.number ≤ self.now.table.setup.stacks.seats) }
+    {
+        match V::OPEN {
+            Opener::Blinds => {
+                let opener = self.table.blinds_opener();
+                self.table.mover(opener)
+            }
+            Opener::LowUp => self.table.turn_by_up(Opener::LowUp, up),
+            Opener::HighUp => self.table.turn_by_up(Opener::HighUp, up),
+        }
+    }
+
+    // Plans a fold.
+    fn fold(&self, up: &UpRow, actor: Option<Seat>) -> Result<Plan, Illegal>
+        requires row { up.now.seats ≡ self.now.table.setup.stacks.seats }
+        ensures refused { (past : Past) → StandsFor self.now.table past → HoldsUps self.now.table.setup up.now past
+            → IfErr result (λ reason. why self.now.table.setup self.now.table.rules past (said.Fold (seat_said actor)) ≡ Some reason) }
+        ensures legal { (past : Past) → StandsFor self.now.table past → HoldsUps self.now.table.setup up.now past
+            → IfOk result (λ plan. IsPlan self.now.table past (said.Fold (seat_said actor)) plan.seat.number (act_said plan.act) plan.target) }
+        ensures due { OnOk result (is_bet_due self.now.table.due ≡ true) }
+        ensures fits { IfOk result (λ plan. fits_due (act_said plan.act) self.now.table.due ≡ true) }
+        ensures in_hand { IfOk result (λ plan. plan.seat.number ≤ self.now.table.setup.stacks.seats) }
+        ensures reach { IfOk result (λ plan. plan.target ≤ all_in_seen self.now.table plan.seat.number) }
+    {
+        if let Some(reason) = not_now(self.table.due, true, false) {
+            return Err(reason);
+        }
+        let turn = self.turn_now(up);
+        self.table.plan_fold(turn, actor)
+    }
+
+    // Plans a call.
+    fn call(&self, up: &UpRow, actor: Option<Seat>, stated: Option<u64>) -> Result<Plan, Illegal>
+        requires row { up.now.seats ≡ self.now.table.setup.stacks.seats }
+        ensures refused { (past : Past) → StandsFor self.now.table past → HoldsUps self.now.table.setup up.now past
+            → IfErr result (λ reason. why self.now.table.setup self.now.table.rules past (said.Call (seat_said actor) stated) ≡ Some reason) }
+        ensures legal { (past : Past) → StandsFor self.now.table past → HoldsUps self.now.table.setup up.now past
+            → IfOk result (λ plan. IsPlan self.now.table past (said.Call (seat_said actor) stated) plan.seat.number (act_said plan.act) plan.target) }
+        ensures due { OnOk result (is_bet_due self.now.table.due ≡ true) }
+        ensures fits { IfOk result (λ plan. fits_due (act_said plan.act) self.now.table.due ≡ true) }
+        ensures in_hand { IfOk result (λ plan. plan.seat.number ≤ self.now.table.setup.stacks.seats) }
+        ensures reach { IfOk result (λ plan. plan.target ≤ all_in_seen self.now.table plan.seat.number) }
+    {
+        if let Some(reason) = not_now(self.table.due, true, false) {
+            return Err(reason);
+        }
+        let turn = self.turn_now(up);
+        self.table.plan_call(turn, actor, stated)
+    }
+
+    // Plans a raise.
+    fn raise(&self, up: &UpRow, actor: Option<Seat>, amount: Spelled) -> Result<Plan, Illegal>
+        requires row { up.now.seats ≡ self.now.table.setup.stacks.seats }
+        ensures refused { (past : Past) → StandsFor self.now.table past → HoldsUps self.now.table.setup up.now past
+            → IfErr result (λ reason. why self.now.table.setup self.now.table.rules past (said.Raise (seat_said actor) amount) ≡ Some reason) }
+        ensures legal { (past : Past) → StandsFor self.now.table past → HoldsUps self.now.table.setup up.now past
+            → IfOk result (λ plan. IsPlan self.now.table past (said.Raise (seat_said actor) amount) plan.seat.number (act_said plan.act) plan.target) }
+        ensures due { OnOk result (is_bet_due self.now.table.due ≡ true) }
+        ensures fits { IfOk result (λ plan. fits_due (act_said plan.act) self.now.table.due ≡ true) }
+        ensures in_hand { IfOk result (λ plan. plan.seat.number ≤ self.now.table.setup.stacks.seats) }
+        ensures reach { IfOk result (λ plan. plan.target ≤ all_in_seen self.now.table plan.seat.number) }
+    {
+        if let Some(reason) = not_now(self.table.due, true, true) {
+            return Err(reason);
+        }
+        let turn = self.turn_now(up);
+        let size = self.unit();
+        self.table.plan_raise(turn, V::LIMIT, size, actor, amount)
+    }
+
+    // Plans a bring-in.
+    fn bring_in(&self, up: &UpRow, actor: Option<Seat>) -> Result<Plan, Illegal>
+        requires row { up.now.seats ≡ self.now.table.setup.stacks.seats }
+        ensures refused { (past : Past) → StandsFor self.now.table past → HoldsUps self.now.table.setup up.now past
+            → IfErr result (λ reason. why self.now.table.setup self.now.table.rules past (said.BringIn (seat_said actor)) ≡ Some reason) }
+        ensures legal { (past : Past) → StandsFor self.now.table past → HoldsUps self.now.table.setup up.now past
+            → IfOk result (λ plan. IsPlan self.now.table past (said.BringIn (seat_said actor)) plan.seat.number (act_said plan.act) plan.target) }
+        ensures due { OnOk result (is_bet_due self.now.table.due ≡ true) }
+        ensures fits { IfOk result (λ plan. fits_due (act_said plan.act) self.now.table.due ≡ true) }
+        ensures in_hand { IfOk result (λ plan. plan.seat.number ≤ self.now.table.setup.stacks.seats) }
+        ensures reach { IfOk result (λ plan. plan.target ≤ all_in_seen self.now.table plan.seat.number) }
+    {
+        if let Some(reason) = not_now(self.table.due, false, true) {
+            return Err(reason);
+        }
+        let turn = self.turn_now(up);
+        self.table.plan_bring_in(turn, actor)
+    }
+
+    // Plans an event.
+    fn plan(&self, up: &UpRow, event: &Event) -> Result<Plan, Illegal>
+        requires row { up.now.seats ≡ self.now.table.setup.stacks.seats }
+        requires kind { is_card_said (said_of event.now) ≡ false }
+        ensures refused { (past : Past) → StandsFor self.now.table past → HoldsUps self.now.table.setup up.now past
+            → IfErr result (λ reason. why self.now.table.setup self.now.table.rules past (said_of event.now) ≡ Some reason) }
+        ensures legal { (past : Past) → StandsFor self.now.table past → HoldsUps self.now.table.setup up.now past
+            → IfOk result (λ plan. IsPlan self.now.table past (said_of event.now) plan.seat.number (act_said plan.act) plan.target) }
+        ensures due { OnOk result (is_bet_due self.now.table.due ≡ true) }
+        ensures fits { IfOk result (λ plan. fits_due (act_said plan.act) self.now.table.due ≡ true) }
+        ensures in_hand { IfOk result (λ plan. plan.seat.number ≤ self.now.table.setup.stacks.seats) }
+        ensures reach { IfOk result (λ plan. plan.target ≤ all_in_seen self.now.table plan.seat.number) }
+    {
+        match event.kind {
+            Kind::Fold { actor } => self.fold(up, actor),
+            Kind::Call { actor, stated } => self.call(up, actor, stated),
+            Kind::Raise { actor, amount } => self.raise(up, actor, amount),
+            Kind::BringIn { actor } => self.bring_in(up, actor),
+            _ => Err(Illegal::WrongKind),
+        }
+    }
+
+    // Makes what was planned.
+    fn play(&mut self, plan: Plan) -> Moved
+        requires in_hand { plan.seat.number ≤ self.old.table.setup.stacks.seats }
+        requires reach { plan.target ≤ all_in_seen self.old.table plan.seat.number }
+        requires due { is_bet_due self.old.table.due ≡ true }
+        requires fits { fits_due (act_said plan.act) self.old.table.due ≡ true }
+        ensures stands { (past : Past) (event : Said) → StandsFor self.old.table past
+            → IsPlan self.old.table past event plan.seat.number (act_said plan.act) plan.target
+            → StandsFor self.new.table (with_event self.old.table.setup event past) }
+        ensures moved { (past : Past) (event : Said) → StandsFor self.old.table past
+            → IsPlan self.old.table past event plan.seat.number (act_said plan.act) plan.target
+            → (move : plays.Move) → with_event self.old.table.setup event past ≡ plays.Moved move ∷ past
+            → move_said result ≡ traced_move self.old.table.setup move (moves_of past) }
+        ensures setup { self.new.table.setup ≡ self.old.table.setup }
+        ensures rules { self.new.table.rules ≡ self.old.table.rules }
+    {
+        let size = self.unit();
+        let moved = self
+            .table
+            .traced(V::LIMIT, size, plan.seat, plan.act, plan.target);
+        self.make(plan.seat, plan.act, plan.target);
+        moved
+    }
+
+    /// Makes the move of a fold, a call, a raise or a bring-in, where it is legal.
+    pub fn step(&mut self, up: &UpRow, event: &Event) -> Result<Moved, Illegal>
+        requires row { up.now.seats ≡ self.old.table.setup.stacks.seats }
+        requires kind { is_card_said (said_of event.now) ≡ false }
+        ensures refused { (past : Past) → StandsFor self.old.table past → HoldsUps self.old.table.setup up.now past
+            → IfErr result (λ reason. why self.old.table.setup self.old.table.rules past (said_of event.now) ≡ Some reason) }
+        ensures legal { (past : Past) → StandsFor self.old.table past → HoldsUps self.old.table.setup up.now past
+            → OnOk result (why self.old.table.setup self.old.table.rules past (said_of event.now) ≡ None) }
+        ensures stands { (past : Past) → StandsFor self.old.table past → HoldsUps self.old.table.setup up.now past
+            → OnOk result (StandsFor self.new.table (with_event self.old.table.setup (said_of event.now) past)) }
+        ensures moved { (past : Past) → StandsFor self.old.table past → HoldsUps self.old.table.setup up.now past
+            → IfOk result (λ moved. (move : plays.Move) → with_event self.old.table.setup (said_of event.now) past ≡ plays.Moved move ∷ past
+            → move_said moved ≡ traced_move self.old.table.setup move (moves_of past)) }
+        ensures unchanged { OnErr result (self.new ≡ self.old) }
+        ensures setup { self.new.table.setup ≡ self.old.table.setup }
+        ensures rules { self.new.table.rules ≡ self.old.table.rules }
+    {
+        match self.plan(up, event) {
+            Ok(plan) => Ok(self.play(plan)),
+            Err(reason) => Err(reason),
+        }
+    }
+
+    // Ends the deal or the draw that is due.
+    fn carded(&mut self)
+        requires { is_deal_or_draw self.old.table.due ≡ true }
+        ensures stands { (past : Past) → StandsUpTo self.old.table past
+            → is_done self.old.table.setup past self.new.table.due ≡ false → StandsFor self.new.table past }
+        ensures up_to { (past : Past) → StandsUpTo self.old.table past
+            → is_done self.old.table.setup past self.new.table.due ≡ true → StandsUpTo self.new.table past }
+        ensures showdown { (past : Past) → StandsUpTo self.old.table past
+            → is_done self.old.table.setup past self.new.table.due ≡ true → self.new.table.due ≡ dues.Show }
+        ensures setup { self.new.table.setup ≡ self.old.table.setup }
+        ensures rules { self.new.table.rules ≡ self.old.table.rules }
+    {
+        self.bet();
+    }
+
+    // Ends the showdown.
+    fn shown(&mut self)
+        requires { self.old.table.due ≡ dues.Show }
+        ensures stands { (past : Past) → StandsUpTo self.old.table past → StandsFor self.new.table past }
+        ensures due { self.new.table.due ≡ dues.Over }
+        ensures setup { self.new.table.setup ≡ self.old.table.setup }
+        ensures rules { self.new.table.rules ≡ self.old.table.rules }
+    {
+        self.table.set_due(Due::Over);
+    }
+
+    /// Ends the deal, the draw or the show that is due.
+    pub fn dealt(&mut self)
+        requires { is_cards_due self.old.table.due ≡ true }
+        ensures stands { (past : Past) → StandsUpTo self.old.table past
+            → is_done self.old.table.setup past self.new.table.due ≡ false → StandsFor self.new.table past }
+        ensures up_to { (past : Past) → StandsUpTo self.old.table past
+            → is_done self.old.table.setup past self.new.table.due ≡ true → StandsUpTo self.new.table past }
+        ensures showdown { (past : Past) → StandsUpTo self.old.table past
+            → is_done self.old.table.setup past self.new.table.due ≡ true → self.new.table.due ≡ dues.Show }
+        ensures over { self.old.table.due ≡ dues.Show → self.new.table.due ≡ dues.Over }
+        ensures setup { self.new.table.setup ≡ self.old.table.setup }
+        ensures rules { self.new.table.rules ≡ self.old.table.rules }
+    {
+        match self.table.due {
+            Due::Show => self.shown(),
+            _ => self.carded(),
+        }
+    }
+
+    /// What is due.
+    pub fn due(&self) -> Due
+        ensures value { result ≡ self.now.table.due }
+        ensures within { IsDueWithin V.STREETS result }
+        ensures stands { (past : Past) → StandsFor self.now.table past → result ≡ (turn self.now.table.setup past).1 }
+    {
+        self.table.due
+    }
+
+    /// Which seats are live.
+    pub fn live(&self) -> LiveRow
+        ensures seats { result.seats ≡ self.now.table.setup.stacks.seats }
+        ensures stands { (past : Past) → StandsFor self.now.table past
+            → (seat : ℕ) → IsSeat self.now.table.setup seat → flag_of result seat ≡ is_live (moves_of past) seat }
+        ensures up_to { (past : Past) → StandsUpTo self.now.table past
+            → (seat : ℕ) → IsSeat self.now.table.setup seat → flag_of result seat ≡ is_live (moves_of past) seat }
+    {
+        self.table.live
+    }
+
+    /// The chips of the hand that each seat has put.
+    pub fn puts(&self) -> SeatRow
+        ensures seats { result.seats ≡ self.now.table.setup.stacks.seats }
+        ensures stands { (past : Past) → StandsFor self.now.table past
+            → (seat : ℕ) → IsSeat self.now.table.setup seat → amount_of result seat ≡ chips_put self.now.table.setup (moves_of past) seat }
+        ensures up_to { (past : Past) → StandsUpTo self.now.table past
+            → (seat : ℕ) → IsSeat self.now.table.setup seat → amount_of result seat ≡ chips_put self.now.table.setup (moves_of past) seat }
+    {
+        self.table.puts
+    }
+
+    /// The chips that each seat has left.
+    pub fn stacks(&self) -> SeatRow
+        ensures seats { result.seats ≡ self.now.table.setup.stacks.seats }
+        ensures stands { (past : Past) → StandsFor self.now.table past
+            → (seat : ℕ) → IsSeat self.now.table.setup seat → amount_of result seat ≡ chips_left self.now.table.setup (moves_of past) seat }
+        ensures up_to { (past : Past) → StandsUpTo self.now.table past
+            → (seat : ℕ) → IsSeat self.now.table.setup seat → amount_of result seat ≡ chips_left self.now.table.setup (moves_of past) seat }
+    {
+        self.table.stacks_left()
+    }
+
+    /// Whether the hand is settled: two or more seats are live, and no betting can come any more.
+    pub fn settled(&self) -> bool
+        ensures stands { (past : Past) → StandsFor self.now.table past
+            → result ≡ is_settled self.now.table.setup (moves_of past) (turn self.now.table.setup past) }
+        ensures up_to { (past : Past) → StandsUpTo self.now.table past
+            → result ≡ is_settled self.now.table.setup (moves_of past) (self.now.table.street, self.now.table.due) }
+    {
+        self.table.settled()
+    }
+
+    /// Where the seat in turn may raise to: `None` where no move or bring-in is due, it is not known whose turn
+    /// it is, or that seat may not raise.
+    pub fn targets(&self, up: &UpRow) -> Option<Targets>
+        requires row { up.now.seats ≡ self.now.table.setup.stacks.seats }
+        ensures some { (past : Past) → StandsFor self.now.table past → HoldsUps self.now.table.setup up.now past
+            → is_some result ≡ has_targets self.now.table.setup self.now.table.rules past }
+        ensures ends { (past : Past) → StandsFor self.now.table past → HoldsUps self.now.table.setup up.now past
+            → IfSome result (λ targets. (seat : ℕ) → IsTurn self.now.table past (TheSeat seat)
+            → AreTargets self.now.table.setup self.now.table.rules (moves_of past) self.now.table.street seat targets.least targets.greatest targets.all_in) }
+    {
+        if betting_due(self.table.due) {
+            let turn = self.turn_now(up);
+            let size = self.unit();
+            self.table.targets_of(turn, V::LIMIT, size)
+        } else {
+            None
+        }
+    }
+}

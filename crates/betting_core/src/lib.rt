@@ -1,0 +1,8 @@
+//! The betting of a hand of any game, move by move.
+#![tactic(auto)]
+
+mod betting;
+
+pub use betting::Betting;
+pub use betting_numbers::Targets;
+pub use play_event::Move as Moved;

@@ -1,0 +1,156 @@
+-- The reasons by the running numbers are the reasons of the rules.
+use Rattle.std.proofs.Common.{◌≡◌, ℕ, ◌-◌, ◌<◌, ◌≤◌, Bool, true, false, ◌&&◌, ◌==◌, not, nat_lt, min, if◌then◌else◌, inl, inr, List, Option, Some, None, refl, sym, ap, ◌∙◌, arith}
+use Rattle.std.proofs.lemmas.Bool.{eqb-true, cases_lt, le-ltb, and_right}
+use Rattle.chip_ledger.specs.LiveRow.{flag_of}
+use Rattle.chip_ledger.specs.SeatRow.{amount_of}
+use Rattle.play_event.specs.declared.reason.Due.TheVariants as dues
+use Rattle.play_event.specs.declared.reason.Illegal.{Illegal}
+use Rattle.play_event.specs.declared.reason.Illegal.TheVariants as reasons
+use Rattle.play_event.specs.declared.setup.Setup.{Setup}
+use Rattle.play_event.specs.Said as said
+use Rattle.play_event.specs.Past.{Past, Move, moves_of}
+use Rattle.play_event.specs.Chips.{all_in, chips_left, chips_put}
+use Rattle.play_event.specs.Seats.{is_live, is_able}
+use Rattle.play_event.specs.Price.{price, owed}
+use Rattle.play_event.specs.Openers.{InTurn, TheSeat, Undecided}
+use Rattle.play_event.specs.Mover.{mover}
+use Rattle.play_event.specs.Table.{up_cards}
+use Rattle.play_event.specs.MoveReasons.{actor_of, is_other_seat, is_undecided, chips_to_call}
+use Rattle.play_event.specs.Reasons.{why, first_reason, all_reasons}
+use Rattle.betting_numbers.specs.declared.table.Table.{Table}
+use Rattle.betting_numbers.specs.Seen.{able_seen, left_seen, all_in_seen}
+use Rattle.street_laws.specs.Seats.{IsSeat}
+use Rattle.betting_numbers.specs.Standing.{Standing, StandsFor}
+use Rattle.betting_numbers.specs.Why.{bring_in_why, is_another, fold_why, call_why, call_seen, stated_why}
+use Rattle.betting_numbers.proofs.Bridge.{able_is, price_is, owed_is, all_in_is}
+
+-- a reason that reads the seat that moves reads the seat in turn, where the seat that is named is that
+by_named : (f : ℕ → Option Illegal) (named : Option ℕ) (mover : ℕ) (another : Bool) → is_another named mover ≡ another → (if another then Some reasons.WrongSeat else f (actor_of named (TheSeat mover))) ≡ (if another then Some reasons.WrongSeat else f mover)
+by_named f named mover true is = refl
+by_named f None mover false is = refl
+by_named f (Some seat) mover false is = ap f (eqb-true seat mover (same_by (seat == mover) is))
+  where
+    same_by : (b : Bool) → not b ≡ false → b ≡ true
+    same_by true e = refl
+    same_by false e = absurd cc
+
+pub read_mover : (f : ℕ → Option Illegal) (named : Option ℕ) (mover : ℕ) → (if is_another named mover then Some reasons.WrongSeat else f (actor_of named (TheSeat mover))) ≡ (if is_another named mover then Some reasons.WrongSeat else f mover)
+read_mover f named mover = by_named f named mover (is_another named mover) refl
+
+-- whose turn it is not, where it is known
+pub other_is : (setup : Setup) (moves : List Move) (named : Option ℕ) (mover : ℕ) → is_other_seat setup moves named (TheSeat mover) ≡ is_another named mover
+other_is setup moves None mover = refl
+other_is setup moves (Some seat) mover = refl
+
+module _ (b : Table) (past : Past) (stands : StandsFor b past) (due_is : b.due ≡ dues.Move) (m : ℕ) (in_hand : IsSeat b.setup m) (mover_is : mover b.setup (up_cards b.setup.code past) (moves_of past) b.street ≡ TheSeat m) where
+  pub why_fold : (named : Option ℕ) → why b.setup b.rules past (said.Fold named) ≡ fold_why b named m
+  unfolding why
+  why_fold named =
+      ap (λ now. first_reason (all_reasons b.setup b.rules past now (said.Fold named))) stands.turn_is
+      ∙ ap (λ d. first_reason (all_reasons b.setup b.rules past (b.street, d) (said.Fold named))) due_is
+      ∙ ap (λ (t : InTurn).
+      if is_other_seat b.setup (moves_of past) named t then Some reasons.WrongSeat
+      else if is_undecided t then Some reasons.UpCardUnknown
+      else if not b.rules.free_fold && (owed b.setup (moves_of past) b.street (actor_of named t) == 0) then Some reasons.NothingToCall
+      else None) mover_is
+      ∙ ap (λ o. if o then Some reasons.WrongSeat else if not b.rules.free_fold && (owed b.setup (moves_of past) b.street (actor_of named (TheSeat m)) == 0) then Some reasons.NothingToCall else None) (other_is b.setup (moves_of past) named m)
+      ∙ read_mover (λ seat. if not b.rules.free_fold && (owed b.setup (moves_of past) b.street seat == 0) then Some reasons.NothingToCall else None) named m
+      ∙ ap (λ owes. if is_another named m then Some reasons.WrongSeat else if not b.rules.free_fold && (owes == 0) then Some reasons.NothingToCall else None) (sym (owed_is b (moves_of past) stands.standing m in_hand))
+
+  chips_is : chips_to_call b.setup (moves_of past) b.street m ≡ call_seen b m - amount_of b.bets m
+  chips_is = sym (
+      ap (λ p. min p (all_in_seen b m) - amount_of b.bets m) (price_is b (moves_of past) stands.standing)
+      ∙ ap (λ a. min (price b.setup (moves_of past) b.street) a - amount_of b.bets m) (all_in_is b (moves_of past) stands.standing m in_hand)
+      ∙ ap (λ c. min (price b.setup (moves_of past) b.street) (all_in b.setup (moves_of past) b.street m) - c) (stands.standing.bets m in_hand)
+      )
+
+  pub why_call : (named stated : Option ℕ) → why b.setup b.rules past (said.Call named stated) ≡ call_why b named stated m
+  unfolding why
+  why_call named None =
+      ap (λ now. first_reason (all_reasons b.setup b.rules past now (said.Call named None))) stands.turn_is
+      ∙ ap (λ d. first_reason (all_reasons b.setup b.rules past (b.street, d) (said.Call named None))) due_is
+      ∙ ap (λ (t : InTurn).
+      if is_other_seat b.setup (moves_of past) named t then Some reasons.WrongSeat
+      else if is_undecided t then Some reasons.UpCardUnknown
+      else None) mover_is
+      ∙ ap (λ o. if o then Some reasons.WrongSeat else None) (other_is b.setup (moves_of past) named m)
+  why_call named (Some stated) =
+      ap (λ now. first_reason (all_reasons b.setup b.rules past now (said.Call named (Some stated)))) stands.turn_is
+      ∙ ap (λ d. first_reason (all_reasons b.setup b.rules past (b.street, d) (said.Call named (Some stated)))) due_is
+      ∙ ap (λ (t : InTurn).
+      if is_other_seat b.setup (moves_of past) named t then Some reasons.WrongSeat
+      else if is_undecided t then Some reasons.UpCardUnknown
+      else stated_why (Some stated) (chips_to_call b.setup (moves_of past) b.street (actor_of named t))) mover_is
+      ∙ ap (λ o. if o then Some reasons.WrongSeat else stated_why (Some stated) (chips_to_call b.setup (moves_of past) b.street (actor_of named (TheSeat m)))) (other_is b.setup (moves_of past) named m)
+      ∙ read_mover (λ seat. stated_why (Some stated) (chips_to_call b.setup (moves_of past) b.street seat)) named m
+      ∙ ap (λ due. if is_another named m then Some reasons.WrongSeat else stated_why (Some stated) due) chips_is
+
+-- a number that is no seat's is not that of an able seat; 0 reads as the first seat
+module _ (b : Table) (moves : List Move) (st : Standing b.setup b.street b moves) where
+  pub able_anywhere : (seat : ℕ) → 1 ≤ seat → able_seen b seat ≡ is_able b.setup moves seat
+  able_anywhere seat some = elim (cases_lt b.setup.stacks.seats seat) [
+    | inl past_last ↦ nobody (flag_of b.live seat) (is_live moves seat) (nothing (left_seen b seat) (no_stack seat past_last (amount_of b.puts seat))) (nothing (chips_left b.setup moves seat) (no_stack seat past_last (chips_put b.setup moves seat)))
+    | inr in_hand ↦ able_is b moves st seat (record { first = some; last = in_hand })
+  ]
+    where
+      nothing : (n : ℕ) → n ≡ 0 → nat_lt 0 n ≡ false
+      nothing n is = le-ltb 0 n (omega (arith, is))
+
+      nobody : (p q : Bool) {x y : Bool} → x ≡ false → y ≡ false → (p && x) ≡ (q && y)
+      nobody p q x y = and_right p _ x ∙ sym (and_right q _ y)
+
+      no_stack : (k : ℕ) → b.setup.stacks.seats < k → (n : ℕ) → amount_of b.setup.stacks k - n ≡ 0
+      no_stack k late n = let none : amount_of b.setup.stacks k ≡ 0 = b.setup.stacks.filler (k - 1) (omega (arith, late)) in omega (arith, none)
+
+module _ (b : Table) (past : Past) (stands : StandsFor b past) (due_is : b.due ≡ dues.BringIn) (m : ℕ) (mover_is : mover b.setup (up_cards b.setup.code past) (moves_of past) b.street ≡ TheSeat m) where
+  pub why_bring_in : (named : Option ℕ) → why b.setup b.rules past (said.BringIn named) ≡ bring_in_why named m
+  unfolding why
+  why_bring_in named =
+      ap (λ now. first_reason (all_reasons b.setup b.rules past now (said.BringIn named))) stands.turn_is
+      ∙ ap (λ d. first_reason (all_reasons b.setup b.rules past (b.street, d) (said.BringIn named))) due_is
+      ∙ ap (λ (t : InTurn).
+      if is_other_seat b.setup (moves_of past) named t then Some reasons.WrongSeat
+      else if is_undecided t then Some reasons.UpCardUnknown
+      else None) mover_is
+      ∙ ap (λ o. if o then Some reasons.WrongSeat else None) (other_is b.setup (moves_of past) named m)
+
+-- it is not known whose turn it is
+module _ (b : Table) (past : Past) (stands : StandsFor b past) (due_is : b.due ≡ dues.BringIn) (mover_is : mover b.setup (up_cards b.setup.code past) (moves_of past) b.street ≡ Undecided) where
+  pub bring_in_undecided : (named : Option ℕ) → why b.setup b.rules past (said.BringIn named) ≡ (if is_other_seat b.setup (moves_of past) named Undecided then Some reasons.WrongSeat else Some reasons.UpCardUnknown)
+  unfolding why
+  bring_in_undecided named =
+      ap (λ now. first_reason (all_reasons b.setup b.rules past now (said.BringIn named))) stands.turn_is
+      ∙ ap (λ d. first_reason (all_reasons b.setup b.rules past (b.street, d) (said.BringIn named))) due_is
+      ∙ ap (λ (t : InTurn).
+      if is_other_seat b.setup (moves_of past) named t then Some reasons.WrongSeat
+      else if is_undecided t then Some reasons.UpCardUnknown
+      else None) mover_is
+
+module _ (b : Table) (past : Past) (stands : StandsFor b past) (due_is : b.due ≡ dues.Move) (mover_is : mover b.setup (up_cards b.setup.code past) (moves_of past) b.street ≡ Undecided) where
+  pub fold_undecided : (named : Option ℕ) → why b.setup b.rules past (said.Fold named) ≡ (if is_other_seat b.setup (moves_of past) named Undecided then Some reasons.WrongSeat else Some reasons.UpCardUnknown)
+  unfolding why
+  fold_undecided named =
+      ap (λ now. first_reason (all_reasons b.setup b.rules past now (said.Fold named))) stands.turn_is
+      ∙ ap (λ d. first_reason (all_reasons b.setup b.rules past (b.street, d) (said.Fold named))) due_is
+      ∙ ap (λ (t : InTurn).
+      if is_other_seat b.setup (moves_of past) named t then Some reasons.WrongSeat
+      else if is_undecided t then Some reasons.UpCardUnknown
+      else if not b.rules.free_fold && (owed b.setup (moves_of past) b.street (actor_of named t) == 0) then Some reasons.NothingToCall
+      else None) mover_is
+
+  pub call_undecided : (named stated : Option ℕ) → why b.setup b.rules past (said.Call named stated) ≡ (if is_other_seat b.setup (moves_of past) named Undecided then Some reasons.WrongSeat else Some reasons.UpCardUnknown)
+  unfolding why
+  call_undecided named None =
+      ap (λ now. first_reason (all_reasons b.setup b.rules past now (said.Call named None))) stands.turn_is
+      ∙ ap (λ d. first_reason (all_reasons b.setup b.rules past (b.street, d) (said.Call named None))) due_is
+      ∙ ap (λ (t : InTurn).
+      if is_other_seat b.setup (moves_of past) named t then Some reasons.WrongSeat
+      else if is_undecided t then Some reasons.UpCardUnknown
+      else None) mover_is
+  call_undecided named (Some stated) =
+      ap (λ now. first_reason (all_reasons b.setup b.rules past now (said.Call named (Some stated)))) stands.turn_is
+      ∙ ap (λ d. first_reason (all_reasons b.setup b.rules past (b.street, d) (said.Call named (Some stated)))) due_is
+      ∙ ap (λ (t : InTurn).
+      if is_other_seat b.setup (moves_of past) named t then Some reasons.WrongSeat
+      else if is_undecided t then Some reasons.UpCardUnknown
+      else stated_why (Some stated) (chips_to_call b.setup (moves_of past) b.street (actor_of named t))) mover_is

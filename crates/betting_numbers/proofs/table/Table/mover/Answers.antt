@@ -1,0 +1,11 @@
+use Rattle.play_event.specs.Openers.{TheSeat}
+use Rattle.betting_numbers.proofs.Passing.{mover_before, mover_behind}
+use Rattle.betting_numbers.proofs.table.Table.mover.Goals as goal
+
+pub returns-in-Some-clause-turn : goal.returns-in-Some-clause-turn
+returns-in-Some-clause-turn c =
+    mover_before c.args.self.now (TheSeat c.args.opener.number) c.passed_to-start.result.number c.in-Some.seat.number c.passed_to-start.ensures.value c.in-Some.ensures.found
+
+pub returns-in-None-clause-turn : goal.returns-in-None-clause-turn
+returns-in-None-clause-turn c =
+    mover_behind c.args.self.now (TheSeat c.args.opener.number) c.passed_to-start.result.number _ c.passed_to-start.ensures.value c.in-None.ensures.found c.first_to_move-in-None.ensures.found

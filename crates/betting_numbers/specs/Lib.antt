@@ -1,0 +1,13 @@
+-- What the running numbers say, and for which past they stand.
+pub mod Caps
+pub mod SeatsSaid
+pub mod Seen
+pub mod Moving
+pub mod Turn
+pub mod Why
+pub mod Traced
+pub mod Standing
+pub mod Planned
+pub mod UpTo
+pub mod Targeted
+pub mod UpSeen

@@ -1,0 +1,79 @@
+-- What the running numbers say of the table: who is able, what the price is, who is to move.
+use Rattle.std.specs.Prelude.{ℕ, ◌+◌, ◌-◌, Bool, false, ◌&&◌, ◌||◌, ◌==◌, nat_lt, nat_le, not, if◌then◌else◌, map, count_by, Option, Some, None}
+use Rattle.std.specs.List.{list_any}
+use Rattle.std.specs.Option.{option_map}
+use Rattle.chip_ledger.specs.LiveRow.{flag_of}
+use Rattle.chip_ledger.specs.SeatRow.{amount_of}
+use Rattle.chip_ledger.specs.declared.numbers.Seat.{Seat}
+use Rattle.play_event.specs.Due.{is_after_betting}
+use Rattle.chip_ledger.specs.Greatest.{greatest}
+use Rattle.play_event.specs.Seats.{all_seats}
+use Rattle.play_event.specs.Streets.{is_stud}
+use Rattle.play_event.specs.Openers.{InTurn, TheSeat, seat_after}
+use Rattle.play_event.specs.Mover.{first_in_turn}
+use Rattle.betting_numbers.specs.declared.table.Table.{Table}
+
+-- the chips that a seat has left
+abbrev pub left_seen : Table → ℕ → ℕ
+left_seen b seat = amount_of b.setup.stacks seat - amount_of b.puts seat
+
+-- the seat is able to act
+abbrev pub able_seen : Table → ℕ → Bool
+able_seen b seat = flag_of b.live seat && nat_lt 0 (left_seen b seat)
+
+-- the price of the street
+abbrev pub price_seen : Table → ℕ
+price_seen b = greatest (map (amount_of b.bets) (all_seats b.setup))
+
+-- what a seat owes
+abbrev pub owed_seen : Table → ℕ → ℕ
+owed_seen b seat = price_seen b - amount_of b.bets seat
+
+-- the street's chips of a seat that puts all it has left
+abbrev pub all_in_seen : Table → ℕ → ℕ
+all_in_seen b seat = amount_of b.bets seat + left_seen b seat
+
+-- how many seats are live, and how many able
+abbrev pub live_count_seen : Table → ℕ
+live_count_seen b = count_by (flag_of b.live) (all_seats b.setup)
+
+abbrev pub able_count_seen : Table → ℕ
+able_count_seen b = count_by (able_seen b) (all_seats b.setup)
+
+-- a seat has a move to make
+abbrev pub to_move_seen : Table → ℕ → Bool
+to_move_seen b seat =
+    able_seen b seat && (if flag_of b.since_rise seat then false else (nat_lt 0 (owed_seen b seat) || nat_le 2 (able_count_seen b)))
+
+-- some seat has a move to make
+abbrev pub move_due_seen : Table → Bool
+move_due_seen b = list_any (to_move_seen b) (all_seats b.setup)
+
+-- a bring-in is due
+abbrev pub bring_in_due_seen : Table → Bool
+bring_in_due_seen b = is_stud b.setup.code && (b.street == 1) && nat_le 2 (able_count_seen b) && not b.opened
+
+-- another seat is able
+abbrev pub opponent_seen : Table → ℕ → Bool
+opponent_seen b seat = list_any (λ other. able_seen b other && not (other == seat)) (all_seats b.setup)
+
+-- where the turn is passed to: after a seat to the next one, and before any to the opener
+abbrev pub after_last : Option ℕ → (ℕ → ℕ) → InTurn → InTurn
+after_last None after opener = opener
+after_last (Some seat) after opener = TheSeat (after seat)
+
+-- the number of the seat that moved last
+abbrev pub last_seen : Table → Option ℕ
+last_seen b = option_map (λ (s : Seat). s.number) b.last
+
+-- whose turn it is, the opener being this
+abbrev pub mover_seen : Table → InTurn → InTurn
+mover_seen b opener = first_in_turn b.setup (to_move_seen b) (after_last (last_seen b) (seat_after b.setup) opener)
+
+-- an able seat owes chips
+abbrev pub able_owes_seen : Table → Bool
+able_owes_seen b = list_any (λ seat. able_seen b seat && nat_lt 0 (owed_seen b seat)) (all_seats b.setup)
+
+-- the hand is settled
+abbrev pub settled_seen : Table → Bool
+settled_seen b = nat_le 2 (live_count_seen b) && (is_after_betting b.due || (nat_le (able_count_seen b) 1 && not (able_owes_seen b)))

@@ -1,0 +1,39 @@
+-- A move of the trace by the running numbers before it.
+use Rattle.std.specs.Prelude.{ℕ, Bool, ◌&&◌, ◌||◌, not}
+use Rattle.chip_ledger.specs.LiveRow.{flag_of}
+use Rattle.chip_ledger.specs.SeatRow.{amount_of}
+use Rattle.play_event.specs.declared.event.Spelled.TheVariants as spelled
+use Rattle.play_event.specs.declared.setup.Reopen.TheVariants as reopen
+use Rattle.play_event.specs.declared.limit.Limit.{Limit}
+use Rattle.play_event.specs.declared.limit.Limit.TheVariants as limits
+use Rattle.play_event.specs.Past.{Act, is_raise}
+use Rattle.play_event.specs.Streets.{unit}
+use Rattle.play_event.specs.Trace.{TracedMove}
+use Rattle.betting_numbers.specs.declared.table.Table.{Table}
+use Rattle.betting_numbers.specs.Seen.{price_seen, owed_seen}
+use Rattle.betting_numbers.specs.Why.{open_by, legal_seen, floor_by, target_seen}
+
+-- a raise needs rules by which betting always reopens
+abbrev pub closed_seen : Limit → Table → (seat target : ℕ) → Bool
+closed_seen limit b seat target =
+    not (open_by reopen.Full limit (flag_of b.moved seat) b.full_raise (unit b.setup b.street) (owed_seen b seat))
+    || not (legal_seen limit b (floor_by reopen.Full 0 b) seat target)
+
+-- where a raise by the unit goes, in fixed limit
+abbrev pub unit_seen : Limit → Table → ℕ → ℕ
+unit_seen limits.Fixed b seat = target_seen b seat spelled.Unit
+unit_seen limits.Pot b seat = 0
+unit_seen limits.No b seat = 0
+
+abbrev pub traced_seen : Limit → Table → (seat : ℕ) → Act → (target : ℕ) → TracedMove
+traced_seen limit b seat act target =
+    record {
+      street = b.street;
+      seat = seat;
+      act = act;
+      from = amount_of b.bets seat;
+      to = target;
+      price = price_seen b;
+      closed = is_raise act && closed_seen limit b seat target;
+      unit_to = unit_seen limit b seat;
+    }

@@ -1,0 +1,37 @@
+-- Who opens a street by up-cards, by the running numbers and a row of up-cards.
+use Rattle.std.specs.Prelude.{◌≡◌, ℕ, ◌≤◌, Bool, ◌&&◌, ◌==◌, not, find, Option}
+use Rattle.std.specs.List.{list_any}
+use Rattle.play_event.specs.declared.card_rows.UpRow.{UpRow}
+use Rattle.play_event.specs.declared.setup.Setup.{Setup}
+use Rattle.play_event.specs.declared.limit.Opener.{Opener}
+use Rattle.play_event.specs.Openers.{is_opener_before}
+use Rattle.card_set.specs.Known.{is_unknown, known_cards}
+use Rattle.play_event.specs.Past.{Past}
+use Rattle.play_event.specs.SeatSlots.{ups_of}
+use Rattle.play_event.specs.Seats.{all_seats}
+use Rattle.play_event.specs.Table.{up_cards}
+use Rattle.betting_numbers.specs.declared.table.Table.{Table}
+use Rattle.betting_numbers.specs.Seen.{able_seen}
+
+-- a row holds the up-cards of a past
+abbrev pub HoldsUps : Setup → UpRow → Past → Type 0
+HoldsUps setup up past = (seat : ℕ) → 1 ≤ seat → seat ≤ setup.stacks.seats → ups_of up seat ≡ up_cards setup.code past seat
+
+-- an up-card of an able seat is unknown
+abbrev pub unknown_seen : Table → UpRow → ℕ → Bool
+unknown_seen b up seat = able_seen b seat && list_any is_unknown (ups_of up seat)
+
+abbrev pub some_unknown_seen : Table → UpRow → Bool
+some_unknown_seen b up = list_any (unknown_seen b up) (all_seats b.setup)
+
+-- an able seat opens before this one
+abbrev pub before_seen : Opener → Table → UpRow → (seat other : ℕ) → Bool
+before_seen opener b up seat other =
+    able_seen b other && is_opener_before opener (b.street == 1) (known_cards (ups_of up other)) (known_cards (ups_of up seat))
+
+abbrev pub opens_seen : Opener → Table → UpRow → ℕ → Bool
+opens_seen opener b up seat = able_seen b seat && not (list_any (before_seen opener b up seat) (all_seats b.setup))
+
+-- the first able seat before which no other opens
+abbrev pub up_opener_seen : Opener → Table → UpRow → Option ℕ
+up_opener_seen opener b up = find (opens_seen opener b up) (all_seats b.setup)

@@ -1,0 +1,151 @@
+-- Why a move is refused, by the running numbers, where it is known whose turn it is.
+use Rattle.std.specs.Prelude.{ℕ, ◌+◌, ◌-◌, ◌*◌, Bool, true, false, ◌&&◌, ◌||◌, ◌==◌, nat_lt, nat_le, not, min, max, if◌then◌else◌, List, [], ◌∷◌, slice_index, Option, Some, None}
+use Rattle.std.specs.List.{list_any}
+use Rattle.std.specs.Option.{option_map_or}
+use Rattle.chip_ledger.specs.LiveRow.{flag_of}
+use Rattle.chip_ledger.specs.SeatRow.{amount_of, total_of}
+use Rattle.play_event.specs.declared.event.Spelled.{Spelled}
+use Rattle.play_event.specs.declared.reason.Due.{Due}
+use Rattle.play_event.specs.declared.reason.Due.TheVariants as dues
+use Rattle.play_event.specs.declared.event.Spelled.TheVariants as spelled
+use Rattle.play_event.specs.declared.reason.Illegal.{Illegal}
+use Rattle.play_event.specs.declared.reason.Illegal.TheVariants as reasons
+use Rattle.play_event.specs.declared.setup.Reopen.{Reopen}
+use Rattle.play_event.specs.declared.setup.Reopen.TheVariants as reopen
+use Rattle.play_event.specs.declared.limit.Limit.{Limit}
+use Rattle.play_event.specs.declared.limit.Limit.TheVariants as limits
+use Rattle.chip_ledger.specs.Greatest.{greatest}
+use Rattle.play_event.specs.Streets.{unit}
+use Rattle.play_event.specs.Targets.{above_price}
+use Rattle.betting_numbers.specs.declared.table.Table.{Table}
+use Rattle.betting_numbers.specs.Seen.{price_seen, owed_seen, able_seen, all_in_seen, opponent_seen}
+
+-- a seat is named whose turn it is not
+abbrev pub is_another : Option ℕ → ℕ → Bool
+is_another None mover = false
+is_another (Some seat) mover = not (seat == mover)
+
+-- why a fold is refused
+abbrev pub fold_why : Table → Option ℕ → ℕ → Option Illegal
+fold_why b named mover =
+    if is_another named mover then Some reasons.WrongSeat
+    else if not b.rules.free_fold && (owed_seen b mover == 0) then Some reasons.NothingToCall
+    else None
+
+-- where a call goes, and the chips that it adds
+abbrev pub call_seen : Table → ℕ → ℕ
+call_seen b seat = min (price_seen b) (all_in_seen b seat)
+
+abbrev pub stated_why : Option ℕ → ℕ → Option Illegal
+stated_why None due = None
+stated_why (Some stated) due = if not (stated == due) then Some (reasons.AmountDiffers stated due) else None
+
+-- why a call is refused
+abbrev pub call_why : Table → Option ℕ → Option ℕ → ℕ → Option Illegal
+call_why b named stated mover =
+    if is_another named mover then Some reasons.WrongSeat else stated_why stated (call_seen b mover - amount_of b.bets mover)
+
+-- where a raise goes
+abbrev pub target_seen : Table → ℕ → Spelled → ℕ
+target_seen b seat (spelled.To amount) = amount
+target_seen b seat (spelled.Added amount) = amount_of b.bets seat + amount
+target_seen b seat (spelled.HandTotal amount) = amount - (amount_of b.puts seat - amount_of b.bets seat)
+target_seen b seat spelled.Unit = min (if nat_lt (price_seen b) (unit b.setup b.street) then unit b.setup b.street else price_seen b + unit b.setup b.street) (all_in_seen b seat)
+
+-- the raises are within the cap
+abbrev pub cap_by : Option (List ℕ) → ℕ → ℕ → Bool
+cap_by None raises street = true
+cap_by (Some caps) raises street = nat_lt 4 street || nat_lt raises (slice_index caps (street - 1))
+
+-- what a seat owes reopens the betting to it
+abbrev pub owes_by : Limit → (least size owes : ℕ) → Bool
+owes_by limits.No least size owes = nat_le least owes
+owes_by limits.Pot least size owes = nat_le least owes
+owes_by limits.Fixed least size owes = nat_le size (2 * owes)
+
+-- the betting is open to a seat
+abbrev pub open_by : Reopen → Limit → (moved : Bool) → (least size owes : ℕ) → Bool
+open_by reopen.Always limit moved least size owes = true
+open_by reopen.Full limit moved least size owes = not moved || owes_by limit least size owes
+
+-- the seat may raise
+abbrev pub may_raise_seen : Limit → Table → ℕ → Bool
+may_raise_seen limit b seat =
+    opponent_seen b seat && nat_lt (price_seen b) (all_in_seen b seat) && cap_by b.rules.caps b.raises b.street
+    && open_by b.rules.reopen limit (flag_of b.moved seat) b.full_raise (unit b.setup b.street) (owed_seen b seat)
+
+-- the least raise that is not all-in, in no limit, where the street started at this price
+abbrev pub floor_by : Reopen → (start : ℕ) → Table → ℕ
+floor_by reopen.Full start b = price_seen b + b.full_raise
+floor_by reopen.Always start b = max (start + b.setup.min_bet) b.doubled
+
+-- the greatest raise of pot limit
+abbrev pub ceiling_seen : Table → ℕ → ℕ
+ceiling_seen b seat = max (price_seen b + b.full_raise) (price_seen b + total_of b.puts + owed_seen b seat)
+
+-- the full raises of fixed limit
+abbrev pub fulls_by : (price size full_bet : ℕ) → List ℕ
+fulls_by price size full_bet = if nat_lt price size then (size ∷ []) else ((price + size) ∷ above_price price (full_bet + size))
+
+abbrev pub fulls_seen : Table → List ℕ
+fulls_seen b = fulls_by (price_seen b) (unit b.setup b.street) b.full_bet
+
+-- a target is legal
+abbrev pub target_by : Limit → (floor least all_in ceiling : ℕ) → (fulls : List ℕ) → (target : ℕ) → Bool
+target_by limits.No floor least all_in ceiling fulls target = (nat_le floor target && nat_le target all_in) || (target == all_in)
+target_by limits.Pot floor least all_in ceiling fulls target = (nat_le least target && nat_le target (min all_in ceiling)) || ((target == all_in) && nat_le target ceiling)
+target_by limits.Fixed floor least all_in ceiling fulls target = (list_any (λ full. target == full) fulls && nat_le target all_in) || ((target == all_in) && nat_lt target (greatest fulls))
+
+-- the greatest legal target
+abbrev pub greatest_by : Limit → (all_in ceiling : ℕ) → (fulls : List ℕ) → ℕ
+greatest_by limits.No all_in ceiling fulls = all_in
+greatest_by limits.Pot all_in ceiling fulls = min all_in ceiling
+greatest_by limits.Fixed all_in ceiling fulls = min all_in (greatest fulls)
+
+abbrev pub legal_seen : Limit → Table → (floor seat target : ℕ) → Bool
+legal_seen limit b floor seat target = target_by limit floor (price_seen b + b.full_raise) (all_in_seen b seat) (ceiling_seen b seat) (fulls_seen b) target
+
+abbrev pub greatest_seen : Limit → Table → ℕ → ℕ
+greatest_seen limit b seat = greatest_by limit (all_in_seen b seat) (ceiling_seen b seat) (fulls_seen b)
+
+-- why a raise to a target is refused
+abbrev pub raise_to_why : Limit → Table → (floor mover target : ℕ) → Option Illegal
+raise_to_why limit b floor mover target =
+    if not (may_raise_seen limit b mover) then Some reasons.RaiseClosed
+    else if not (legal_seen limit b floor mover target) && nat_lt target (greatest_seen limit b mover) then Some reasons.RaiseTooSmall
+    else if nat_lt (greatest_seen limit b mover) target then Some reasons.RaiseTooBig
+    else None
+
+abbrev pub raise_why : Limit → Table → (floor : ℕ) → Option ℕ → Spelled → ℕ → Option Illegal
+raise_why limit b floor named amount mover =
+    if is_another named mover then Some reasons.WrongSeat else raise_to_why limit b floor mover (target_seen b mover amount)
+
+-- why an event may not come that may come at a move or not, and at a bring-in or not: the hand is over, or something else is due
+abbrev pub now_why : (at_move at_bring_in : Bool) → Due → Option Illegal
+now_why at_move at_bring_in dues.Move = if at_move then None else Some reasons.WrongKind
+now_why at_move at_bring_in dues.BringIn = if at_bring_in then None else Some reasons.WrongKind
+now_why at_move at_bring_in dues.Over = Some reasons.HandOver
+now_why at_move at_bring_in (dues.Deal street) = Some reasons.WrongKind
+now_why at_move at_bring_in (dues.Draw street) = Some reasons.WrongKind
+now_why at_move at_bring_in dues.Show = Some reasons.WrongKind
+
+-- the seat that is named is not able
+abbrev pub is_unable : Table → Option ℕ → Bool
+is_unable b None = false
+is_unable b (Some seat) = not (able_seen b seat)
+
+-- why a move is refused where it is not known whose turn it is
+abbrev pub unknown_why : Table → Option ℕ → Illegal
+unknown_why b named = if is_unable b named then reasons.WrongSeat else reasons.UpCardUnknown
+
+-- where a bring-in goes
+abbrev pub bring_in_seen : Table → ℕ → ℕ
+bring_in_seen b seat = min b.setup.bring_in (all_in_seen b seat)
+
+-- why a bring-in is refused
+abbrev pub bring_in_why : Option ℕ → ℕ → Option Illegal
+bring_in_why named mover = if is_another named mover then Some reasons.WrongSeat else None
+
+-- one or two full raises as a list
+abbrev pub fulls_list : ℕ × Option ℕ → List ℕ
+fulls_list pair = pair.0 ∷ option_map_or (λ other. other ∷ []) pair.1 []

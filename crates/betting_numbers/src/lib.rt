@@ -1,0 +1,21 @@
+//! The running numbers of the betting, and what the rules come to by them.
+#![tactic(auto)]
+
+mod caps;
+mod looking;
+mod moving;
+mod opening;
+mod planning;
+mod raising;
+mod starting;
+mod table;
+mod targeting;
+mod tracing;
+mod turns;
+mod up_opening;
+mod viewing;
+
+pub use planning::{Plan, not_now};
+pub use starting::{first_full_bet, start};
+pub use table::Table;
+pub use targeting::Targets;

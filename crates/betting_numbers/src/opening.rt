@@ -1,0 +1,76 @@
+// Who opens a street of a game with blinds, and the price at which a street starts.
+ghost use Rattle.std.specs.Prelude.{◌≡◌, ◌≤◌, ◌==◌, ◌+◌, find, map, reverse, unwrap_or};
+ghost use Rattle.chip_ledger.specs.declared.rows.TheConstants.{MOST_AMOUNT};
+ghost use Rattle.chip_ledger.specs.SeatRow.{amount_of};
+ghost use Rattle.play_event.specs.Openers as openers;
+ghost use Rattle.play_event.specs.Price.{starting_price};
+ghost use Rattle.chip_ledger.specs.Greatest.{greatest};
+ghost use Rattle.play_event.specs.Seats.{all_seats};
+
+use crate::starting::first_price;
+use crate::table::Table;
+use chip_ledger::Seat;
+
+impl Table {
+    // The greatest blind that is named.
+    #[tactic(auto, using(street_laws::proofs::SeatLists::greatest_more))]
+    fn greatest_blind(&self) -> u64
+        ensures { result ≡ openers.greatest_blind self.now.setup }
+    {
+        let mut most: u64 = 0;
+        for index in 0..self.setup.stacks.seats {
+            let seat = Seat { number: index + 1 };
+            most = most.max(self.setup.blinds.get(seat));
+        }
+        most
+    }
+
+    // The number of the last seat with this blind, or 0.
+    #[tactic(auto, using(street_laws::proofs::SeatLists::last_more))]
+    fn last_with(&self, blind: u64) -> u8
+        ensures value { result ≡ unwrap_or (find (λ seat. amount_of self.now.setup.blinds seat == blind) (reverse (all_seats self.now.setup))) 0 }
+        ensures within { result ≤ self.now.setup.stacks.seats }
+    {
+        let mut last: u8 = 0;
+        for index in 0..self.setup.stacks.seats {
+            let seat = Seat { number: index + 1 };
+            if self.setup.blinds.get(seat) == blind {
+                last = index + 1;
+            }
+        }
+        last
+    }
+
+    /// Who opens the street of a game with blinds.
+    pub fn blinds_opener(&self) -> Seat
+        ensures value { result.number ≡ openers.blinds_opener self.now.setup self.now.street }
+        ensures in_hand { result.number ≤ self.now.setup.stacks.seats }
+    {
+        if self.street != 1 {
+            return Seat { number: 1 };
+        }
+        if self.setup.stacks.seats == 2 {
+            return Seat { number: 2 };
+        }
+        let last = self.last_with(self.greatest_blind());
+        if last == self.setup.stacks.seats {
+            Seat { number: 1 }
+        } else {
+            Seat { number: last + 1 }
+        }
+    }
+
+    /// The price at which the street starts.
+    #[tactic(auto, using(crate::proofs::NextStreet::starts_at_zero))]
+    pub fn start_price(&self) -> u64
+        requires { 1 ≤ self.now.street }
+        ensures value { result ≡ starting_price self.now.setup self.now.street }
+        ensures bounded { result ≤ MOST_AMOUNT }
+    {
+        if self.street == 1 {
+            first_price(&self.setup)
+        } else {
+            0
+        }
+    }
+}

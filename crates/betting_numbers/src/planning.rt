@@ -1,0 +1,198 @@
+// A legal move is planned before it is made: whose it is, and where it goes.
+ghost use Rattle.std.specs.Prelude.{◌≡◌, ◌≤◌, true, false, None, Some, IfOk, IfErr, IfSome, OnOk};
+ghost use Rattle.play_event.specs.Past.{Past};
+ghost use Rattle.play_event.specs.Played.{act_said};
+ghost use Rattle.play_event.specs.Reasons.{why};
+ghost use Rattle.play_event.specs.Said as said;
+ghost use Rattle.play_event.specs.Streets.{limit_of, unit};
+ghost use Rattle.betting_numbers.specs.SeatsSaid.{seat_said, turn_of};
+ghost use Rattle.betting_numbers.specs.Seen.{all_in_seen};
+ghost use Rattle.betting_numbers.specs.Standing.{StandsFor};
+ghost use Rattle.betting_numbers.specs.Planned.{IsPlan, IsTurn};
+ghost use Rattle.betting_numbers.specs.Turn.{fits_due};
+ghost use Rattle.betting_numbers.specs.Why.{is_unable, now_why, unknown_why};
+
+use crate::table::Table;
+use chip_ledger::Seat;
+use play_event::{Act, Due, Illegal, Limit, Spelled};
+
+/// Whose move it is, and where it goes.
+#[derive(Clone, Copy, Debug, PartialEq, Eq)]
+pub struct Plan {
+    pub seat: Seat,
+    pub act: Act,
+    pub target: u64,
+}
+
+/// Why an event may not come that may come at a move or not, and at a bring-in or not.
+pub fn not_now(due: Due, at_move: bool, at_bring_in: bool) -> Option<Illegal>
+    ensures { result ≡ now_why at_move at_bring_in due }
+{
+    match due {
+        Due::Move if at_move => None,
+        Due::BringIn if at_bring_in => None,
+        Due::Over => Some(Illegal::HandOver),
+        Due::Deal(_) | Due::Draw(_) | Due::BringIn | Due::Move | Due::Show => {
+            Some(Illegal::WrongKind)
+        }
+    }
+}
+
+impl Table {
+    // The seat that is named is not able.
+    fn unable(&self, named: Option<Seat>) -> bool
+        ensures { result ≡ is_unable self.now (seat_said named) }
+    {
+        match named {
+            None => false,
+            Some(seat) => self.setup.stacks.seats < seat.number || !self.able(seat),
+        }
+    }
+
+    // Why a move is refused where it is not known whose turn it is.
+    fn unknown(&self, named: Option<Seat>) -> Illegal
+        ensures { result ≡ unknown_why self.now (seat_said named) }
+    {
+        if self.unable(named) {
+            Illegal::WrongSeat
+        } else {
+            Illegal::UpCardUnknown
+        }
+    }
+
+    /// Plans a fold.
+    pub fn plan_fold(&self, turn: Option<Seat>, actor: Option<Seat>) -> Result<Plan, Illegal>
+        requires in_hand { IfSome turn (λ seat. seat.number ≤ self.now.setup.stacks.seats) }
+        requires now { now_why true false self.now.due ≡ None }
+        ensures refused { (past : Past) → StandsFor self.now past → IsTurn self.now past (turn_of (seat_said turn))
+            → IfErr result (λ reason. why self.now.setup self.now.rules past (said.Fold (seat_said actor)) ≡ Some reason) }
+        ensures legal { (past : Past) → StandsFor self.now past → IsTurn self.now past (turn_of (seat_said turn))
+            → IfOk result (λ plan. IsPlan self.now past (said.Fold (seat_said actor)) plan.seat.number (act_said plan.act) plan.target) }
+        ensures fits { IfOk result (λ plan. fits_due (act_said plan.act) self.now.due ≡ true) }
+        ensures in_hand { IfOk result (λ plan. plan.seat.number ≤ self.now.setup.stacks.seats) }
+        ensures reach { IfOk result (λ plan. plan.target ≤ all_in_seen self.now plan.seat.number) }
+    {
+        match turn {
+            None => Err(self.unknown(actor)),
+            Some(seat) => {
+                match self.against_fold(actor, seat) {
+                    Some(reason) => Err(reason),
+                    None => {
+                        let target = self.bets.get(seat);
+                        Ok(Plan {
+                            seat,
+                            act: Act::Fold,
+                            target,
+                        })
+                    }
+                }
+            }
+        }
+    }
+
+    /// Plans a call.
+    pub fn plan_call(
+        &self,
+        turn: Option<Seat>,
+        actor: Option<Seat>,
+        stated: Option<u64>,
+    ) -> Result<Plan, Illegal>
+        requires in_hand { IfSome turn (λ seat. seat.number ≤ self.now.setup.stacks.seats) }
+        requires now { now_why true false self.now.due ≡ None }
+        ensures refused { (past : Past) → StandsFor self.now past → IsTurn self.now past (turn_of (seat_said turn))
+            → IfErr result (λ reason. why self.now.setup self.now.rules past (said.Call (seat_said actor) stated) ≡ Some reason) }
+        ensures legal { (past : Past) → StandsFor self.now past → IsTurn self.now past (turn_of (seat_said turn))
+            → IfOk result (λ plan. IsPlan self.now past (said.Call (seat_said actor) stated) plan.seat.number (act_said plan.act) plan.target) }
+        ensures fits { IfOk result (λ plan. fits_due (act_said plan.act) self.now.due ≡ true) }
+        ensures in_hand { IfOk result (λ plan. plan.seat.number ≤ self.now.setup.stacks.seats) }
+        ensures reach { IfOk result (λ plan. plan.target ≤ all_in_seen self.now plan.seat.number) }
+    {
+        match turn {
+            None => Err(self.unknown(actor)),
+            Some(seat) => {
+                match self.against_call(actor, stated, seat) {
+                    Some(reason) => Err(reason),
+                    None => {
+                        let target = self.call_target(seat);
+                        Ok(Plan {
+                            seat,
+                            act: Act::Call,
+                            target,
+                        })
+                    }
+                }
+            }
+        }
+    }
+
+    /// Plans a raise, where bets have this size.
+    pub fn plan_raise(
+        &self,
+        turn: Option<Seat>,
+        limit: Limit,
+        size: u64,
+        actor: Option<Seat>,
+        amount: Spelled,
+    ) -> Result<Plan, Illegal>
+        requires in_hand { IfSome turn (λ seat. seat.number ≤ self.now.setup.stacks.seats) }
+        requires now { now_why true true self.now.due ≡ None }
+        requires limit { limit_of self.now.setup.code ≡ limit }
+        requires from_one { 1 ≤ self.now.street }
+        requires size { size ≡ unit self.now.setup self.now.street }
+        ensures refused { (past : Past) → StandsFor self.now past → IsTurn self.now past (turn_of (seat_said turn))
+            → IfErr result (λ reason. why self.now.setup self.now.rules past (said.Raise (seat_said actor) amount) ≡ Some reason) }
+        ensures legal { (past : Past) → StandsFor self.now past → IsTurn self.now past (turn_of (seat_said turn))
+            → IfOk result (λ plan. IsPlan self.now past (said.Raise (seat_said actor) amount) plan.seat.number (act_said plan.act) plan.target) }
+        ensures fits { IfOk result (λ plan. fits_due (act_said plan.act) self.now.due ≡ true) }
+        ensures in_hand { IfOk result (λ plan. plan.seat.number ≤ self.now.setup.stacks.seats) }
+        ensures reach { IfOk result (λ plan. plan.target ≤ all_in_seen self.now plan.seat.number) }
+    {
+        match turn {
+            None => Err(self.unknown(actor)),
+            Some(seat) => {
+                let floor = self.floor(self.start_price());
+                match self.against_raise(limit, floor, size, actor, amount, seat) {
+                    Some(reason) => Err(reason),
+                    None => {
+                        let target = self.target(seat, size, amount) as u64;
+                        Ok(Plan {
+                            seat,
+                            act: Act::Raise,
+                            target,
+                        })
+                    }
+                }
+            }
+        }
+    }
+
+    /// Plans a bring-in.
+    pub fn plan_bring_in(&self, turn: Option<Seat>, actor: Option<Seat>) -> Result<Plan, Illegal>
+        requires in_hand { IfSome turn (λ seat. seat.number ≤ self.now.setup.stacks.seats) }
+        requires now { now_why false true self.now.due ≡ None }
+        ensures refused { (past : Past) → StandsFor self.now past → IsTurn self.now past (turn_of (seat_said turn))
+            → IfErr result (λ reason. why self.now.setup self.now.rules past (said.BringIn (seat_said actor)) ≡ Some reason) }
+        ensures legal { (past : Past) → StandsFor self.now past → IsTurn self.now past (turn_of (seat_said turn))
+            → IfOk result (λ plan. IsPlan self.now past (said.BringIn (seat_said actor)) plan.seat.number (act_said plan.act) plan.target) }
+        ensures fits { IfOk result (λ plan. fits_due (act_said plan.act) self.now.due ≡ true) }
+        ensures in_hand { IfOk result (λ plan. plan.seat.number ≤ self.now.setup.stacks.seats) }
+        ensures reach { IfOk result (λ plan. plan.target ≤ all_in_seen self.now plan.seat.number) }
+    {
+        match turn {
+            None => Err(self.unknown(actor)),
+            Some(seat) => {
+                match self.against_bring_in(actor, seat) {
+                    Some(reason) => Err(reason),
+                    None => {
+                        let target = self.bring_in_target(seat);
+                        Ok(Plan {
+                            seat,
+                            act: Act::BringIn,
+                            target,
+                        })
+                    }
+                }
+            }
+        }
+    }
+}

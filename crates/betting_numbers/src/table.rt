@@ -1,0 +1,53 @@
+// The running numbers of the betting: what each seat put, who is live, and what the street's moves came to.
+ghost use Rattle.std.specs.Prelude.{◌≡◌, ◌≤◌, ℕ, Some};
+ghost use Rattle.chip_ledger.specs.declared.numbers.Seat.{Seat};
+ghost use Rattle.betting_numbers.specs.Caps.{cap_at};
+ghost use Rattle.chip_ledger.specs.declared.rows.TheConstants.{MOST_AMOUNT};
+ghost use Rattle.chip_ledger.specs.SeatRow.{amount_of};
+
+use chip_ledger::{LiveRow, Seat, SeatRow};
+use play_event::{Due, Rules, Setup};
+
+/// The betting as it stands.
+#[derive(Clone, Copy, Debug, PartialEq, Eq)]
+pub struct Table {
+    pub setup: Setup,
+    pub rules: Rules,
+    /// The street, from 1.
+    pub street: u8,
+    pub due: Due,
+    /// The chips of the hand that each seat has put.
+    pub puts: SeatRow,
+    /// The chips of the street that each seat has put.
+    pub bets: SeatRow,
+    pub live: LiveRow,
+    /// Which seats have moved on this street.
+    pub moved: LiveRow,
+    /// Which seats have moved since the price last rose.
+    pub since_rise: LiveRow,
+    /// The seat that moved last on this street.
+    pub last: Option<Seat>,
+    /// How many raises there were on this street, as far as a u32 counts.
+    pub raises: u32,
+    /// The least full raise.
+    pub full_raise: u64,
+    /// The last full bet of fixed limit.
+    pub full_bet: u64,
+    /// The greatest of twice the target less the price before, over the street's raises.
+    pub doubled: u64,
+    /// Whether a bring-in or a raise came on this street.
+    pub opened: bool,
+    pub ghost ante_seats: { setup.antes.seats ≡ setup.stacks.seats },
+    pub ghost blind_seats: { setup.blinds.seats ≡ setup.stacks.seats },
+    pub ghost put_seats: { puts.seats ≡ setup.stacks.seats },
+    pub ghost bet_seats: { bets.seats ≡ setup.stacks.seats },
+    pub ghost live_seats: { live.seats ≡ setup.stacks.seats },
+    pub ghost moved_seats: { moved.seats ≡ setup.stacks.seats },
+    pub ghost since_seats: { since_rise.seats ≡ setup.stacks.seats },
+    pub ghost within: { (n : ℕ) → 1 ≤ n → amount_of puts n ≤ amount_of setup.stacks n },
+    pub ghost inside: { (n : ℕ) → 1 ≤ n → amount_of bets n ≤ amount_of puts n },
+    pub ghost least: { full_raise ≤ MOST_AMOUNT },
+    pub ghost least_bet: { setup.min_bet ≤ MOST_AMOUNT },
+    pub ghost caps_fit: { (k : ℕ) → cap_at rules.caps k ≤ 4294967295 },
+    pub ghost last_in: { (seat : Seat) → last ≡ Some seat → seat.number ≤ setup.stacks.seats },
+}

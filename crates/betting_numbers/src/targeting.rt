@@ -1,0 +1,106 @@
+// Where the seat in turn may raise to.
+ghost use Rattle.std.specs.Prelude.{◌≡◌, ◌≤◌, ℕ, IfSome, is_some};
+ghost use Rattle.play_event.specs.Openers.{TheSeat};
+ghost use Rattle.play_event.specs.Past.{Past, moves_of};
+ghost use Rattle.play_event.specs.Price.{starting_price};
+ghost use Rattle.chip_ledger.specs.Greatest.{greatest};
+ghost use Rattle.play_event.specs.Streets.{limit_of, unit};
+ghost use Rattle.betting_numbers.specs.SeatsSaid.{seat_said, turn_of};
+ghost use Rattle.betting_numbers.specs.Seen.{all_in_seen};
+ghost use Rattle.betting_numbers.specs.Standing.{StandsFor};
+ghost use Rattle.betting_numbers.specs.Planned.{IsTurn};
+ghost use Rattle.betting_numbers.specs.Targeted.{least_seen};
+ghost use Rattle.play_event.specs.TurnTargets.{AreTargets, may_raise_now};
+ghost use Rattle.play_event.specs.Targets.{smallest};
+ghost use Rattle.betting_numbers.specs.Why.{floor_by, fulls_list, greatest_seen};
+
+use crate::table::Table;
+use chip_ledger::Seat;
+use play_event::Limit;
+
+/// The ends of the legal targets of the seat in turn, and its all-in.
+#[derive(Clone, Copy, Debug, PartialEq, Eq)]
+pub struct Targets {
+    pub least: u64,
+    pub greatest: u64,
+    pub all_in: u64,
+}
+
+// The smaller of the full targets.
+fn smaller(fulls: (u128, Option<u128>)) -> u128
+    ensures { result ≡ smallest (fulls_list fulls) }
+{
+    match fulls.1 {
+        None => fulls.0,
+        Some(other) => fulls.0.min(other),
+    }
+}
+
+// The larger of the full targets.
+fn larger(fulls: (u128, Option<u128>)) -> u128
+    ensures { result ≡ greatest (fulls_list fulls) }
+{
+    match fulls.1 {
+        None => fulls.0,
+        Some(other) => fulls.0.max(other),
+    }
+}
+
+impl Table {
+    // The least legal target.
+    fn least_to(&self, limit: Limit, size: u64, seat: Seat) -> u64
+        requires in_hand { seat.number ≤ self.now.setup.stacks.seats }
+        requires from_one { 1 ≤ self.now.street }
+        requires size { size ≡ unit self.now.setup self.now.street }
+        ensures { result ≡ least_seen limit self.now (floor_by self.now.rules.reopen (starting_price self.now.setup self.now.street) self.now) seat.number }
+    {
+        let all_in = self.all_in(seat);
+        match limit {
+            Limit::No => all_in.min(self.floor(self.start_price())),
+            Limit::Pot => all_in.min(self.price() + self.full_raise),
+            Limit::Fixed => u128::from(all_in).min(smaller(self.fulls(size))) as u64,
+        }
+    }
+
+    // The greatest legal target.
+    fn greatest_to(&self, limit: Limit, size: u64, seat: Seat) -> u64
+        requires in_hand { seat.number ≤ self.now.setup.stacks.seats }
+        requires size { size ≡ unit self.now.setup self.now.street }
+        ensures { result ≡ greatest_seen limit self.now seat.number }
+    {
+        let all_in = self.all_in(seat);
+        match limit {
+            Limit::No => all_in,
+            Limit::Pot => all_in.min(self.ceiling(seat)),
+            Limit::Fixed => u128::from(all_in).min(larger(self.fulls(size))) as u64,
+        }
+    }
+
+    /// Where the seat in turn may raise to, if it is known and may.
+    pub fn targets_of(&self, turn: Option<Seat>, limit: Limit, size: u64) -> Option<Targets>
+        requires in_hand { IfSome turn (λ seat. seat.number ≤ self.now.setup.stacks.seats) }
+        requires limit { limit_of self.now.setup.code ≡ limit }
+        requires from_one { 1 ≤ self.now.street }
+        requires size { size ≡ unit self.now.setup self.now.street }
+        ensures some { (past : Past) → StandsFor self.now past
+            → is_some result ≡ may_raise_now self.now.setup self.now.rules (moves_of past) self.now.street (turn_of (seat_said turn)) }
+        ensures ends { (past : Past) → StandsFor self.now past
+            → IfSome result (λ targets. (seat : ℕ) → turn_of (seat_said turn) ≡ TheSeat seat
+            → AreTargets self.now.setup self.now.rules (moves_of past) self.now.street seat targets.least targets.greatest targets.all_in) }
+    {
+        match turn {
+            None => None,
+            Some(seat) => {
+                if self.may_raise(limit, size, seat) {
+                    Some(Targets {
+                        least: self.least_to(limit, size, seat),
+                        greatest: self.greatest_to(limit, size, seat),
+                        all_in: self.all_in(seat),
+                    })
+                } else {
+                    None
+                }
+            }
+        }
+    }
+}

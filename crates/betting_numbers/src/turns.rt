@@ -1,0 +1,71 @@
+// Whose turn it is, by the running numbers.
+ghost use Rattle.std.specs.Prelude.{◌≡◌, ◌≤◌, ◌+◌, find, IfSome};
+ghost use Rattle.std.specs.List.{range_with_len};
+ghost use Rattle.play_event.specs.Openers as openers;
+ghost use Rattle.play_event.specs.Openers.{TheSeat, in_turn};
+ghost use Rattle.betting_numbers.specs.SeatsSaid.{seat_said};
+ghost use Rattle.betting_numbers.specs.Seen.{after_last, last_seen, mover_seen, to_move_seen};
+
+use crate::table::Table;
+use chip_ledger::Seat;
+
+impl Table {
+    // The seat after this one, going round.
+    fn seat_after(&self, seat: Seat) -> Seat
+        requires { seat.number ≤ self.now.setup.stacks.seats }
+        ensures value { result.number ≡ openers.seat_after self.now.setup seat.number }
+        ensures in_hand { result.number ≤ self.now.setup.stacks.seats }
+    {
+        if seat.number == self.setup.stacks.seats {
+            Seat { number: 1 }
+        } else {
+            Seat {
+                number: seat.number + 1,
+            }
+        }
+    }
+
+    // The first of so many seats, from this number on, with a move to make.
+    #[tactic(auto, using(list_laws::proofs::Finding::find_step))]
+    fn first_to_move(&self, first: u8, count: u8) -> Option<Seat>
+        requires from_one { 1 ≤ first }
+        requires within { first + count ≤ self.now.setup.stacks.seats + 1 }
+        ensures found { seat_said result ≡ find (to_move_seen self.now) (range_with_len first count) }
+        ensures in_hand { IfSome result (λ seat. seat.number ≤ self.now.setup.stacks.seats) }
+    {
+        if count == 0 {
+            return None;
+        }
+        let seat = Seat { number: first };
+        if self.to_move(seat) {
+            Some(seat)
+        } else {
+            self.first_to_move(first + 1, count - 1)
+        }
+    }
+
+    // Where the turn is passed to, where this seat opens.
+    fn passed_to(&self, opener: Seat) -> Seat
+        requires { opener.number ≤ self.now.setup.stacks.seats }
+        ensures value { TheSeat result.number ≡ after_last (last_seen self.now) (openers.seat_after self.now.setup) (TheSeat opener.number) }
+        ensures in_hand { result.number ≤ self.now.setup.stacks.seats }
+    {
+        match self.last {
+            Some(seat) => self.seat_after(seat),
+            None => opener,
+        }
+    }
+
+    /// Whose turn it is, where this seat opens.
+    pub fn mover(&self, opener: Seat) -> Option<Seat>
+        requires { opener.number ≤ self.now.setup.stacks.seats }
+        ensures turn { in_turn (seat_said result) ≡ mover_seen self.now (TheSeat opener.number) }
+        ensures in_hand { IfSome result (λ seat. seat.number ≤ self.now.setup.stacks.seats) }
+    {
+        let start = self.passed_to(opener);
+        match self.first_to_move(start.number, self.setup.stacks.seats + 1 - start.number) {
+            Some(seat) => Some(seat),
+            None => self.first_to_move(1, start.number - 1),
+        }
+    }
+}

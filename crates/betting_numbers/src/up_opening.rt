@@ -1,0 +1,137 @@
+// Who opens a street by up-cards.
+ghost use Rattle.std.specs.Prelude.{◌≡◌, ◌≤◌, ◌+◌, true, find, IfSome, None, Some};
+ghost use Rattle.std.specs.List.{list_any, range_with_len};
+ghost use Rattle.play_event.specs.declared.reason.Due.TheVariants as dues;
+ghost use Rattle.play_event.specs.Past.{Past};
+ghost use Rattle.play_event.specs.Seats.{all_seats};
+ghost use Rattle.play_event.specs.Streets.{opener_of, is_opened_by_up_cards};
+ghost use Rattle.betting_numbers.specs.Standing.{StandsFor};
+ghost use Rattle.betting_numbers.specs.Planned.{IsTurn};
+ghost use Rattle.play_event.specs.TurnTargets.{is_bet_due};
+ghost use Rattle.betting_numbers.specs.SeatsSaid.{seat_said, turn_of};
+ghost use Rattle.betting_numbers.specs.UpSeen.{HoldsUps, before_seen, opens_seen, some_unknown_seen, unknown_seen, up_opener_seen};
+
+use crate::table::Table;
+use chip_ledger::Seat;
+use play_event::{Opener, UpRow};
+use up_card_order::{has_unknown, is_opener_before, known};
+
+impl Table {
+    // The seat is able, and an up-card of it is unknown.
+    fn up_unknown(&self, up: &UpRow, seat: Seat) -> bool
+        requires in_hand { seat.number ≤ self.now.setup.stacks.seats }
+        requires row { up.now.seats ≡ self.now.setup.stacks.seats }
+        ensures { result ≡ unknown_seen self.now up.now seat.number }
+    {
+        self.able(seat) && has_unknown(up.get(seat).as_slice())
+    }
+
+    /// An up-card of an able seat is unknown.
+    #[tactic(auto, using(street_laws::proofs::SeatLists::any_more))]
+    pub fn some_unknown(&self, up: &UpRow) -> bool
+        requires row { up.now.seats ≡ self.now.setup.stacks.seats }
+        ensures { result ≡ some_unknown_seen self.now up.now }
+    {
+        let mut found = false;
+        for index in 0..self.setup.stacks.seats {
+            let seat = Seat { number: index + 1 };
+            found = found || self.up_unknown(up, seat);
+        }
+        found
+    }
+
+    // The other seat is able, and opens before this one.
+    fn before(&self, opener: Opener, up: &UpRow, seat: Seat, other: Seat) -> bool
+        requires in_hand { seat.number ≤ self.now.setup.stacks.seats }
+        requires other_in { other.number ≤ self.now.setup.stacks.seats }
+        requires row { up.now.seats ≡ self.now.setup.stacks.seats }
+        ensures { result ≡ before_seen opener self.now up.now seat.number other.number }
+    {
+        self.able(other)
+            && is_opener_before(
+                opener,
+                self.street == 1,
+                &known(&up.get(other)),
+                &known(&up.get(seat)),
+            )
+    }
+
+    // An able seat opens before this one.
+    #[tactic(auto, using(street_laws::proofs::SeatLists::any_more))]
+    fn some_before(&self, opener: Opener, up: &UpRow, seat: Seat) -> bool
+        requires in_hand { seat.number ≤ self.now.setup.stacks.seats }
+        requires row { up.now.seats ≡ self.now.setup.stacks.seats }
+        ensures { result ≡ list_any (before_seen opener self.now up.now seat.number) (all_seats self.now.setup) }
+    {
+        let mut found = false;
+        for index in 0..self.setup.stacks.seats {
+            let other = Seat { number: index + 1 };
+            found = found || self.before(opener, up, seat, other);
+        }
+        found
+    }
+
+    // The seat is able, and no able seat opens before it.
+    fn opens(&self, opener: Opener, up: &UpRow, seat: Seat) -> bool
+        requires in_hand { seat.number ≤ self.now.setup.stacks.seats }
+        requires row { up.now.seats ≡ self.now.setup.stacks.seats }
+        ensures { result ≡ opens_seen opener self.now up.now seat.number }
+    {
+        self.able(seat) && !self.some_before(opener, up, seat)
+    }
+
+    // The first of so many seats, from this number on, before which no other opens.
+    #[tactic(auto, using(list_laws::proofs::Finding::find_step))]
+    fn first_to_open(&self, opener: Opener, up: &UpRow, first: u8, count: u8) -> Option<Seat>
+        requires row { up.now.seats ≡ self.now.setup.stacks.seats }
+        requires from_one { 1 ≤ first }
+        requires within { first + count ≤ self.now.setup.stacks.seats + 1 }
+        ensures found { seat_said result ≡ find (opens_seen opener self.now up.now) (range_with_len first count) }
+        ensures in_hand { IfSome result (λ seat. seat.number ≤ self.now.setup.stacks.seats) }
+    {
+        if count == 0 {
+            return None;
+        }
+        let seat = Seat { number: first };
+        if self.opens(opener, up, seat) {
+            Some(seat)
+        } else {
+            self.first_to_open(opener, up, first + 1, count - 1)
+        }
+    }
+
+    /// The first able seat before which no other opens.
+    pub fn up_opener(&self, opener: Opener, up: &UpRow) -> Option<Seat>
+        requires row { up.now.seats ≡ self.now.setup.stacks.seats }
+        ensures found { seat_said result ≡ up_opener_seen opener self.now up.now }
+        ensures in_hand { IfSome result (λ seat. seat.number ≤ self.now.setup.stacks.seats) }
+    {
+        self.first_to_open(opener, up, 1, self.setup.stacks.seats)
+    }
+
+    /// Whose turn it is where up-cards open, if it is known.
+    pub fn turn_by_up(&self, opener: Opener, up: &UpRow) -> Option<Seat>
+        requires row { up.now.seats ≡ self.now.setup.stacks.seats }
+        requires game { opener_of self.now.setup.code ≡ opener }
+        requires cards { is_opened_by_up_cards opener ≡ true }
+        requires bets { is_bet_due self.now.due ≡ true }
+        requires begins { self.now.due ≡ dues.BringIn → self.now.last ≡ None }
+        ensures turn { (past : Past) → StandsFor self.now past → HoldsUps self.now.setup up.now past
+            → IsTurn self.now past (turn_of (seat_said result)) }
+        ensures in_hand { IfSome result (λ seat. seat.number ≤ self.now.setup.stacks.seats) }
+    {
+        match self.last {
+            Some(_) => self.mover(Seat { number: 1 }),
+            None => {
+                if self.some_unknown(up) {
+                    None
+                } else {
+                    match self.up_opener(opener, up) {
+                        Some(seat) => self.mover(seat),
+                        None => None,
+                    }
+                }
+            }
+        }
+    }
+}

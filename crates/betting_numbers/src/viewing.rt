@@ -1,0 +1,55 @@
+// What is seen of the betting from outside: the chips left, and whether the hand is settled.
+ghost use Rattle.std.specs.Prelude.{◌≡◌, ◌≤◌, ℕ};
+ghost use Rattle.chip_ledger.specs.SeatRow.{amount_of};
+ghost use Rattle.betting_numbers.specs.Seen.{able_owes_seen, left_seen, settled_seen};
+ghost use Rattle.play_event.specs.Due.{is_after_betting};
+
+use crate::table::Table;
+use chip_ledger::{Seat, SeatRow};
+use play_event::Due;
+
+// No betting is left on the last street.
+fn after_betting(due: Due) -> bool
+    ensures { result ≡ is_after_betting due }
+{
+    match due {
+        Due::Show | Due::Over => true,
+        Due::Deal(_) | Due::Draw(_) | Due::BringIn | Due::Move => false,
+    }
+}
+
+impl Table {
+    /// The chips that each seat has left.
+    pub fn stacks_left(&self) -> SeatRow
+        ensures seats { result.seats ≡ self.now.setup.stacks.seats }
+        ensures amounts { (n : ℕ) → 1 ≤ n → n ≤ self.now.setup.stacks.seats → amount_of result n ≡ left_seen self.now n }
+    {
+        let mut row = SeatRow::new(self.setup.stacks.seats);
+        for index in 0..self.setup.stacks.seats {
+            let seat = Seat { number: index + 1 };
+            row.set(seat, self.left(seat));
+        }
+        row
+    }
+
+    // An able seat owes chips.
+    #[tactic(auto, using(street_laws::proofs::SeatLists::any_more))]
+    fn able_owes(&self) -> bool
+        ensures { result ≡ able_owes_seen self.now }
+    {
+        let mut found = false;
+        for index in 0..self.setup.stacks.seats {
+            let seat = Seat { number: index + 1 };
+            found = found || (self.able(seat) && 0 < self.owed(seat));
+        }
+        found
+    }
+
+    /// The hand is settled.
+    pub fn settled(&self) -> bool
+        ensures { result ≡ settled_seen self.now }
+    {
+        2 <= self.live_count()
+            && (after_betting(self.due) || (self.able_count() <= 1 && !self.able_owes()))
+    }
+}
