@@ -1,5 +1,5 @@
 -- Which slots are unknown, and the cards that are known among slots.
-use Rattle.std.specs.Prelude.{Bool, true, false, List, [], ◌∷◌}
+use Rattle.std.specs.Prelude.{Bool, true, false, List, [], ◌∷◌, map}
 use Rattle.card_set.specs.declared.card.Card.{Card}
 use Rattle.card_set.specs.declared.card.Slot.{Slot}
 use Rattle.card_set.specs.declared.card.Slot.TheVariants as slots
@@ -8,6 +8,10 @@ use Rattle.card_set.specs.declared.card.Slot.TheVariants as slots
 abbrev pub is_unknown : Slot → Bool
 is_unknown slots.Unknown = true
 is_unknown (slots.Known card) = false
+
+-- the slots that bear some cards, in order
+abbrev pub known_slots : List Card → List Slot
+known_slots cards = map (λ card. slots.Known card) cards
 
 -- the known cards of some slots, in order
 abbrev pub known_cards : List Slot → List Card

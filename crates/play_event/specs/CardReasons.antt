@@ -12,7 +12,7 @@ use Rattle.play_event.specs.Said.{Said}
 use Rattle.play_event.specs.Past.{Past}
 use Rattle.play_event.specs.Dealing.{cards_owed, board_cards_owed, next_to_draw}
 use Rattle.play_event.specs.Showing.{has_to_show}
-use Rattle.card_set.specs.Known.{is_unknown, known_cards}
+use Rattle.card_set.specs.Known.{is_unknown, known_cards, known_slots}
 use Rattle.play_event.specs.Places.{Place, is_held_by}
 use Rattle.play_event.specs.Naming.{other_names, is_named, blanks_in, held_count, held_down_count, is_covered, is_show_of_all, after_discard, after_show}
 use Rattle.play_event.specs.Table.{up_cards}
@@ -55,7 +55,7 @@ is_wrong_count setup past placed street _ = false
 -- a card that is dealt, or that is named and taken to an unknown place, may not lie there
 abbrev pub is_card_taken : Code → List Place → ℕ → Said → Bool
 is_card_taken code placed street (said.Hole seat cards) = has_taken_card code placed street cards
-is_card_taken code placed street (said.Board cards) = has_taken_card code placed street (map (λ card. slots.Known card) cards)
+is_card_taken code placed street (said.Board cards) = has_taken_card code placed street (known_slots cards)
 is_card_taken code placed street (said.Discard seat cards) = has_misplaced_card code placed (after_discard street seat cards placed)
 is_card_taken code placed street (said.Show seat cards) = has_misplaced_card code placed (after_show code seat cards placed)
 is_card_taken code placed street _ = false

@@ -1,10 +1,20 @@
 -- What the laws of play speak of: the first street with something due, legal events, and reasons that do not hold.
 use Rattle.std.specs.Prelude.{◌≡◌, ◌≢◌, ◌⊎◌, ℕ, ◌≤◌, ◌<◌, Bool, false, List, [], ◌∷◌, Option, Some, None}
+use Rattle.play_event.specs.declared.event.Spelled.{Spelled}
+use Rattle.play_event.specs.declared.event.Spelled.TheVariants as spelled
 use Rattle.play_event.specs.declared.reason.Due.{Due}
 use Rattle.play_event.specs.declared.reason.Illegal.{Illegal}
 use Rattle.play_event.specs.declared.setup.Setup.{Setup}
 use Rattle.play_event.specs.declared.setup.Rules.{Rules}
-use Rattle.play_event.specs.Said.{Said}
+use Rattle.play_event.specs.Said.{Said, Raise}
+use Rattle.play_event.specs.Past.{Past, Move, moves_of}
+use Rattle.play_event.specs.Streets.{limit_of}
+use Rattle.play_event.specs.Amounts.{raise_target}
+use Rattle.play_event.specs.Due.{turn}
+use Rattle.play_event.specs.Openers.{TheSeat}
+use Rattle.play_event.specs.Mover.{mover}
+use Rattle.play_event.specs.Table.{up_cards}
+use Rattle.play_event.specs.ValidSetup.{IsValid, is_fixed}
 use Rattle.play_event.specs.Places.{Place}
 use Rattle.play_event.specs.Taken.{is_clash}
 use Rattle.play_event.specs.Reasons.{why}
@@ -25,6 +35,24 @@ NoneHold (reason ∷ rest) = (reason.0 ≡ false) × NoneHold rest
 abbrev pub AreLegal : Setup → Rules → List Said → Type 0
 AreLegal setup rules [] = Unit {0}
 AreLegal setup rules (event ∷ before) = (why setup rules (past_of setup before) event ≡ None) × AreLegal setup rules before
+
+-- legal events of a valid setup in no limit or pot limit
+pub record AreLegalUnfixed (setup : Setup) (rules : Rules) (events : List Said) : Type 0 where
+  pub valid : IsValid setup
+  pub unfixed : is_fixed (limit_of setup.code) ≡ false
+  pub legal : AreLegal setup rules events
+
+-- the moves of events, the newest first
+abbrev pub moves_by : Setup → List Said → List Move
+moves_by setup events = moves_of (past_of setup events)
+
+-- after a past it is this seat's turn
+abbrev pub IsInTurn : Setup → Past → ℕ → Type 0
+IsInTurn setup past seat = mover setup (up_cards setup.code past) (moves_of past) (turn setup past).0 ≡ TheSeat seat
+
+-- a raise of a named seat to the target that a spelling has
+abbrev pub spelled_out : Setup → Past → ℕ → Spelled → Said
+spelled_out setup past seat amount = Raise (Some seat) (spelled.To (raise_target setup (moves_of past) (turn setup past).0 seat amount))
 
 -- a place is one of some places
 abbrev pub IsAmong : List Place → Place → Type 0

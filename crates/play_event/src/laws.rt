@@ -1,41 +1,41 @@
 // Laws of play that a reader expects, proved over the definitions.
-ghost use Rattle.std.specs.Prelude.{◌≡◌, ℕ, ◌+◌, ◌≤◌, ◌<◌, true, false, List, Option, Some, None, nat_le};
-ghost use Rattle.play_event.specs.declared.reason.Due.{Due};
-ghost use Rattle.play_event.specs.declared.setup.Setup.{Setup};
-ghost use Rattle.play_event.specs.Games.{street_count};
-ghost use Rattle.play_event.specs.Past.{Past, Move, moves_of, newest_street};
-ghost use Rattle.play_event.specs.Seats.{is_able, live_count};
-ghost use Rattle.play_event.specs.Due.{turn, due_on, first_due, has_to_move, is_unfinished};
-ghost use Rattle.play_event.specs.Openers.{UpCards, TheSeat, is_weaker_up_high, is_weaker_low};
-ghost use Rattle.play_event.specs.Mover.{mover};
+ghost use Rattle.std.specs.Prelude.{◌≡◌, ℕ, ◌+◌, ◌≤◌, ◌<◌, ◌↔◌, true, false, List, Some, None, nat_le};
 ghost use Rattle.card_set.specs.declared.card.Card.{Card};
 ghost use Rattle.card_set.specs.UpCards.{IsWeakerUpHigh, IsWeakerLow};
 ghost use Rattle.chip_ledger.specs.SeatRow.{amount_of};
-ghost use Rattle.play_event.specs.declared.setup.Rules.{Rules};
-ghost use Rattle.play_event.specs.declared.setup.Reopen.{Reopen};
 ghost use Rattle.play_event.specs.declared.event.Spelled.{Spelled};
-ghost use Rattle.play_event.specs.declared.event.Spelled.TheVariants as spelled;
-ghost use Rattle.play_event.specs.Said.{Said, Raise};
-ghost use Rattle.play_event.specs.Amounts.{raise_target};
+ghost use Rattle.play_event.specs.declared.reason.Due.{Due};
+ghost use Rattle.play_event.specs.declared.reason.Illegal.{Illegal};
+ghost use Rattle.play_event.specs.declared.setup.Reopen.{Reopen};
+ghost use Rattle.play_event.specs.declared.setup.Rules.{Rules};
+ghost use Rattle.play_event.specs.declared.setup.Setup.{Setup};
 ghost use Rattle.play_event.specs.Chips.{chips_put, chips_left, all_in};
+ghost use Rattle.play_event.specs.Due.{turn, due_on, has_to_move, is_unfinished};
+ghost use Rattle.play_event.specs.Games.{street_count};
+ghost use Rattle.play_event.specs.Laws.{IsFirstStreet, NoneHold, AreLegal, AreLegalUnfixed, IsInTurn, NoneClash, moves_by, spelled_out};
+ghost use Rattle.play_event.specs.Mover.{mover};
+ghost use Rattle.play_event.specs.Openers.{UpCards, TheSeat, is_weaker_up_high, is_weaker_low};
+ghost use Rattle.play_event.specs.Past.{Past, Move, moves_of, newest_street};
+ghost use Rattle.play_event.specs.Price.{price, full_raise};
+ghost use Rattle.play_event.specs.Reasons.{why, all_reasons};
+ghost use Rattle.play_event.specs.Said.{Said, Raise};
+ghost use Rattle.play_event.specs.Scripts.{past_of, with_event, HasNoIllegalEvent, IsFirstIllegal, illegal_event};
+ghost use Rattle.play_event.specs.Seats.{is_able, live_count};
+ghost use Rattle.play_event.specs.Table.{places_of};
 ghost use Rattle.play_event.specs.Targets.{floor, least_target, greatest_target};
 ghost use Rattle.play_event.specs.TurnTargets.{AreTargets};
-ghost use Rattle.play_event.specs.Price.{price, full_raise};
-ghost use Rattle.play_event.specs.Streets.{limit_of};
-ghost use Rattle.play_event.specs.ValidSetup.{IsValid, is_fixed};
-ghost use Rattle.play_event.specs.Table.{places_of, up_cards};
-ghost use Rattle.play_event.specs.Reasons.{why, all_reasons};
-ghost use Rattle.play_event.specs.declared.reason.Illegal.{Illegal};
-ghost use Rattle.play_event.specs.Scripts.{past_of, with_event, HasNoIllegalEvent, IsFirstIllegal, illegal_event};
-ghost use Rattle.play_event.specs.Laws.{IsFirstStreet, NoneHold, AreLegal, NoneClash};
+ghost use Rattle.play_event.specs.ValidSetup.{IsValid};
 
 /// What is due is due on the first street, from that of the past on, on which something is. The function does
 /// nothing: its contract is a law.
 pub fn law_of_streets()
-    ensures due_is_first { (setup : Setup) (past : Past) (street : ℕ) (due : Due) → turn setup past ≡ (street, due) → is_unfinished due ≡ true
+    ensures due_is_first { (setup : Setup) (past : Past) (street : ℕ) (due : Due)
+        → turn setup past ≡ (street, due) → is_unfinished due ≡ true
         → IsFirstStreet (due_on setup past) (newest_street past) street due }
-    ensures first_is_due { (setup : Setup) (past : Past) (street : ℕ) (due : Due) → nat_le (live_count setup (moves_of past)) 1 ≡ false
-        → IsFirstStreet (due_on setup past) (newest_street past) street due → street ≤ street_count setup.code → turn setup past ≡ (street, due) }
+    ensures first_is_due { (setup : Setup) (past : Past) (street : ℕ) (due : Due)
+        → nat_le (live_count setup (moves_of past)) 1 ≡ false
+        → IsFirstStreet (due_on setup past) (newest_street past) street due
+        → street ≤ street_count setup.code → turn setup past ≡ (street, due) }
 {}
 
 /// The seat whose turn it is has a move to make, and so is able.
@@ -48,50 +48,52 @@ pub fn law_of_movers()
 
 /// After legal events no seat has put more than its stack, and what it put and what it has left are the stack.
 pub fn law_of_chips()
-    ensures puts_within { (setup : Setup) (rules : Rules) (events : List Said)
+    ensures puts_within { (setup : Setup) (rules : Rules) (events : List Said) (seat : ℕ)
         → IsValid setup → AreLegal setup rules events
-        → (seat : ℕ) → chips_put setup (moves_of (past_of setup events)) seat ≤ amount_of setup.stacks seat }
-    ensures put_and_left { (setup : Setup) (rules : Rules) (events : List Said)
+        → chips_put setup (moves_by setup events) seat ≤ amount_of setup.stacks seat }
+    ensures put_and_left { (setup : Setup) (rules : Rules) (events : List Said) (seat : ℕ)
         → IsValid setup → AreLegal setup rules events
-        → (seat : ℕ) → chips_put setup (moves_of (past_of setup events)) seat + chips_left setup (moves_of (past_of setup events)) seat
-        ≡ amount_of setup.stacks seat }
+        → chips_put setup (moves_by setup events) seat
+        + chips_left setup (moves_by setup events) seat ≡ amount_of setup.stacks seat }
 {}
 
-/// The least and the greatest legal target are legal, in each limit, and no legal target is outside them; so a seat that
-/// may raise has a target.
+/// The least and the greatest legal target are legal, in each limit, and no legal target is outside them; so a seat
+/// that may raise has a target.
 pub fn law_of_targets()
     ensures { (setup : Setup) (rules : Rules) (moves : List Move) (street seat : ℕ)
-        → AreTargets setup rules moves street seat (least_target rules.reopen setup moves street seat)
+        → AreTargets setup rules moves street seat
+        (least_target rules.reopen setup moves street seat)
         (greatest_target setup moves street seat) (all_in setup moves street seat) }
 {}
 
-/// After legal events the least raise that is not all-in, in no limit and pot limit, goes above the price, and no further
-/// above it than a full raise, also if betting always reopens.
+/// In no limit and pot limit the least raise that is not all-in goes above the price, and no further above it than a
+/// full raise, also if betting always reopens.
 pub fn law_of_floors()
-    ensures above_price { (setup : Setup) (rules : Rules) (events : List Said) → IsValid setup
-        → is_fixed (limit_of setup.code) ≡ false → AreLegal setup rules events → (reopens : Reopen) (street : ℕ)
-        → price setup (moves_of (past_of setup events)) street
-        < floor reopens setup (moves_of (past_of setup events)) street }
-    ensures within_full_raise { (setup : Setup) (rules : Rules) (events : List Said) → IsValid setup
-        → is_fixed (limit_of setup.code) ≡ false → AreLegal setup rules events → (reopens : Reopen) (street : ℕ)
-        → floor reopens setup (moves_of (past_of setup events)) street
-        ≤ price setup (moves_of (past_of setup events)) street + full_raise setup (moves_of (past_of setup events)) street }
+    ensures above_price { (setup : Setup) (rules : Rules) (events : List Said)
+        → AreLegalUnfixed setup rules events → (reopens : Reopen) (street : ℕ)
+        → price setup (moves_by setup events) street
+        < floor reopens setup (moves_by setup events) street }
+    ensures within_full_raise { (setup : Setup) (rules : Rules) (events : List Said)
+        → AreLegalUnfixed setup rules events → (reopens : Reopen) (street : ℕ)
+        → floor reopens setup (moves_by setup events) street
+        ≤ price setup (moves_by setup events) street
+        + full_raise setup (moves_by setup events) street }
 {}
 
 /// The tests by which up-cards open a street agree with the orders of up-cards.
 pub fn law_of_up_cards()
-    ensures high { (a b : List Card)
-        → (is_weaker_up_high a b ≡ true → IsWeakerUpHigh a b) × (IsWeakerUpHigh a b → is_weaker_up_high a b ≡ true) }
-    ensures low { (a b : List Card)
-        → (is_weaker_low a b ≡ true → IsWeakerLow a b) × (IsWeakerLow a b → is_weaker_low a b ≡ true) }
+    ensures high { (a b : List Card) → (is_weaker_up_high a b ≡ true) ↔ IsWeakerUpHigh a b }
+    ensures low { (a b : List Card) → (is_weaker_low a b ≡ true) ↔ IsWeakerLow a b }
 {}
 
 /// Where an event is legal, none of the twelve reasons holds, and where none holds it is legal.
 pub fn law_of_reasons()
-    ensures none_holds { (setup : Setup) (rules : Rules) (past : Past) (event : Said) → why setup rules past event ≡ None
+    ensures none_holds { (setup : Setup) (rules : Rules) (past : Past) (event : Said)
+        → why setup rules past event ≡ None
         → NoneHold (all_reasons setup rules past (turn setup past) event) }
     ensures legal { (setup : Setup) (rules : Rules) (past : Past) (event : Said)
-        → NoneHold (all_reasons setup rules past (turn setup past) event) → why setup rules past event ≡ None }
+        → NoneHold (all_reasons setup rules past (turn setup past) event)
+        → why setup rules past event ≡ None }
 {}
 
 /// No legal event makes two places clash: after legal events no two bear one card, but where one was gone before the
@@ -101,10 +103,13 @@ pub fn law_of_places()
         → NoneClash (places_of setup.code (past_of setup events)) }
 {}
 
-/// The walk by which the worked hands are computed tells the first illegal event of a script, or that it is legal.
+/// The walk by which hands that are written out are computed tells the first illegal event of a script, or that it
+/// has none.
 pub fn law_of_scripts()
-    ensures refused { (setup : Setup) (rules : Rules) (script : List Said) (index : ℕ) (reason : Illegal)
-        → illegal_event setup rules script ≡ Some (index + 1, reason) → IsFirstIllegal setup rules script index reason }
+    ensures refused { (setup : Setup) (rules : Rules) (script : List Said)
+        → (index : ℕ) (reason : Illegal)
+        → illegal_event setup rules script ≡ Some (index + 1, reason)
+        → IsFirstIllegal setup rules script index reason }
     ensures legal { (setup : Setup) (rules : Rules) (script : List Said)
         → illegal_event setup rules script ≡ None → HasNoIllegalEvent setup rules script }
 {}
@@ -112,12 +117,12 @@ pub fn law_of_scripts()
 /// A raise without actor, however it is spelled, has the reason and the outcome of a raise of the seat in turn to the
 /// target that the spelling has.
 pub fn law_of_spellings()
-    ensures same_reason { (setup : Setup) (rules : Rules) (past : Past) (seat : ℕ) (amount : Spelled)
-        → mover setup (up_cards setup.code past) (moves_of past) (turn setup past).0 ≡ TheSeat seat
+    ensures same_reason { (setup : Setup) (rules : Rules) (past : Past) (seat : ℕ)
+        → (amount : Spelled) → IsInTurn setup past seat
         → why setup rules past (Raise None amount)
-        ≡ why setup rules past (Raise (Some seat) (spelled.To (raise_target setup (moves_of past) (turn setup past).0 seat amount))) }
+        ≡ why setup rules past (spelled_out setup past seat amount) }
     ensures same_past { (setup : Setup) (past : Past) (seat : ℕ) (amount : Spelled)
-        → mover setup (up_cards setup.code past) (moves_of past) (turn setup past).0 ≡ TheSeat seat
+        → IsInTurn setup past seat
         → with_event setup (Raise None amount) past
-        ≡ with_event setup (Raise (Some seat) (spelled.To (raise_target setup (moves_of past) (turn setup past).0 seat amount))) past }
+        ≡ with_event setup (spelled_out setup past seat amount) past }
 {}
