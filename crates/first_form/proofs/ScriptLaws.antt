@@ -17,11 +17,11 @@ counted : (raise : Bool) (event : Numbered) (rest : List Numbered) → length (c
 counted true event rest = omega arith
 counted false event rest = omega arith
 
--- the raises from an event on: that event, if it is one, and those behind it
-pub raises_from : (script : List Event) (index : ℕ) (event : Event) → slice_get script index ≡ Some event → raises_among (map numbered (drop index script)) ≡ cond (is_raise (said_of event)) 1 0 + raises_among (map numbered (drop (index + 1) script))
-raises_from script index event found =
-    rw (drop_more script index event (slice_get_within script index event found), get_or_from_slice_get script index event event found)
-    (counted (is_raise (said_of event)) (numbered event) (filter (λ other. is_raise other.1) (map numbered (drop (index + 1) script))))
+-- the raises of events: the first, if it is one, and those behind it
+pub raises_first : (script : List Event) (event : Event) (later : List Event) → script ≡ event ∷ later → raises_among (map numbered script) ≡ cond (is_raise (said_of event)) 1 0 + raises_among (map numbered later)
+raises_first script event later is =
+    ap (λ (events : List Event). raises_among (map numbered events)) is
+    ∙ counted (is_raise (said_of event)) (numbered event) (filter (λ other. is_raise other.1) (map numbered later))
 
 cons_count : (at : ℕ) (said : Option Said) (others : Option (List Numbered)) (script : List Numbered) (count : ℕ)
     → ((rest : List Numbered) → others ≡ Some rest → length rest ≡ count)

@@ -3,25 +3,17 @@ use Rattle.std.specs.Prelude.{◌≡◌, ℕ, ◌+◌, ◌≤◌, Bool, true, fa
 use Rattle.chip_ledger.specs.RakeRow.{no_rakes}
 use Rattle.chip_ledger.specs.SeatRow.{amount_of}
 use Rattle.play_event.specs.declared.code.Code.TheVariants as games
-use Rattle.play_event.specs.declared.event.Event.{Event}
 use Rattle.play_event.specs.declared.event.Spelled.TheVariants as spelled
 use Rattle.play_event.specs.declared.setup.Setup.{Setup}
 use Rattle.play_event.specs.Said as said
-use Rattle.play_event.specs.Said.{Said, said_of}
+pub use Rattle.play_event.specs.Said.{Numbered, numbered}
+use Rattle.play_event.specs.Said.{Said}
 use Rattle.first_form.specs.declared.hand.Hand.{Hand}
-
--- an event with the number of its action
-abbrev pub Numbered : Type 0
-Numbered = ℕ × Said
 
 -- a hand: its setup, and its events with the numbers of their actions
 pub record Told : Type 0 where
   pub setup : Setup
   pub script : List Numbered
-
--- an event and its number
-abbrev pub numbered : Event → Numbered
-numbered event = (event.at, said_of event)
 
 -- what a hand that was read says
 abbrev pub told : Hand → Told

@@ -248,9 +248,10 @@ fn count_raises(script: &Script) -> usize
     ensures { result ≡ raises_among (map numbered script.now) }
 {
     let mut raises = 0;
-    for index in 0..script.len() {
-        if is_raise(script.get(index)) {
-            raises += 1;
+    let mut cursor = script.cursor();
+    for _ in 0..script.len() {
+        if let Some(event) = cursor.next() {
+            raises += usize::from(is_raise(event));
         }
     }
     raises

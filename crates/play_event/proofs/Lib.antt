@@ -9,5 +9,6 @@ pub mod Kept
 pub mod ClashLaws
 pub mod SafePlaces
 pub mod ScriptLaws
+pub mod PackedScripts
 pub mod SpellingLaws
 pub mod StakeLaws

@@ -2,6 +2,11 @@ pub mod Code
 pub mod Games
 pub mod Streets
 pub mod Said
+pub mod PackedForm
+pub mod PackedReading
+pub mod EventNumbers
+pub mod PackedScript
+pub mod PackedOnce
 pub mod Past
 pub mod Chips
 pub mod Seats

@@ -41,3 +41,10 @@ kind_said (kinds.Muck seat) = Muck seat.number
 -- what an event says
 abbrev pub said_of : Event → Said
 said_of event = kind_said event.kind
+
+-- an event, and the number of its action
+abbrev pub Numbered : Type 0
+Numbered = ℕ × Said
+
+abbrev pub numbered : Event → Numbered
+numbered event = (event.at, said_of event)

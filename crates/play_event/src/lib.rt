@@ -3,25 +3,29 @@
 
 mod card_rows;
 mod code;
+mod cursor;
 mod event;
 mod laws;
 mod limit;
+mod packed_event;
+mod packing;
 mod played;
 mod reason;
 mod script;
 mod setup;
 mod stake_laws;
-#[cfg(test)]
-mod tests;
+mod unpacking;
 
 pub use card_rows::{HandRow, UpRow};
 pub use code::Code;
+pub use cursor::Cursor;
 pub use event::{Event, Kind, Spelled};
 pub use laws::{
     law_of_chips, law_of_floors, law_of_movers, law_of_places, law_of_reasons, law_of_scripts,
     law_of_spellings, law_of_streets, law_of_targets, law_of_up_cards,
 };
 pub use limit::{Limit, Opener};
+pub use packing::law_of_packing;
 pub use played::{Act, Move, Place};
 pub use reason::{Due, Illegal};
 pub use script::Script;

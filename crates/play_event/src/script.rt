@@ -1,13 +1,22 @@
-// A script is the list of a hand's events, in the order in which they happened.
+//! A script is the list of a hand's events, in the order in which they happened, and keeps them packed.
+ghost use Rattle.std.specs.Prelude.{◌≡◌, length};
+ghost use Rattle.play_event.specs.PackedScript.{PackedScript};
+ghost use Rattle.play_event.specs.PackedOnce.{one_script};
+
+use crate::cursor::Cursor;
 use crate::event::Event;
+use crate::packing::pack;
 use card_set::Memory;
 use std::alloc::Global;
 use std::marker::Model;
 
-/// The events of a hand, in order.
+/// The events of a hand, in order. They take six to fifteen bytes each.
 #[derive(Debug, Drop)]
 pub struct Script {
-    events: Vec<Event>,
+    bytes: Vec<u8>,
+    count: usize,
+    ghost script: { PackedScript bytes.items } by { one_script bytes.items },
+    ghost counted: { count ≡ length script.events },
 }
 
 impl Model for Script {
@@ -16,18 +25,20 @@ impl Model for Script {
 
     ghost Value = { List Event };
 
-    ghost view = { λ s. s.events.items };
+    ghost view = { λ s. s.script.events };
 }
 
 impl Script {
     ghost use Rattle.std.specs.Prelude.{◌≡◌, ◌<◌, [], ◌∷◌, ◌++◌, length, slice_get, Some, OnOk, OnErr};
+    ghost use Rattle.play_event.specs.PackedForm.{packed_events};
 
     /// A script without events.
     pub fn new(alloc: Global) -> Self
         ensures { result ≡ [] }
     {
         Script {
-            events: Vec::new(alloc),
+            bytes: Vec::new(alloc),
+            count: 0,
         }
     }
 
@@ -36,24 +47,43 @@ impl Script {
         ensures pushed { OnOk result (self.new ≡ self.old ++ event ∷ []) }
         ensures unchanged { OnErr result (self.new ≡ self.old) }
     {
-        match self.events.push(event) {
-            Ok(()) => Ok(()),
-            Err(_) => Err(Memory),
-        }
+        let packed = pack(event);
+        self.bytes.extend_from_slice(packed.as_slice())?;
+        self.count += 1;
+        Ok(())
     }
 
-    /// The event at this index, from 0. Ask first that the index is below `len`.
+    /// The event at this index, from 0. Ask first that the index is below `len`. It walks from the first event on: who
+    /// wants one event after the other goes by `cursor`.
     pub fn get(&self, index: usize) -> Event
         requires { index < length self.now }
         ensures { slice_get self.now index ≡ Some result }
     {
-        self.events[index]
+        let mut cursor = self.cursor();
+        for _ in 0..index {
+            let _passed = cursor.next();
+        }
+        cursor.next().unwrap()
     }
 
     /// How many events there are.
     pub fn len(&self) -> usize
         ensures { result ≡ length self.now }
     {
-        self.events.len()
+        self.count
+    }
+
+    /// A cursor before the first event.
+    pub fn cursor(&self) -> Cursor<'_>
+        ensures { result ≡ self.now }
+    {
+        Cursor::new(self.bytes.as_slice())
+    }
+
+    /// The packed forms of the events, one after the other.
+    pub fn packed(&self) -> &[u8]
+        ensures { result.now ≡ packed_events self.now }
+    {
+        self.bytes.as_slice()
     }
 }

@@ -3,6 +3,7 @@
 #![tactic(auto)]
 
 mod games;
+mod scripts;
 mod words;
 
 use std::alloc::{AllocError, Global};
@@ -34,6 +35,7 @@ fn answer_to(alloc: Global, row: &str) -> Result<Option<String>, AllocError> {
     let (subject, rest) = words::first_and_rest(row);
     match subject.as_bytes() {
         b"games" => games::answer_to(alloc, rest),
+        b"scripts" => scripts::answer_to(alloc, rest),
         _ => Ok(None),
     }
 }

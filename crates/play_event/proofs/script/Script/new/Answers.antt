@@ -1,0 +1,5 @@
+use Rattle.std.proofs.Common.{[], refl}
+use Rattle.play_event.proofs.script.Script.new.Goals as goal
+
+pub invariant_of-result : goal.invariant_of-result
+invariant_of-result c = (record { events = []; fit = tt; packed = c.new.ensures.items }, (refl, tt))

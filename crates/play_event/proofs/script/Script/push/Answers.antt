@@ -1,0 +1,27 @@
+use Rattle.std.proofs.Common.{◌∙◌, [], ◌∷◌, ◌++◌, ap, length, arith, length-append}
+use Rattle.play_event.proofs.PackedScripts.{kept, unchanged_events, on_err, pushed, pushed_events, length-packed_events}
+use Rattle.play_event.proofs.script.Script.push.Goals as goal
+
+pub overflow_add-self : goal.overflow_add-self
+overflow_add-self c =
+    omega (arith, c.self.inside.counted, length-packed_events c.self.inside.script.events, ap length c.self.inside.script.packed)
+
+pub invariant_of-self-inside : goal.invariant_of-self-inside
+invariant_of-self-inside c =
+    (kept c.self.inside.bytes.items c.self.inside.script _ c.in_err-extend_from_slice.ensures.items, (c.self.inside.counted, tt))
+
+pub returns-in_err-extend_from_slice-clause-unchanged : goal.returns-in_err-extend_from_slice-clause-unchanged
+returns-in_err-extend_from_slice-clause-unchanged c =
+    search (on_err, unchanged_events c.self.inside.bytes.items c.self.inside.script c.args.self.now c.self.view_is c.extend_from_slice.new.self.items c.in_err-extend_from_slice.ensures.items)
+
+pub invariant_of-self-inside-2 : goal.invariant_of-self-inside-2
+invariant_of-self-inside-2 c =
+    let grown = c.in_ok-extend_from_slice.ensures.items ∙ ap (λ form. c.self.inside.bytes.items ++ form) c.as_slice.ensures in (
+      pushed c.self.inside.bytes.items c.self.inside.script c.args.event c.pack-packed.result _ c.pack-packed.ensures.event c.pack-packed.ensures.packed grown,
+      (omega (arith, c.self.inside.counted, length-append c.self.inside.script.events (c.args.event ∷ [])), tt),
+    )
+
+pub returns-clause-pushed : goal.returns-clause-pushed
+returns-clause-pushed c =
+    let grown = c.in_ok-extend_from_slice.ensures.items ∙ ap (λ form. c.self.inside.bytes.items ++ form) c.as_slice.ensures in
+    search (pushed_events c.self.inside.bytes.items c.self.inside.script c.args.self.now c.self.view_is c.args.event c.pack-packed.result c.extend_from_slice.new.self.items c.pack-packed.ensures.event c.pack-packed.ensures.packed grown)

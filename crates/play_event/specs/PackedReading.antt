@@ -1,0 +1,112 @@
+-- What packed bytes say, read from left to right: what stands at their front, and the bytes behind it.
+use Rattle.std.specs.Prelude.{ℕ, ◌-◌, ◌/◌, ◌%◌, ◌==◌, ◌&&◌, nat_le, nat_lt, if◌then◌else◌, List, [], ◌∷◌, length, map, take, drop, slice_get, unwrap_or, Option, Some, None}
+use Rattle.std.specs.Int.{Width, w32, w64, byte_len, from_be_bytes}
+use Rattle.card_set.specs.declared.card.Card.{Card}
+use Rattle.card_set.specs.declared.card.Rank.TheVariants as ranks
+use Rattle.card_set.specs.declared.card.Suit.TheVariants as suits
+use Rattle.card_set.specs.declared.card.Slot.{Slot}
+use Rattle.card_set.specs.declared.card.Slot.TheVariants as slots
+use Rattle.card_set.specs.Spelling.{all_ranks, all_suits}
+use Rattle.play_event.specs.declared.event.Spelled.{Spelled}
+use Rattle.play_event.specs.declared.event.Spelled.TheVariants as spelled
+use Rattle.play_event.specs.Said as said
+use Rattle.play_event.specs.Said.{Said, Numbered}
+
+infixl 10 ◌>>=◌
+abbrev pub ◌>>=◌ : {A B : Type 0} → Option A → (A → Option B) → Option B
+None >>= next = None
+(Some value) >>= next = next value
+
+-- a byte
+abbrev pub byte_at : List ℕ → Option (ℕ × List ℕ)
+byte_at [] = None
+byte_at (byte ∷ rest) = Some (byte, rest)
+
+-- a number of so many bytes, the highest first
+unfoldable pub number_at : Width → List ℕ → Option (ℕ × List ℕ)
+number_at width bytes =
+    if nat_lt (length bytes) (byte_len width) then None
+    else Some (from_be_bytes width (take (byte_len width) bytes), drop (byte_len width) bytes)
+
+-- up to seven bytes behind their count
+unfoldable pub counted_at : List ℕ → Option (List ℕ × List ℕ)
+counted_at bytes = do
+  count ← byte_at bytes
+  if nat_le count.0 7 && nat_le count.0 (length count.1) then Some (take count.0 count.1, drop count.0 count.1) else None
+
+-- the seat with this number, where a hand has such a seat
+abbrev pub seat_numbered : ℕ → Option ℕ
+seat_numbered number = if nat_le 1 number && nat_le number 10 then Some number else None
+
+unfoldable pub seat_at : List ℕ → Option (ℕ × List ℕ)
+seat_at bytes = do
+  number ← byte_at bytes
+  seat ← seat_numbered number.0
+  Some (seat, number.1)
+
+-- an actor, who may be unnamed
+unfoldable pub actor_at : List ℕ → Option (Option ℕ × List ℕ)
+actor_at bytes = do
+  number ← byte_at bytes
+  if number.0 == 0 then Some (None, number.1) else (seat_numbered number.0 >>= λ seat. Some (Some seat, number.1))
+
+-- the card at a place of the deck, from 0
+unfoldable pub card_placed : ℕ → Card
+card_placed place = record {
+  rank = unwrap_or (slice_get all_ranks (place / 4)) ranks.Ace;
+  suit = unwrap_or (slice_get all_suits (place % 4)) suits.S;
+}
+
+-- the card and the slot of a byte
+abbrev pub card_of : ℕ → Card
+card_of byte = card_placed (byte - 1)
+
+abbrev pub slot_of : ℕ → Slot
+slot_of byte = if byte == 0 then slots.Unknown else slots.Known (card_of byte)
+
+unfoldable pub slots_at : List ℕ → Option (List Slot × List ℕ)
+slots_at bytes = do
+  row ← counted_at bytes
+  Some (map slot_of row.0, row.1)
+
+unfoldable pub cards_at : List ℕ → Option (List Card × List ℕ)
+cards_at bytes = do
+  row ← counted_at bytes
+  Some (map card_of row.0, row.1)
+
+-- the chips of a call, which may be unstated
+unfoldable pub stated_at : List ℕ → Option (Option ℕ × List ℕ)
+stated_at bytes = do
+  flag ← byte_at bytes
+  if flag.0 == 0 then Some (None, flag.1) else (number_at w64 flag.1 >>= λ chips. Some (Some chips.0, chips.1))
+
+-- the amount of a raise
+unfoldable pub amount_at : List ℕ → Option (Spelled × List ℕ)
+amount_at bytes = do
+  spelling ← byte_at bytes
+  if spelling.0 == 4 then Some (spelled.Unit, spelling.1) else (number_at w64 spelling.1 >>= λ chips. Some (
+    (if spelling.0 == 1 then spelled.To chips.0 else if spelling.0 == 2 then spelled.Added chips.0 else spelled.HandTotal chips.0),
+    chips.1,
+  ))
+
+-- what an event of the kind with this number says
+unfoldable pub kind_at : ℕ → List ℕ → Option (Said × List ℕ)
+kind_at number bytes =
+    if number == 1 then (seat_at bytes >>= λ seat. slots_at seat.1 >>= λ cards. Some (said.Hole seat.0 cards.0, cards.1))
+    else if number == 2 then (cards_at bytes >>= λ cards. Some (said.Board cards.0, cards.1))
+    else if number == 3 then (actor_at bytes >>= λ actor. Some (said.Fold actor.0, actor.1))
+    else if number == 4 then (actor_at bytes >>= λ actor. stated_at actor.1 >>= λ stated. Some (said.Call actor.0 stated.0, stated.1))
+    else if number == 5 then (actor_at bytes >>= λ actor. amount_at actor.1 >>= λ amount. Some (said.Raise actor.0 amount.0, amount.1))
+    else if number == 6 then (actor_at bytes >>= λ actor. Some (said.BringIn actor.0, actor.1))
+    else if number == 7 then (seat_at bytes >>= λ seat. slots_at seat.1 >>= λ cards. Some (said.Discard seat.0 cards.0, cards.1))
+    else if number == 8 then (seat_at bytes >>= λ seat. cards_at seat.1 >>= λ cards. Some (said.Show seat.0 cards.0, cards.1))
+    else if number == 9 then (seat_at bytes >>= λ seat. Some (said.Muck seat.0, seat.1))
+    else None
+
+-- an event
+unfoldable pub event_at : List ℕ → Option (Numbered × List ℕ)
+event_at bytes = do
+  number ← byte_at bytes
+  at ← number_at w32 number.1
+  kind ← kind_at number.0 at.1
+  Some ((at.0, kind.0), kind.1)

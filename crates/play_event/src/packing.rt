@@ -1,0 +1,162 @@
+//! An event is packed into at most fifteen bytes, before any of them goes to a script.
+ghost use Rattle.std.specs.Prelude.{◌≡◌, ℕ, ◌+◌, ◌^◌, ◌<◌, ◌≤◌, List, ◌∷◌, ◌++◌, length, map, IfSome};
+ghost use Rattle.std.specs.Int.{w64, to_be_bytes};
+ghost use Rattle.card_set.specs.Row.{slots_of, cards_of};
+ghost use Rattle.play_event.specs.declared.event.Event.{Event};
+ghost use Rattle.play_event.specs.EventNumbers.{AmountFits, ChipsFit, IsEvent, AreEvents};
+ghost use Rattle.play_event.specs.PackedForm.{actor_byte, card_byte, slot_byte, counted, stated_bytes, amount_bytes, kind_byte, kind_bytes, packed_event, packed_events};
+
+use crate::event::{Event, Kind, Spelled};
+use crate::packed_event::PackedEvent;
+use card_set::{Card, CardRow, Slot, SlotRow, place_in_deck};
+use chip_ledger::Seat;
+
+/// No two lists of events have one packed form, so it loses nothing. The function does nothing: its contract is a law.
+pub fn law_of_packing()
+    ensures { (a b : List Event) → AreEvents a → AreEvents b → packed_events a ≡ packed_events b → a ≡ b }
+{}
+
+/// The packed form of the event.
+#[tactic(auto, unfolding(crate::specs::PackedForm::packed_event))]
+pub(crate) fn pack(event: Event) -> PackedEvent
+    ensures packed { result ≡ packed_event event }
+    ensures event { IsEvent event }
+{
+    let mut packed = PackedEvent::new();
+    packed.push(number_of_kind(event.kind));
+    packed.extend(&event.at.to_be_bytes());
+    pack_kind(&mut packed, event.kind);
+    packed
+}
+
+fn number_of_kind(kind: Kind) -> u8
+    ensures { result ≡ kind_byte kind }
+{
+    match kind {
+        Kind::Hole { .. } => 1,
+        Kind::Board { .. } => 2,
+        Kind::Fold { .. } => 3,
+        Kind::Call { .. } => 4,
+        Kind::Raise { .. } => 5,
+        Kind::BringIn { .. } => 6,
+        Kind::Discard { .. } => 7,
+        Kind::Show { .. } => 8,
+        Kind::Muck { .. } => 9,
+    }
+}
+
+// What an event of this kind says, behind the number of its action.
+fn pack_kind(packed: &mut PackedEvent, kind: Kind)
+    requires { length packed.old ≤ 5 }
+    ensures packed { packed.new ≡ packed.old ++ kind_bytes kind }
+    ensures chips { ChipsFit kind }
+{
+    match kind {
+        Kind::Hole { seat, cards } => pack_slots_of(packed, seat, &cards),
+        Kind::Board { cards } => pack_cards(packed, cards.as_slice()),
+        Kind::Fold { actor } => packed.push(number_of_actor(actor)),
+        Kind::Call { actor, stated } => pack_call(packed, actor, stated),
+        Kind::Raise { actor, amount } => pack_raise(packed, actor, amount),
+        Kind::BringIn { actor } => packed.push(number_of_actor(actor)),
+        Kind::Discard { seat, cards } => pack_slots_of(packed, seat, &cards),
+        Kind::Show { seat, cards } => pack_cards_of(packed, seat, &cards),
+        Kind::Muck { seat } => packed.push(seat.number()),
+    }
+}
+
+fn pack_call(packed: &mut PackedEvent, actor: Option<Seat>, stated: Option<u64>)
+    requires { length packed.old ≤ 5 }
+    ensures packed { packed.new ≡ packed.old ++ actor_byte actor ∷ stated_bytes stated }
+    ensures chips { IfSome stated (λ chips. chips < 2 ^ 64) }
+{
+    packed.push(number_of_actor(actor));
+    match stated {
+        None => packed.push(0),
+        Some(chips) => pack_chips(packed, 1, chips),
+    }
+}
+
+fn pack_raise(packed: &mut PackedEvent, actor: Option<Seat>, amount: Spelled)
+    requires { length packed.old ≤ 5 }
+    ensures packed { packed.new ≡ packed.old ++ actor_byte actor ∷ amount_bytes amount }
+    ensures chips { AmountFits amount }
+{
+    packed.push(number_of_actor(actor));
+    match amount {
+        Spelled::To(chips) => pack_chips(packed, 1, chips),
+        Spelled::Added(chips) => pack_chips(packed, 2, chips),
+        Spelled::HandTotal(chips) => pack_chips(packed, 3, chips),
+        Spelled::Unit => packed.push(4),
+    }
+}
+
+// A byte, and chips behind it.
+fn pack_chips(packed: &mut PackedEvent, first: u8, chips: u64)
+    requires { length packed.old ≤ 6 }
+    ensures { packed.new ≡ packed.old ++ first ∷ to_be_bytes w64 chips }
+{
+    packed.push(first);
+    packed.extend(&chips.to_be_bytes());
+}
+
+fn pack_slots_of(packed: &mut PackedEvent, seat: Seat, cards: &SlotRow)
+    requires { length packed.old ≤ 5 }
+    ensures { packed.new ≡ packed.old ++ seat.number ∷ counted (map slot_byte (slots_of cards.now)) }
+{
+    packed.push(seat.number());
+    pack_slots(packed, cards.as_slice());
+}
+
+fn pack_cards_of(packed: &mut PackedEvent, seat: Seat, cards: &CardRow)
+    requires { length packed.old ≤ 5 }
+    ensures { packed.new ≡ packed.old ++ seat.number ∷ counted (map card_byte (cards_of cards.now)) }
+{
+    packed.push(seat.number());
+    pack_cards(packed, cards.as_slice());
+}
+
+fn pack_slots(packed: &mut PackedEvent, slots: &[Slot])
+    requires room { length packed.old ≤ 6 }
+    requires few { length slots.now ≤ 7 }
+    ensures { packed.new ≡ packed.old ++ counted (map slot_byte slots.now) }
+{
+    packed.push(slots.len() as u8);
+    for slot in slots {
+        packed.push(number_of_slot(*slot));
+    }
+}
+
+fn pack_cards(packed: &mut PackedEvent, cards: &[Card])
+    requires room { length packed.old ≤ 6 }
+    requires few { length cards.now ≤ 7 }
+    ensures { packed.new ≡ packed.old ++ counted (map card_byte cards.now) }
+{
+    packed.push(cards.len() as u8);
+    for card in cards {
+        packed.push(number_of_card(*card));
+    }
+}
+
+fn number_of_actor(actor: Option<Seat>) -> u8
+    ensures { result ≡ actor_byte actor }
+{
+    match actor {
+        None => 0,
+        Some(seat) => seat.number(),
+    }
+}
+
+fn number_of_slot(slot: Slot) -> u8
+    ensures { result ≡ slot_byte slot }
+{
+    match slot {
+        Slot::Known(card) => number_of_card(card),
+        Slot::Unknown => 0,
+    }
+}
+
+fn number_of_card(card: Card) -> u8
+    ensures { result ≡ card_byte card }
+{
+    place_in_deck(card) + 1
+}

@@ -1,0 +1,280 @@
+//! Packed bytes are read from left to right: an event at their front, and the bytes behind it.
+ghost use Rattle.std.specs.Prelude.{◌≡◌, ◌≤◌, ◌&&◌, map, length, nat_le, slice_get, unwrap_or, Option, Some, None, if◌then◌else◌, IfSome};
+ghost use Rattle.std.specs.Option.{option_map};
+ghost use Rattle.std.specs.Int.{w32, w64};
+ghost use Rattle.card_set.specs.Row.{slots_of, cards_of};
+ghost use Rattle.card_set.specs.Spelling.{all_ranks, all_suits};
+ghost use Rattle.card_set.specs.declared.card.Rank.TheVariants as ranks;
+ghost use Rattle.card_set.specs.declared.card.Suit.TheVariants as suits;
+ghost use Rattle.play_event.specs.Said.{kind_said, seat_named, numbered};
+ghost use Rattle.play_event.specs.PackedReading.{byte_at, number_at, counted_at, seat_numbered, seat_at, actor_at, card_placed, card_of, slot_of, slots_at, cards_at, stated_at, amount_at, kind_at, event_at};
+
+use crate::event::{Event, Kind, Spelled};
+use card_set::{Card, CardRow, Rank, Slot, SlotRow, Suit};
+use chip_ledger::Seat;
+
+/// The event at the front of the bytes and the bytes behind it, or `None` where no event begins so.
+#[tactic(auto, unfolding(crate::specs::PackedReading::event_at))]
+pub(crate) fn read_event(bytes: &[u8]) -> Option<(Event, &[u8])>
+    ensures { option_map (λ read. (numbered read.0, read.1.now)) result ≡ event_at bytes.now }
+{
+    let (number, rest) = read_byte(bytes)?;
+    let (at, rest) = read_at(rest)?;
+    let (kind, rest) = read_kind(number, rest)?;
+    Some((Event { at, kind }, rest))
+}
+
+// What an event of the kind with this number says.
+#[tactic(auto, unfolding(crate::specs::PackedReading::kind_at))]
+fn read_kind(number: u8, bytes: &[u8]) -> Option<(Kind, &[u8])>
+    ensures { option_map (λ read. (kind_said read.0, read.1.now)) result ≡ kind_at number bytes.now }
+{
+    match number {
+        1 => {
+            let (seat, rest) = read_seat(bytes)?;
+            let (cards, rest) = read_slots(rest)?;
+            Some((Kind::Hole { seat, cards }, rest))
+        }
+        2 => {
+            let (cards, rest) = read_cards(bytes)?;
+            Some((Kind::Board { cards }, rest))
+        }
+        3 => {
+            let (actor, rest) = read_actor(bytes)?;
+            Some((Kind::Fold { actor }, rest))
+        }
+        4 => {
+            let (actor, rest) = read_actor(bytes)?;
+            let (stated, rest) = read_stated(rest)?;
+            Some((Kind::Call { actor, stated }, rest))
+        }
+        5 => {
+            let (actor, rest) = read_actor(bytes)?;
+            let (amount, rest) = read_amount(rest)?;
+            Some((Kind::Raise { actor, amount }, rest))
+        }
+        6 => {
+            let (actor, rest) = read_actor(bytes)?;
+            Some((Kind::BringIn { actor }, rest))
+        }
+        7 => {
+            let (seat, rest) = read_seat(bytes)?;
+            let (cards, rest) = read_slots(rest)?;
+            Some((Kind::Discard { seat, cards }, rest))
+        }
+        8 => {
+            let (seat, rest) = read_seat(bytes)?;
+            let (cards, rest) = read_cards(rest)?;
+            Some((Kind::Show { seat, cards }, rest))
+        }
+        9 => {
+            let (seat, rest) = read_seat(bytes)?;
+            Some((Kind::Muck { seat }, rest))
+        }
+        _ => None,
+    }
+}
+
+// The amount of a raise.
+#[tactic(auto, unfolding(crate::specs::PackedReading::amount_at))]
+fn read_amount(bytes: &[u8]) -> Option<(Spelled, &[u8])>
+    ensures { option_map (λ read. (read.0, read.1.now)) result ≡ amount_at bytes.now }
+{
+    let (spelling, rest) = read_byte(bytes)?;
+    if spelling == 4 {
+        return Some((Spelled::Unit, rest));
+    }
+    let (chips, rest) = read_chips(rest)?;
+    Some(match spelling {
+        1 => (Spelled::To(chips), rest),
+        2 => (Spelled::Added(chips), rest),
+        _ => (Spelled::HandTotal(chips), rest),
+    })
+}
+
+// The chips of a call, which may be unstated.
+#[tactic(auto, unfolding(crate::specs::PackedReading::stated_at))]
+fn read_stated(bytes: &[u8]) -> Option<(Option<u64>, &[u8])>
+    ensures { option_map (λ read. (read.0, read.1.now)) result ≡ stated_at bytes.now }
+{
+    let (flag, rest) = read_byte(bytes)?;
+    if flag == 0 {
+        return Some((None, rest));
+    }
+    let (chips, rest) = read_chips(rest)?;
+    Some((Some(chips), rest))
+}
+
+// An actor, who may be unnamed.
+#[tactic(auto, unfolding(crate::specs::PackedReading::actor_at))]
+fn read_actor(bytes: &[u8]) -> Option<(Option<Seat>, &[u8])>
+    ensures { option_map (λ read. (seat_named read.0, read.1.now)) result ≡ actor_at bytes.now }
+{
+    let (number, rest) = read_byte(bytes)?;
+    if number == 0 {
+        return Some((None, rest));
+    }
+    let seat = seat_of(number)?;
+    Some((Some(seat), rest))
+}
+
+#[tactic(auto, unfolding(crate::specs::PackedReading::seat_at))]
+fn read_seat(bytes: &[u8]) -> Option<(Seat, &[u8])>
+    ensures { option_map (λ read. (read.0.number, read.1.now)) result ≡ seat_at bytes.now }
+{
+    let (number, rest) = read_byte(bytes)?;
+    let seat = seat_of(number)?;
+    Some((seat, rest))
+}
+
+fn seat_of(number: u8) -> Option<Seat>
+    ensures { option_map (λ seat. seat.number) result ≡ seat_numbered number }
+{
+    Seat::new(number)
+}
+
+#[tactic(auto, unfolding(crate::specs::PackedReading::slots_at))]
+fn read_slots(bytes: &[u8]) -> Option<(SlotRow, &[u8])>
+    ensures { option_map (λ read. (slots_of read.0, read.1.now)) result ≡ slots_at bytes.now }
+{
+    let (row, rest) = read_counted(bytes)?;
+    Some((slot_row(row), rest))
+}
+
+#[tactic(auto, unfolding(crate::specs::PackedReading::cards_at))]
+fn read_cards(bytes: &[u8]) -> Option<(CardRow, &[u8])>
+    ensures { option_map (λ read. (cards_of read.0, read.1.now)) result ≡ cards_at bytes.now }
+{
+    let (row, rest) = read_counted(bytes)?;
+    Some((card_row(row), rest))
+}
+
+// The slots of up to seven bytes.
+fn slot_row(bytes: &[u8]) -> SlotRow
+    requires { length bytes.now ≤ 7 }
+    ensures { slots_of result ≡ map slot_of bytes.now }
+{
+    let mut row = SlotRow::new();
+    for byte in bytes {
+        row.push(slot_named(*byte));
+    }
+    row
+}
+
+// The cards of up to seven bytes.
+fn card_row(bytes: &[u8]) -> CardRow
+    requires { length bytes.now ≤ 7 }
+    ensures { cards_of result ≡ map card_of bytes.now }
+{
+    let mut row = CardRow::new();
+    for byte in bytes {
+        row.push(card_named(*byte));
+    }
+    row
+}
+
+fn slot_named(byte: u8) -> Slot
+    ensures { result ≡ slot_of byte }
+{
+    if byte == 0 {
+        Slot::Unknown
+    } else {
+        Slot::Known(card_named(byte))
+    }
+}
+
+// The card of a byte from 1 to 52.
+#[tactic(auto, unfolding(crate::specs::PackedReading::card_placed))]
+fn card_named(byte: u8) -> Card
+    ensures { result ≡ card_of byte }
+{
+    let place = byte.saturating_sub(1);
+    Card {
+        rank: rank_placed(place / 4),
+        suit: suit_placed(place % 4),
+    }
+}
+
+// The rank with so many below it; past the last the ace.
+fn rank_placed(place: u8) -> Rank
+    ensures { result ≡ unwrap_or (slice_get all_ranks place) ranks.Ace }
+{
+    match place {
+        0 => Rank::Two,
+        1 => Rank::Three,
+        2 => Rank::Four,
+        3 => Rank::Five,
+        4 => Rank::Six,
+        5 => Rank::Seven,
+        6 => Rank::Eight,
+        7 => Rank::Nine,
+        8 => Rank::Ten,
+        9 => Rank::Jack,
+        10 => Rank::Queen,
+        11 => Rank::King,
+        _ => Rank::Ace,
+    }
+}
+
+// The suit with so many before it; past the last the spades.
+fn suit_placed(place: u8) -> Suit
+    ensures { result ≡ unwrap_or (slice_get all_suits place) suits.S }
+{
+    match place {
+        0 => Suit::C,
+        1 => Suit::D,
+        2 => Suit::H,
+        _ => Suit::S,
+    }
+}
+
+// Up to seven bytes that stand behind their count.
+#[tactic(auto, unfolding(crate::specs::PackedReading::counted_at))]
+fn read_counted(bytes: &[u8]) -> Option<(&[u8], &[u8])>
+    ensures row { option_map (λ read. (read.0.now, read.1.now)) result ≡ counted_at bytes.now }
+    ensures few { IfSome result (λ read. length read.0.now ≤ 7) }
+{
+    let (count, rest) = read_byte(bytes)?;
+    let count = usize::from(count);
+    if count <= 7 && count <= rest.len() {
+        Some(rest.split_at(count))
+    } else {
+        None
+    }
+}
+
+// The number of an action.
+#[tactic(auto, unfolding(crate::specs::PackedReading::number_at))]
+fn read_at(bytes: &[u8]) -> Option<(u32, &[u8])>
+    ensures { option_map (λ read. (read.0, read.1.now)) result ≡ number_at w32 bytes.now }
+{
+    if bytes.len() < 4 {
+        return None;
+    }
+    let (front, rest) = bytes.split_at(4);
+    let number = u32::from_be_bytes([front[0], front[1], front[2], front[3]]);
+    Some((number, rest))
+}
+
+#[tactic(auto, unfolding(crate::specs::PackedReading::number_at))]
+fn read_chips(bytes: &[u8]) -> Option<(u64, &[u8])>
+    ensures { option_map (λ read. (read.0, read.1.now)) result ≡ number_at w64 bytes.now }
+{
+    if bytes.len() < 8 {
+        return None;
+    }
+    let (front, rest) = bytes.split_at(8);
+    let chips = u64::from_be_bytes([
+        front[0], front[1], front[2], front[3], front[4], front[5], front[6], front[7],
+    ]);
+    Some((chips, rest))
+}
+
+fn read_byte(bytes: &[u8]) -> Option<(u8, &[u8])>
+    ensures { option_map (λ read. (read.0, read.1.now)) result ≡ byte_at bytes.now }
+{
+    match bytes {
+        [] => None,
+        [byte, rest @ ..] => Some((*byte, rest)),
+    }
+}
