@@ -57,6 +57,7 @@ fn play_on(alloc: Global, hand: &Hand, index: usize, past: &Past<'_>) -> Result<
     if index == hand.script.len() {
         return ended(alloc, &hand.setup, past, stage);
     }
+    // `get` walks over the events before this one, as each look back over the steps does: they are at most 256.
     let event = hand.script.get(index);
     if let Some(reason) = against(&hand.setup, past, stage, &event.kind) {
         return Ok(Outcome::Refused {
