@@ -1,0 +1,14 @@
+//! What a hand is once it was read and played: its record and its trace, the canonical script, stated facts and notes.
+#![tactic(auto)]
+
+mod notes;
+mod record;
+mod text;
+mod trace;
+mod writing;
+
+pub use notes::{Clock, NoteName, Notes};
+pub use record::{NetRow, Record, Records, Stated};
+pub use text::Text;
+pub use trace::{Moves, Places, Play, Trace};
+pub use writing::{Keep, Quantity, Unspelled, WriteRefusal};

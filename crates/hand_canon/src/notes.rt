@@ -1,0 +1,57 @@
+//! Notes are what a record says of a hand beside its play: who played it, where and when.
+use crate::text::Text;
+
+/// A time of a day.
+#[derive(Clone, Copy, Debug, PartialEq, Eq)]
+pub struct Clock {
+    /// 0 to 23.
+    pub hour: u8,
+    /// 0 to 59.
+    pub minute: u8,
+    /// 0 to 59.
+    pub second: u8,
+    /// 0 to 999,999,999.
+    pub nano: u32,
+}
+
+/// The notes of a hand. A note that equals its default, which a reader takes where nothing is said, is `None`.
+#[derive(Debug, Drop)]
+pub struct Notes {
+    /// The names of the players, the first seat's at index 0. The default of seat 2 is `p2`.
+    pub names: [Option<Text>; 10],
+    /// The numbers of the seats at the table, and 0 past the last seat. By default 1, 2 and so on.
+    pub seats: Option<[u8; 10]>,
+    /// How many seats the table has. By default as many as the hand.
+    pub seat_count: Option<u8>,
+    /// The name of the hand. By default its place in its file, from 0, in decimal digits.
+    pub hand: Option<Text>,
+    /// The name of the table. This and the texts below are empty by default.
+    pub table: Option<Text>,
+    pub venue: Option<Text>,
+    pub currency: Option<Text>,
+    /// 1 to 9999.
+    pub year: Option<u16>,
+    /// 1 to 12.
+    pub month: Option<u8>,
+    /// 1 to 31.
+    pub day: Option<u8>,
+    pub time: Option<Clock>,
+    pub zone: Option<Text>,
+}
+
+/// What a note is called, in the order in which notations try them.
+#[derive(Clone, Copy, Debug, PartialEq, Eq)]
+pub enum NoteName {
+    Players,
+    Seats,
+    SeatCount,
+    Hand,
+    Table,
+    Venue,
+    Currency,
+    TimeZone,
+    Year,
+    Month,
+    Day,
+    Time,
+}

@@ -1,0 +1,138 @@
+//! A record is what a notation says of one hand.
+ghost use Rattle.std.specs.Prelude.{◌≡◌, ◌≢◌, ◌≤◌, ℕ, pos, length, slice_index_or};
+
+use crate::notes::Notes;
+use card_set::Memory;
+use chip_ledger::{Seat, SeatRow};
+use play_event::{Rules, Script, Setup};
+use std::alloc::Global;
+use std::marker::Model;
+
+/// What each seat won or lost, in chips. The first seat's is at index 0, and 0 is the filler.
+#[derive(Clone, Copy, Debug, PartialEq, Eq)]
+pub struct NetRow {
+    pub seats: u8,
+    pub nets: [i64; 10],
+    pub ghost greatest: { seats ≤ 10 },
+    pub ghost full: { length nets ≡ 10 },
+    pub ghost filler: { (k : ℕ) → seats ≤ k → slice_index_or nets k (pos 0) ≡ pos 0 },
+}
+
+impl NetRow {
+    ghost use Rattle.hand_canon.specs.NetRow.{net_of};
+
+    /// A row of so many seats, each with 0.
+    pub fn new(seats: u8) -> Self
+        requires { seats ≤ 10 }
+        ensures seats { result.seats ≡ seats }
+        ensures all_zero { (n : ℕ) → net_of result n ≡ pos 0 }
+    {
+        NetRow {
+            seats,
+            nets: [0; 10],
+        }
+    }
+
+    /// What the seat won or lost.
+    pub fn get(&self, seat: Seat) -> i64
+        requires { seat.number ≤ self.now.seats }
+        ensures { result ≡ net_of self.now seat.number }
+    {
+        self.nets[seat.number as usize - 1]
+    }
+
+    /// Gives the seat this number.
+    pub fn set(&mut self, seat: Seat, net: i64)
+        requires { seat.number ≤ self.old.seats }
+        ensures seats { self.new.seats ≡ self.old.seats }
+        ensures net { net_of self.new seat.number ≡ net }
+        ensures others { (n : ℕ)
+            → 1 ≤ n → n ≢ seat.number → net_of self.new n ≡ net_of self.old n }
+    {
+        self.nets[seat.number as usize - 1] = net;
+    }
+}
+
+/// What a record states of the end of a hand, in chips. `None` states nothing.
+#[derive(Clone, Copy, Debug, PartialEq, Eq)]
+pub struct Stated {
+    /// The finishing stacks.
+    pub finish: Option<SeatRow>,
+    /// What each seat is paid of the pots, returns not counted.
+    pub wins: Option<SeatRow>,
+    /// All pots together, returns not counted.
+    pub pot_total: Option<u64>,
+    /// The finishing stacks less the starting stacks.
+    pub values: Option<NetRow>,
+}
+
+/// One hand as a notation says it.
+#[derive(Debug, Drop)]
+pub struct Record {
+    pub setup: Setup,
+    pub rules: Rules,
+    pub script: Script,
+    pub stated: Stated,
+    pub notes: Notes,
+}
+
+/// The records of a file, in order.
+#[derive(Debug, Drop)]
+pub struct Records {
+    records: Vec<Record>,
+}
+
+impl Model for Records {
+    ghost use Rattle.std.specs.Prelude.{List};
+    ghost use Rattle.hand_canon.specs.declared.record.Record.{Record};
+
+    ghost Value = { List Record };
+
+    ghost view = { λ r. r.records.items };
+}
+
+impl Records {
+    ghost use Rattle.std.specs.Prelude.{◌<◌, [], ◌∷◌, ◌++◌, slice_get, Some, OnOk, OnErr};
+
+    /// No records.
+    pub fn new(alloc: Global) -> Self
+        ensures { result ≡ [] }
+    {
+        Records {
+            records: Vec::new(alloc),
+        }
+    }
+
+    /// Puts a record after the others. Without memory for it they stay as they were, and the record is dropped.
+    pub fn push(&mut self, item: Record) -> Result<(), Memory>
+        ensures pushed { OnOk result (self.new ≡ self.old ++ item ∷ []) }
+        ensures unchanged { OnErr result (self.new ≡ self.old) }
+    {
+        match self.records.push(item) {
+            Ok(()) => Ok(()),
+            Err(_) => Err(Memory),
+        }
+    }
+
+    /// The record at this index, from 0. Ask first that the index is below `len`.
+    pub fn get(&self, index: usize) -> &Record
+        requires { index < length self.now }
+        ensures { slice_get self.now index ≡ Some result.now }
+    {
+        &self.records[index]
+    }
+
+    /// How many records there are.
+    pub fn len(&self) -> usize
+        ensures { result ≡ length self.now }
+    {
+        self.records.len()
+    }
+
+    /// The same records as a vector.
+    pub fn into_vec(self) -> Vec<Record>
+        ensures { result.items ≡ self }
+    {
+        self.records
+    }
+}

@@ -1,0 +1,37 @@
+//! A text is a copy of the one that it was made from.
+use card_set::Memory;
+use std::alloc::Global;
+use std::marker::Model;
+
+/// A text of a note, or of the place of a fault.
+#[derive(Debug, Drop)]
+pub struct Text {
+    text: String,
+}
+
+impl Model for Text {
+    ghost use Rattle.std.specs.Prelude.{ℕ, List, string_bytes};
+
+    ghost Value = { List ℕ };
+
+    ghost view = { λ t. string_bytes t.text };
+}
+
+impl Text {
+    ghost use Rattle.std.specs.Prelude.{◌≡◌, IfOk};
+
+    /// A copy of the text.
+    pub fn new(alloc: Global, text: &str) -> Result<Self, Memory>
+        ensures { IfOk result (λ copy. copy ≡ text.now) }
+    {
+        let text = text.to_owned(alloc)?;
+        Ok(Text { text })
+    }
+
+    /// The text.
+    pub fn as_str(&self) -> &str
+        ensures { result.now ≡ self.now }
+    {
+        self.text.as_str()
+    }
+}
