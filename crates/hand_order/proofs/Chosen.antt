@@ -1,11 +1,8 @@
 -- One card more is chosen, or left.
-use Rattle.std.proofs.Common.{◌≡◌, ◌==◌, false, ℕ, zero, suc, ◌+◌, ◌-◌, ◌<◌, ◌≤◌, List, [], ◌∷◌, ◌++◌, map, drop, get_or, length-take, Option, None, inl, refl, sym, ◌∙◌, ap, subst, arith, append_assoc, append-nil}
+use Rattle.std.proofs.Common.{◌≡◌, ℕ, zero, suc, ◌+◌, ◌-◌, ◌<◌, ◌≤◌, List, [], ◌∷◌, ◌++◌, map, drop, get_or, length-take, Option, None, inl, refl, sym, ◌∙◌, ap, subst, arith, append_assoc, append-nil}
 use Rattle.std.proofs.lemmas.List.{drop_more, get_or-take, drop_all}
 use Rattle.card_set.specs.declared.card.Card.{Card}
 use Rattle.card_set.specs.declared.row.CardRow.{CardRow}
-use Rattle.std.specs.List.{list_all}
-use Rattle.card_set.specs.Deck.{suits_before}
-use Rattle.card_set.specs.Ranks.{is_one_suit}
 use Rattle.card_set.specs.Row.{cards_of}
 use Rattle.card_set.specs.Filler.{filler_card}
 use Rattle.hand_order.specs.Choices.{choices, choices_of_both, IsAmong}
@@ -79,12 +76,3 @@ greatest_of_both points start n first m second none =
     ap (λ (l : List Card). greatest (λ more. points ((l ++ chosen) ++ more)) (choices m second)) none
     ∙ sym (greatest-map points (λ others. chosen ++ others) (choices m second)))
     ∙ sym (greatest-flat_map points (λ chosen. map (λ others. chosen ++ others) (choices m second)) (choices n first))
-
--- a row without cards is of no suit, and another is of one where all its cards have the suit of the first
-pub no_suit : (row : CardRow) → row.len ≡ 0 → is_one_suit (cards_of row) ≡ false
-no_suit row none = ap is_one_suit (drop-past row 0 (omega arith))
-
-pub suit_of_first : (row : CardRow) → 0 < row.len → is_one_suit (cards_of row) ≡ list_all (λ other. suits_before other.suit == suits_before (get_or row.cards 0 filler_card).suit) (cards_of row)
-suit_of_first row some =
-    let e = drop-row row 0 some in
-    ap is_one_suit e ∙ ap (list_all (λ other. suits_before other.suit == suits_before (get_or row.cards 0 filler_card).suit)) (sym e)

@@ -4,11 +4,7 @@ use Rattle.std.proofs.lemmas.Bool.{cases_lt}
 use Rattle.std.proofs.lemmas.List.Sums.{fold-append}
 use Rattle.card_set.specs.Classes.{IsLower}
 use Rattle.hand_order.specs.Digits.{with_digits, class_above}
-
--- each digit is below sixteen
-abbrev pub AreDigits : List ℕ → Type 0
-AreDigits [] = Unit {0}
-AreDigits (x ∷ xs) = (x < 16) × AreDigits xs
+pub use Rattle.hand_order.specs.Digits.{AreDigits}
 
 pub with_digits-append : (value : ℕ) (xs ys : List ℕ) → with_digits value (xs ++ ys) ≡ with_digits (with_digits value xs) ys
 unfolding with_digits

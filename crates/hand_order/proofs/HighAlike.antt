@@ -1,5 +1,5 @@
 -- The points of a high hand do not depend on the order of its cards.
-use Rattle.std.proofs.Common.{◌||◌, ◌-◌, ℕ, cond, [], ◌∷◌, Some, arith}
+use Rattle.std.proofs.Common.{◌||◌, ◌-◌, cond, [], ◌∷◌, Some, arith}
 use Rattle.card_set.specs.Classes.{place}
 use Rattle.card_set.specs.Ranks.{high_ace}
 use Rattle.hand_order.specs.declared.straights.LowStraight.{LowStraight}

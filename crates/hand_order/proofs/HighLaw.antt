@@ -1,16 +1,15 @@
 -- In a class of the high order all hands have as many ranks that decide, so numbers of hands compare as hands do.
-use Rattle.std.proofs.Common.{◌≡◌, ℕ, ◌+◌, ◌-◌, ◌*◌, ◌^◌, ◌<◌, ◌≤◌, ◌==◌, ◌||◌, Bool, true, false, cond, List, [], ◌∷◌, length, get_or, inl, inr, ◌↔◌, refl, sym, ◌∙◌, ap, arith}
+use Rattle.std.proofs.Common.{◌≡◌, ℕ, ◌+◌, ◌*◌, ◌^◌, ◌<◌, ◌≤◌, ◌==◌, ◌||◌, Bool, true, false, cond, List, [], ◌∷◌, length, get_or, inl, inr, ◌↔◌, refl, sym, ◌∙◌, ap, arith}
 use Rattle.std.proofs.lemmas.Bool.{or_cases}
 use Rattle.card_set.specs.declared.card.Card.{Card}
 use Rattle.card_set.specs.Classes.{place}
 use Rattle.card_set.specs.Ranks.{high_ace, ranks_occurring, ranks_of, is_one_suit}
 use Rattle.card_set.proofs.Counted.{IsHeight-high_ace, few_times, counted, all_once, once_in_suit, length-ranks_of, ranks_of-le}
 use Rattle.hand_order.specs.declared.straights.LowStraight.{LowStraight}
+use Rattle.hand_order.specs.declared.ladder.FlushPlace.TheVariants as flushes
 use Rattle.hand_order.specs.Choices.{AreHeld}
-use Rattle.hand_order.specs.Digits.{class_above, with_digits}
-use Rattle.hand_order.specs.declared.look.Look.{Look}
-use Rattle.hand_order.specs.Look.{IsLookOf}
-use Rattle.hand_order.specs.Heights.{heights_of}
+use Rattle.hand_order.specs.Ladder.{ladder_points}
+use Rattle.hand_order.specs.Digits.{with_digits}
 use Rattle.hand_order.specs.Straights.{is_run, is_low_straight, is_straight, straight_top, deciding_ranks, high_class, high_points, IsWeakerHigh}
 use Rattle.hand_order.specs.Tables.{high_table}
 use Rattle.hand_order.proofs.Digits.{AreDigits, number_below}
@@ -141,14 +140,7 @@ high_ordered low a b held_a held_b = ranked_law (high_class low) (deciding_ranks
 pub high_below : (low : LowStraight) (cards : List Card) → AreHeld 5 cards → high_points low cards < 16 ^ 6
 high_below low cards held = let below = decide_below low cards held.0 in omega arith
 
--- a class by any table and a list that are seen of the cards make a number
-pub table_number_is : (table : ℕ → ℕ → ℕ → Bool → Bool → List Bool) (low : LowStraight) (cards : List Card) (look : Look) (class : ℕ) (list : List ℕ) → IsLookOf look low cards → class ≡ 8 - place (table look.fours look.threes look.pairs look.straight look.flush) → list ≡ heights_of look.deciding
-    → class_above class list ≡ class_above (8 - place (table (ranks_occurring high_ace cards 4) (ranks_occurring high_ace cards 3) (ranks_occurring high_ace cards 2) (is_straight low cards) (is_one_suit cards))) (deciding_ranks low cards)
-table_number_is table low cards look class list is class_is list_is =
-    ap (λ (l : List ℕ). class_above class l) (list_is ∙ is.deciding)
-    ∙ ap (λ (k : ℕ). class_above k (deciding_ranks low cards)) (class_is
-    ∙ ap (λ (k : ℕ). 8 - place (table k look.threes look.pairs look.straight look.flush)) is.fours
-    ∙ ap (λ (k : ℕ). 8 - place (table (ranks_occurring high_ace cards 4) k look.pairs look.straight look.flush)) is.threes
-    ∙ ap (λ (k : ℕ). 8 - place (table (ranks_occurring high_ace cards 4) (ranks_occurring high_ace cards 3) k look.straight look.flush)) is.pairs
-    ∙ ap (λ (k : Bool). 8 - place (table (ranks_occurring high_ace cards 4) (ranks_occurring high_ace cards 3) (ranks_occurring high_ace cards 2) k look.flush)) is.straight
-    ∙ ap (λ (k : Bool). 8 - place (table (ranks_occurring high_ace cards 4) (ranks_occurring high_ace cards 3) (ranks_occurring high_ace cards 2) (is_straight low cards) k)) is.flush)
+-- the points of the ladder with a flush below a full house are those of the high order
+pub ladder_high : (low : LowStraight) (cards : List Card) → ladder_points flushes.BelowFullHouse low cards ≡ high_points low cards
+unfolding high_class
+ladder_high low cards = refl

@@ -1,15 +1,13 @@
 -- Two lists of the same different cards have the same choices, each maybe in another order.
-use Rattle.std.proofs.Common.{◌≡◌, ℕ, zero, suc, ◌<◌, ◌≤◌, ◌&&◌, ◌||◌, Bool, true, false, cond, List, [], ◌∷◌, ◌++◌, map, length, filter, Option, Some, None, ◌⊎◌, inl, inr, refl, sym, ◌∙◌, ap, subst, arith}
-use Rattle.std.proofs.lemmas.Bool.{and_parts, or_cases}
-use Rattle.std.proofs.lemmas.Option.{same_Some}
+use Rattle.std.proofs.Common.{◌≡◌, ℕ, zero, suc, ◌<◌, ◌&&◌, ◌||◌, Bool, true, false, cond, List, [], ◌∷◌, ◌++◌, map, length, filter, Option, Some, None, inl, inr, refl, sym, ◌∙◌, ap, subst, arith}
+use Rattle.std.proofs.lemmas.Bool.{or_cases}
 use Rattle.card_set.specs.declared.card.Card.{Card}
 use Rattle.card_set.specs.CardSet.{AreSameCards, is_one_of}
 use Rattle.card_set.specs.Deck.{is_same_card}
 use Rattle.card_set.specs.Different.{Every, AllDifferent}
-use Rattle.card_set.proofs.Counted.{passes_or_not}
 use Rattle.card_set.proofs.DeckLaws.{is_same_card-self, is_same_card-true}
 use Rattle.card_set.proofs.Listing.{is_one_of-filter, kept_different, length-same}
-use Rattle.hand_order.specs.Choices.{choices, IsAmong, AreAlike, AreHeld}
+use Rattle.hand_order.specs.Choices.{choices, IsAmong, AreAlike}
 use Rattle.hand_order.specs.Points.{greatest}
 use Rattle.hand_order.proofs.Greatest.{IsAmong-left, IsAmong-right, IsAmong-map, Says, says_greatest}
 use Rattle.hand_order.proofs.Held.{every_chosen, held_chosen}

@@ -1,5 +1,5 @@
 -- The number that a class and a list of heights make, each height a digit to the base 16.
-use Rattle.std.specs.Prelude.{ℕ, ◌+◌, ◌*◌, ◌^◌, List, fold}
+use Rattle.std.specs.Prelude.{ℕ, ◌+◌, ◌*◌, ◌^◌, ◌<◌, List, [], ◌∷◌, fold}
 
 -- the number with these digits after those of another
 unfoldable pub with_digits : ℕ → List ℕ → ℕ
@@ -8,3 +8,8 @@ with_digits value digits = fold (λ sofar digit. sofar * 16 + digit) value digit
 -- a class above five digits
 abbrev pub class_above : ℕ → List ℕ → ℕ
 class_above class digits = class * 16 ^ 5 + with_digits 0 digits
+
+-- each digit is below sixteen
+abbrev pub AreDigits : List ℕ → Type 0
+AreDigits [] = Unit {0}
+AreDigits (digit ∷ digits) = (digit < 16) × AreDigits digits

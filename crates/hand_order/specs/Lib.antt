@@ -3,8 +3,12 @@ pub mod Choices
 pub mod Digits
 pub mod Height
 pub mod Heights
-pub mod Look
+pub mod Ladder
 pub mod Order
+pub mod Picks
 pub mod Points
+pub mod StraightRanks
 pub mod Straights
+pub mod SuitBest
 pub mod Tables
+pub mod Tops

@@ -2,14 +2,19 @@
 #![tactic(auto)]
 
 mod best;
-mod look;
+mod high;
+mod ladder;
+mod levels;
+mod mask;
 mod order;
+mod pattern;
 mod ranks;
 mod row;
 mod straights;
 
 pub use best::{Judge, Pick, best_choice, best_listed, best_of, better_score};
-pub use look::{Look, high_number, look_at};
+pub use high::{best_high, hand_points};
+pub use ladder::FlushPlace;
 pub use order::{HandOrder, Score};
 pub use ranks::{Ace, class_above, count_of_ranks, height_of, ranks_of};
 pub use row::RankRow;

@@ -1,14 +1,10 @@
-// Straights and flushes of five cards, and the number of a hand in the high order.
-ghost use Rattle.std.specs.Prelude.{◌≡◌, ◌==◌, ◌||◌, [], ◌∷◌, if◌then◌else◌};
-ghost use Rattle.std.specs.List.{list_all};
-ghost use Rattle.card_set.specs.Row.{cards_of};
-ghost use Rattle.card_set.specs.Deck.{suits_before};
-ghost use Rattle.card_set.specs.Ranks.{is_one_suit};
-ghost use Rattle.hand_order.specs.Heights.{heights_of};
-ghost use Rattle.hand_order.specs.Straights.{is_low_straight, is_run, straight_top};
+// Straights by the mask of the ranks that occur: five bits in a row, or those of the straight that the ace begins.
+ghost use Rattle.std.specs.Prelude.{◌≡◌, ◌≤◌, ◌<◌, ◌==◌, ◌&&◌, ◌⊎◌, ◌↔◌, ◌+◌, ◌^◌, ℕ};
+ghost use Rattle.std.specs.Int.{bit_at};
+ghost use Rattle.hand_order.specs.StraightRanks.{HasLow, HasRun, HasStraight, IsRunFrom};
+ghost use Rattle.hand_order.specs.Tops.{Shows};
 
-use crate::row::RankRow;
-use card_set::{Card, CardRow, Suit, place_of_suit};
+use crate::mask::top;
 
 /// Which straight the ace begins, beside the one that it ends.
 #[derive(Clone, Copy, Debug, PartialEq, Eq)]
@@ -21,82 +17,63 @@ pub enum LowStraight {
     Nothing,
 }
 
-/// Whether the cards are of one suit.
-pub fn is_flush(cards: &CardRow) -> bool
-    ensures { result ≡ is_one_suit (cards_of cards.now) }
+/// The top of the best straight among the ranks of a mask, 0 where there is none.
+pub fn top_straight(mask: u16, low: LowStraight) -> u8
+    ensures most { (T : ℕ → ℕ) (top : ℕ) → Shows mask 1 T → HasStraight low T top → top ≤ result }
+    ensures found { (T : ℕ → ℕ) → Shows mask 1 T → (result ≡ 0) ⊎ HasStraight low T result }
 {
-    if cards.len == 0 {
-        return false;
+    top_run(mask).max(top_low(mask, low))
+}
+
+// The top of the highest five ranks in a row, 0 where there are none.
+fn top_run(mask: u16) -> u8
+    ensures most { (T : ℕ → ℕ) (top : ℕ) → Shows mask 1 T → HasRun T top → top ≤ result }
+    ensures found { (T : ℕ → ℕ) → Shows mask 1 T → (result ≡ 0) ⊎ HasRun T result }
+{
+    let runs = runs_of(mask);
+    if runs == 0 {
+        return 0;
     }
-    are_of_suit(cards.as_slice(), cards.cards[0].suit)
+    top(runs) as u8 + 6
 }
 
-// Whether each card is of the suit.
-fn are_of_suit(cards: &[Card], suit: Suit) -> bool
-    ensures { result ≡ list_all (λ card. suits_before card.suit == suits_before suit) cards.now }
+// The places from which five bits in a row are set: a mask that is moved down by one has a bit where the next was set.
+fn runs_of(mask: u16) -> u16
+    ensures bits { (k : ℕ) → (bit_at result k ≡ 1) ↔ IsRunFrom mask k }
+    ensures within { result < 2 ^ 16 }
 {
-    cards
-        .iter()
-        .all(|card| place_of_suit(card.suit) == place_of_suit(suit))
+    mask & mask >> 1 & mask >> 2 & mask >> 3 & mask >> 4
 }
 
-// Five heights, each one above the next.
-fn runs_down(heights: &[u8]) -> bool
-    ensures { result ≡ is_run heights.now }
+// The top of the straight that the ace begins, 0 where its ranks are not all there.
+fn top_low(mask: u16, low: LowStraight) -> u8
+    ensures most { (T : ℕ → ℕ) (top : ℕ) → Shows mask 1 T → HasLow low T top → top ≤ result }
+    ensures found { (T : ℕ → ℕ) → Shows mask 1 T → (result ≡ 0) ⊎ HasLow low T result }
 {
-    match heights {
-        [a, b, c, d, e] => u16::from(*a) == u16::from(*b) + 1
-            && u16::from(*b) == u16::from(*c) + 1
-            && u16::from(*c) == u16::from(*d) + 1
-            && u16::from(*d) == u16::from(*e) + 1,
-        _ => false,
-    }
-}
-
-// The straight that the ace begins.
-fn begins_with_ace(low: LowStraight, heights: &[u8]) -> bool
-    ensures { result ≡ is_low_straight low heights.now }
-{
-    match heights {
-        [a, b, c, d, e] => match low {
-            LowStraight::FiveHigh => *a == 14 && *b == 5 && *c == 4 && *d == 3 && *e == 2,
-            LowStraight::NineHigh => *a == 14 && *b == 9 && *c == 8 && *d == 7 && *e == 6,
-            LowStraight::Nothing => false,
-        },
-        _ => false,
+    match low {
+        LowStraight::FiveHigh => if has_ace_and_four(mask, 0) { 5 } else { 0 },
+        LowStraight::NineHigh => if has_ace_and_four(mask, 4) { 9 } else { 0 },
+        LowStraight::Nothing => 0,
     }
 }
 
-// The top of a straight.
-fn top_of(heights: &[u8]) -> u8
-    ensures { result ≡ straight_top heights.now }
+// Whether the ace is set, and the four bits from one up.
+fn has_ace_and_four(mask: u16, least: u32) -> bool
+    requires { least ≤ 8 }
+    ensures { result ≡ (bit_at mask 12 == 1 && bit_at mask least == 1 && bit_at mask (least + 1) == 1
+        && bit_at mask (least + 2) == 1 && bit_at mask (least + 3) == 1) }
 {
-    match heights {
-        [a, b, ..] => if u16::from(*a) == u16::from(*b) + 1 {
-            *a
-        } else {
-            *b
-        },
-        _ => 0,
-    }
+    has(mask, 12)
+        && has(mask, least)
+        && has(mask, least + 1)
+        && has(mask, least + 2)
+        && has(mask, least + 3)
 }
 
-/// Whether the ranks of five cards are a straight, where the ace begins this one or none.
-pub fn is_straight(ranks: &RankRow, low: LowStraight) -> bool
-    ensures { result ≡ (is_run (heights_of ranks.now) || is_low_straight low (heights_of ranks.now)) }
+// Whether a bit is set.
+fn has(mask: u16, place: u32) -> bool
+    requires { place < 16 }
+    ensures { result ≡ (bit_at mask place == 1) }
 {
-    runs_down(ranks.as_slice()) || begins_with_ace(low, ranks.as_slice())
-}
-
-/// The ranks that decide within a class: the top of a straight alone, else all.
-pub fn deciding_of(ranks: RankRow, straight: bool) -> RankRow
-    ensures { heights_of result
-        ≡ (if straight then straight_top (heights_of ranks) ∷ [] else heights_of ranks) }
-{
-    if !straight {
-        return ranks;
-    }
-    let mut top = RankRow::new();
-    top.push(top_of(ranks.as_slice()));
-    top
+    mask >> place & 1 == 1
 }

@@ -1,2 +1,2 @@
-pub mod ShortAlike
+pub mod Ladders
 pub mod UpHighLaw

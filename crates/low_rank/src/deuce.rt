@@ -5,7 +5,7 @@ ghost use Rattle.hand_order.specs.Choices.{AreHeld};
 ghost use Rattle.low_rank.specs.DeuceSeven.{points};
 
 use card_set::{CardRow, CardSet};
-use hand_order::{HandOrder, Judge, LowStraight, Score, best_listed, high_number};
+use hand_order::{FlushPlace, HandOrder, Judge, LowStraight, Score, best_listed, hand_points};
 
 /// The order of deuce-to-seven draw. The ace is always high, so A2345 is no straight.
 #[derive(Clone, Copy, Debug)]
@@ -42,7 +42,7 @@ fn deuce_score(cards: &CardRow) -> Score
     ensures { Some result.points ≡ points (cards_of cards.now) }
 {
     Score {
-        points: 0x100_0000 - high_number(cards, LowStraight::Nothing),
+        points: 0x100_0000 - hand_points(cards, LowStraight::Nothing, FlushPlace::BelowFullHouse),
     }
 }
 

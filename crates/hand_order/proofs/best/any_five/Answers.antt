@@ -1,7 +1,5 @@
-use Rattle.std.proofs.Common.{ℕ, ◌++◌, inl, sym, ap, subst, arith, ◌∙◌, length-append}
-use Rattle.card_set.specs.CardSet.{IsListing}
+use Rattle.std.proofs.Common.{ℕ, ◌++◌, inl, ap, arith, ◌∙◌, length-append}
 use Rattle.card_set.specs.Row.{cards_of}
-use Rattle.card_set.specs.Different.{AllDifferent}
 use Rattle.hand_order.specs.Choices.{choices}
 use Rattle.hand_order.specs.Points.{greatest}
 use Rattle.hand_order.proofs.SetChoices.{listing_of, count_of-row}

@@ -1,12 +1,11 @@
 use Rattle.std.proofs.Common.{arith}
 use Rattle.card_set.specs.CardSet.{count_of}
-use Rattle.hand_order.specs.declared.straights.LowStraight.TheVariants as straights
-use Rattle.hand_order.proofs.HighAlike.{high_alike}
-use Rattle.hand_order.proofs.SetChoices.{few_to_choose}
+use Rattle.hand_order.proofs.SetChoices.{enough_to_choose}
+use Rattle.high_rank.proofs.Ladders.{high_best}
 use Rattle.high_rank.proofs.whole_deck.HighHandOrder.best_set.Goals as goal
 
-pub best_listed-requires-clause-few : goal.best_listed-requires-clause-few
-best_listed-requires-clause-few c = few_to_choose 5 (count_of c.args.cards.now) (omega arith) c.requires
+pub best_high-requires : goal.best_high-requires
+best_high-requires c = enough_to_choose 5 (count_of c.args.cards.now) c.requires
 
-pub best_listed-requires-clause-alike : goal.best_listed-requires-clause-alike
-best_listed-requires-clause-alike c = high_alike straights.FiveHigh
+pub returns : goal.returns
+returns c = λ listing lists. high_best c.best_high.result listing (c.best_high.ensures listing lists)

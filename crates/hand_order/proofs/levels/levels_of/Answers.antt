@@ -1,0 +1,14 @@
+use Rattle.hand_order.proofs.LevelLaws.{all_level, two_level, three_level, four_level}
+use Rattle.hand_order.proofs.levels.levels_of.Goals as goal
+
+pub returns-clause-all : goal.returns-clause-all
+returns-clause-all c = λ k. all_level c.args.c c.args.d c.args.h c.args.s k
+
+pub returns-clause-two : goal.returns-clause-two
+returns-clause-two c = λ k. two_level c.args.c c.args.d c.args.h c.args.s k
+
+pub returns-clause-three : goal.returns-clause-three
+returns-clause-three c = λ k. three_level c.args.c c.args.d c.args.h c.args.s k
+
+pub returns-clause-four : goal.returns-clause-four
+returns-clause-four c = λ k. four_level c.args.c c.args.d c.args.h c.args.s k

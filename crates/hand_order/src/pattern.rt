@@ -1,0 +1,65 @@
+// The best pattern of ranks, without straights and flushes.
+ghost use Rattle.std.specs.Prelude.{ℕ};
+ghost use Rattle.hand_order.specs.Heights.{heights_of};
+ghost use Rattle.hand_order.specs.Tops.{Shows};
+ghost use Rattle.hand_order.specs.Picks.{AreCounts, IsBestPattern};
+
+use crate::mask::{clear, top, with_tops};
+use crate::row::RankRow;
+
+/// A class and the ranks that decide within it.
+#[derive(Clone, Copy, Debug)]
+pub struct Found {
+    pub class: u32,
+    pub ranks: RankRow,
+}
+
+/// The best pattern, by the masks of the ranks that occur at least once, twice, three and four times.
+pub fn best_pattern(all: u16, two: u16, three: u16, four: u16) -> Found
+    ensures { (T : ℕ → ℕ) → AreCounts T → Shows all 1 T → Shows two 2 T → Shows three 3 T → Shows four 4 T
+        → IsBestPattern T result.class (heights_of result.ranks) }
+{
+    let mut ranks = RankRow::new();
+    if four != 0 {
+        let first = top(four);
+        ranks.push(first as u8 + 2);
+        return Found {
+            class: 7,
+            ranks: with_tops(ranks, clear(all, first), 1),
+        };
+    }
+    if three != 0 {
+        let first = top(three);
+        ranks.push(first as u8 + 2);
+        let more = clear(two, first);
+        if more != 0 {
+            ranks.push(top(more) as u8 + 2);
+            return Found { class: 6, ranks };
+        }
+        return Found {
+            class: 3,
+            ranks: with_tops(ranks, clear(all, first), 2),
+        };
+    }
+    if two != 0 {
+        let first = top(two);
+        ranks.push(first as u8 + 2);
+        let more = clear(two, first);
+        if more != 0 {
+            let second = top(more);
+            ranks.push(second as u8 + 2);
+            return Found {
+                class: 2,
+                ranks: with_tops(ranks, clear(clear(all, first), second), 1),
+            };
+        }
+        return Found {
+            class: 1,
+            ranks: with_tops(ranks, clear(all, first), 3),
+        };
+    }
+    Found {
+        class: 0,
+        ranks: with_tops(ranks, all, 5),
+    }
+}
