@@ -1,2 +1,9 @@
--- What the rows of a record and of a trace say.
+-- What a trace keeps of a hand, its canonical script, what is tidy, which notes are allowed, and what stated facts are
+-- compared with.
 pub mod NetRow
+pub mod TraceCore
+pub mod CanonScript
+pub mod TraceRows
+pub mod Tidy
+pub mod AllowedNotes
+pub mod Agreement

@@ -1,20 +1,9 @@
-//! What a record may have too many of, and what of a play a notation may have no spelling for.
+//! A play is written whole or not at all: what of it a notation may have no spelling for.
 ghost use Rattle.std.specs.Prelude.{◌≡◌};
 ghost use Rattle.hand_canon.specs.declared.writing.WriteRefusal.TheVariants as refusals;
 
 use crate::notes::NoteName;
 use std::alloc::{AllocError, AllocFailed};
-
-/// What has a greatest number: the hands of a file, the moves and the other events of a hand, the moves of a file, and
-/// the bytes of a note's text.
-#[derive(Clone, Copy, Debug, PartialEq, Eq)]
-pub enum Quantity {
-    Hands,
-    Moves,
-    OtherEvents,
-    FileMoves,
-    TextBytes,
-}
 
 /// A fact of a play that a notation cannot spell, in the order in which they are tried.
 #[derive(Clone, Copy, Debug, PartialEq, Eq)]

@@ -1,0 +1,100 @@
+-- What a record states of the end of a hand, beside what its trace comes to, and the first number that differs.
+use Rattle.std.specs.Prelude.{◌≡◌, ℕ, ℤ, pos, ◌-ℤ◌, ◌≤◌, Bool, not, List, [], ◌∷◌, ◌++◌, map, find, sum_by, Option, Some, None, All}
+use Rattle.std.specs.Option.{ForSome, option_map_or}
+use Rattle.std.specs.Ordering.{int_eq}
+use Rattle.chip_ledger.specs.declared.pots.Pot.{Pot}
+use Rattle.chip_ledger.specs.declared.rows.SeatRow.{SeatRow}
+use Rattle.chip_ledger.specs.declared.rows.TheConstants.{MOST_AMOUNT}
+use Rattle.chip_ledger.specs.PotRow.{pots_in, shares_in}
+use Rattle.chip_ledger.specs.SeatRow.{amount_of}
+use Rattle.play_event.specs.Seats.{all_seats}
+use Rattle.hand_canon.specs.declared.agreement.FactDiffers.{FactDiffers}
+use Rattle.hand_canon.specs.declared.agreement.Which.{Which}
+use Rattle.hand_canon.specs.declared.agreement.Which.TheVariants as whiches
+use Rattle.hand_canon.specs.declared.record.NetRow.{NetRow}
+use Rattle.hand_canon.specs.declared.record.Stated.{Stated}
+use Rattle.hand_canon.specs.declared.trace.Trace.{Trace}
+use Rattle.hand_canon.specs.NetRow.{net_of}
+
+-- a fact that may be stated: a seat's finishing stack, what it wins of the pots, all pots together, what it won or lost
+pub data Fact : Type 0 where
+  Finish : ℕ → Fact
+  Win : ℕ → Fact
+  Pots : Fact
+  Value : ℕ → Fact
+
+-- a stated number beside the one that the trace comes to
+pub record Comparison : Type 0 where
+  pub fact : Fact
+  pub stated : ℤ
+  pub replayed : ℤ
+
+-- what a seat wins of the pots: its shares together
+abbrev pub win_of : Trace → ℕ → ℕ
+win_of trace seat = sum_by (λ share. amount_of share seat) (shares_in trace.shares)
+
+-- all pots together, rakes counted and returns not
+abbrev pub pot_total_of : Trace → ℕ
+pot_total_of trace = sum_by (λ pot. pot.chips) (pots_in trace.pots)
+
+-- what a seat won or lost: its finishing stack less its starting stack
+abbrev pub value_of : Trace → ℕ → ℤ
+value_of trace seat = pos (amount_of trace.finish seat) -ℤ pos (amount_of trace.setup.stacks seat)
+
+-- a stated finishing stack
+abbrev pub finish_compared : Trace → SeatRow → ℕ → Comparison
+finish_compared trace row seat = record { fact = Finish seat; stated = pos (amount_of row seat); replayed = pos (amount_of trace.finish seat) }
+
+-- a stated win
+abbrev pub win_compared : Trace → SeatRow → ℕ → Comparison
+win_compared trace row seat = record { fact = Win seat; stated = pos (amount_of row seat); replayed = pos (win_of trace seat) }
+
+-- a stated total of the pots
+abbrev pub pots_compared : Trace → ℕ → Comparison
+pots_compared trace total = record { fact = Pots; stated = pos total; replayed = pos (pot_total_of trace) }
+
+-- a stated value
+abbrev pub value_compared : Trace → NetRow → ℕ → Comparison
+value_compared trace row seat = record { fact = Value seat; stated = net_of row seat; replayed = value_of trace seat }
+
+-- what is compared of a row, seat by seat, if there is a row
+abbrev pub row_compared : {Row : Type 0} → Trace → (Trace → Row → ℕ → Comparison) → Option Row → List Comparison
+row_compared trace compared row = option_map_or (λ stated. map (compared trace stated) (all_seats trace.setup)) row []
+
+-- all that is stated, in the order in which it is compared
+abbrev pub all_compared : Trace → Stated → List Comparison
+all_compared trace stated =
+    row_compared trace finish_compared stated.finish
+    ++ (row_compared trace win_compared stated.wins
+    ++ (option_map_or (λ total. pots_compared trace total ∷ []) stated.pot_total []
+    ++ row_compared trace value_compared stated.values))
+
+-- the numbers of a comparison differ
+abbrev pub is_different : Comparison → Bool
+is_different comparison = not (int_eq comparison.stated comparison.replayed)
+
+-- the first stated fact that differs, with both numbers
+abbrev pub first_difference : Trace → Stated → Option Comparison
+first_difference trace stated = find is_different (all_compared trace stated)
+
+-- which fact is named
+abbrev pub which_said : Which → Fact
+which_said (whiches.Finish seat) = Finish seat.number
+which_said (whiches.Win seat) = Win seat.number
+which_said whiches.Pots = Pots
+which_said (whiches.Value seat) = Value seat.number
+
+-- what is said of a fact that differs
+abbrev pub difference_said : FactDiffers → Comparison
+difference_said differs = record { fact = which_said differs.which; stated = differs.stated; replayed = differs.replayed }
+
+-- what is stated fits a trace: its rows are of so many seats, and its total is no more than a row may hold
+pub record IsStatedFor (seats : ℕ) (stated : Stated) : Type 0 where
+  pub finish : ForSome stated.finish (λ row. row.seats ≡ seats)
+  pub wins : ForSome stated.wins (λ row. row.seats ≡ seats)
+  pub pot_total : ForSome stated.pot_total (λ total. total ≤ MOST_AMOUNT)
+  pub values : ForSome stated.values (λ row. row.seats ≡ seats)
+
+-- each pot has no more chips than a row may hold
+abbrev pub HasBoundedPots : Trace → Type 0
+HasBoundedPots trace = All (λ (pot : Pot). pot.chips ≤ MOST_AMOUNT) (pots_in trace.pots)

@@ -1,0 +1,73 @@
+-- Which notes may stand in a record: texts that are not too long, numbers in their range, a civil date, and no defaults.
+use Rattle.std.specs.Prelude.{◌≡◌, ◌≢◌, ℕ, ◌+◌, ◌-◌, ◌%◌, ◌≤◌, ◌==◌, ◌&&◌, ◌||◌, Bool, not, if◌then◌else◌, List, ◌++◌, codes, length, replicate, slice_index, slice_index_or, Option, None, IfSome}
+use Rattle.std.specs.Fmt.{decimal}
+use Rattle.std.specs.List.{range_with_len}
+use Rattle.hand_canon.specs.declared.limits.TheConstants.{MOST_TEXT_BYTES}
+use Rattle.hand_canon.specs.declared.notes.Clock.{Clock}
+use Rattle.hand_canon.specs.declared.notes.Notes.{Notes}
+
+-- a number lies between two others, or is one of them
+abbrev pub IsWithin : ℕ → ℕ → ℕ → Type 0
+IsWithin least most number = (least ≤ number) × (number ≤ most)
+
+-- a text of a note
+abbrev pub IsNoteText : List ℕ → Type 0
+IsNoteText text = IsWithin 1 MOST_TEXT_BYTES (length text)
+
+-- the name of a seat's player where none is said: p and the seat's number
+abbrev pub default_name : ℕ → List ℕ
+default_name seat = codes "p" ++ decimal seat
+
+-- the name of a seat's player
+pub record IsName (seat : ℕ) (name : List ℕ) : Type 0 where
+  pub text : IsNoteText name
+  pub said : name ≢ default_name seat
+
+-- the numbers of so many seats where none are said: 1, 2 and so on, and 0 past the last seat
+abbrev pub default_numbers : ℕ → List ℕ
+default_numbers count = range_with_len 1 count ++ replicate (10 - count) 0
+
+-- the numbers of so many seats at the table
+pub record AreSeatNumbers (count : ℕ) (numbers : List ℕ) : Type 0 where
+  pub each : (seat : ℕ) → 1 ≤ seat → seat ≤ count → IsWithin 1 255 (slice_index numbers (seat - 1))
+  pub no_more : (index : ℕ) → count ≤ index → slice_index numbers index ≡ 0
+  pub said : numbers ≢ default_numbers count
+
+-- how many seats the table of a hand with so many seats has
+pub record IsSeatCount (count number : ℕ) : Type 0 where
+  pub range : IsWithin 1 255 number
+  pub said : number ≢ count
+
+-- a year has a 29 February
+abbrev pub is_leap_year : ℕ → Bool
+is_leap_year year = (year % 4 == 0) && (not (year % 100 == 0) || (year % 400 == 0))
+
+-- how many days a month of a year has
+abbrev pub days_in_month : ℕ → ℕ → ℕ
+days_in_month year month =
+    if month == 2 then (if is_leap_year year then 29 else 28)
+    else (if (month == 4) || (month == 6) || (month == 9) || (month == 11) then 30 else 31)
+
+-- a time of a day
+pub record IsTime (time : Clock) : Type 0 where
+  pub hour : time.hour ≤ 23
+  pub minute : time.minute ≤ 59
+  pub second : time.second ≤ 59
+  pub nano : time.nano ≤ 999999999
+
+-- the notes of a hand with so many seats
+pub record AreAllowed (count : ℕ) (notes : Notes) : Type 0 where
+  pub names : (seat : ℕ) → 1 ≤ seat → seat ≤ count → IfSome (slice_index_or notes.names (seat - 1) None) (IsName seat)
+  pub no_more_names : (index : ℕ) → count ≤ index → slice_index_or notes.names index None ≡ None
+  pub seats : IfSome notes.seats (AreSeatNumbers count)
+  pub seat_count : IfSome notes.seat_count (IsSeatCount count)
+  pub hand : IfSome notes.hand IsNoteText
+  pub table : IfSome notes.table IsNoteText
+  pub venue : IfSome notes.venue IsNoteText
+  pub currency : IfSome notes.currency IsNoteText
+  pub year : IfSome notes.year (IsWithin 1 9999)
+  pub month : IfSome notes.month (IsWithin 1 12)
+  pub day : IfSome notes.day (IsWithin 1 31)
+  pub date : IfSome notes.year (λ year. IfSome notes.month (λ month. IfSome notes.day (λ day. day ≤ days_in_month year month)))
+  pub time : IfSome notes.time IsTime
+  pub zone : IfSome notes.zone IsNoteText
