@@ -13,12 +13,14 @@ pub fn answer_to(alloc: Global, pieces: &Pieces, row: &str) -> Result<String, Me
         words,
         input,
         files,
+        give,
+        take,
         room,
         fails,
     } = read_row(alloc, pieces, row)?;
-    let mut source = MemSource::new(input, fails.read);
+    let mut source = MemSource::in_pieces(input, give.max(1), fails.read);
     let mut shelf = MemShelf::new(files, fails.fetch);
-    let mut out = MemSink::new(alloc, room, fails.write)?;
+    let mut out = MemSink::in_pieces(alloc, room, take.max(1), fails.write)?;
     let mut diag = MemSink::new(alloc, ROOM, fails.line)?;
     let status = run(alloc, &words, &mut source, &mut shelf, &mut out, &mut diag);
     let status = status.number();

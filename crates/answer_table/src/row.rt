@@ -9,7 +9,11 @@ pub struct Row {
     pub words: Vec<String>,
     pub input: Vec<u8>,
     pub files: Vec<(String, Vec<u8>)>,
-    /// How many bytes the output takes.
+    /// The most bytes that the input gives in a call.
+    pub give: usize,
+    /// The most bytes that the output takes in a call.
+    pub take: usize,
+    /// How many bytes the output takes in all.
     pub room: usize,
     pub fails: Fails,
 }
@@ -27,8 +31,9 @@ pub struct Fails {
 pub const ROOM: usize = 1_000;
 
 /// Reads a row: words, `<`, and the input. A word that begins with `@` is none of the program, but
-/// says of a device that a call fails (`@read=1`, `@fetch=0`, `@write=0`, `@line=0`), that the
-/// output takes few bytes (`@room=10`), or that a piece lies on the shelf (`@file=NAME:PIECE`).
+/// says of a device that a call fails (`@read=1`, `@fetch=0`, `@write=0`, `@line=0`), that the input
+/// comes or the output goes in pieces (`@give=7`, `@take=5`), that the output takes few bytes
+/// (`@room=10`), or that a piece of text lies on the shelf (`@file=NAME:PIECE`).
 pub fn read_row(alloc: Global, pieces: &Pieces, row: &str) -> Result<Row, Memory> {
     let (words, input) = parted(row, "<");
     let input = input.strip_prefix(' ').unwrap_or(input);
@@ -36,6 +41,8 @@ pub fn read_row(alloc: Global, pieces: &Pieces, row: &str) -> Result<Row, Memory
         words: Vec::new(alloc),
         input: pieces.bytes_of(alloc, input)?,
         files: Vec::new(alloc),
+        give: usize::MAX,
+        take: usize::MAX,
         room: ROOM,
         fails: Fails {
             read: Vec::new(alloc),
@@ -63,6 +70,8 @@ fn read_device(alloc: Global, pieces: &Pieces, row: &mut Row, word: &str) -> Res
         b"fetch" => row.fails.fetch.push(call)?,
         b"write" => row.fails.write.push(call)?,
         b"line" => row.fails.line.push(call)?,
+        b"give" => row.give = number as usize,
+        b"take" => row.take = number as usize,
         b"room" => row.room = number as usize,
         b"file" => {
             let (name, piece) = parted(value, ":");
