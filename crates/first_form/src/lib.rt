@@ -2,9 +2,9 @@
 //! few actions.
 #![tactic(auto)]
 
-pub mod action;
-pub mod document;
-pub mod hand;
+mod action;
+mod document;
+mod hand;
 
 pub use document::read_hand;
 pub use hand::Hand;
