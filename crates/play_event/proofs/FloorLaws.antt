@@ -401,7 +401,7 @@ move_is_due setup before blinds bet =
       | inr move ↦ move
     ]
 
-raise_bet : (code : Code) (named : Option ℕ) (amount : Spelled) (due : Due) → is_due_kind code due (said.Raise named amount) ≡ true → is_bet_due due ≡ true
+pub raise_bet : (code : Code) (named : Option ℕ) (amount : Spelled) (due : Due) → is_due_kind code due (said.Raise named amount) ≡ true → is_bet_due due ≡ true
 raise_bet code named amount dues.BringIn is = refl
 raise_bet code named amount dues.Move is = refl
 raise_bet code named amount (dues.Deal street) is = is
@@ -409,11 +409,11 @@ raise_bet code named amount (dues.Draw street) is = is
 raise_bet code named amount dues.Show is = is
 raise_bet code named amount dues.Over is = is
 
-may_come_by : (kind other : Bool) → not (kind || (false && other)) ≡ false → kind ≡ true
+pub may_come_by : (kind other : Bool) → not (kind || (false && other)) ≡ false → kind ≡ true
 may_come_by true other is = refl
 may_come_by false other is = sym is
 
-not_false : (b : Bool) → not b ≡ false → b ≡ true
+pub not_false : (b : Bool) → not b ≡ false → b ≡ true
 not_false true is = refl
 not_false false is = sym is
 

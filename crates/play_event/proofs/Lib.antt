@@ -4,6 +4,7 @@ pub mod ReasonLaws
 pub mod ChipLaws
 pub mod TargetLaws
 pub mod FloorLaws
+pub mod RaiseLaws
 pub mod UpCardLaws
 pub mod Kept
 pub mod ClashLaws

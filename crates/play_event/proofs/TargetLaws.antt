@@ -231,6 +231,9 @@ module _ (reopens : Reopen) (setup : Setup) (moves : List Move) (street seat : �
 pub greatest_is_legal : (reopens : Reopen) (setup : Setup) (moves : List Move) (street seat : ℕ) → is_legal_target reopens setup moves street seat (greatest_target setup moves street seat) ≡ true
 greatest_is_legal reopens setup moves street seat = greatest_in reopens setup moves street seat (limit_of setup.code)
 
+pub none_beyond : (reopens : Reopen) (setup : Setup) (moves : List Move) (street seat target : ℕ) → is_legal_target reopens setup moves street seat target ≡ true → target ≤ greatest_target setup moves street seat
+none_beyond reopens setup moves street seat target legal = (none_outside reopens setup moves street seat (limit_of setup.code) target legal).1
+
 pub targets_end : (setup : Setup) (rules : Rules) (moves : List Move) (street seat : ℕ) → AreTargets setup rules moves street seat (least_target rules.reopen setup moves street seat) (greatest_target setup moves street seat) (all_in setup moves street seat)
 targets_end setup rules moves street seat = record {
   least_legal = least_in rules.reopen setup moves street seat (limit_of setup.code);

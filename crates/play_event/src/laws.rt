@@ -4,6 +4,7 @@ ghost use Rattle.card_set.specs.declared.card.Card.{Card};
 ghost use Rattle.card_set.specs.UpCards.{IsWeakerUpHigh, IsWeakerLow};
 ghost use Rattle.chip_ledger.specs.SeatRow.{amount_of};
 ghost use Rattle.play_event.specs.declared.event.Spelled.{Spelled};
+ghost use Rattle.play_event.specs.declared.event.Spelled.TheVariants as spelled;
 ghost use Rattle.play_event.specs.declared.reason.Due.{Due};
 ghost use Rattle.play_event.specs.declared.reason.Illegal.{Illegal};
 ghost use Rattle.play_event.specs.declared.setup.Reopen.{Reopen};
@@ -22,8 +23,8 @@ ghost use Rattle.play_event.specs.Said.{Said, Raise};
 ghost use Rattle.play_event.specs.Scripts.{past_of, with_event, HasNoIllegalEvent, IsFirstIllegal, illegal_event};
 ghost use Rattle.play_event.specs.Seats.{is_able, live_count};
 ghost use Rattle.play_event.specs.Table.{places_of};
-ghost use Rattle.play_event.specs.Targets.{floor, least_target, greatest_target};
-ghost use Rattle.play_event.specs.TurnTargets.{AreTargets};
+ghost use Rattle.play_event.specs.Targets.{floor, is_legal_target, least_target, greatest_target};
+ghost use Rattle.play_event.specs.TurnTargets.{AreTargets, has_targets};
 ghost use Rattle.play_event.specs.ValidSetup.{IsValid};
 
 /// What is due is due on the first street, from that of the past on, on which something is. The function does
@@ -64,6 +65,18 @@ pub fn law_of_targets()
         → AreTargets setup rules moves street seat
         (least_target rules.reopen setup moves street seat)
         (greatest_target setup moves street seat) (all_in setup moves street seat) }
+{}
+
+/// A raise of a named seat is legal only if the seat in turn has targets, and a raise of the seat in turn to a legal target
+/// is legal.
+pub fn law_of_raises()
+    ensures only { (setup : Setup) (rules : Rules) (past : Past) (seat : ℕ) (amount : Spelled)
+        → why setup rules past (Raise (Some seat) amount) ≡ None
+        → has_targets setup rules past ≡ true }
+    ensures legal { (setup : Setup) (rules : Rules) (past : Past) (seat target : ℕ)
+        → has_targets setup rules past ≡ true → IsInTurn setup past seat
+        → is_legal_target rules.reopen setup (moves_of past) (turn setup past).0 seat target ≡ true
+        → why setup rules past (Raise (Some seat) (spelled.To target)) ≡ None }
 {}
 
 /// In no limit and pot limit the least raise that is not all-in goes above the price, and no further above it than a

@@ -21,8 +21,8 @@ pub use code::Code;
 pub use cursor::Cursor;
 pub use event::{Event, Kind, Spelled};
 pub use laws::{
-    law_of_chips, law_of_floors, law_of_movers, law_of_places, law_of_reasons, law_of_scripts,
-    law_of_spellings, law_of_streets, law_of_targets, law_of_up_cards,
+    law_of_chips, law_of_floors, law_of_movers, law_of_places, law_of_raises, law_of_reasons,
+    law_of_scripts, law_of_spellings, law_of_streets, law_of_targets, law_of_up_cards,
 };
 pub use limit::{Limit, Opener};
 pub use packing::law_of_packing;
