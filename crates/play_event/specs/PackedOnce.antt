@@ -31,7 +31,7 @@ use Rattle.play_event.specs.declared.event.Spelled.TheVariants as spelled
 use Rattle.play_event.specs.Said.{Said, kind_said, seat_named, numbered}
 use Rattle.play_event.specs.EventNumbers.{AmountFits, ChipsFit, IsEvent, AreEvents}
 use Rattle.play_event.specs.PackedForm.{actor_byte, card_byte, slot_byte, counted, stated_bytes, amount_bytes, kind_byte, kind_bytes, packed_event, packed_events}
-use Rattle.play_event.specs.PackedReading.{number_at, counted_at, seat_numbered, seat_at, actor_at, card_placed, card_of, slot_of, slots_at, cards_at, stated_at, amount_at, kind_at, event_at}
+use Rattle.play_event.specs.PackedReading.{number_at, counted_at, seat_numbered, seat_at, actor_at, card_placed, card_of, slot_of, slots_at, cards_at, stated_at, amount_at, move_at, hand_at, kind_at, event_at}
 use Rattle.play_event.specs.PackedScript.{PackedScript}
 
 -- ---- cards
@@ -130,7 +130,7 @@ amount_again spelled.Unit rest fits = refl
 -- ---- events
 
 kind_again : (kind : Kind) (rest : List ℕ) → ChipsFit kind → kind_at (kind_byte kind) (kind_bytes kind ++ rest) ≡ Some (kind_said kind, rest)
-unfolding kind_at
+unfolding kind_at move_at hand_at
 kind_again (kinds.Hole seat cards) rest fits = rw (seat_again seat (counted (map slot_byte (slots_of cards)) ++ rest), slots_again cards rest) refl
 kind_again (kinds.Board cards) rest fits = rw (cards_again cards rest) refl
 kind_again (kinds.Fold actor) rest fits = rw (actor_again actor rest) refl

@@ -89,19 +89,30 @@ amount_at bytes = do
     chips.1,
   ))
 
+-- what an event of the kind with this number says of an actor
+unfoldable pub move_at : ℕ → Option ℕ → List ℕ → Option (Said × List ℕ)
+move_at number actor bytes =
+    if number == 3 then Some (said.Fold actor, bytes)
+    else if number == 4 then (stated_at bytes >>= λ stated. Some (said.Call actor stated.0, stated.1))
+    else if number == 5 then (amount_at bytes >>= λ amount. Some (said.Raise actor amount.0, amount.1))
+    else if number == 6 then Some (said.BringIn actor, bytes)
+    else None
+
+-- what an event of the kind with this number says of the cards of a seat
+unfoldable pub hand_at : ℕ → ℕ → List ℕ → Option (Said × List ℕ)
+hand_at number seat bytes =
+    if number == 1 then (slots_at bytes >>= λ cards. Some (said.Hole seat cards.0, cards.1))
+    else if number == 7 then (slots_at bytes >>= λ cards. Some (said.Discard seat cards.0, cards.1))
+    else if number == 8 then (cards_at bytes >>= λ cards. Some (said.Show seat cards.0, cards.1))
+    else if number == 9 then Some (said.Muck seat, bytes)
+    else None
+
 -- what an event of the kind with this number says
 unfoldable pub kind_at : ℕ → List ℕ → Option (Said × List ℕ)
 kind_at number bytes =
-    if number == 1 then (seat_at bytes >>= λ seat. slots_at seat.1 >>= λ cards. Some (said.Hole seat.0 cards.0, cards.1))
-    else if number == 2 then (cards_at bytes >>= λ cards. Some (said.Board cards.0, cards.1))
-    else if number == 3 then (actor_at bytes >>= λ actor. Some (said.Fold actor.0, actor.1))
-    else if number == 4 then (actor_at bytes >>= λ actor. stated_at actor.1 >>= λ stated. Some (said.Call actor.0 stated.0, stated.1))
-    else if number == 5 then (actor_at bytes >>= λ actor. amount_at actor.1 >>= λ amount. Some (said.Raise actor.0 amount.0, amount.1))
-    else if number == 6 then (actor_at bytes >>= λ actor. Some (said.BringIn actor.0, actor.1))
-    else if number == 7 then (seat_at bytes >>= λ seat. slots_at seat.1 >>= λ cards. Some (said.Discard seat.0 cards.0, cards.1))
-    else if number == 8 then (seat_at bytes >>= λ seat. cards_at seat.1 >>= λ cards. Some (said.Show seat.0 cards.0, cards.1))
-    else if number == 9 then (seat_at bytes >>= λ seat. Some (said.Muck seat.0, seat.1))
-    else None
+    if number == 2 then (cards_at bytes >>= λ cards. Some (said.Board cards.0, cards.1))
+    else if nat_le 3 number && nat_le number 6 then (actor_at bytes >>= λ actor. move_at number actor.0 actor.1)
+    else (seat_at bytes >>= λ seat. hand_at number seat.0 seat.1)
 
 -- an event
 unfoldable pub event_at : List ℕ → Option (Numbered × List ℕ)

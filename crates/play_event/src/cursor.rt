@@ -6,7 +6,8 @@ use crate::event::Event;
 use crate::unpacking::read_event;
 use std::marker::Model;
 
-/// The events of a script that were not given yet, in order. It lends the bytes of the script, and takes no memory.
+/// The events of a script that were not given yet, in order. It borrows the script's bytes and
+/// takes no memory.
 #[derive(Debug, Drop)]
 pub struct Cursor<'a> {
     bytes: &'a [u8],
@@ -31,7 +32,8 @@ impl<'a> Cursor<'a> {
     /// A cursor over the events whose packed form the bytes are.
     pub(crate) fn new(bytes: &'a [u8]) -> Self
         requires { PackedScript bytes.now }
-        ensures { (events : List Event) → AreEvents events → bytes.now ≡ packed_events events → result ≡ events }
+        ensures { (events : List Event)
+            → AreEvents events → bytes.now ≡ packed_events events → result ≡ events }
     {
         Cursor { bytes }
     }

@@ -3,7 +3,7 @@ ghost use Rattle.std.specs.Prelude.{◌≡◌, ◌+◌, ◌<◌, ◌≤◌, [], 
 
 use std::marker::Model;
 
-/// The bytes of a packed event so far. Fifteen are the most: those of a raise or a call with its chips.
+/// The bytes of a packed event so far. Fifteen are the most: those of a raise or a call with chips.
 #[derive(Drop)]
 pub(crate) struct PackedEvent {
     bytes: [u8; 15],

@@ -11,9 +11,11 @@ use crate::packed_event::PackedEvent;
 use card_set::{Card, CardRow, Slot, SlotRow, place_in_deck};
 use chip_ledger::Seat;
 
-/// No two lists of events have one packed form, so it loses nothing. The function does nothing: its contract is a law.
+/// No two lists of events have one packed form, so it loses nothing. The function does nothing:
+/// its contract is a law. Numbers of events fit their types, and a clause has to say so.
 pub fn law_of_packing()
-    ensures { (a b : List Event) → AreEvents a → AreEvents b → packed_events a ≡ packed_events b → a ≡ b }
+    ensures { (a b : List Event)
+        → AreEvents a → AreEvents b → packed_events a ≡ packed_events b → a ≡ b }
 {}
 
 /// The packed form of the event.
@@ -101,7 +103,8 @@ fn pack_chips(packed: &mut PackedEvent, first: u8, chips: u64)
 
 fn pack_slots_of(packed: &mut PackedEvent, seat: Seat, cards: &SlotRow)
     requires { length packed.old ≤ 5 }
-    ensures { packed.new ≡ packed.old ++ seat.number ∷ counted (map slot_byte (slots_of cards.now)) }
+    ensures { packed.new
+        ≡ packed.old ++ seat.number ∷ counted (map slot_byte (slots_of cards.now)) }
 {
     packed.push(seat.number());
     pack_slots(packed, cards.as_slice());
@@ -109,7 +112,8 @@ fn pack_slots_of(packed: &mut PackedEvent, seat: Seat, cards: &SlotRow)
 
 fn pack_cards_of(packed: &mut PackedEvent, seat: Seat, cards: &CardRow)
     requires { length packed.old ≤ 5 }
-    ensures { packed.new ≡ packed.old ++ seat.number ∷ counted (map card_byte (cards_of cards.now)) }
+    ensures { packed.new
+        ≡ packed.old ++ seat.number ∷ counted (map card_byte (cards_of cards.now)) }
 {
     packed.push(seat.number());
     pack_cards(packed, cards.as_slice());

@@ -1,4 +1,4 @@
-//! A script is the list of a hand's events, in the order in which they happened, and keeps them packed.
+//! A script is the list of a hand's events, in the order in which they happened, kept packed.
 ghost use Rattle.std.specs.Prelude.{◌≡◌, length};
 ghost use Rattle.play_event.specs.PackedScript.{PackedScript};
 ghost use Rattle.play_event.specs.PackedOnce.{one_script};
@@ -53,8 +53,8 @@ impl Script {
         Ok(())
     }
 
-    /// The event at this index, from 0. Ask first that the index is below `len`. It walks from the first event on: who
-    /// wants one event after the other goes by `cursor`.
+    /// The event at this index, from 0. Ask first that the index is below `len`. It walks from the
+    /// first event on: who wants one event after the other goes by `cursor`.
     pub fn get(&self, index: usize) -> Event
         requires { index < length self.now }
         ensures { slice_get self.now index ≡ Some result }

@@ -7,7 +7,7 @@ ghost use Rattle.card_set.specs.Spelling.{all_ranks, all_suits};
 ghost use Rattle.card_set.specs.declared.card.Rank.TheVariants as ranks;
 ghost use Rattle.card_set.specs.declared.card.Suit.TheVariants as suits;
 ghost use Rattle.play_event.specs.Said.{kind_said, seat_named, numbered};
-ghost use Rattle.play_event.specs.PackedReading.{byte_at, number_at, counted_at, seat_numbered, seat_at, actor_at, card_placed, card_of, slot_of, slots_at, cards_at, stated_at, amount_at, kind_at, event_at};
+ghost use Rattle.play_event.specs.PackedReading.{byte_at, number_at, counted_at, seat_numbered, seat_at, actor_at, card_placed, card_of, slot_of, slots_at, cards_at, stated_at, amount_at, move_at, hand_at, kind_at, event_at};
 
 use crate::event::{Event, Kind, Spelled};
 use card_set::{Card, CardRow, Rank, Slot, SlotRow, Suit};
@@ -27,50 +27,66 @@ pub(crate) fn read_event(bytes: &[u8]) -> Option<(Event, &[u8])>
 // What an event of the kind with this number says.
 #[tactic(auto, unfolding(crate::specs::PackedReading::kind_at))]
 fn read_kind(number: u8, bytes: &[u8]) -> Option<(Kind, &[u8])>
-    ensures { option_map (λ read. (kind_said read.0, read.1.now)) result ≡ kind_at number bytes.now }
+    ensures { option_map (λ read. (kind_said read.0, read.1.now)) result
+        ≡ kind_at number bytes.now }
 {
     match number {
-        1 => {
-            let (seat, rest) = read_seat(bytes)?;
-            let (cards, rest) = read_slots(rest)?;
-            Some((Kind::Hole { seat, cards }, rest))
-        }
         2 => {
             let (cards, rest) = read_cards(bytes)?;
             Some((Kind::Board { cards }, rest))
         }
-        3 => {
+        3..=6 => {
             let (actor, rest) = read_actor(bytes)?;
-            Some((Kind::Fold { actor }, rest))
+            read_move(number, actor, rest)
         }
+        _ => {
+            let (seat, rest) = read_seat(bytes)?;
+            read_hand(number, seat, rest)
+        }
+    }
+}
+
+// What an event of the kind with this number says of an actor.
+#[tactic(auto, unfolding(crate::specs::PackedReading::move_at))]
+fn read_move(number: u8, actor: Option<Seat>, bytes: &[u8]) -> Option<(Kind, &[u8])>
+    ensures { option_map (λ read. (kind_said read.0, read.1.now)) result
+        ≡ move_at number (seat_named actor) bytes.now }
+{
+    match number {
+        3 => Some((Kind::Fold { actor }, bytes)),
         4 => {
-            let (actor, rest) = read_actor(bytes)?;
-            let (stated, rest) = read_stated(rest)?;
+            let (stated, rest) = read_stated(bytes)?;
             Some((Kind::Call { actor, stated }, rest))
         }
         5 => {
-            let (actor, rest) = read_actor(bytes)?;
-            let (amount, rest) = read_amount(rest)?;
+            let (amount, rest) = read_amount(bytes)?;
             Some((Kind::Raise { actor, amount }, rest))
         }
-        6 => {
-            let (actor, rest) = read_actor(bytes)?;
-            Some((Kind::BringIn { actor }, rest))
+        6 => Some((Kind::BringIn { actor }, bytes)),
+        _ => None,
+    }
+}
+
+// What an event of the kind with this number says of the cards of a seat.
+#[tactic(auto, unfolding(crate::specs::PackedReading::hand_at))]
+fn read_hand(number: u8, seat: Seat, bytes: &[u8]) -> Option<(Kind, &[u8])>
+    ensures { option_map (λ read. (kind_said read.0, read.1.now)) result
+        ≡ hand_at number seat.number bytes.now }
+{
+    match number {
+        1 => {
+            let (cards, rest) = read_slots(bytes)?;
+            Some((Kind::Hole { seat, cards }, rest))
         }
         7 => {
-            let (seat, rest) = read_seat(bytes)?;
-            let (cards, rest) = read_slots(rest)?;
+            let (cards, rest) = read_slots(bytes)?;
             Some((Kind::Discard { seat, cards }, rest))
         }
         8 => {
-            let (seat, rest) = read_seat(bytes)?;
-            let (cards, rest) = read_cards(rest)?;
+            let (cards, rest) = read_cards(bytes)?;
             Some((Kind::Show { seat, cards }, rest))
         }
-        9 => {
-            let (seat, rest) = read_seat(bytes)?;
-            Some((Kind::Muck { seat }, rest))
-        }
+        9 => Some((Kind::Muck { seat }, bytes)),
         _ => None,
     }
 }
