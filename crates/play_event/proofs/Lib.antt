@@ -8,6 +8,7 @@ pub mod RaiseLaws
 pub mod UpCardLaws
 pub mod Kept
 pub mod ClashLaws
+pub mod OwnerLaws
 pub mod SafePlaces
 pub mod ScriptLaws
 pub mod PackedScripts
