@@ -1,5 +1,6 @@
 -- What rows of pots and of shares hold, and how the definition of pots sees the rows of a hand.
-use Rattle.std.specs.Prelude.{ℕ, List, map, take}
+use Rattle.std.specs.Prelude.{ℕ, ◌-◌, List, map, slice_get, take}
+use Rattle.std.specs.Option.{option_map_or}
 use Rattle.chip_ledger.specs.declared.pots.Pot.{Pot}
 use Rattle.chip_ledger.specs.declared.pots.PotRow.{PotRow}
 use Rattle.chip_ledger.specs.declared.pots.ShareRow.{ShareRow}
@@ -8,7 +9,7 @@ use Rattle.chip_ledger.specs.declared.rows.SeatRow.{SeatRow}
 use Rattle.chip_ledger.specs.LiveRow.{flag_of, flagged}
 use Rattle.chip_ledger.specs.Pots.{PlainPot, Stake}
 use Rattle.chip_ledger.specs.Seat.{seats_of}
-use Rattle.chip_ledger.specs.SeatRow.{amount_of}
+use Rattle.chip_ledger.specs.SeatRow.{amount_of, total_of}
 
 -- the pots of the row, the lowest first
 abbrev pub pots_in : PotRow → List Pot
@@ -21,6 +22,18 @@ shares_in row = take row.count row.shares
 -- a pot by its chips and the seats that may win it
 abbrev pub plain : Pot → PlainPot
 plain pot = record { chips = pot.chips; eligible = flagged pot.eligible }
+
+-- the pots of the row by their chips and the seats that may win them
+abbrev pub plain_pots : PotRow → List PlainPot
+plain_pots row = map plain (pots_in row)
+
+-- what each seat gets of each pot
+abbrev pub plain_shares : ShareRow → List (ℕ → ℕ)
+plain_shares row = map amount_of (shares_in row)
+
+-- the shares of pot number n together, the lowest having the number 1; past the last pot there are none
+abbrev pub shared_in : ShareRow → ℕ → ℕ
+shared_in row number = option_map_or total_of (slice_get (shares_in row) (number - 1)) 0
 
 -- seat number n, with the chips that it put and whether it is live
 abbrev pub stake_of : SeatRow → LiveRow → ℕ → Stake

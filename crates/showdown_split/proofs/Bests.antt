@@ -1,4 +1,4 @@
--- The best worth of the seats that contend is above none of them, and is that of one of them: those that have it are the winners.
+-- No seat that contends has more than the most points, and one of them has so many: those that have them are the winners.
 use Rattle.std.proofs.Common.{◌≡◌, ◌<◌, ◌≤◌, ℕ, zero, suc, ◌+◌, ◌&&◌, Bool, true, false, ◌⊎◌, inl, inr, Option, Some, None, if◌then◌else◌, max, refl, sym, ◌∙◌, ap, subst, arith}
 use Rattle.std.specs.Option.{is_some}
 use Rattle.std.proofs.lemmas.Bool.{and_from, and_parts, cases_lt, eq-eqb, eqb-true}
@@ -7,14 +7,14 @@ use Rattle.hand_order.specs.Best.{IsLess}
 use Rattle.hand_order.specs.Points.{better}
 use Rattle.variant_table.specs.Division.{TellsWinners, count_to}
 use Rattle.variant_table.specs.Shares.{IsLowShown}
-use Rattle.showdown_split.specs.Worths.{best_to, ranking_by, same_worth}
+use Rattle.showdown_split.specs.SeatPoints.{best_to, ranking_by, is_same}
 
 -- tests that agree on the seats up to one have the same best
-pub best_to-agree : (p q : ℕ → Bool) (worth : ℕ → Option ℕ) (n : ℕ) → ((k : ℕ) → 1 ≤ k → k ≤ n → p k ≡ q k) → best_to p worth n ≡ best_to q worth n
-best_to-agree p q worth zero same = refl
-best_to-agree p q worth (suc n) same =
-    ap (λ (rest : Option ℕ). if p (suc n) then better rest (worth (suc n)) else rest) (best_to-agree p q worth n (λ k low high. same k low (omega arith)))
-    ∙ ap (λ (b : Bool). if b then better (best_to q worth n) (worth (suc n)) else best_to q worth n) (same (suc n) (omega arith) (omega arith))
+pub best_to-agree : (p q : ℕ → Bool) (points : ℕ → Option ℕ) (n : ℕ) → ((k : ℕ) → 1 ≤ k → k ≤ n → p k ≡ q k) → best_to p points n ≡ best_to q points n
+best_to-agree p q points zero same = refl
+best_to-agree p q points (suc n) same =
+    ap (λ (rest : Option ℕ). if p (suc n) then better rest (points (suc n)) else rest) (best_to-agree p q points n (λ k low high. same k low (omega arith)))
+    ∙ ap (λ (b : Bool). if b then better (best_to q points n) (points (suc n)) else best_to q points n) (same (suc n) (omega arith) (omega arith))
 
 -- the better of two is not less than either
 better_right : (a b : Option ℕ) → ¬ (IsLess (better a b) b)
@@ -39,55 +39,55 @@ better_is (Some x) (Some y) v is =
     let e = same_Some (max x y) v is in
     elim (cases_lt x y) [ inl less ↦ inr (ap (λ (n : ℕ). Some n) (omega (arith, e, less))) | inr more ↦ inl (ap (λ (n : ℕ). Some n) (omega (arith, e, more))) ]
 
--- the best is not less than the worth of a seat that passes the test
-pub best_above : (test : ℕ → Bool) (worth : ℕ → Option ℕ) (n k : ℕ) → 1 ≤ k → k ≤ n → test k ≡ true → ¬ (IsLess (best_to test worth n) (worth k))
-best_above test worth zero k low high passes = absurd (omega (arith, low, high))
-best_above test worth (suc n) k low high passes =
+-- the best is not less than the points of a seat that passes the test
+pub best_above : (test : ℕ → Bool) (points : ℕ → Option ℕ) (n k : ℕ) → 1 ≤ k → k ≤ n → test k ≡ true → ¬ (IsLess (best_to test points n) (points k))
+best_above test points zero k low high passes = absurd (omega (arith, low, high))
+best_above test points (suc n) k low high passes =
     elim (cases_lt k (suc n)) [
-      | inl before ↦ kept (test (suc n)) (best_to test worth n) (worth (suc n)) (worth k) (best_above test worth n k low (omega (arith, before)) passes)
+      | inl before ↦ kept (test (suc n)) (best_to test points n) (points (suc n)) (points k) (best_above test points n k low (omega (arith, before)) passes)
       | inr last ↦
           let here : k ≡ suc n = omega (arith, last, high) in
-          subst (λ (m : ℕ). ¬ (IsLess (best_to test worth (suc n)) (worth m))) (sym here)
-          (subst (λ (b : Bool). ¬ (IsLess (if b then better (best_to test worth n) (worth (suc n)) else best_to test worth n) (worth (suc n)))) (sym (ap test (sym here) ∙ passes))
-          (better_right (best_to test worth n) (worth (suc n))))
+          subst (λ (m : ℕ). ¬ (IsLess (best_to test points (suc n)) (points m))) (sym here)
+          (subst (λ (b : Bool). ¬ (IsLess (if b then better (best_to test points n) (points (suc n)) else best_to test points n) (points (suc n)))) (sym (ap test (sym here) ∙ passes))
+          (better_right (best_to test points n) (points (suc n))))
     ]
   where
     kept : (b : Bool) (rest here other : Option ℕ) → ¬ (IsLess rest other) → ¬ (IsLess (if b then better rest here else rest) other)
     kept true rest here other not = better_left rest here other not
     kept false rest here other not = not
 
--- a seat that passes the test and has this worth
-pub record IsAttained (test : ℕ → Bool) (worth : ℕ → Option ℕ) (n v : ℕ) : Type 0 where
+-- a seat that passes the test and has so many points
+pub record IsAttained (test : ℕ → Bool) (points : ℕ → Option ℕ) (n v : ℕ) : Type 0 where
   pub seat : ℕ
   pub first : 1 ≤ seat
   pub last : seat ≤ n
   pub passes : test seat ≡ true
-  pub worth_is : worth seat ≡ Some v
+  pub points_are : points seat ≡ Some v
 
 -- the best is attained
-pub best_attained : (test : ℕ → Bool) (worth : ℕ → Option ℕ) (n v : ℕ) → best_to test worth n ≡ Some v → IsAttained test worth n v
-best_attained test worth zero v is = absurd (cc (is))
-best_attained test worth (suc n) v is = next (λ rest. best_attained test worth n v rest) (test (suc n)) refl is
+pub best_attained : (test : ℕ → Bool) (points : ℕ → Option ℕ) (n v : ℕ) → best_to test points n ≡ Some v → IsAttained test points n v
+best_attained test points zero v is = absurd (cc (is))
+best_attained test points (suc n) v is = next (λ rest. best_attained test points n v rest) (test (suc n)) refl is
   where
-    later : IsAttained test worth n v → IsAttained test worth (suc n) v
-    later found = record { seat = found.seat; first = found.first; last = omega (arith, found.last); passes = found.passes; worth_is = found.worth_is }
+    later : IsAttained test points n v → IsAttained test points (suc n) v
+    later found = record { seat = found.seat; first = found.first; last = omega (arith, found.last); passes = found.passes; points_are = found.points_are }
 
-    next : (best_to test worth n ≡ Some v → IsAttained test worth n v) → (b : Bool) → test (suc n) ≡ b → (if b then better (best_to test worth n) (worth (suc n)) else best_to test worth n) ≡ Some v → IsAttained test worth (suc n) v
+    next : (best_to test points n ≡ Some v → IsAttained test points n v) → (b : Bool) → test (suc n) ≡ b → (if b then better (best_to test points n) (points (suc n)) else best_to test points n) ≡ Some v → IsAttained test points (suc n) v
     next before true passes is =
-        elim (better_is (best_to test worth n) (worth (suc n)) v is) [
+        elim (better_is (best_to test points n) (points (suc n)) v is) [
           | inl rest ↦ later (before rest)
-          | inr here ↦ record { seat = suc n; first = omega arith; last = omega arith; passes = passes; worth_is = here }
+          | inr here ↦ record { seat = suc n; first = omega arith; last = omega arith; passes = passes; points_are = here }
         ]
     next before false passes is = later (before is)
 
--- worths that are the same, both ways
-same_equal : (x y : Option ℕ) → same_worth x y ≡ true → x ≡ y
+-- points that are the same, both ways
+same_equal : (x y : Option ℕ) → is_same x y ≡ true → x ≡ y
 same_equal None None is = refl
 same_equal None (Some y) is = absurd (cc (is))
 same_equal (Some x) None is = absurd (cc (is))
 same_equal (Some x) (Some y) is = ap (λ (n : ℕ). Some n) (eqb-true x y is)
 
-same_from : (x y : Option ℕ) → ¬ (IsLess x y) → ¬ (IsLess y x) → same_worth x y ≡ true
+same_from : (x y : Option ℕ) → ¬ (IsLess x y) → ¬ (IsLess y x) → is_same x y ≡ true
 same_from None None below above = refl
 same_from None (Some y) below above = absurd (below tt)
 same_from (Some x) None below above = absurd (above tt)
@@ -98,34 +98,34 @@ not_less_none : (x : Option ℕ) → ¬ (IsLess x None)
 not_less_none None less = less
 not_less_none (Some x) less = less
 
--- a seat has the best worth where no seat of the test is worth more
-best_of_unbeaten : (test : ℕ → Bool) (worth : ℕ → Option ℕ) (n k : ℕ) → 1 ≤ k → k ≤ n → test k ≡ true → ((other : ℕ) → test other ≡ true → ¬ (IsLess (worth k) (worth other))) → same_worth (worth k) (best_to test worth n) ≡ true
-best_of_unbeaten test worth n k low high passes unbeaten =
-    same_from (worth k) (best_to test worth n) (top (best_to test worth n) refl) (best_above test worth n k low high passes)
+-- a seat has the most points where no seat of the test has more
+best_of_unbeaten : (test : ℕ → Bool) (points : ℕ → Option ℕ) (n k : ℕ) → 1 ≤ k → k ≤ n → test k ≡ true → ((other : ℕ) → test other ≡ true → ¬ (IsLess (points k) (points other))) → is_same (points k) (best_to test points n) ≡ true
+best_of_unbeaten test points n k low high passes unbeaten =
+    same_from (points k) (best_to test points n) (top (best_to test points n) refl) (best_above test points n k low high passes)
   where
-    top : (best : Option ℕ) → best_to test worth n ≡ best → ¬ (IsLess (worth k) best)
-    top None is = not_less_none (worth k)
+    top : (best : Option ℕ) → best_to test points n ≡ best → ¬ (IsLess (points k) best)
+    top None is = not_less_none (points k)
     top (Some v) is =
-        let found = best_attained test worth n v is in
-        subst (λ (w : Option ℕ). ¬ (IsLess (worth k) w)) found.worth_is (unbeaten found.seat found.passes)
+        let found = best_attained test points n v is in
+        subst (λ (w : Option ℕ). ¬ (IsLess (points k) w)) found.points_are (unbeaten found.seat found.passes)
 
--- the seats that contend and have the best worth
+-- the seats that contend and have the most points
 abbrev pub has_best : (ℕ → Bool) → (ℕ → Option ℕ) → ℕ → ℕ → Bool
-has_best contending worth seats seat = contending seat && same_worth (worth seat) (best_to contending worth seats)
+has_best contending points seats seat = contending seat && is_same (points seat) (best_to contending points seats)
 
 -- they are the winners
-pub best_win : (seats : ℕ) (contending : ℕ → Bool) (worth : ℕ → Option ℕ) → ((n : ℕ) → contending n ≡ true → (1 ≤ n) × (n ≤ seats)) → TellsWinners contending (λ seat other. IsLess (worth other) (worth seat)) (has_best contending worth seats)
-best_win seats contending worth inside seat = (
+pub best_win : (seats : ℕ) (contending : ℕ → Bool) (points : ℕ → Option ℕ) → ((n : ℕ) → contending n ≡ true → (1 ≤ n) × (n ≤ seats)) → TellsWinners contending (λ seat other. IsLess (points other) (points seat)) (has_best contending points seats)
+best_win seats contending points inside seat = (
   λ wins.
-      let parts = and_parts (contending seat) (same_worth (worth seat) (best_to contending worth seats)) wins in (
+      let parts = and_parts (contending seat) (is_same (points seat) (best_to contending points seats)) wins in (
         parts.0,
         λ other contends less.
             let range = inside other contends in
-            best_above contending worth seats other range.0 range.1 contends (subst (λ (w : Option ℕ). IsLess w (worth other)) (same_equal (worth seat) (best_to contending worth seats) parts.1) less),
+            best_above contending points seats other range.0 range.1 contends (subst (λ (w : Option ℕ). IsLess w (points other)) (same_equal (points seat) (best_to contending points seats) parts.1) less),
       ),
   λ unbeaten.
       let range = inside seat unbeaten.0 in
-      and_from (contending seat) (same_worth (worth seat) (best_to contending worth seats)) unbeaten.0 (best_of_unbeaten contending worth seats seat range.0 range.1 unbeaten.0 unbeaten.1),
+      and_from (contending seat) (is_same (points seat) (best_to contending points seats)) unbeaten.0 (best_of_unbeaten contending points seats seat range.0 range.1 unbeaten.0 unbeaten.1),
 )
 
 -- one of the seats that contend wins
@@ -135,27 +135,27 @@ pub record IsWon (seats : ℕ) (wins : ℕ → Bool) : Type 0 where
   pub last : seat ≤ seats
   pub win : wins seat ≡ true
 
-pub some_wins : (seats : ℕ) (contending : ℕ → Bool) (worth : ℕ → Option ℕ) (n : ℕ) → 1 ≤ n → n ≤ seats → contending n ≡ true → IsWon seats (has_best contending worth seats)
-some_wins seats contending worth n low high contends = by (best_to contending worth seats) refl
+pub some_wins : (seats : ℕ) (contending : ℕ → Bool) (points : ℕ → Option ℕ) (n : ℕ) → 1 ≤ n → n ≤ seats → contending n ≡ true → IsWon seats (has_best contending points seats)
+some_wins seats contending points n low high contends = by (best_to contending points seats) refl
   where
-    by : (best : Option ℕ) → best_to contending worth seats ≡ best → IsWon seats (has_best contending worth seats)
+    by : (best : Option ℕ) → best_to contending points seats ≡ best → IsWon seats (has_best contending points seats)
     by None is = record {
       seat = n;
       first = low;
       last = high;
       win =
-          and_from (contending n) (same_worth (worth n) (best_to contending worth seats)) contends
-          (same_from (worth n) (best_to contending worth seats) (subst (λ (best : Option ℕ). ¬ (IsLess (worth n) best)) (sym is) (not_less_none (worth n))) (best_above contending worth seats n low high contends));
+          and_from (contending n) (is_same (points n) (best_to contending points seats)) contends
+          (same_from (points n) (best_to contending points seats) (subst (λ (best : Option ℕ). ¬ (IsLess (points n) best)) (sym is) (not_less_none (points n))) (best_above contending points seats n low high contends));
     }
     by (Some v) is =
-        let found = best_attained contending worth seats v is in
-        let same : same_worth (worth found.seat) (best_to contending worth seats) ≡ true =
-        subst (λ (best : Option ℕ). same_worth (worth found.seat) best ≡ true) (sym is) (subst (λ (w : Option ℕ). same_worth w (Some v) ≡ true) (sym found.worth_is) (eq-eqb v v refl)) in
+        let found = best_attained contending points seats v is in
+        let same : is_same (points found.seat) (best_to contending points seats) ≡ true =
+        subst (λ (best : Option ℕ). is_same (points found.seat) best ≡ true) (sym is) (subst (λ (w : Option ℕ). is_same w (Some v) ≡ true) (sym found.points_are) (eq-eqb v v refl)) in
         record {
           seat = found.seat;
           first = found.first;
           last = found.last;
-          win = and_from (contending found.seat) (same_worth (worth found.seat) (best_to contending worth seats)) found.passes same;
+          win = and_from (contending found.seat) (is_same (points found.seat) (best_to contending points seats)) found.passes same;
         }
 
 -- where a seat passes a test the count is above 0
@@ -170,16 +170,16 @@ count_some test (suc n) k low high passes =
     ]
 
 -- a low hand is shown exactly where there is a best one
-pub no_low_shown : (seats : ℕ) (contending : ℕ → Bool) (worth low : ℕ → Option ℕ) → ((n : ℕ) → contending n ≡ true → (1 ≤ n) × (n ≤ seats)) → best_to contending low seats ≡ None → ¬ (IsLowShown contending (ranking_by worth low))
-no_low_shown seats contending worth low inside none (seat, contends, has) =
+pub no_low_shown : (seats : ℕ) (contending : ℕ → Bool) (points low : ℕ → Option ℕ) → ((n : ℕ) → contending n ≡ true → (1 ≤ n) × (n ≤ seats)) → best_to contending low seats ≡ None → ¬ (IsLowShown contending (ranking_by points low))
+no_low_shown seats contending points low inside none (seat, contends, has) =
     let range = inside seat contends in
-    worthless (low seat) (subst (λ (best : Option ℕ). ¬ (IsLess best (low seat))) none (best_above contending low seats seat range.0 range.1 contends)) has
+    no_points (low seat) (subst (λ (best : Option ℕ). ¬ (IsLess best (low seat))) none (best_above contending low seats seat range.0 range.1 contends)) has
   where
-    worthless : (w : Option ℕ) → ¬ (IsLess None w) → ¬ (is_some w ≡ true)
-    worthless None not has = cc (has)
-    worthless (Some v) not has = not tt
+    no_points : (w : Option ℕ) → ¬ (IsLess None w) → ¬ (is_some w ≡ true)
+    no_points None not has = cc (has)
+    no_points (Some v) not has = not tt
 
-pub low_shown : (seats : ℕ) (contending : ℕ → Bool) (worth low : ℕ → Option ℕ) (v : ℕ) → best_to contending low seats ≡ Some v → IsLowShown contending (ranking_by worth low)
-low_shown seats contending worth low v is =
+pub low_shown : (seats : ℕ) (contending : ℕ → Bool) (points low : ℕ → Option ℕ) (v : ℕ) → best_to contending low seats ≡ Some v → IsLowShown contending (ranking_by points low)
+low_shown seats contending points low v is =
     let found = best_attained contending low seats v is in
-    (found.seat, found.passes, ap is_some found.worth_is)
+    (found.seat, found.passes, ap is_some found.points_are)

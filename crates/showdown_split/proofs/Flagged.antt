@@ -16,7 +16,7 @@ use Rattle.chip_ledger.specs.Seat.{seats_of}
 use Rattle.chip_ledger.proofs.Flags.{flag-from_flagged, flagged-from_flag}
 use Rattle.chip_ledger.proofs.Seats.{seats_of_more, sum_of_seats_more}
 use Rattle.variant_table.specs.Division.{count_to}
-use Rattle.showdown_split.specs.Worths.{is_flagged}
+use Rattle.showdown_split.specs.SeatPoints.{is_flagged}
 
 -- a flagged seat is one of the row's
 pub flagged_inside : (row : LiveRow) (n : ℕ) → is_flagged row n ≡ true → (1 ≤ n) × (n ≤ row.seats)

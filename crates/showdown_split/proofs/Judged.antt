@@ -1,4 +1,4 @@
--- By their worths in a lawful order seats compare as the order of the game says.
+-- By their points in a lawful order seats compare as the order of the game says.
 use Rattle.std.proofs.Common.{◌≡◌, ◌++◌, ℕ, Bool, true, false, IsTrue, List, Option, Some, None, ◌↔◌, inl, inr, refl, sym, ◌∙◌, ap}
 use Rattle.std.specs.Option.{is_some}
 use Rattle.std.proofs.lemmas.Bool.{true≢false}
@@ -33,13 +33,13 @@ beats_like h k w v same alike options others beats = record {
   ];
 }
 
--- the cards of a seat that are judged in an order, and what they are worth there
-pub record IsJudged (held : ℕ) (is_hand : List Card → Type 0) (is_weaker : List Card → List Card → Type 0) (points : List Card → Option ℕ) (pick : Pick) (hole board : List Card) (worth : Option ℕ) : Type 0 where
+-- the cards of a seat that are judged in an order, and what points they have there
+pub record IsJudged (held : ℕ) (is_hand : List Card → Type 0) (is_weaker : List Card → List Card → Type 0) (points : List Card → Option ℕ) (pick : Pick) (hole board : List Card) (most : Option ℕ) : Type 0 where
   pub usable : CanPick held pick hole board
   pub different : AllDifferent (hole ++ board)
-  pub worth_is : IsPointsOfHolding is_hand is_weaker points (allowed pick hole board) worth
+  pub points_are : IsPointsOfHolding is_hand is_weaker points (allowed pick hole board) most
 
--- one seat beats another in the order exactly where it is worth more
+-- one seat beats another in the order exactly where it has more points
 pub judged_beats : (held : ℕ) (is_hand : List Card → Type 0) (is_weaker : List Card → List Card → Type 0) (points : List Card → Option ℕ) (order : Order) (pick : Pick) (hole other board : List Card) (ours theirs : Option ℕ) → IsLawful (AreHeld held) is_hand is_weaker points → IsOrder order held is_hand is_weaker → IsJudged held is_hand is_weaker points pick hole board ours → IsJudged held is_hand is_weaker points pick other board theirs → IsLess theirs ours ↔ Beats order.is_hand order.is_weaker (allowed pick hole board) (allowed pick other board)
 judged_beats held is_hand is_weaker points order pick hole other board ours theirs lawful is first second =
     let options = allowed pick hole board in
@@ -47,17 +47,17 @@ judged_beats held is_hand is_weaker points order pick hole other board ours thei
     let same =
     beats_exactly (AreHeld held) is_hand is_weaker points options others ours theirs lawful
     (λ choice among. held_allowed held pick hole board choice first.usable first.different among)
-    (λ choice among. held_allowed held pick other board choice second.usable second.different among) first.worth_is second.worth_is in (
+    (λ choice among. held_allowed held pick other board choice second.usable second.different among) first.points_are second.points_are in (
       λ less. beats_like is_hand order.is_hand is_weaker order.is_weaker is.hand_is is.weaker_is options others (same.0 less),
       λ beats. same.1 (beats_like order.is_hand is_hand order.is_weaker is_weaker (λ cards. flip (is_hand cards) (order.is_hand cards) (is.hand_is cards)) (λ a b. flip (is_weaker a b) (order.is_weaker a b) (is.weaker_is a b)) options others beats),
     )
 
--- a seat has a hand in the order exactly where it is worth something
-pub judged_hand : (is_hand : List Card → Type 0) (is_weaker : List Card → List Card → Type 0) (points : List Card → Option ℕ) (order : Order) (options : List (List Card)) (worth : Option ℕ) → ((cards : List Card) → is_hand cards ↔ order.is_hand cards) → IsPointsOfHolding is_hand is_weaker points options worth → IsTrue (is_some worth) ↔ HasHand order options
+-- a seat has a hand in the order exactly where it has points
+pub judged_hand : (is_hand : List Card → Type 0) (is_weaker : List Card → List Card → Type 0) (points : List Card → Option ℕ) (order : Order) (options : List (List Card)) (most : Option ℕ) → ((cards : List Card) → is_hand cards ↔ order.is_hand cards) → IsPointsOfHolding is_hand is_weaker points options most → IsTrue (is_some most) ↔ HasHand order options
 judged_hand is_hand is_weaker points order options None same none = (λ some. absurd (cc (some)), λ (choice, among, hand). absurd (none choice among ((same choice).1 hand)))
 judged_hand is_hand is_weaker points order options (Some value) same best = (λ some. (best.best, best.is_best.among, (same best.best).0 best.is_best.hand), λ has. refl)
 
 -- a seat has a low hand in a game that pays by two, and in another game none does
-pub judged_low : (split paid : Bool) (order : Order) (options : List (List Card)) (worth : Option ℕ) → split ≡ paid → (split ≡ false → worth ≡ None) → (split ≡ true → IsTrue (is_some worth) ↔ HasHand order options) → IsTrue (is_some worth) ↔ (IsTrue paid × HasHand order options)
-judged_low true paid order options worth same none some = (λ has. (sym same, (some refl).0 has), λ has. (some refl).1 has.1)
-judged_low false paid order options worth same none some = (λ has. absurd (true≢false (sym has ∙ ap is_some (none refl))), λ has. absurd (true≢false (sym has.0 ∙ sym same)))
+pub judged_low : (split paid : Bool) (order : Order) (options : List (List Card)) (most : Option ℕ) → split ≡ paid → (split ≡ false → most ≡ None) → (split ≡ true → IsTrue (is_some most) ↔ HasHand order options) → IsTrue (is_some most) ↔ (IsTrue paid × HasHand order options)
+judged_low true paid order options most same none some = (λ has. (sym same, (some refl).0 has), λ has. (some refl).1 has.1)
+judged_low false paid order options most same none some = (λ has. absurd (true≢false (sym has ∙ ap is_some (none refl))), λ has. absurd (true≢false (sym has.0 ∙ sym same)))

@@ -1,4 +1,4 @@
--- Lemmas on the known cards of a seat, on worths, and on the parts of chips.
+-- Lemmas on the known cards of a seat, on points, and on the parts of chips.
 pub mod KnownCards
 pub mod Parts
 pub mod Bests
@@ -7,5 +7,7 @@ pub mod Flagged
 pub mod Contests
 pub mod Judged
 pub mod Splitting
-pub mod Playable
+pub mod Nets
+pub mod FirstRake
 pub mod ShareLaws
+pub mod LastSeat

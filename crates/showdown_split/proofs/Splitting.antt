@@ -6,22 +6,30 @@ use Rattle.chip_ledger.specs.declared.pots.Pot.{Pot}
 use Rattle.chip_ledger.specs.declared.rows.SeatRow.{SeatRow}
 use Rattle.chip_ledger.specs.PotRow.{plain}
 use Rattle.chip_ledger.specs.Pots.{PlainPot}
-use Rattle.chip_ledger.specs.SeatRow.{amount_of, total_of}
+use Rattle.chip_ledger.specs.SeatRow.{amount_of}
 use Rattle.play_event.specs.declared.code.Code.{Code}
-use Rattle.variant_table.specs.Shares.{AreSharesOf, Showdown, first_unshown, first_unshown_from, is_unshown}
-use Rattle.showdown_split.specs.Split.{AllShared}
+use Rattle.variant_table.specs.Shares.{AllShared, AreSharesOf, Showdown, first_unshown, first_unshown_from, is_unshown}
 
-shared_more : (code : Code) (showdown : Showdown) (pots : List PlainPot) (rows : List SeatRow) (pot : PlainPot) (row : SeatRow) → AllShared code showdown pots rows → AreSharesOf code showdown pot (amount_of row) → AllShared code showdown (pots ++ pot ∷ []) (rows ++ row ∷ [])
-shared_more code showdown [] [] pot row all one = (one, tt)
-shared_more code showdown [] (r ∷ rows) pot row all one = absurd all
-shared_more code showdown (p ∷ pots) [] pot row all one = absurd all
-shared_more code showdown (p ∷ pots) (r ∷ rows) pot row all one = (all.0, shared_more code showdown pots rows pot row all.1 one)
+shared_more : (code : Code) (showdown : Showdown) (pots : List PlainPot) (shares : List (ℕ → ℕ)) (pot : PlainPot) (share : ℕ → ℕ)
+    → AllShared code showdown pots shares
+    → AreSharesOf code showdown pot share
+    → AllShared code showdown (pots ++ pot ∷ []) (shares ++ share ∷ [])
+shared_more code showdown [] [] pot share all one = (one, tt)
+shared_more code showdown [] (s ∷ shares) pot share all one = absurd all
+shared_more code showdown (p ∷ pots) [] pot share all one = absurd all
+shared_more code showdown (p ∷ pots) (s ∷ shares) pot share all one = (all.0, shared_more code showdown pots shares pot share all.1 one)
 
 -- the lists of pots and of shares, each with one more
-pub shared_next : (code : Code) (showdown : Showdown) (pots new_pots : List PlainPot) (rows new_rows : List SeatRow) (pot : PlainPot) (row : SeatRow) → new_pots ≡ pots ++ pot ∷ [] → new_rows ≡ rows ++ row ∷ [] → AllShared code showdown pots rows → AreSharesOf code showdown pot (amount_of row) → AllShared code showdown new_pots new_rows
+pub shared_next : (code : Code) (showdown : Showdown) (pots new_pots : List PlainPot) (rows new_rows : List SeatRow) (pot : PlainPot) (row : SeatRow)
+    → new_pots ≡ pots ++ pot ∷ []
+    → new_rows ≡ rows ++ row ∷ []
+    → AllShared code showdown pots (map amount_of rows)
+    → AreSharesOf code showdown pot (amount_of row)
+    → AllShared code showdown new_pots (map amount_of new_rows)
 shared_next code showdown pots new_pots rows new_rows pot row next pushed all one =
-    subst (λ (xs : List PlainPot). AllShared code showdown xs new_rows) (sym next)
-    (subst (λ (ys : List SeatRow). AllShared code showdown (pots ++ pot ∷ []) ys) (sym pushed) (shared_more code showdown pots rows pot row all one))
+    subst (λ (xs : List PlainPot). AllShared code showdown xs (map amount_of new_rows)) (sym next)
+    (subst (λ (ys : List (ℕ → ℕ)). AllShared code showdown (pots ++ pot ∷ []) ys) (sym (ap (map amount_of) pushed ∙ map-append amount_of rows (row ∷ [])))
+    (shared_more code showdown pots (map amount_of rows) pot (amount_of row) all one))
 
 -- one row more of so many seats
 pub seats_next : (seats : ℕ) (rows new : List SeatRow) (row : SeatRow) → new ≡ rows ++ row ∷ [] → All (λ (r : SeatRow). r.seats ≡ seats) rows → row.seats ≡ seats → All (λ (r : SeatRow). r.seats ≡ seats) new
@@ -68,13 +76,3 @@ unshown_at showdown items i pot count inside is none unshown same =
     ap (first_unshown showdown) all
     ∙ now_unshown 1 showdown (map plain (take i items)) (plain pot) rest none unshown
     ∙ ap (λ (n : ℕ). Some n) (omega arith)
-
--- the totals of shares and of pots, with one more
-pub totals_more : (rows new : List SeatRow) (row : SeatRow) (items : List Pot) (i : ℕ) (pot : Pot) → new ≡ rows ++ row ∷ [] → i < length items → pot ≡ get_or items i pot → total_of row ≡ pot.chips → map total_of rows ≡ map (λ (p : Pot). p.chips) (take i items) → map total_of new ≡ map (λ (p : Pot). p.chips) (take (i + 1) items)
-totals_more rows new row items i pot pushed inside is total totals =
-    ap (map total_of) pushed
-    ∙ map-append total_of rows (row ∷ [])
-    ∙ ap (λ (xs : List ℕ). xs ++ total_of row ∷ []) totals
-    ∙ ap (λ (n : ℕ). map (λ (p : Pot). p.chips) (take i items) ++ n ∷ []) total
-    ∙ sym (map-append (λ (p : Pot). p.chips) (take i items) (pot ∷ []))
-    ∙ ap (map (λ (p : Pot). p.chips)) (sym (taken_more items i pot inside is))

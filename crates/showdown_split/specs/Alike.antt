@@ -2,7 +2,7 @@
 use Rattle.std.specs.Prelude.{◌≡◌, ◌≤◌, ◌↔◌, ℕ, Bool, true, IsTrue, Option}
 use Rattle.play_event.specs.declared.code.Code.{Code}
 use Rattle.variant_table.specs.Shares.{IsLowShown, Ranking, Showdown, ranking_of}
-use Rattle.showdown_split.specs.Worths.{ranking_by}
+use Rattle.showdown_split.specs.SeatPoints.{ranking_by}
 
 -- two rankings say the same of the seats that contend, and of their low hands where one is shown
 pub record AreAlike (contending : ℕ → Bool) (a b : Ranking) : Type 0 where
@@ -10,7 +10,7 @@ pub record AreAlike (contending : ℕ → Bool) (a b : Ranking) : Type 0 where
   pub beats_low : IsLowShown contending b → (m n : ℕ) → IsTrue (contending m) → IsTrue (contending n) → a.beats_low m n ↔ b.beats_low m n
   pub has_low : (n : ℕ) → IsTrue (contending n) → a.has_low n ↔ b.has_low n
 
--- by these worths, high and low, the shown seats compare as they do in the game
+-- by these points, high and low, the shown seats compare as they do in the game
 abbrev pub AreJudged : Code → Showdown → (ℕ → Option ℕ) → (ℕ → Option ℕ) → Type 0
 AreJudged code showdown high low =
     (contending : ℕ → Bool)

@@ -1,8 +1,7 @@
 -- The cards and scores of the seats at the end of a hand, and what a whole split gives.
 pub mod Hands
 pub mod Scores
-pub mod Worths
+pub mod SeatPoints
 pub mod Alike
 pub mod Laws
 pub mod Playable
-pub mod Split

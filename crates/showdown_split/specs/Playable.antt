@@ -1,4 +1,4 @@
--- Hands and pots that a split takes.
+-- What a split takes: hands that can be compared, and pots that can be won.
 use Rattle.std.specs.Prelude.{◌≡◌, ◌≢◌, ◌≤◌, ◌++◌, ℕ, true, List, [], All}
 use Rattle.card_set.specs.declared.row.CardRow.{CardRow}
 use Rattle.card_set.specs.Different.{AllDifferent}
@@ -13,9 +13,13 @@ use Rattle.play_event.specs.declared.card_rows.HandRow.{HandRow}
 use Rattle.showdown_split.specs.Hands.{holding}
 
 -- each shown seat up to this one has cards that the pick can use, all different from one another and from the board's
-pub record ArePlayable (held : ℕ) (pick : Pick) (hands : HandRow) (board : CardRow) (shown : LiveRow) (last : ℕ) : Type 0 where
+pub record ArePlayableTo (last held : ℕ) (pick : Pick) (hands : HandRow) (board : CardRow) (shown : LiveRow) : Type 0 where
   pub usable : (n : ℕ) → 1 ≤ n → n ≤ last → flag_of shown n ≡ true → CanPick held pick (holding hands n) (cards_of board)
   pub different : (n : ℕ) → 1 ≤ n → n ≤ last → flag_of shown n ≡ true → AllDifferent (holding hands n ++ cards_of board)
+
+-- each shown seat has
+abbrev pub ArePlayable : ℕ → Pick → HandRow → CardRow → LiveRow → Type 0
+ArePlayable held pick hands board shown = ArePlayableTo shown.seats held pick hands board shown
 
 -- each pot is of so many seats, one of them may win it, and it has no more chips than a row may hold
 pub record AreWinnable (seats : ℕ) (pots : List Pot) : Type 0 where

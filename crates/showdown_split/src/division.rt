@@ -59,7 +59,8 @@ pub fn divide(winners: &LiveRow, chips: u64) -> SeatRow
 /// What each seat gets in two rows together.
 pub fn together(first: &SeatRow, second: &SeatRow) -> SeatRow
     requires seats { second.now.seats ≡ first.now.seats }
-    requires bounded { (n : ℕ) → 1 ≤ n → n ≤ first.now.seats → amount_of first.now n + amount_of second.now n ≤ MOST_AMOUNT }
+    requires bounded { (n : ℕ) → 1 ≤ n → n ≤ first.now.seats
+        → amount_of first.now n + amount_of second.now n ≤ MOST_AMOUNT }
     ensures seats { result.seats ≡ first.now.seats }
     ensures sums { (n : ℕ) → 1 ≤ n → n ≤ first.now.seats
         → amount_of result n ≡ amount_of first.now n + amount_of second.now n }

@@ -8,7 +8,8 @@ ghost use Rattle.hand_order.specs.Best.{IsPointsOfHolding};
 ghost use Rattle.hand_order.specs.Choices.{CanPick, allowed};
 ghost use Rattle.showdown_split.specs.Alike.{AreJudged};
 ghost use Rattle.showdown_split.specs.Hands.{holding, showdown_of};
-ghost use Rattle.showdown_split.specs.Scores.{worth_of};
+ghost use Rattle.showdown_split.specs.Playable.{ArePlayable};
+ghost use Rattle.showdown_split.specs.Scores.{points_of};
 
 use crate::known::known_row;
 use crate::scores::Scores;
@@ -24,7 +25,8 @@ fn score_of<O: HandOrder>(hands: &HandRow, board: &CardRow, pick: Pick, seat: Se
     requires usable { CanPick O.HELD pick (holding hands.now seat.number) (cards_of board.now) }
     requires different { AllDifferent (holding hands.now seat.number ++ cards_of board.now) }
     ensures { IsPointsOfHolding O.is_hand O.is_weaker O.points
-        (allowed pick (holding hands.now seat.number) (cards_of board.now)) (option_map (λ s. s.points) result) }
+        (allowed pick (holding hands.now seat.number) (cards_of board.now))
+        (option_map (λ s. s.points) result) }
 {
     let hole = known_row(&hands.get(seat));
     best_of::<O>(&hole, board, pick)
@@ -33,13 +35,10 @@ fn score_of<O: HandOrder>(hands: &HandRow, board: &CardRow, pick: Pick, seat: Se
 // The scores of the shown seats in an order.
 fn scores_of<O: HandOrder>(hands: &HandRow, board: &CardRow, shown: &LiveRow, pick: Pick) -> Scores
     requires seats { hands.now.seats ≡ shown.now.seats }
-    requires usable { (n : ℕ) → 1 ≤ n → n ≤ shown.now.seats → flag_of shown.now n ≡ true
-        → CanPick O.HELD pick (holding hands.now n) (cards_of board.now) }
-    requires different { (n : ℕ) → 1 ≤ n → n ≤ shown.now.seats → flag_of shown.now n ≡ true
-        → AllDifferent (holding hands.now n ++ cards_of board.now) }
+    requires playable { ArePlayable O.HELD pick hands.now board.now shown.now }
     ensures { (n : ℕ) → 1 ≤ n → n ≤ shown.now.seats → flag_of shown.now n ≡ true
         → IsPointsOfHolding O.is_hand O.is_weaker O.points
-        (allowed pick (holding hands.now n) (cards_of board.now)) (worth_of result n) }
+        (allowed pick (holding hands.now n) (cards_of board.now)) (points_of result n) }
 {
     let mut scores = Scores::new();
     for index in 0..shown.seats {
@@ -54,14 +53,12 @@ fn scores_of<O: HandOrder>(hands: &HandRow, board: &CardRow, shown: &LiveRow, pi
 // The scores of the shown seats in the second order, in a game that pays by two; in another game none.
 fn low_scores<V: Variant>(hands: &HandRow, board: &CardRow, shown: &LiveRow) -> Scores
     requires seats { hands.now.seats ≡ shown.now.seats }
-    requires usable { (n : ℕ) → 1 ≤ n → n ≤ shown.now.seats → flag_of shown.now n ≡ true
-        → CanPick V.Second.HELD V.PICK (holding hands.now n) (cards_of board.now) }
-    requires different { (n : ℕ) → 1 ≤ n → n ≤ shown.now.seats → flag_of shown.now n ≡ true
-        → AllDifferent (holding hands.now n ++ cards_of board.now) }
-    ensures two { V.SPLIT ≡ true → (n : ℕ) → 1 ≤ n → n ≤ shown.now.seats → flag_of shown.now n ≡ true
+    requires playable { ArePlayable V.Second.HELD V.PICK hands.now board.now shown.now }
+    ensures two { V.SPLIT ≡ true
+        → (n : ℕ) → 1 ≤ n → n ≤ shown.now.seats → flag_of shown.now n ≡ true
         → IsPointsOfHolding V.Second.is_hand V.Second.is_weaker V.Second.points
-        (allowed V.PICK (holding hands.now n) (cards_of board.now)) (worth_of result n) }
-    ensures one { V.SPLIT ≡ false → (n : ℕ) → worth_of result n ≡ None }
+        (allowed V.PICK (holding hands.now n) (cards_of board.now)) (points_of result n) }
+    ensures one { V.SPLIT ≡ false → (n : ℕ) → points_of result n ≡ None }
 {
     if V::SPLIT {
         scores_of::<V::Second>(hands, board, shown, V::PICK)
@@ -73,11 +70,9 @@ fn low_scores<V: Variant>(hands: &HandRow, board: &CardRow, shown: &LiveRow) -> 
 /// The scores of the shown seats in a game: in its first order, and in the second where it pays by two.
 pub fn judged<V: Variant>(hands: &HandRow, board: &CardRow, shown: &LiveRow) -> (Scores, Scores)
     requires seats { hands.now.seats ≡ shown.now.seats }
-    requires usable { (n : ℕ) → 1 ≤ n → n ≤ shown.now.seats → flag_of shown.now n ≡ true
-        → CanPick V.Award.HELD V.PICK (holding hands.now n) (cards_of board.now) }
-    requires different { (n : ℕ) → 1 ≤ n → n ≤ shown.now.seats → flag_of shown.now n ≡ true
-        → AllDifferent (holding hands.now n ++ cards_of board.now) }
-    ensures { AreJudged V.CODE (showdown_of hands.now board.now shown.now) (worth_of result.0) (worth_of result.1) }
+    requires playable { ArePlayable V.Award.HELD V.PICK hands.now board.now shown.now }
+    ensures { AreJudged V.CODE (showdown_of hands.now board.now shown.now)
+        (points_of result.0) (points_of result.1) }
 {
     let high = scores_of::<V::Award>(hands, board, shown, V::PICK);
     let low = low_scores::<V>(hands, board, shown);

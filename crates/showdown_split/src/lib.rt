@@ -1,33 +1,33 @@
-//! Each pot of a hand goes to the shown seats that no other one beats, or in halves where a low hand is shown.
+//! Each pot of a hand, less its rake, goes to the shown seats that no other one beats, or in halves where a low hand is
+//! shown.
 #![tactic(auto)]
 
-ghost use Rattle.std.specs.Prelude.{◌≡◌, ◌≢◌, ◌≤◌, ◌++◌, ℕ, true, None, Some, [], map, All, IfOk, IfErr, OnOk};
-ghost use Rattle.card_set.specs.Different.{AllDifferent};
-ghost use Rattle.card_set.specs.Row.{cards_of};
-ghost use Rattle.chip_ledger.specs.declared.rows.TheConstants.{MOST_AMOUNT};
-ghost use Rattle.chip_ledger.specs.LiveRow.{flag_of, flagged};
-ghost use Rattle.chip_ledger.specs.PotRow.{plain, pots_in, shares_in};
-ghost use Rattle.chip_ledger.specs.SeatRow.{total_of};
-ghost use Rattle.hand_order.specs.Choices.{CanPick};
-ghost use Rattle.variant_table.specs.Shares.{first_unshown};
-ghost use Rattle.showdown_split.specs.Hands.{holding, showdown_of};
-ghost use Rattle.showdown_split.specs.Split.{AllShared};
+ghost use Rattle.std.specs.Prelude.{◌≡◌, ◌+◌, ℕ, None, Some, All, IfOk, IfErr, OnOk};
+ghost use Rattle.chip_ledger.specs.PotRow.{plain_pots, plain_shares, pots_in, shared_in, shares_in};
+ghost use Rattle.chip_ledger.specs.RakeRow.{rake_of};
+ghost use Rattle.chip_ledger.specs.Rakes.{HaveRakes, chips_in, nets_of};
+ghost use Rattle.variant_table.specs.Shares.{AllShared, first_unshown};
+ghost use Rattle.showdown_split.specs.Hands.{showdown_of};
+ghost use Rattle.showdown_split.specs.Playable.{ArePlayable, AreWinnable};
 
 mod division;
 mod judging;
 mod known;
 pub mod laws;
+mod net;
 mod pot;
+mod rakes;
 mod scores;
-#[cfg(test)]
-mod tests;
 mod winners;
 
 use card_set::CardRow;
-use chip_ledger::{LiveRow, PotRow, ShareRow};
+use chip_ledger::{LiveRow, PotRow, RakeRow, ShareRow};
 use judging::judged;
+pub use known::known_row;
+use net::net_of;
 use play_event::HandRow;
 use pot::shares_of;
+pub use rakes::first_rake_above;
 use variant_table::Variant;
 
 /// A pot that two or more seats may win has no shown hand among them.
@@ -37,43 +37,43 @@ pub struct NoShownHand {
     pub pot: u8,
 }
 
-/// What each seat gets of each pot of a hand, the lowest pot first.
+/// What each seat gets of each pot of a hand, less its rake, the lowest pot first.
 ///
 /// `hands` are the hole cards of the seats, of which the known ones count, and `shown` says which seats are
 /// shown: of other seats no card is looked at. A shown seat and the board have as many cards as the game's
 /// pick can use. Without a shown hand for a pot that two or more seats may win nothing is paid.
 pub fn split<V: Variant>(
     pots: &PotRow,
+    rakes: &RakeRow,
     hands: &HandRow,
     board: &CardRow,
     shown: &LiveRow,
 ) -> Result<ShareRow, NoShownHand>
     requires seats { hands.now.seats ≡ shown.now.seats }
-    requires pot_seats { All (λ pot. pot.eligible.seats ≡ shown.now.seats) (pots_in pots.now) }
-    requires winnable { All (λ pot. flagged pot.eligible ≢ []) (pots_in pots.now) }
-    requires bounded { All (λ pot. pot.chips ≤ MOST_AMOUNT) (pots_in pots.now) }
-    requires usable { (n : ℕ) → 1 ≤ n → n ≤ shown.now.seats → flag_of shown.now n ≡ true
-        → CanPick V.Award.HELD V.PICK (holding hands.now n) (cards_of board.now) }
-    requires different { (n : ℕ) → 1 ≤ n → n ≤ shown.now.seats → flag_of shown.now n ≡ true
-        → AllDifferent (holding hands.now n ++ cards_of board.now) }
+    requires winnable { AreWinnable shown.now.seats (pots_in pots.now) }
+    requires rakes { HaveRakes (plain_pots pots.now) rakes.now }
+    requires playable { ArePlayable V.Award.HELD V.PICK hands.now board.now shown.now }
 
     // The rule, exactly.
-    ensures shares { IfOk result (λ shares. AllShared V.CODE (showdown_of hands.now board.now shown.now)
-        (map plain (pots_in pots.now)) (shares_in shares)) }
-    ensures no_unshown { OnOk result (first_unshown (showdown_of hands.now board.now shown.now)
-        (map plain (pots_in pots.now)) ≡ None) }
-    ensures first_unshown { IfErr result (λ fault. first_unshown (showdown_of hands.now board.now shown.now)
-        (map plain (pots_in pots.now)) ≡ Some fault.pot) }
+    ensures shares { IfOk result (λ shares.
+        AllShared V.CODE (showdown_of hands.now board.now shown.now)
+        (nets_of rakes.now (plain_pots pots.now)) (plain_shares shares)) }
+    ensures no_unshown { OnOk result (first_unshown
+        (showdown_of hands.now board.now shown.now) (plain_pots pots.now) ≡ None) }
+    ensures first_unshown { IfErr result (λ fault. first_unshown
+        (showdown_of hands.now board.now shown.now) (plain_pots pots.now) ≡ Some fault.pot) }
 
     // What follows from it.
-    ensures conserved { IfOk result (λ shares. map total_of (shares_in shares)
-        ≡ map (λ pot. pot.chips) (pots_in pots.now)) }
-    ensures seats { IfOk result (λ shares. All (λ row. row.seats ≡ shown.now.seats) (shares_in shares)) }
+    ensures conserved { IfOk result (λ shares. (number : ℕ) → shared_in shares number
+        + rake_of rakes.now number ≡ chips_in (plain_pots pots.now) number) }
+    ensures seats { IfOk result (λ shares.
+        All (λ row. row.seats ≡ shown.now.seats) (shares_in shares)) }
 {
     let (high, low) = judged::<V>(hands, board, shown);
     let mut shares = ShareRow::new();
     for pot in &pots.pots[..pots.count as usize] {
-        match shares_of(pot, shown, &high, &low) {
+        let net = net_of(pot, rakes.rakes[shares.count as usize]);
+        match shares_of(&net, shown, &high, &low) {
             Some(row) => shares.push(row),
             None => {
                 return Err(NoShownHand {

@@ -6,8 +6,8 @@ ghost use Rattle.chip_ledger.specs.PotRow.{plain};
 ghost use Rattle.chip_ledger.specs.SeatRow.{amount_of, total_of};
 ghost use Rattle.variant_table.specs.Division.{count_to};
 ghost use Rattle.variant_table.specs.Shares.{AreContested, AreShares, contends, is_unshown};
-ghost use Rattle.showdown_split.specs.Scores.{worth_of};
-ghost use Rattle.showdown_split.specs.Worths.{is_flagged, ranking_by, shown_only};
+ghost use Rattle.showdown_split.specs.Scores.{points_of};
+ghost use Rattle.showdown_split.specs.SeatPoints.{is_flagged, ranking_by, shown_only};
 
 use crate::division::{divide, flags_to, together};
 use crate::scores::Scores;
@@ -57,7 +57,7 @@ fn contested(chips: u64, contending: &LiveRow, high: &Scores, low: &Scores) -> S
     requires bounded { chips ≤ MOST_AMOUNT }
     ensures seats { result.seats ≡ contending.now.seats }
     ensures shares { AreContested contending.now.seats (is_flagged contending.now)
-        (ranking_by (worth_of high.now) (worth_of low.now)) chips (amount_of result) }
+        (ranking_by (points_of high.now) (points_of low.now)) chips (amount_of result) }
     ensures total { total_of result ≡ chips }
 {
     match best(contending, low) {
@@ -77,8 +77,9 @@ pub fn shares_of(pot: &Pot, shown: &LiveRow, high: &Scores, low: &Scores) -> Opt
     ensures seats { IfSome result (λ row. row.seats ≡ shown.now.seats) }
     ensures none { IfNone result (is_unshown (shown_only shown.now) (plain pot.now) ≡ true) }
     ensures some { OnSome result (is_unshown (shown_only shown.now) (plain pot.now) ≡ false) }
-    ensures shares { IfSome result (λ row. AreShares shown.now.seats (contends (shown_only shown.now) (plain pot.now))
-        (ranking_by (worth_of high.now) (worth_of low.now)) (plain pot.now) (amount_of row)) }
+    ensures shares { IfSome result (λ row. AreShares shown.now.seats
+        (contends (shown_only shown.now) (plain pot.now))
+        (ranking_by (points_of high.now) (points_of low.now)) (plain pot.now) (amount_of row)) }
     ensures total { IfSome result (λ row. total_of row ≡ pot.now.chips) }
 {
     if flags_to(&pot.eligible, pot.eligible.seats) == 1 {

@@ -13,26 +13,27 @@ pub struct Scores {
 }
 
 impl Scores {
-    ghost use Rattle.showdown_split.specs.Scores.{worth_of};
+    ghost use Rattle.showdown_split.specs.Scores.{points_of};
 
     /// No seat has a score.
     pub fn new() -> Self
-        ensures { (n : ℕ) → worth_of result n ≡ None }
+        ensures { (n : ℕ) → points_of result n ≡ None }
     {
         Scores { scores: [None; 10] }
     }
 
     /// The score of the seat.
     pub fn get(&self, seat: Seat) -> Option<Score>
-        ensures { option_map (λ s. s.points) result ≡ worth_of self.now seat.number }
+        ensures { option_map (λ s. s.points) result ≡ points_of self.now seat.number }
     {
         self.scores[seat.number as usize - 1]
     }
 
     /// Gives the seat this score.
     pub fn set(&mut self, seat: Seat, score: Option<Score>)
-        ensures score { worth_of self.new seat.number ≡ option_map (λ s. s.points) score }
-        ensures others { (n : ℕ) → 1 ≤ n → n ≢ seat.number → worth_of self.new n ≡ worth_of self.old n }
+        ensures score { points_of self.new seat.number ≡ option_map (λ s. s.points) score }
+        ensures others { (n : ℕ)
+            → 1 ≤ n → n ≢ seat.number → points_of self.new n ≡ points_of self.old n }
     {
         self.scores[seat.number as usize - 1] = score;
     }

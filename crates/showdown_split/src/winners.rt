@@ -1,10 +1,10 @@
-// The winners are the seats that contend and that are worth as much as the best of them.
+// The winners are the seats that contend and that have as many points as the best of them.
 ghost use Rattle.std.specs.Prelude.{◌≡◌, ◌≤◌, ◌&&◌, ◌↔◌, ℕ, IsTrue, if◌then◌else◌};
 ghost use Rattle.std.specs.Option.{option_map};
 ghost use Rattle.chip_ledger.specs.LiveRow.{flag_of};
 ghost use Rattle.hand_order.specs.Points.{better};
-ghost use Rattle.showdown_split.specs.Scores.{worth_of};
-ghost use Rattle.showdown_split.specs.Worths.{best_to, same_worth};
+ghost use Rattle.showdown_split.specs.Scores.{points_of};
+ghost use Rattle.showdown_split.specs.SeatPoints.{best_to, is_same};
 
 use crate::scores::Scores;
 use chip_ledger::{LiveRow, Seat};
@@ -13,7 +13,7 @@ use hand_order::{Score, better_score};
 /// The best score of the seats that contend, none where none of them has a hand.
 pub fn best(contending: &LiveRow, scores: &Scores) -> Option<Score>
     ensures { option_map (λ s. s.points) result
-        ≡ best_to (flag_of contending.now) (worth_of scores.now) contending.now.seats }
+        ≡ best_to (flag_of contending.now) (points_of scores.now) contending.now.seats }
 {
     let mut best = None;
     for index in 0..contending.seats {
@@ -31,8 +31,10 @@ fn better_of_seat(
     seat: Seat,
 ) -> Option<Score>
     requires { seat.number ≤ contending.now.seats }
-    ensures { let worth = option_map (λ s. s.points) score in option_map (λ s. s.points) result
-        ≡ (if flag_of contending.now seat.number then better worth (worth_of scores.now seat.number) else worth) }
+    ensures { let before = option_map (λ s. s.points) score in
+        option_map (λ s. s.points) result
+        ≡ (if flag_of contending.now seat.number
+        then better before (points_of scores.now seat.number) else before) }
 {
     if contending.get(seat) {
         better_score(score, scores.get(seat))
@@ -45,8 +47,8 @@ fn better_of_seat(
 pub fn winners(contending: &LiveRow, scores: &Scores) -> LiveRow
     ensures seats { result.seats ≡ contending.now.seats }
     ensures flags { (n : ℕ) → 1 ≤ n → n ≤ contending.now.seats → flag_of result n
-        ≡ (flag_of contending.now n && same_worth (worth_of scores.now n)
-        (best_to (flag_of contending.now) (worth_of scores.now) contending.now.seats)) }
+        ≡ (flag_of contending.now n && is_same (points_of scores.now n)
+        (best_to (flag_of contending.now) (points_of scores.now) contending.now.seats)) }
 {
     let most = best(contending, scores);
     let mut row = LiveRow::new(contending.seats);
@@ -62,7 +64,8 @@ pub fn winners(contending: &LiveRow, scores: &Scores) -> LiveRow
 
 // Both are the same score, or none.
 fn is_same(first: Option<Score>, second: Option<Score>) -> bool
-    ensures { result ≡ same_worth (option_map (λ s. s.points) first) (option_map (λ s. s.points) second) }
+    ensures { result
+        ≡ is_same (option_map (λ s. s.points) first) (option_map (λ s. s.points) second) }
 {
     match (first, second) {
         (None, None) => true,

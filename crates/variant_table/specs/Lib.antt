@@ -6,3 +6,4 @@ pub mod TableLaws
 pub mod Tables
 pub mod Division
 pub mod Shares
+pub mod Finish

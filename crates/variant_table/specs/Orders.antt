@@ -16,21 +16,27 @@ pub record Order : Type 1 where
   pub is_hand : List Card → Type 0
   pub is_weaker : List Card → List Card → Type 0
 
+-- five cards, the high order
 abbrev pub high_order : Order
 high_order = record { held = 5; is_hand = high.IsHand; is_weaker = high.IsWeaker }
 
+-- five cards, the high order of the short deck
 abbrev pub short_deck_order : Order
 short_deck_order = record { held = 5; is_hand = high.IsHand; is_weaker = short_deck.IsWeaker }
 
+-- five cards, eight-or-better
 abbrev pub eight_low_order : Order
 eight_low_order = record { held = 5; is_hand = eight_low.IsHand; is_weaker = eight_low.IsWeaker }
 
+-- five cards, the order of razz
 abbrev pub razz_order : Order
 razz_order = record { held = 5; is_hand = razz.IsHand; is_weaker = razz.IsWeaker }
 
+-- five cards, deuce-to-seven
 abbrev pub deuce_seven_order : Order
 deuce_seven_order = record { held = 5; is_hand = deuce_seven.IsHand; is_weaker = deuce_seven.IsWeaker }
 
+-- four cards, badugi
 abbrev pub badugi_order : Order
 badugi_order = record { held = 4; is_hand = badugi.IsHand; is_weaker = badugi.IsWeaker }
 

@@ -7,21 +7,25 @@ use Rattle.variant_table.specs.declared.street.Size.TheVariants as sizes
 use Rattle.variant_table.specs.declared.street.Street.{Street}
 use Rattle.std.specs.Prelude.{false}
 
+-- a pick as the table of games has it
 abbrev pub plain_pick : Pick → games.Pick
 plain_pick picks.AnyFive = games.AnyFive
 plain_pick picks.TwoAndThree = games.TwoAndThree
 plain_pick picks.AllHeld = games.AllHeld
 
+-- the pick of a game
 abbrev pub pick_of : games.Pick → Pick
 pick_of games.AnyFive = picks.AnyFive
 pick_of games.TwoAndThree = picks.TwoAndThree
 pick_of games.AllHeld = picks.AllHeld
 
+-- a size as the table of games has it
 abbrev pub plain_size : Size → games.Size
 plain_size sizes.Small = games.Small
 plain_size sizes.Big = games.Big
 plain_size sizes.Least = games.Least
 
+-- a street as the table of games has it
 abbrev pub plain_street : Street → games.Street
 plain_street street = record { down = street.down; up = street.up; board = street.board; draws = street.draws; size = plain_size street.size }
 

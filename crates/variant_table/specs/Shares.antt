@@ -1,8 +1,9 @@
--- Who gets what of each pot: the shown seats that may win it and that no other one beats, in halves where a low hand is shown.
+-- Who gets what of each pot: the shown seats that may win it and that no other one beats, in halves where a low hand is
+-- shown. What is shared of a pot is its net, the chips that its rake leaves: a pot is given here with these chips.
 use Rattle.std.specs.Prelude.{◌≡◌, ◌≤◌, ℕ, suc, ◌&&◌, Bool, IsTrue, not, nat_le, ◌⊎◌, List, [], ◌∷◌, length, Option, Some, None, if◌then◌else◌}
 use Rattle.std.specs.List.{list_any}
 use Rattle.card_set.specs.declared.card.Card.{Card}
-use Rattle.chip_ledger.specs.Pots.{PlainPot, may_win}
+use Rattle.chip_ledger.specs.Pots.{PlainPot, may_win, whole_share}
 use Rattle.chip_ledger.specs.Seat.{seats_of}
 use Rattle.hand_order.specs.Best.{Beats}
 use Rattle.hand_order.specs.Choices.{IsAmong, allowed}
@@ -38,6 +39,7 @@ pub record Ranking : Type 1 where
   pub beats_low : ℕ → ℕ → Type 0
   pub has_low : ℕ → Type 0
 
+-- how seats compare in a game: by the best of the choices that it allows them
 abbrev pub ranking_of : Code → Showdown → Ranking
 ranking_of code showdown = record {
   beats = λ seat other. Beats (award_of code).is_hand (award_of code).is_weaker (choices_for code showdown seat) (choices_for code showdown other);
@@ -58,7 +60,7 @@ AreContested seats contending ranking chips share =
 -- all chips of a pot go to the one seat that may win it
 pub record AreOfOne (seats : ℕ) (pot : PlainPot) (share : ℕ → ℕ) : Type 0 where
   pub one : length pot.eligible ≡ 1
-  pub all : (seat : ℕ) → 1 ≤ seat → seat ≤ seats → share seat ≡ (if may_win pot seat then pot.chips else 0)
+  pub all : (seat : ℕ) → 1 ≤ seat → seat ≤ seats → share seat ≡ whole_share pot seat
 
 -- a pot that two or more seats may win goes to those of them that are shown
 pub record AreOfShown (seats : ℕ) (contending : ℕ → Bool) (ranking : Ranking) (pot : PlainPot) (share : ℕ → ℕ) : Type 0 where
@@ -73,6 +75,13 @@ AreShares seats contending ranking pot share = AreOfOne seats pot share ⊎ AreO
 -- the shares of a pot in a game
 abbrev pub AreSharesOf : Code → Showdown → PlainPot → (ℕ → ℕ) → Type 0
 AreSharesOf code showdown pot share = AreShares showdown.seats (contends showdown pot) (ranking_of code showdown) pot share
+
+-- the shares of some pots, in order: what each seat gets of each
+abbrev pub AllShared : Code → Showdown → List PlainPot → List (ℕ → ℕ) → Type 0
+AllShared code showdown [] [] = Unit {0}
+AllShared code showdown [] (share ∷ shares) = ⊥
+AllShared code showdown (pot ∷ pots) [] = ⊥
+AllShared code showdown (pot ∷ pots) (share ∷ shares) = AreSharesOf code showdown pot share × AllShared code showdown pots shares
 
 -- a pot that two or more seats may win, of which none is shown
 abbrev pub is_unshown : Showdown → PlainPot → Bool

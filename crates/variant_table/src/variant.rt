@@ -75,9 +75,11 @@ pub trait Variant {
     ghost values: { AreValuesOf (game_of CODE) SPLIT PICK LIMIT OPEN DECK SEATS STREETS };
 
     /// The orders are those of the code.
-    ghost award: { IsOrder (award_of CODE) Self.Award.HELD Self.Award.is_hand Self.Award.is_weaker };
+    ghost award: { IsOrder (award_of CODE)
+        Self.Award.HELD Self.Award.is_hand Self.Award.is_weaker };
 
-    ghost second: { IsOrder (second_of CODE) Self.Second.HELD Self.Second.is_hand Self.Second.is_weaker };
+    ghost second: { IsOrder (second_of CODE)
+        Self.Second.HELD Self.Second.is_hand Self.Second.is_weaker };
 
     /// The streets deal a whole hand and board, and the deck has the cards of a full table.
     ghost adds_up: { AddsUp (game_of CODE) } = { table_adds_up CODE };

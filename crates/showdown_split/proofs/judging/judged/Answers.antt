@@ -11,7 +11,7 @@ use Rattle.variant_table.specs.Plain.{pick_of}
 use Rattle.variant_table.specs.Shares.{HasHand}
 use Rattle.variant_table.specs.TableLaws.{pick_back, same_held}
 use Rattle.showdown_split.specs.Hands.{holding}
-use Rattle.showdown_split.specs.Scores.{worth_of}
+use Rattle.showdown_split.specs.Scores.{points_of}
 use Rattle.showdown_split.proofs.Judged.{IsJudged, judged_beats, judged_hand, judged_low}
 use Rattle.showdown_split.proofs.judging.judged.Goals as goal
 
@@ -23,23 +23,23 @@ returns g c contending inside =
     let laws = g.met.V.Variant in
     let hands = c.args.hands.now in
     let board = cards_of c.args.board.now in
-    let high = worth_of c.scores_of-high.result in
-    let low = worth_of c.low_scores-low.result in
+    let high = points_of c.scores_of-high.result in
+    let low = points_of c.low_scores-low.result in
     let pick_is : v.PICK ≡ pick_of (game_of v.CODE).pick = sym (pick_back v.PICK) ∙ ap pick_of laws.values.pick_is in
     let held_same : second.HELD ≡ award.HELD = laws.second.held_is ∙ same_held v.CODE ∙ sym laws.award.held_is in
     let first : (n : ℕ) → contending n ≡ true → IsJudged award.HELD award.is_hand award.is_weaker award.points v.PICK (holding hands n) board (high n) =
     λ n contends. let range = inside n contends in record {
-      usable = c.requires.usable n range.0 range.1 range.2;
-      different = c.requires.different n range.0 range.1 range.2;
-      worth_is =
+      usable = c.requires.playable.usable n range.0 range.1 range.2;
+      different = c.requires.playable.different n range.0 range.1 range.2;
+      points_are =
           subst (λ (pick : Pick). IsPointsOfHolding award.is_hand award.is_weaker award.points (allowed pick (holding hands n) board) (high n)) c.PICK.ensures
           (c.scores_of-high.ensures n range.0 range.1 range.2);
     } in
     let later : v.SPLIT ≡ true → (n : ℕ) → contending n ≡ true → IsJudged second.HELD second.is_hand second.is_weaker second.points v.PICK (holding hands n) board (low n) =
     λ two n contends. let range = inside n contends in record {
-      usable = subst (λ (held : ℕ). CanPick held v.PICK (holding hands n) board) (sym held_same) (c.requires.usable n range.0 range.1 range.2);
-      different = c.requires.different n range.0 range.1 range.2;
-      worth_is = c.low_scores-low.ensures.two two n range.0 range.1 range.2;
+      usable = subst (λ (held : ℕ). CanPick held v.PICK (holding hands n) board) (sym held_same) (c.requires.playable.usable n range.0 range.1 range.2);
+      different = c.requires.playable.different n range.0 range.1 range.2;
+      points_are = c.low_scores-low.ensures.two two n range.0 range.1 range.2;
     } in
     record {
       beats = λ m n of_m of_n.
@@ -53,5 +53,5 @@ returns g c contending inside =
           subst (λ (pick : Pick). IsTrue (is_some (low n)) ↔ (IsTrue (game_of v.CODE).split × HasHand (second_of v.CODE) (allowed pick (holding hands n) board))) pick_is
           (judged_low v.SPLIT (game_of v.CODE).split (second_of v.CODE) (allowed v.PICK (holding hands n) board) (low n) laws.values.split_is
           (λ one. c.low_scores-low.ensures.one one n)
-          (λ two. judged_hand second.is_hand second.is_weaker second.points (second_of v.CODE) (allowed v.PICK (holding hands n) board) (low n) laws.second.hand_is (later two n of_n).worth_is));
+          (λ two. judged_hand second.is_hand second.is_weaker second.points (second_of v.CODE) (allowed v.PICK (holding hands n) board) (low n) laws.second.hand_is (later two n of_n).points_are));
     }

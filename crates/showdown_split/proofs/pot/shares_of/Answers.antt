@@ -11,8 +11,8 @@ use Rattle.chip_ledger.specs.SeatRow.{amount_of}
 use Rattle.chip_ledger.proofs.Seats.{sum-seats}
 use Rattle.variant_table.specs.Division.{count_to}
 use Rattle.variant_table.specs.Shares.{AreContested, contends}
-use Rattle.showdown_split.specs.Scores.{worth_of}
-use Rattle.showdown_split.specs.Worths.{is_flagged, ranking_by, shown_only}
+use Rattle.showdown_split.specs.Scores.{points_of}
+use Rattle.showdown_split.specs.SeatPoints.{is_flagged, ranking_by, shown_only}
 use Rattle.showdown_split.proofs.Compared.{alike_itself, same_contested}
 use Rattle.showdown_split.proofs.Flagged.{flagged_both, flagged_inside, is_flagged-flag, length-flagged, none_flagged, several_flagged, some_flagged, some_passes, sum_for_each}
 use Rattle.showdown_split.proofs.pot.shares_of.Goals as goal
@@ -56,7 +56,7 @@ returns-clause-shares c =
     let shown = c.args.shown.now in
     let test = contends (shown_only shown) (plain pot) in
     let rivals = c.contending-rivals in
-    let ranking = ranking_by (worth_of c.args.high.now) (worth_of c.args.low.now) in
+    let ranking = ranking_by (points_of c.args.high.now) (points_of c.args.low.now) in
     let same = flagged_both rivals.result pot.eligible shown rivals.ensures.seats c.requires.seats rivals.ensures.flags in
     let several : 2 ≤ length (flagged pot.eligible) = several_flagged pot.eligible c.requires.some (λ one. c.if-flags_to-eq1.false (c.flags_to.ensures.number ∙ one)) in
     let one = some_flagged rivals.result (c.any.ensures.0 c.if-not-any.false) in

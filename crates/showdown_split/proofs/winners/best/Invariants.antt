@@ -2,9 +2,9 @@
 use Rattle.std.proofs.Common.{◌≡◌}
 use Rattle.std.specs.Option.{option_map}
 use Rattle.chip_ledger.specs.LiveRow.{flag_of}
-use Rattle.showdown_split.specs.Scores.{worth_of}
-use Rattle.showdown_split.specs.Worths.{best_to}
+use Rattle.showdown_split.specs.Scores.{points_of}
+use Rattle.showdown_split.specs.SeatPoints.{best_to}
 use Rattle.showdown_split.proofs.winners.best.Given as goal
 
 abbrev pub invariant-loop-index : goal.invariant-loop-index
-invariant-loop-index l = option_map (λ s. s.points) l.best ≡ best_to (flag_of l.contending) (worth_of l.scores) l.index
+invariant-loop-index l = option_map (λ s. s.points) l.best ≡ best_to (flag_of l.contending) (points_of l.scores) l.index

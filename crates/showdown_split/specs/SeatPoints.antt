@@ -1,4 +1,4 @@
--- How the worths of seats compare, where a seat that has no hand is worth none.
+-- How seats compare by their points, where a seat that has no hand has none.
 use Rattle.std.specs.Prelude.{ℕ, zero, suc, ◌==◌, Bool, true, false, IsTrue, [], Option, Some, None, if◌then◌else◌}
 use Rattle.std.specs.List.{list_any}
 use Rattle.std.specs.Option.{is_some}
@@ -8,26 +8,26 @@ use Rattle.hand_order.specs.Best.{IsLess}
 use Rattle.hand_order.specs.Points.{better}
 use Rattle.variant_table.specs.Shares.{Ranking, Showdown}
 
--- both are worth the same
-abbrev pub same_worth : Option ℕ → Option ℕ → Bool
-same_worth None None = true
-same_worth None (Some y) = false
-same_worth (Some x) None = false
-same_worth (Some x) (Some y) = x == y
+-- both have the same points, or none
+abbrev pub is_same : Option ℕ → Option ℕ → Bool
+is_same None None = true
+is_same None (Some y) = false
+is_same (Some x) None = false
+is_same (Some x) (Some y) = x == y
 
--- the greatest worth of the seats up to this one that pass a test
+-- the most points of the seats up to this one that pass a test
 abbrev pub best_to : (ℕ → Bool) → (ℕ → Option ℕ) → ℕ → Option ℕ
-best_to test worth zero = None
-best_to test worth (suc seat) = if test (suc seat) then better (best_to test worth seat) (worth (suc seat)) else best_to test worth seat
+best_to test points zero = None
+best_to test points (suc seat) = if test (suc seat) then better (best_to test points seat) (points (suc seat)) else best_to test points seat
 
 -- the seat is one of the row's, and its flag is true
 abbrev pub is_flagged : LiveRow → ℕ → Bool
 is_flagged row seat = list_any (λ n. n == seat) (flagged row)
 
--- how seats compare by their worths
+-- how seats compare by their points
 abbrev pub ranking_by : (ℕ → Option ℕ) → (ℕ → Option ℕ) → Ranking
-ranking_by worth low = record {
-  beats = λ seat other. IsLess (worth other) (worth seat);
+ranking_by points low = record {
+  beats = λ seat other. IsLess (points other) (points seat);
   beats_low = λ seat other. IsLess (low other) (low seat);
   has_low = λ seat. IsTrue (is_some (low seat));
 }
