@@ -3,7 +3,11 @@
 #![tactic(auto)]
 
 mod games;
+mod playable;
+mod pots;
+mod rows;
 mod scripts;
+mod shares;
 mod words;
 
 use std::alloc::{AllocError, Global};
@@ -35,6 +39,7 @@ fn answer_to(alloc: Global, row: &str) -> Result<Option<String>, AllocError> {
     let (subject, rest) = words::first_and_rest(row);
     match subject.as_bytes() {
         b"games" => games::answer_to(alloc, rest),
+        b"pots" => pots::answer_to(alloc, rest),
         b"scripts" => scripts::answer_to(alloc, rest),
         _ => Ok(None),
     }

@@ -1,0 +1,2 @@
+-- Lemmas on what can be split.
+pub mod Splittable
