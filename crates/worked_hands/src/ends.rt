@@ -1,12 +1,12 @@
-// How hands end: shows, mucks, the showdown, and scripts that stop too early or go on.
+//! How hands end: shows, mucks, the showdown, and scripts that stop too early or go on. Each function does
+//! nothing: its contract is computed from the rules.
 ghost use Rattle.std.specs.Prelude.{[], codes, false, ◌∷◌, ◌≡◌};
 ghost use Rattle.play_event.specs.declared.reason.Due.TheVariants as dues;
 ghost use Rattle.play_event.specs.declared.reason.Illegal.TheVariants.{HandOver, WrongKind, WrongSeat, WrongCount, CardTaken, NotHeld};
 ghost use Rattle.play_event.specs.Scripts.{has_early_end};
-ghost use Rattle.worked_hands.specs.Words.{muck, show};
 ghost use Rattle.worked_hands.specs.Outcomes.{AllLegal, IllegalAt, due_after, puts_after};
 ghost use Rattle.worked_hands.specs.Setups.{antes_and_blinds, heads_up, no_limit, stud_short};
-ghost use Rattle.worked_hands.specs.ShowScripts.{board_card_shown, checked, checked_down, deuce_left_out, early_shows, folder_mucks, mucked_called, other_hand_shown, shown_and_mucked, shown_called, shown_uncalled, three_shown, winner_does_both, winner_mucks, winner_shows};
+ghost use Rattle.worked_hands.specs.ShowScripts.{board_card_shown, checked_down, deuce_left_out, early_shows, folder_mucks, mucked_called, other_hand_shown, shown_and_mucked, shown_called, shown_uncalled, three_shown, winner_does_both, winner_mucks, winner_shows};
 
 /// A hand that is checked down, and its shows.
 pub fn showdowns()

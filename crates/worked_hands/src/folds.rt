@@ -1,8 +1,8 @@
-// Hands that are won by folds on the first street of no-limit hold'em.
+//! Hands that are won by folds on the first street of no-limit hold'em. Each function does nothing: its contract
+//! is computed from the rules.
 ghost use Rattle.std.specs.Prelude.{Some, [], false, slice_get, true, ◌∷◌, ◌≡◌};
 ghost use Rattle.play_event.specs.declared.reason.Illegal.TheVariants.{HandOver, WrongSeat, RaiseTooSmall, RaiseTooBig};
 ghost use Rattle.play_event.specs.Scripts.{has_early_end};
-ghost use Rattle.worked_hands.specs.Words.{folds, raise};
 ghost use Rattle.worked_hands.specs.Outcomes.{AllLegal, IllegalAt, ends_with};
 ghost use Rattle.worked_hands.specs.Setups.{deep_stacks, no_limit, one_dead_ante};
 ghost use Rattle.worked_hands.specs.BetScripts.{early_fold, folded_to_blind, one_fold, raised_to, three_folds, two_folds};

@@ -1,7 +1,7 @@
-// Who may raise, and to what.
+//! Who may raise, and to what. Each function does nothing: its contract is computed from the rules.
 ghost use Rattle.std.specs.Prelude.{[], ◌∷◌, ◌≡◌};
 ghost use Rattle.play_event.specs.declared.reason.Illegal.TheVariants.{NothingToCall, RaiseClosed, RaiseTooSmall, RaiseTooBig, AmountDiffers};
-ghost use Rattle.worked_hands.specs.Words.{call, calls, capped, fold, raise, uncapped};
+ghost use Rattle.worked_hands.specs.Words.{capped, uncapped};
 ghost use Rattle.worked_hands.specs.Outcomes.{AllLegal, AllLegalBy, IllegalAt, IllegalAtBy, puts_after};
 ghost use Rattle.worked_hands.specs.Setups.{first_short, fixed_limit, heads_up, limit_short, limit_three, low_blinds, pot_limit, pot_short, stud, stud_three, third_short};
 ghost use Rattle.worked_hands.specs.BetScripts.{bet_by_total, call_stating, four_units, free_fold, full_bring_in, half_bet_more, one_unit, opened_to, over_low_blinds, over_short, over_three, pot_raised_again, pot_raised_to, raised_again, raised_and_won, short_call, small_bet_later, two_units_later, unit_over_bring_in};

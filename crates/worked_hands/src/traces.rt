@@ -1,11 +1,12 @@
-// What a trace keeps: who is shown, closed raises, units, and the cards in their order.
+//! What a trace keeps: who is shown, closed raises, units, and the cards in their order. Each function does
+//! nothing: its contract is computed from the rules.
 ghost use Rattle.std.specs.Prelude.{[], codes, ◌∷◌, ◌≡◌};
-ghost use Rattle.worked_hands.specs.Words.{raise, slots_named};
+ghost use Rattle.worked_hands.specs.Words.{slots_named};
 ghost use Rattle.worked_hands.specs.Outcomes.{cards_after, closed_after, mucked_after, shown_after, units_after};
 ghost use Rattle.worked_hands.specs.Setups.{antes_and_blinds, first_short, fixed_limit, heads_up, no_limit, pot_limit};
 ghost use Rattle.worked_hands.specs.BetScripts.{over_short, pot_raised_to, raised_and_won, two_units};
 ghost use Rattle.worked_hands.specs.CardScripts.{mixed_deals};
-ghost use Rattle.worked_hands.specs.ShowScripts.{all_cards_shown, checked, checked_down, early_shows, known_mucked, named_at_showdown, shown_and_mucked};
+ghost use Rattle.worked_hands.specs.ShowScripts.{all_cards_shown, checked, checked_down, early_shows, known_mucked, named_at_showdown};
 
 /// Who is shown and who is mucked at the end.
 pub fn shown_and_mucked()
