@@ -1,0 +1,77 @@
+-- What holds where a discard has no reason against it.
+use Rattle.std.proofs.Common.{◌≡◌, ℕ, zero, suc, ◌+◌, ◌<◌, ◌≤◌, Bool, true, false, ◌==◌, not, cond, nat_le, find, filter, if◌then◌else◌, Option, Some, None, List, length, count_by, refl, sym, ap, subst, ◌∙◌, arith}
+use Rattle.std.specs.List.{range_with_len}
+use Rattle.std.specs.Option.{option_map_or}
+use Rattle.std.proofs.lemmas.Bool.{and_parts, and_from, le-leb, eqb-true}
+use Rattle.card_set.specs.declared.card.Slot.{Slot}
+use Rattle.chip_ledger.specs.declared.rows.LiveRow.{LiveRow}
+use Rattle.chip_ledger.specs.LiveRow.{flag_of}
+use Rattle.play_event.specs.declared.reason.Illegal.TheVariants as reasons
+use Rattle.card_set.specs.Known.{known_cards}
+use Rattle.play_event.specs.Places.{Place, is_held_by}
+use Rattle.play_event.specs.Naming.{blanks_in}
+use Rattle.play_event.specs.CardReasons.{has_no_place}
+use Rattle.card_places.specs.declared.card_state.CardState.{CardState}
+use Rattle.card_places.specs.declared.dealt_cards.DealtCards.{DealtCards}
+use Rattle.card_places.specs.Discarded.{IsRightDiscard}
+use Rattle.card_places.specs.Drawn.{drew_at}
+use Rattle.card_places.specs.Placed.{placed}
+use Rattle.card_places.specs.Refusals.{has_to_draw, next_seen, draws_next_seen, discard_why_on}
+use Rattle.card_places.specs.Room.{is_seat_of}
+use Rattle.card_places.proofs.HeldCards.{discard_takes}
+
+-- a seat that is found passes, and is one of those that were looked at
+pub find_found : (p : ℕ → Bool) (first n k : ℕ) → find p (range_with_len first n) ≡ Some k → (p k ≡ true) × (first ≤ k) × (k < first + n)
+find_found p first zero k is = absurd cc
+find_found p first (suc n) k is = by_first (p first) refl is (λ (more : find p (range_with_len (first + 1) n) ≡ Some k). find_found p (first + 1) n k more)
+  where
+    by_first : (b : Bool) → p first ≡ b → cond b (Some first) (find p (range_with_len (first + 1) n)) ≡ Some k → (find p (range_with_len (first + 1) n) ≡ Some k → (p k ≡ true) × (first + 1 ≤ k) × (k < first + 1 + n)) → (p k ≡ true) × (first ≤ k) × (k < first + suc n)
+    by_first true here found later =
+        let same : first ≡ k = cc in
+        (ap p (sym same) ∙ here, omega (arith, same), omega (arith, same))
+    by_first false here found later =
+        let rest = later found in
+        (rest.0, omega (arith, rest.1), omega (arith, rest.2))
+
+chain_parts : (next over taken lacking : Bool) → (if not next then Some reasons.WrongSeat else if over then Some reasons.WrongCount else if taken then Some reasons.CardTaken else if lacking then Some reasons.NotHeld else None) ≡ None → (next ≡ true) × (lacking ≡ false)
+chain_parts false over taken lacking is = absurd cc
+chain_parts true true taken lacking is = absurd cc
+chain_parts true false true lacking is = absurd cc
+chain_parts true false false true is = absurd cc
+chain_parts true false false false is = (refl, refl)
+
+by_found : (o : Option ℕ) (seat : ℕ) → option_map_or (λ next. next == seat) o false ≡ true → o ≡ Some seat
+by_found None seat is = absurd cc
+by_found (Some next) seat is = ap Some (eqb-true next seat is)
+
+not_false : (b : Bool) → not b ≡ true → b ≡ false
+not_false true is = absurd cc
+not_false false is = refl
+
+-- the seat that discards is one of the hand and did not draw, and its names find their places
+pub record IsDrawer (t : CardState) (on seat : ℕ) (cards : List Slot) : Type 0 where
+  pub first : 1 ≤ seat
+  pub last : seat ≤ t.seats
+  pub undrawn : drew_at t.draws on seat ≡ false
+  pub found : has_no_place (filter (is_held_by seat) (placed t.places)) (known_cards cards) (blanks_in cards) ≡ false
+
+pub drawer_is : (t : CardState) (live : LiveRow) (on seat : ℕ) (cards : List Slot) → discard_why_on t live on seat cards ≡ None → IsDrawer t on seat cards
+drawer_is t live on seat cards is =
+    let parts = chain_parts (draws_next_seen t live on seat) _ _ (has_no_place (filter (is_held_by seat) (placed t.places)) (known_cards cards) (blanks_in cards)) is in
+    let found = find_found (has_to_draw t live on) 1 t.seats seat (by_found (next_seen t live on) seat parts.0) in
+    record {
+      first = found.1;
+      last = omega (arith, found.2);
+      undrawn = not_false (drew_at t.draws on seat) (and_parts (flag_of live seat) (not (drew_at t.draws on seat)) found.0).1;
+      found = parts.1;
+    }
+
+pub right_takes : (t : CardState) (live : LiveRow) (on seat : ℕ) (cards : List Slot) (after : DealtCards) → IsRightDiscard t live on seat cards after → count_by (is_held_by seat) (placed after) + length cards ≤ count_by (is_held_by seat) (placed t.places)
+right_takes t live on seat cards after right =
+    subst (λ (ps : List Place). count_by (is_held_by seat) ps + length cards ≤ count_by (is_held_by seat) (placed t.places)) (sym right.places)
+    (discard_takes on seat cards (placed t.places) (drawer_is t live on seat cards right.legal).found)
+
+pub right_in_hand : (t : CardState) (live : LiveRow) (on seat : ℕ) (cards : List Slot) (after : DealtCards) → IsRightDiscard t live on seat cards after → is_seat_of t.seats seat ≡ true
+right_in_hand t live on seat cards after right =
+    let drawer = drawer_is t live on seat cards right.legal in
+    and_from (nat_le 1 seat) (nat_le seat t.seats) (le-leb 1 seat drawer.first) (le-leb seat t.seats drawer.last)

@@ -1,0 +1,20 @@
+-- Lemmas.
+pub mod DealTables
+pub mod Putting
+pub mod Findings
+pub mod Newly
+pub mod Running
+pub mod Sums
+pub mod Rooms
+pub mod HeldCards
+pub mod HeldWithin
+pub mod Fits
+pub mod Covered
+pub mod StillWithin
+pub mod StateKept
+pub mod Legal
+pub mod Outcomes
+pub mod InOrder
+pub mod RoomLeft
+pub mod NamesLeast
+pub mod MarksLeast

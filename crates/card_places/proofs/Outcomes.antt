@@ -1,0 +1,18 @@
+-- What is said of a result says what follows from it.
+use Rattle.std.proofs.Common.{Result, Ok, Err, OnOk, IfOk, IfErr}
+
+pub if_ok : {A E : Type 0} {P Q : A → Type 0} (result : Result A E) → ((a : A) → P a → Q a) → IfOk result P → IfOk result Q
+if_ok (Ok a) step is = step a is
+if_ok (Err e) step is = tt
+
+pub if_err : {A E : Type 0} {P Q : E → Type 0} (result : Result A E) → ((e : E) → P e → Q e) → IfErr result P → IfErr result Q
+if_err (Ok a) step is = tt
+if_err (Err e) step is = step e is
+
+pub on_ok : {A E : Type 0} {P Q : Type 0} (result : Result A E) → (P → Q) → OnOk result P → OnOk result Q
+on_ok (Ok a) step is = step is
+on_ok (Err e) step is = tt
+
+pub on_ok_both : {A E : Type 0} {P Q R : Type 0} (result : Result A E) → (P → OnOk result Q) → (P → Q → R) → OnOk result P → OnOk result R
+on_ok_both (Ok a) first step is = step is (first is)
+on_ok_both (Err e) first step is = tt

@@ -1,0 +1,7 @@
+use Rattle.std.proofs.Common.{◌≡◌, ◌≤◌, map, take, count_by}
+use Rattle.play_event.specs.Places.{is_in_group}
+use Rattle.card_places.specs.Plain.{place_of, seat_of}
+use Rattle.card_places.proofs.dealt_cards.DealtCards.in_group.Given as goal
+
+abbrev pub invariant-loop-card : goal.invariant-loop-card
+invariant-loop-card l = (l.count ≡ count_by (is_in_group (seat_of l.owner) l.street) (map place_of (take l.card-index l.card-items))) × (l.count ≤ l.card-index)

@@ -1,0 +1,19 @@
+-- After a show nobody has more cards.
+use Rattle.std.proofs.Common.{◌∙◌}
+use Rattle.card_set.specs.Row.{cards_of}
+use Rattle.card_places.specs.Placed.{placed}
+use Rattle.card_places.proofs.StateKept.{bounded_show}
+use Rattle.card_places.proofs.showing.set_show.Goals as goal
+
+pub invariant_of-state : goal.invariant_of-state
+invariant_of-state c =
+    let t = c.args.state.now in
+    let bounded = bounded_show t.table.code t.seats t.draws (placed t.places) (placed c.args.after) c.args.seat.number (cards_of c.args.cards.now) c.requires.places (record { within = t.within; named = t.named; held = t.held }) in
+    record {
+      shown_seats = c.set.ensures.seats ∙ t.shown_seats;
+      mucked_seats = t.mucked_seats;
+      few = t.few;
+      within = bounded.within;
+      named = bounded.named;
+      held = bounded.held;
+    }

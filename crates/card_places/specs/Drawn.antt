@@ -1,0 +1,11 @@
+-- Who drew on which street.
+use Rattle.std.specs.Prelude.{ℕ, ◌+◌, ◌-◌, ◌*◌, Bool, false, slice_index, slice_index_or}
+use Rattle.card_places.specs.declared.draws.Draws.{Draws}
+
+-- the seat drew on the street
+abbrev pub drew_at : Draws → ℕ → ℕ → Bool
+drew_at d street seat = slice_index_or d.drew (10 * street + seat - 1) false
+
+-- how many cards it named
+abbrev pub named_at : Draws → ℕ → ℕ → ℕ
+named_at d street seat = slice_index d.named (10 * street + seat - 1)

@@ -1,0 +1,16 @@
+-- The state of the cards, and what is read from it.
+pub mod Plain
+pub mod Placed
+pub mod Held
+pub mod Marks
+pub mod Searches
+pub mod Drawn
+pub mod Room
+pub mod DueStreet
+pub mod CardEvents
+pub mod Refusals
+pub mod Dealt
+pub mod Discarded
+pub mod Shown
+pub mod Folded
+pub mod Ordered

@@ -1,0 +1,170 @@
+-- Why cards may not be dealt, by the state.
+use Rattle.std.specs.Prelude.{ℕ, ◌-◌, Bool, false, ◌&&◌, ◌||◌, ◌==◌, nat_lt, not, if◌then◌else◌, List, length, filter, find, count_by, Option, Some, None, is_some}
+use Rattle.std.specs.Option.{option_map_or}
+use Rattle.chip_ledger.specs.Seat.{seats_of}
+use Rattle.card_set.specs.Known.{is_unknown, known_cards}
+use Rattle.std.specs.List.{list_any}
+use Rattle.play_event.specs.Naming.{after_discard, after_show, blanks_in, held_count, held_down_count, is_covered, is_show_of_all}
+use Rattle.card_set.specs.declared.card.Card.{Card}
+use Rattle.card_set.specs.declared.card.Slot.{Slot}
+use Rattle.chip_ledger.specs.declared.rows.LiveRow.{LiveRow}
+use Rattle.chip_ledger.specs.LiveRow.{flag_of}
+use Rattle.play_event.specs.declared.code.Code.{Code}
+use Rattle.play_event.specs.declared.reason.Due.{Due}
+use Rattle.play_event.specs.declared.reason.Due.TheVariants as dues
+use Rattle.play_event.specs.declared.reason.Illegal.{Illegal}
+use Rattle.play_event.specs.declared.reason.Illegal.TheVariants as reasons
+use Rattle.play_event.specs.Games.{hole_cards_on, board_cards_on}
+use Rattle.play_event.specs.Streets.{has_draw}
+use Rattle.play_event.specs.Places.{Place, is_in_group, is_held_by, up_slots}
+use Rattle.play_event.specs.Taken.{has_taken_card, has_misplaced_card}
+use Rattle.play_event.specs.CardReasons.{is_wrong_deal, has_no_place, is_show_of_others}
+use Rattle.card_places.specs.declared.card_state.CardState.{CardState}
+use Rattle.card_places.specs.Drawn.{drew_at, named_at}
+use Rattle.card_places.specs.Placed.{placed}
+use Rattle.card_places.specs.Room.{is_seat_of}
+
+-- how many cards a seat is owed
+abbrev pub owed_of : (draws live : Bool) (hole named dealt : ℕ) → ℕ
+owed_of draws live hole named dealt = if draws then named - dealt else (if live then hole - dealt else 0)
+
+abbrev pub owed_seen : CardState → LiveRow → ℕ → ℕ → ℕ
+owed_seen t live on seat =
+    owed_of (has_draw t.table.code on) (flag_of live seat) (hole_cards_on t.table.code on) (named_at t.draws on seat) (count_by (is_in_group (Some seat) on) (placed t.places))
+
+abbrev pub board_owed_seen : CardState → ℕ → ℕ
+board_owed_seen t on = board_cards_on t.table.code on - count_by (is_in_group None on) (placed t.places)
+
+-- the reasons of a deal in their order
+abbrev pub deal_chain : (wrong_seat : Bool) (owed count : ℕ) (taken : Bool) → Option Illegal
+deal_chain wrong_seat owed count taken =
+    if wrong_seat then Some reasons.WrongSeat
+    else if is_wrong_deal owed count then Some reasons.WrongCount
+    else if taken then Some reasons.CardTaken
+    else None
+
+abbrev pub hole_why_on : CardState → LiveRow → ℕ → ℕ → List Slot → Option Illegal
+hole_why_on t live on seat cards =
+    let owed = owed_seen t live on seat in
+    deal_chain (not (is_seat_of t.seats seat) || (owed == 0)) owed (length cards) (has_taken_card t.table.code (placed t.places) on cards)
+
+abbrev pub board_why_on : CardState → ℕ → List Slot → Option Illegal
+board_why_on t on cards =
+    let owed = board_owed_seen t on in
+    if is_wrong_deal owed (length cards) then Some reasons.WrongCount
+    else if has_taken_card t.table.code (placed t.places) on cards then Some reasons.CardTaken
+    else None
+
+-- why hole cards may not be dealt now
+abbrev pub hole_why : CardState → LiveRow → Due → ℕ → List Slot → Option Illegal
+hole_why t live dues.Over seat cards = Some reasons.HandOver
+hole_why t live (dues.Deal on) seat cards = if nat_lt 0 (hole_cards_on t.table.code on) then hole_why_on t live on seat cards else Some reasons.WrongKind
+hole_why t live (dues.Draw on) seat cards = hole_why_on t live on seat cards
+hole_why t live dues.BringIn seat cards = Some reasons.WrongKind
+hole_why t live dues.Move seat cards = Some reasons.WrongKind
+hole_why t live dues.Show seat cards = Some reasons.WrongKind
+
+-- why board cards may not be dealt now
+abbrev pub board_why : CardState → Due → List Slot → Option Illegal
+board_why t dues.Over cards = Some reasons.HandOver
+board_why t (dues.Deal on) cards = if nat_lt 0 (board_cards_on t.table.code on) then board_why_on t on cards else Some reasons.WrongKind
+board_why t (dues.Draw on) cards = Some reasons.WrongKind
+board_why t dues.BringIn cards = Some reasons.WrongKind
+board_why t dues.Move cards = Some reasons.WrongKind
+board_why t dues.Show cards = Some reasons.WrongKind
+
+-- the next seat to draw
+abbrev pub has_to_draw : CardState → LiveRow → ℕ → ℕ → Bool
+has_to_draw t live on seat = flag_of live seat && not (drew_at t.draws on seat)
+
+abbrev pub next_seen : CardState → LiveRow → ℕ → Option ℕ
+next_seen t live on = find (has_to_draw t live on) (seats_of t.seats)
+
+abbrev pub draws_next_seen : CardState → LiveRow → ℕ → ℕ → Bool
+draws_next_seen t live on seat = option_map_or (λ next. next == seat) (next_seen t live on) false
+
+-- the reasons of a discard in their order
+abbrev pub discard_chain : (next : Bool) (held count : ℕ) (taken lacking : Bool) → Option Illegal
+discard_chain next held count taken lacking =
+    if not next then Some reasons.WrongSeat
+    else if nat_lt held count then Some reasons.WrongCount
+    else if taken then Some reasons.CardTaken
+    else if lacking then Some reasons.NotHeld
+    else None
+
+abbrev pub discard_why_on : CardState → LiveRow → ℕ → ℕ → List Slot → Option Illegal
+discard_why_on t live on seat cards =
+    discard_chain (draws_next_seen t live on seat) (held_count (placed t.places) seat) (length cards)
+    (has_misplaced_card t.table.code (placed t.places) (after_discard on seat cards (placed t.places)))
+    (has_no_place (filter (is_held_by seat) (placed t.places)) (known_cards cards) (blanks_in cards))
+
+abbrev pub discard_why : CardState → LiveRow → Due → ℕ → List Slot → Option Illegal
+discard_why t live dues.Over seat cards = Some reasons.HandOver
+discard_why t live (dues.Draw on) seat cards = discard_why_on t live on seat cards
+discard_why t live (dues.Deal on) seat cards = Some reasons.WrongKind
+discard_why t live dues.BringIn seat cards = Some reasons.WrongKind
+discard_why t live dues.Move seat cards = Some reasons.WrongKind
+discard_why t live dues.Show seat cards = Some reasons.WrongKind
+
+-- a seat may show or muck: it is live, and did neither
+abbrev pub may_show_seen : CardState → LiveRow → ℕ → Bool
+may_show_seen t live seat = is_seat_of t.seats seat && (flag_of live seat && not (flag_of t.shown seat || flag_of t.mucked seat))
+
+abbrev pub may_show_many : Code → List Place → ℕ → ℕ → Bool
+may_show_many code placed seat count =
+    (count == held_count placed seat) || ((count == held_down_count code placed seat) && not (list_any is_unknown (up_slots code placed seat)))
+
+-- the reasons of a show in their order
+abbrev pub show_chain : (may many taken others : Bool) → Option Illegal
+show_chain may many taken others =
+    if not may then Some reasons.WrongSeat
+    else if not many then Some reasons.WrongCount
+    else if taken then Some reasons.CardTaken
+    else if others then Some reasons.NotHeld
+    else None
+
+abbrev pub show_why_on : CardState → LiveRow → ℕ → List Card → Option Illegal
+show_why_on t live seat cards =
+    show_chain (may_show_seen t live seat) (may_show_many t.table.code (placed t.places) seat (length cards))
+    (has_misplaced_card t.table.code (placed t.places) (after_show t.table.code seat cards (placed t.places)))
+    (is_show_of_others (filter (is_covered t.table.code seat (is_show_of_all (placed t.places) seat cards)) (placed t.places)) cards)
+
+-- why a seat may not show these cards now, the hand being settled or not
+abbrev pub show_why : CardState → LiveRow → Due → Bool → ℕ → List Card → Option Illegal
+show_why t live dues.Over settled seat cards = if may_show_seen t live seat then show_why_on t live seat cards else Some reasons.HandOver
+show_why t live dues.Show settled seat cards = show_why_on t live seat cards
+show_why t live (dues.Deal on) settled seat cards = if settled then show_why_on t live seat cards else Some reasons.WrongKind
+show_why t live (dues.Draw on) settled seat cards = if settled then show_why_on t live seat cards else Some reasons.WrongKind
+show_why t live dues.BringIn settled seat cards = if settled then show_why_on t live seat cards else Some reasons.WrongKind
+show_why t live dues.Move settled seat cards = if settled then show_why_on t live seat cards else Some reasons.WrongKind
+
+-- why a seat may not muck now
+abbrev pub muck_why : CardState → LiveRow → Due → ℕ → Option Illegal
+muck_why t live dues.Over seat = if may_show_seen t live seat then None else Some reasons.HandOver
+muck_why t live dues.Show seat = if may_show_seen t live seat then None else Some reasons.WrongSeat
+muck_why t live (dues.Deal on) seat = Some reasons.WrongKind
+muck_why t live (dues.Draw on) seat = Some reasons.WrongKind
+muck_why t live dues.BringIn seat = Some reasons.WrongKind
+muck_why t live dues.Move seat = Some reasons.WrongKind
+
+-- how many cards of a deal a seat lacks
+abbrev pub lacks_seen : CardState → LiveRow → ℕ → ℕ → Bool
+lacks_seen t live on seat = nat_lt 0 (if flag_of live seat then hole_cards_on t.table.code on - count_by (is_in_group (Some seat) on) (placed t.places) else 0)
+
+abbrev pub owed_draw_seen : CardState → ℕ → ℕ → Bool
+owed_draw_seen t on seat = nat_lt 0 (named_at t.draws on seat - count_by (is_in_group (Some seat) on) (placed t.places))
+
+abbrev pub to_show_seen : CardState → LiveRow → ℕ → Bool
+to_show_seen t live seat = flag_of live seat && not (flag_of t.shown seat || flag_of t.mucked seat)
+
+abbrev pub board_lacks_seen : CardState → ℕ → Bool
+board_lacks_seen t on = nat_lt 0 (board_owed_seen t on)
+
+-- what is due is complete
+abbrev pub done_seen : CardState → LiveRow → Due → Bool
+done_seen t live (dues.Deal on) = not (list_any (lacks_seen t live on) (seats_of t.seats) || nat_lt 0 (board_owed_seen t on))
+done_seen t live (dues.Draw on) = not (has_draw t.table.code on && (is_some (next_seen t live on) || list_any (owed_draw_seen t on) (seats_of t.seats)))
+done_seen t live dues.Show = not (list_any (to_show_seen t live) (seats_of t.seats))
+done_seen t live dues.BringIn = false
+done_seen t live dues.Move = false
+done_seen t live dues.Over = false

@@ -1,0 +1,30 @@
+// The state of the cards of a hand: the dealt cards, who drew, and who showed or mucked.
+ghost use Rattle.std.specs.Prelude.{◌≡◌, ◌≤◌};
+ghost use Rattle.play_event.specs.Games.{game_of};
+ghost use Rattle.card_places.specs.Placed.{placed};
+ghost use Rattle.card_places.specs.Room.{IsWithin, AreNamedWithin, AreHeldWithin};
+
+use crate::deal_table::DealTable;
+use crate::dealt_cards::DealtCards;
+use crate::draws::Draws;
+use chip_ledger::LiveRow;
+
+/// The cards of a hand.
+#[derive(Clone, Copy, Debug, PartialEq, Eq)]
+pub struct CardState {
+    pub table: DealTable,
+    pub seats: u8,
+    pub places: DealtCards,
+    pub draws: Draws,
+    /// Who showed.
+    pub shown: LiveRow,
+    /// Who mucked.
+    pub mucked: LiveRow,
+    pub ghost shown_seats: { shown.seats ≡ seats },
+    pub ghost mucked_seats: { mucked.seats ≡ seats },
+    pub ghost few: { seats ≤ (game_of table.code).seats },
+    // No owner has more cards of a street than it deals, no seat discards more than a hand, and none holds more.
+    pub ghost within: { IsWithin table.code seats (placed places) },
+    pub ghost named: { AreNamedWithin table.code draws },
+    pub ghost held: { AreHeldWithin table.code seats draws (placed places) },
+}

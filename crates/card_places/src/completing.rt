@@ -1,0 +1,94 @@
+// A deal, a draw or a show is complete.
+ghost use Rattle.std.specs.Prelude.{◌≡◌, ◌≤◌};
+ghost use Rattle.std.specs.List.{list_any};
+ghost use Rattle.chip_ledger.specs.Seat.{seats_of};
+ghost use Rattle.card_places.specs.Refusals as why;
+ghost use Rattle.street_laws.specs.Dues.{IsDueWithin};
+
+use crate::card_state::CardState;
+use crate::discarding::first_to_draw;
+use chip_ledger::{LiveRow, Seat};
+use play_event::Due;
+
+// The seat lacks cards of the street's deal.
+fn lacks(state: &CardState, live: &LiveRow, on: u8, seat: Seat) -> bool
+    requires live { live.now.seats ≡ state.now.seats }
+    requires seat { seat.number ≤ state.now.seats }
+    ensures { result ≡ why.lacks_seen state.now live.now on seat.number }
+{
+    let street = state.table.street(on);
+    live.get(seat) && state.places.in_group(Some(seat), on) < street.down + street.up
+}
+
+// Some seat lacks cards of the street's deal.
+#[tactic(auto, using(street_laws::proofs::SeatLists::any_more))]
+fn some_lacks(state: &CardState, live: &LiveRow, on: u8) -> bool
+    requires live { live.now.seats ≡ state.now.seats }
+    requires ten { state.now.seats ≤ 10 }
+    ensures { result ≡ list_any (why.lacks_seen state.now live.now on) (seats_of state.now.seats) }
+{
+    let mut any = false;
+    for index in 0..state.seats {
+        let this = lacks(state, live, on, Seat { number: index + 1 });
+        any = any || this;
+    }
+    any
+}
+
+// Some seat is owed cards for its discards.
+#[tactic(auto, using(street_laws::proofs::SeatLists::any_more))]
+fn some_owed(state: &CardState, on: u8) -> bool
+    requires street { on ≤ 5 }
+    requires ten { state.now.seats ≤ 10 }
+    ensures { result ≡ list_any (why.owed_draw_seen state.now on) (seats_of state.now.seats) }
+{
+    let mut any = false;
+    for index in 0..state.seats {
+        let seat = Seat { number: index + 1 };
+        let this = state.places.in_group(Some(seat), on) < state.draws.named(on, seat);
+        any = any || this;
+    }
+    any
+}
+
+// Some seat has still to show or muck.
+#[tactic(auto, using(street_laws::proofs::SeatLists::any_more))]
+fn some_to_show(state: &CardState, live: &LiveRow) -> bool
+    requires live { live.now.seats ≡ state.now.seats }
+    requires ten { state.now.seats ≤ 10 }
+    ensures { result ≡ list_any (why.to_show_seen state.now live.now) (seats_of state.now.seats) }
+{
+    let mut any = false;
+    for index in 0..state.seats {
+        let seat = Seat { number: index + 1 };
+        let this = live.get(seat) && !(state.shown.get(seat) || state.mucked.get(seat));
+        any = any || this;
+    }
+    any
+}
+
+// The board lacks cards of the street.
+fn board_lacks(state: &CardState, on: u8) -> bool
+    ensures { result ≡ why.board_lacks_seen state.now on }
+{
+    state.places.in_group(None, on) < state.table.street(on).board
+}
+
+// What is due is complete.
+pub fn done(state: &CardState, live: &LiveRow, due: Due) -> bool
+    requires due { IsDueWithin 5 due }
+    requires live { live.now.seats ≡ state.now.seats }
+    requires ten { state.now.seats ≤ 10 }
+    ensures { result ≡ why.done_seen state.now live.now due }
+{
+    match due {
+        Due::Deal(on) => !(some_lacks(state, live, on) || board_lacks(state, on)),
+        Due::Draw(on) => {
+            !(state.table.street(on).draws
+                && (first_to_draw(state, live, on, 1, state.seats).is_some()
+                    || some_owed(state, on)))
+        }
+        Due::Show => !some_to_show(state, live),
+        Due::BringIn | Due::Move | Due::Over => false,
+    }
+}

@@ -1,0 +1,82 @@
+// Cards are dealt one behind the other, and counted.
+ghost use Rattle.std.specs.Prelude.{◌≡◌, ◌≤◌, ◌<◌, ◌+◌, ◌++◌, ◌∷◌, [], length, count_by, map, take, nat_lt, ◌==◌};
+ghost use Rattle.play_event.specs.Places.{is_in_group, places_dealt};
+ghost use Rattle.card_places.specs.Held.{is_held};
+ghost use Rattle.card_places.specs.Placed.{placed};
+ghost use Rattle.card_places.specs.Plain.{place_of, seat_of};
+
+use crate::dealt_card::DealtCard;
+use crate::dealt_cards::DealtCards;
+use card_set::Slot;
+use chip_ledger::Seat;
+
+impl DealtCards {
+    /// The cards.
+    pub fn as_slice(&self) -> &[DealtCard]
+        ensures cards { result.now ≡ take self.now.count self.now.rows }
+        ensures placed { map place_of result.now ≡ placed self.now }
+        ensures length { length result.now ≡ self.now.count }
+    {
+        &self.rows[..self.count as usize]
+    }
+
+    /// Puts a card after the others.
+    pub fn push(&mut self, card: DealtCard)
+        requires { self.old.count < 120 }
+        ensures places { placed self.new ≡ placed self.old ++ place_of card ∷ [] }
+        ensures count { self.new.count ≡ self.old.count + 1 }
+    {
+        self.rows[self.count as usize] = card;
+        self.count += 1;
+    }
+
+    /// How many cards the owner has that are not gone.
+    pub fn held(&self, owner: Option<Seat>) -> u8
+        ensures { result ≡ count_by (is_held (seat_of owner)) (placed self.now) }
+    {
+        let mut count: u8 = 0;
+        for card in &self.rows[..self.count as usize] {
+            if card.held_by(owner) {
+                count += 1;
+            }
+        }
+        count
+    }
+
+    /// How many cards of the street the owner was dealt.
+    pub fn in_group(&self, owner: Option<Seat>, street: u8) -> u8
+        ensures value { result ≡ count_by (is_in_group (seat_of owner) street) (placed self.now) }
+        ensures bounded { result ≤ self.now.count }
+    {
+        let mut count: u8 = 0;
+        for card in &self.rows[..self.count as usize] {
+            if card.in_group(owner, street) {
+                count += 1;
+            }
+        }
+        count
+    }
+
+    /// Deals cards to an owner.
+    pub fn put(&mut self, owner: Option<Seat>, street: u8, past_deck: bool, cards: &[Slot])
+        requires { self.old.count + length cards.now ≤ 120 }
+        ensures { placed self.new ≡ placed self.old
+            ++ places_dealt (seat_of owner) street past_deck (count_by (is_in_group (seat_of owner) street) (placed self.old)) (length (placed self.old)) cards.now }
+    {
+        let mut index = self.in_group(owner, street);
+        for slot in cards {
+            let number = self.count;
+            self.push(DealtCard {
+                owner,
+                street,
+                index,
+                number,
+                slot: *slot,
+                past_deck,
+                gone_after: None,
+                discarded: 0,
+            });
+            index += 1;
+        }
+    }
+}

@@ -1,0 +1,56 @@
+// A dealt card: whose it is, when it was dealt, what is known of it, and whether it is gone.
+ghost use Rattle.std.specs.Prelude.{◌≡◌};
+ghost use Rattle.play_event.specs.Places as places;
+ghost use Rattle.play_event.specs.Places.{is_in_group};
+ghost use Rattle.card_places.specs.Held.{is_held};
+ghost use Rattle.card_places.specs.Plain.{place_of, seat_of};
+
+use card_set::Slot;
+use chip_ledger::Seat;
+
+/// A dealt card.
+#[derive(Clone, Copy, Debug, PartialEq, Eq)]
+pub struct DealtCard {
+    /// The seat, or `None` for the board.
+    pub owner: Option<Seat>,
+    /// From 1.
+    pub street: u8,
+    /// How many cards of the street its owner was dealt before it.
+    pub index: u8,
+    /// How many cards were dealt before it in all.
+    pub number: u8,
+    pub slot: Slot,
+    /// Whether it was dealt past the deck.
+    pub past_deck: bool,
+    /// How many cards were dealt when it was discarded or folded, if it was.
+    pub gone_after: Option<u8>,
+    /// The street of the draw that discarded it, or 0.
+    pub discarded: u8,
+}
+
+// Two owners are one.
+fn is_same_owner(a: Option<Seat>, b: Option<Seat>) -> bool
+    ensures { result ≡ places.is_same_owner (seat_of a) (seat_of b) }
+{
+    match (a, b) {
+        (Some(seat), Some(other)) => seat.number == other.number,
+        (None, None) => true,
+        (Some(_), None) | (None, Some(_)) => false,
+    }
+}
+
+impl DealtCard {
+    /// The owner has the card, and it is not gone.
+    pub fn held_by(&self, owner: Option<Seat>) -> bool
+        ensures { result ≡ is_held (seat_of owner) (place_of self.now) }
+    {
+        is_same_owner(self.owner, owner) && self.gone_after.is_none()
+    }
+
+    /// The card is one of the street and the owner.
+    pub fn in_group(&self, owner: Option<Seat>, street: u8) -> bool
+        ensures { result ≡ is_in_group (seat_of owner) street (place_of self.now) }
+    {
+        is_same_owner(self.owner, owner) && self.street == street
+    }
+}

@@ -1,0 +1,60 @@
+// Who drew on which street, and how many cards it named.
+ghost use Rattle.std.specs.Prelude.{◌≡◌, ◌≢◌, ◌≤◌, ◌⊎◌, ℕ, length, slice_index, slice_index_or, true, false};
+
+use chip_ledger::Seat;
+
+/// For each street up to the fifth, and each seat: how many cards it named in the draw, and whether it drew.
+#[derive(Clone, Copy, Debug, PartialEq, Eq)]
+pub struct Draws {
+    pub named: [u8; 60],
+    pub drew: [bool; 60],
+    pub ghost named_full: { length named ≡ 60 },
+    pub ghost drew_full: { length drew ≡ 60 },
+    pub ghost most: { (k : ℕ) → slice_index named k ≤ 7 },
+}
+
+impl Draws {
+    ghost use Rattle.card_places.specs.Drawn.{drew_at, named_at};
+
+    /// No seat drew.
+    pub fn new() -> Self
+        ensures drew { (street seat : ℕ) → drew_at result street seat ≡ false }
+        ensures named { (street seat : ℕ) → named_at result street seat ≡ 0 }
+    {
+        Draws {
+            named: [0; 60],
+            drew: [false; 60],
+        }
+    }
+
+    /// The seat drew on the street.
+    pub fn drew(&self, street: u8, seat: Seat) -> bool
+        requires { street ≤ 5 }
+        ensures { result ≡ drew_at self.now street seat.number }
+    {
+        self.drew[10 * street as usize + seat.number as usize - 1]
+    }
+
+    /// How many cards the seat named in the draw of the street.
+    pub fn named(&self, street: u8, seat: Seat) -> u8
+        requires { street ≤ 5 }
+        ensures value { result ≡ named_at self.now street seat.number }
+        ensures most { result ≤ 7 }
+    {
+        self.named[10 * street as usize + seat.number as usize - 1]
+    }
+
+    /// The seat draws on the street, and names so many cards.
+    pub fn set(&mut self, street: u8, seat: Seat, count: u8)
+        requires street { street ≤ 5 }
+        requires most { count ≤ 7 }
+        ensures drew { drew_at self.new street seat.number ≡ true }
+        ensures named { named_at self.new street seat.number ≡ count }
+        ensures others { (on number : ℕ) → 1 ≤ number → number ≤ 10 → (on ≢ street) ⊎ (number ≢ seat.number) → drew_at self.new on number ≡ drew_at self.old on number }
+        ensures others_named { (on number : ℕ) → 1 ≤ number → number ≤ 10 → (on ≢ street) ⊎ (number ≢ seat.number) → named_at self.new on number ≡ named_at self.old on number }
+    {
+        let index = 10 * street as usize + seat.number as usize - 1;
+        self.named[index] = count;
+        self.drew[index] = true;
+    }
+}

@@ -1,0 +1,88 @@
+// What a place becomes where a discard or a show covers it.
+ghost use Rattle.std.specs.Prelude.{◌≡◌, ◌≤◌, ◌∷◌, ℕ, Bool, List, if◌then◌else◌, drop, length};
+ghost use Rattle.card_set.specs.declared.card.Card.{Card};
+ghost use Rattle.card_set.specs.Row.{cards_of};
+ghost use Rattle.play_event.specs.Naming.{found_by};
+ghost use Rattle.card_places.specs.Plain.{place_of};
+ghost use Rattle.card_places.specs.Marks.{mark_by, IsFound};
+
+use crate::dealt_card::DealtCard;
+use crate::names::is_named;
+use card_set::{CardRow, Slot};
+
+/// A place that was looked at, and how far the names went.
+#[derive(Clone, Copy)]
+pub struct Found {
+    pub card: DealtCard,
+    /// How many of the other names are taken.
+    pub taken: u8,
+    /// How many blanks are left.
+    pub blanks: u8,
+}
+
+// A card that is discarded on this street, after so many deals, is gone; without a street it stays.
+pub fn marked(card: DealtCard, street: Option<u8>, count: u8) -> DealtCard
+    ensures { place_of result ≡ mark_by street count (place_of card) }
+{
+    match street {
+        Some(discarded) => DealtCard {
+            gone_after: Some(count),
+            discarded,
+            ..card
+        },
+        None => card,
+    }
+}
+
+// What the names make of a covered place.
+pub fn find(
+    card: DealtCard,
+    street: Option<u8>,
+    count: u8,
+    names: &CardRow,
+    others: &CardRow,
+    taken: u8,
+    blanks: u8,
+) -> Found
+    ensures { IsFound result (found_by (mark_by street count) (cards_of names.now) card.slot (drop taken (cards_of others.now)) blanks (place_of card)) (cards_of others.now) }
+{
+    match card.slot {
+        Slot::Known(known) => {
+            if is_named(known, names.as_slice()) {
+                Found {
+                    card: marked(card, street, count),
+                    taken,
+                    blanks,
+                }
+            } else {
+                Found {
+                    card,
+                    taken,
+                    blanks,
+                }
+            }
+        }
+        Slot::Unknown => {
+            if taken < others.len {
+                let slot = Slot::Known(others.cards[taken as usize]);
+                Found {
+                    card: marked(DealtCard { slot, ..card }, street, count),
+                    taken: taken + 1,
+                    blanks,
+                }
+            } else if blanks > 0 {
+                Found {
+                    card: marked(card, street, count),
+                    taken,
+                    blanks: blanks - 1,
+                }
+            } else {
+                Found {
+                    card,
+                    taken,
+                    blanks,
+                }
+            }
+        }
+    }
+}

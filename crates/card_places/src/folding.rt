@@ -1,0 +1,46 @@
+// A seat folds its cards.
+ghost use Rattle.std.specs.Prelude.{◌≡◌, length, map};
+ghost use Rattle.play_event.specs.Places as plain;
+ghost use Rattle.card_places.specs.Folded.{IsFolded};
+ghost use Rattle.card_places.specs.Placed.{placed};
+ghost use Rattle.card_places.specs.Plain.{place_of};
+
+use crate::card_state::CardState;
+use crate::dealt_card::DealtCard;
+use crate::dealt_cards::DealtCards;
+use chip_ledger::Seat;
+
+// The card after the seat folded, so many cards being dealt.
+fn folded(card: DealtCard, seat: Seat, count: u8) -> DealtCard
+    ensures { place_of result ≡ plain.folded_place seat.number count (place_of card) }
+{
+    if card.held_by(Some(seat)) {
+        DealtCard {
+            gone_after: Some(count),
+            ..card
+        }
+    } else {
+        card
+    }
+}
+
+// The places after the seat folded.
+fn after_fold(places: &DealtCards, seat: Seat) -> DealtCards
+    ensures { placed result ≡ plain.after_fold seat.number (placed places.now) }
+{
+    let mut rows = places.rows;
+    for index in 0..places.count as usize {
+        rows[index] = folded(places.rows[index], seat, places.count);
+    }
+    DealtCards {
+        count: places.count,
+        rows,
+    }
+}
+
+/// Folds the cards of a seat.
+pub fn fold(state: &mut CardState, seat: Seat)
+    ensures { IsFolded state.old state.new seat.number }
+{
+    state.places = after_fold(&state.places, seat);
+}

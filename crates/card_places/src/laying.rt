@@ -1,0 +1,21 @@
+// Cards are dealt behind those that were dealt before.
+ghost use Rattle.std.specs.Prelude.{◌≡◌, length};
+ghost use Rattle.card_places.specs.Dealt.{IsDealt};
+ghost use Rattle.card_places.specs.Placed.{placed};
+ghost use Rattle.card_places.specs.Plain.{seat_of};
+ghost use Rattle.card_places.specs.Room.{IsOwed};
+
+use crate::card_state::CardState;
+use crate::taken::is_past_deck;
+use card_set::Slot;
+use chip_ledger::Seat;
+
+/// Deals an owner cards of a street that it is owed.
+pub fn lay(state: &mut CardState, owner: Option<Seat>, on: u8, cards: &[Slot])
+    requires { IsOwed state.old.table.code state.old.seats state.old.draws (placed state.old.places)
+        (seat_of owner) on (length cards.now) }
+    ensures { IsDealt state.old state.new (seat_of owner) on cards.now }
+{
+    let past_deck = is_past_deck(&state.table, state.places.as_slice(), on);
+    state.places.put(owner, on, past_deck, cards);
+}

@@ -1,0 +1,39 @@
+//! Each dealt card of a hand has its place, and deals, discards, shows, mucks and folds change places as the rules say.
+#![tactic(auto)]
+
+mod card_state;
+mod completing;
+mod deal_table;
+mod dealing;
+mod dealt_card;
+mod dealt_cards;
+mod discarding;
+mod draws;
+mod emptying;
+mod finding;
+mod folding;
+mod laying;
+mod names;
+mod naming;
+mod ordering;
+mod planning;
+mod search;
+mod showing;
+mod taken;
+mod viewing;
+
+pub use card_state::CardState;
+pub use completing::done;
+pub use deal_table::DealTable;
+pub use dealt_card::DealtCard;
+pub use dealt_cards::{DealtCards, MOST_CARDS};
+pub use discarding::{discard_on, set_discard};
+pub use draws::Draws;
+pub use emptying::empty;
+pub use folding::fold;
+pub use laying::lay;
+pub use names::slots;
+pub use ordering::place;
+pub use planning::{board_why, hole_why, street_due};
+pub use showing::{muck_why, set_muck, set_show, show_on, shut};
+pub use viewing::{board, hands, unknown, up};

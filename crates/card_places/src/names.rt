@@ -1,0 +1,163 @@
+// Cards that are named, and the places that bear them.
+ghost use Rattle.std.specs.Prelude.{◌≡◌, ◌≤◌, length, map, count_by, filter, ◌&&◌, not};
+ghost use Rattle.std.specs.List.{list_any};
+ghost use Rattle.card_set.specs.Deck as decks;
+ghost use Rattle.card_set.specs.declared.card.Slot.TheVariants.{Known};
+ghost use Rattle.card_set.specs.Row.{cards_of, slots_of};
+ghost use Rattle.play_event.specs.Naming as naming;
+ghost use Rattle.card_set.specs.Known as known;
+ghost use Rattle.play_event.specs.Taken as taken;
+ghost use Rattle.play_event.specs.CardReasons as reasons;
+
+use card_set::{Card, CardRow, Slot, SlotRow, place_in_deck};
+
+// Both are one card.
+pub fn is_same_card(a: Card, b: Card) -> bool
+    ensures { result ≡ decks.is_same_card a b }
+{
+    place_in_deck(a) == place_in_deck(b)
+}
+
+// The card is among the names.
+pub fn is_named(card: Card, names: &[Card]) -> bool
+    ensures { result ≡ naming.is_named card names.now }
+{
+    match names {
+        [] => false,
+        [name, rest @ ..] => is_same_card(card, *name) || is_named(card, rest),
+    }
+}
+
+// The slot is unknown.
+pub fn is_unknown(slot: Slot) -> bool
+    ensures { result ≡ known.is_unknown slot }
+{
+    match slot {
+        Slot::Unknown => true,
+        Slot::Known(_) => false,
+    }
+}
+
+// The slot bears the card.
+pub fn is_borne_by(card: Card, slot: Slot) -> bool
+    ensures { result ≡ taken.is_borne_by card slot }
+{
+    match slot {
+        Slot::Known(other) => is_same_card(card, other),
+        Slot::Unknown => false,
+    }
+}
+
+// Two slots bear one card.
+pub fn is_one_card(a: Slot, b: Slot) -> bool
+    ensures { result ≡ taken.is_one_card a b }
+{
+    match a {
+        Slot::Known(card) => is_borne_by(card, b),
+        Slot::Unknown => false,
+    }
+}
+
+// The card of the slot is not among the names.
+pub fn left_out(slot: Slot, names: &[Card]) -> bool
+    ensures { result ≡ reasons.is_left_out names.now slot }
+{
+    match slot {
+        Slot::Known(card) => !is_named(card, names),
+        Slot::Unknown => false,
+    }
+}
+
+// One of the slots bears the card.
+fn any_bears(card: Card, slots: &[Slot]) -> bool
+    ensures { result ≡ list_any (taken.is_borne_by card) slots.now }
+{
+    match slots {
+        [] => false,
+        [slot, rest @ ..] => is_borne_by(card, *slot) || any_bears(card, rest),
+    }
+}
+
+// The card of the slot stands again among the others.
+fn is_repeated(slot: Slot, others: &[Slot]) -> bool
+    ensures { result ≡ taken.is_repeated slot others.now }
+{
+    match slot {
+        Slot::Known(card) => any_bears(card, others),
+        Slot::Unknown => false,
+    }
+}
+
+// Two of the slots bear one card.
+pub fn has_repeat(slots: &[Slot]) -> bool
+    ensures { result ≡ taken.has_repeat slots.now }
+{
+    match slots {
+        [] => false,
+        [slot, rest @ ..] => is_repeated(*slot, rest) || has_repeat(rest),
+    }
+}
+
+// How many of the slots are blank.
+pub fn blanks(slots: &[Slot]) -> usize
+    ensures blanks { result ≡ naming.blanks_in slots.now }
+    ensures most { result ≤ length slots.now }
+{
+    let mut count = 0;
+    for slot in slots {
+        if is_unknown(*slot) {
+            count += 1;
+        }
+    }
+    count
+}
+
+// The known cards of the slots.
+pub fn known(slots: &SlotRow) -> CardRow
+    ensures { cards_of result ≡ known.known_cards (slots_of slots.now) }
+{
+    let mut cards = CardRow::new();
+    for slot in slots.as_slice() {
+        if let Slot::Known(card) = slot {
+            cards.push(*card);
+        }
+    }
+    cards
+}
+
+// The names without one that is this card.
+pub fn without(slot: Slot, names: &CardRow) -> CardRow
+    ensures { cards_of result ≡ naming.without slot (cards_of names.now) }
+{
+    match slot {
+        Slot::Unknown => *names,
+        Slot::Known(card) => without_card(card, names),
+    }
+}
+
+// The names without one that is this card.
+fn without_card(card: Card, names: &CardRow) -> CardRow
+    ensures { cards_of result ≡ naming.without (Known card) (cards_of names.now) }
+{
+    let mut left = CardRow::new();
+    let mut found = false;
+    for name in names.as_slice() {
+        if !found && is_same_card(card, *name) {
+            found = true;
+        } else {
+            left.push(*name);
+        }
+    }
+    left
+}
+
+// The slots of known cards.
+pub fn slots(cards: &CardRow) -> SlotRow
+    ensures { slots_of result ≡ known.known_slots (cards_of cards.now) }
+{
+    let mut slots = SlotRow::new();
+    for card in cards.as_slice() {
+        slots.push(Slot::Known(*card));
+    }
+    slots
+}

@@ -1,0 +1,138 @@
+// Why a deal is illegal, by the state.
+ghost use Rattle.std.specs.Prelude.{◌≡◌, ◌≤◌, ◌&&◌, ◌||◌, ◌==◌, not, length, map, Some};
+ghost use Rattle.card_set.specs.declared.card.Slot as slots;
+ghost use Rattle.play_event.specs.CardReasons as reasons;
+ghost use Rattle.card_places.specs.Refusals as why;
+ghost use Rattle.street_laws.specs.Dues.{IsDueWithin};
+ghost use Rattle.card_places.specs.DueStreet.{due_street};
+
+use crate::card_state::CardState;
+use crate::taken::has_taken_card;
+use card_set::Slot;
+use chip_ledger::{LiveRow, Seat};
+use play_event::{Due, Illegal};
+
+// A deal has no card, or more than are owed.
+fn is_wrong_deal(owed: u8, count: usize) -> bool
+    ensures { result ≡ reasons.is_wrong_deal owed count }
+{
+    count == 0 || (owed as usize) < count
+}
+
+// How many cards the seat is owed.
+pub fn owed(state: &CardState, live: &LiveRow, on: u8, seat: Seat) -> u8
+    requires street { on ≤ 5 }
+    requires live { live.now.seats ≡ state.now.seats }
+    requires seat { seat.number ≤ state.now.seats }
+    ensures { result ≡ why.owed_seen state.now live.now on seat.number }
+{
+    let street = state.table.street(on);
+    let dealt = state.places.in_group(Some(seat), on);
+    if street.draws {
+        state.draws.named(on, seat).saturating_sub(dealt)
+    } else if live.get(seat) {
+        (street.down + street.up).saturating_sub(dealt)
+    } else {
+        0
+    }
+}
+
+// Why the seat may not be dealt these cards on the street.
+fn hole_why_on(
+    state: &CardState,
+    live: &LiveRow,
+    on: u8,
+    seat: Seat,
+    cards: &[Slot],
+) -> Option<Illegal>
+    requires street { on ≤ 5 }
+    requires live { live.now.seats ≡ state.now.seats }
+    ensures { result ≡ why.hole_why_on state.now live.now on seat.number cards.now }
+{
+    if seat.number > state.seats {
+        return Some(Illegal::WrongSeat);
+    }
+    let owed = owed(state, live, on, seat);
+    if owed == 0 {
+        Some(Illegal::WrongSeat)
+    } else if is_wrong_deal(owed, cards.len()) {
+        Some(Illegal::WrongCount)
+    } else if has_taken_card(&state.table, state.places.as_slice(), on, cards) {
+        Some(Illegal::CardTaken)
+    } else {
+        None
+    }
+}
+
+/// Why the seat may not be dealt these cards now.
+pub fn hole_why(
+    state: &CardState,
+    live: &LiveRow,
+    due: Due,
+    seat: Seat,
+    cards: &[Slot],
+) -> Option<Illegal>
+    requires due { IsDueWithin 5 due }
+    requires live { live.now.seats ≡ state.now.seats }
+    ensures { result ≡ why.hole_why state.now live.now due seat.number cards.now }
+{
+    match due {
+        Due::Over => Some(Illegal::HandOver),
+        Due::Deal(on) => {
+            let street = state.table.street(on);
+            if street.down + street.up > 0 {
+                hole_why_on(state, live, on, seat, cards)
+            } else {
+                Some(Illegal::WrongKind)
+            }
+        }
+        Due::Draw(on) => hole_why_on(state, live, on, seat, cards),
+        Due::BringIn | Due::Move | Due::Show => Some(Illegal::WrongKind),
+    }
+}
+
+// Why the board may not be dealt these cards on the street.
+fn board_why_on(state: &CardState, on: u8, cards: &[Slot]) -> Option<Illegal>
+    ensures { result ≡ why.board_why_on state.now on cards.now }
+{
+    let owed = state
+        .table
+        .street(on)
+        .board
+        .saturating_sub(state.places.in_group(None, on));
+    if is_wrong_deal(owed, cards.len()) {
+        Some(Illegal::WrongCount)
+    } else if has_taken_card(&state.table, state.places.as_slice(), on, cards) {
+        Some(Illegal::CardTaken)
+    } else {
+        None
+    }
+}
+
+/// Why the board may not be dealt these cards now.
+pub fn board_why(state: &CardState, due: Due, cards: &[Slot]) -> Option<Illegal>
+    ensures { result ≡ why.board_why state.now due cards.now }
+{
+    match due {
+        Due::Over => Some(Illegal::HandOver),
+        Due::Deal(on) => {
+            if state.table.street(on).board > 0 {
+                board_why_on(state, on, cards)
+            } else {
+                Some(Illegal::WrongKind)
+            }
+        }
+        Due::Draw(_) | Due::BringIn | Due::Move | Due::Show => Some(Illegal::WrongKind),
+    }
+}
+
+/// The street whose cards are due.
+pub fn street_due(due: Due) -> Option<u8>
+    ensures { result ≡ due_street due }
+{
+    match due {
+        Due::Deal(on) => Some(on),
+        Due::Draw(on) => Some(on),
+        Due::BringIn | Due::Move | Due::Show | Due::Over => None,
+    }
+}

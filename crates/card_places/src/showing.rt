@@ -1,0 +1,223 @@
+// Why a show is illegal, by the state, and the places after it.
+ghost use Rattle.std.specs.Prelude.{◌≡◌, ◌≤◌, ◌&&◌, not, filter, map, length, count_by, Some, IfOk, IfErr, OnOk, OnErr, IsTrue, List, IfNone, IfSome, None};
+ghost use Rattle.card_set.specs.declared.card.Card.{Card};
+ghost use Rattle.std.specs.List.{list_any};
+ghost use Rattle.card_set.specs.Row.{cards_of};
+ghost use Rattle.play_event.specs.CardReasons as reasons;
+ghost use Rattle.play_event.specs.Naming as naming;
+ghost use Rattle.play_event.specs.Naming.{after_show};
+ghost use Rattle.card_set.specs.Known as known;
+ghost use Rattle.play_event.specs.Places as plain;
+ghost use Rattle.card_places.specs.Placed.{placed};
+ghost use Rattle.card_places.specs.Plain.{place_of};
+ghost use Rattle.card_places.specs.Shown.{IsMucked, IsRightShow, IsShown};
+ghost use Rattle.card_places.specs.Refusals as why;
+
+use crate::card_state::CardState;
+use crate::deal_table::DealTable;
+use crate::dealt_card::DealtCard;
+use crate::dealt_cards::DealtCards;
+use crate::names::is_unknown;
+use crate::naming::{Outcome, leaves_out, tried};
+use crate::taken::has_misplaced_card;
+use card_set::CardRow;
+use chip_ledger::{LiveRow, Seat};
+use play_event::{Due, Illegal};
+
+// The seat may show or muck.
+fn may_show(state: &CardState, live: &LiveRow, seat: Seat) -> bool
+    requires { live.now.seats ≡ state.now.seats }
+    ensures may { result ≡ why.may_show_seen state.now live.now seat.number }
+    ensures in_hand { IsTrue result → seat.number ≤ state.now.seats }
+{
+    seat.number <= state.seats
+        && live.get(seat)
+        && !(state.shown.get(seat) || state.mucked.get(seat))
+}
+
+// The card is held, and face down.
+fn is_held_down(table: &DealTable, card: &DealtCard, seat: Seat) -> bool
+    ensures { result ≡ naming.is_held_down table.now.code seat.number (place_of card.now) }
+{
+    card.held_by(Some(seat)) && !table.is_up(card)
+}
+
+// How many cards the seat holds face down.
+fn held_down(table: &DealTable, rows: &[DealtCard], seat: Seat) -> usize
+    ensures value { result ≡ count_by (naming.is_held_down table.now.code seat.number) (map place_of rows.now) }
+    ensures most { result ≤ length rows.now }
+{
+    let mut count = 0;
+    for row in rows {
+        if is_held_down(table, row, seat) {
+            count += 1;
+        }
+    }
+    count
+}
+
+// An up-card of the seat is unknown.
+fn hides_up(table: &DealTable, rows: &[DealtCard], seat: Seat) -> bool
+    ensures { result ≡ list_any known.is_unknown (plain.up_slots table.now.code (map place_of rows.now) seat.number) }
+{
+    for row in rows {
+        if row.held_by(Some(seat)) && table.is_up(row) && is_unknown(row.slot) {
+            return true;
+        }
+    }
+    false
+}
+
+// A show may have so many cards.
+fn may_show_many(state: &CardState, seat: Seat, count: u8) -> bool
+    ensures { result ≡ why.may_show_many state.now.table.code (placed state.now.places) seat.number count }
+{
+    let rows = state.places.as_slice();
+    count == state.places.held(Some(seat))
+        || count as usize == held_down(&state.table, rows, seat)
+            && !hides_up(&state.table, rows, seat)
+}
+
+// The show names all cards that the seat holds.
+fn is_show_of_all(places: &DealtCards, seat: Seat, cards: &CardRow) -> bool
+    ensures { result ≡ naming.is_show_of_all (placed places.now) seat.number (cards_of cards.now) }
+{
+    cards.len == places.held(Some(seat))
+}
+
+// The places after a show of the cards that are covered, and whether it names other cards.
+fn shown_of(
+    table: &DealTable,
+    places: &DealtCards,
+    seat: Seat,
+    all: bool,
+    cards: &CardRow,
+) -> Outcome
+    ensures after { placed result.after ≡ naming.after_names (naming.is_covered table.now.code seat.number all) (λ place. place) (cards_of cards.now) (naming.other_names (filter (naming.is_covered table.now.code seat.number all) (placed places.now)) (cards_of cards.now)) 0 (placed places.now) }
+    ensures lacking { result.lacking ≡ reasons.is_show_of_others (filter (naming.is_covered table.now.code seat.number all) (placed places.now)) (cards_of cards.now) }
+{
+    let outcome = tried(table, places, seat, all, None, cards, 0);
+    let lacking = outcome.lacking
+        || leaves_out(table, places.as_slice(), seat, all, cards.as_slice());
+    Outcome {
+        after: outcome.after,
+        lacking,
+    }
+}
+
+// The places after a show, and whether it names other cards.
+fn shown(table: &DealTable, places: &DealtCards, seat: Seat, cards: &CardRow) -> Outcome
+    ensures after { placed result.after ≡ naming.after_show table.now.code seat.number (cards_of cards.now) (placed places.now) }
+    ensures lacking { result.lacking ≡ reasons.is_show_of_others (filter (naming.is_covered table.now.code seat.number (naming.is_show_of_all (placed places.now) seat.number (cards_of cards.now))) (placed places.now)) (cards_of cards.now) }
+{
+    let all = is_show_of_all(places, seat, cards);
+    shown_of(table, places, seat, all, cards)
+}
+
+/// The places after a show of the seat, or why it is illegal.
+pub fn show_on(
+    state: &CardState,
+    live: &LiveRow,
+    seat: Seat,
+    cards: &CardRow,
+) -> Result<DealtCards, Illegal>
+    requires live { live.now.seats ≡ state.now.seats }
+    ensures right { IfOk result (λ after. IsRightShow state.now live.now seat.number (cards_of cards.now) after) }
+    ensures wrong { IfErr result (λ reason. why.show_why_on state.now live.now seat.number (cards_of cards.now) ≡ Some reason) }
+    ensures in_hand { OnOk result (seat.number ≤ state.now.seats) }
+{
+    if !may_show(state, live, seat) {
+        return Err(Illegal::WrongSeat);
+    }
+    if !may_show_many(state, seat, cards.len) {
+        return Err(Illegal::WrongCount);
+    }
+    let outcome = shown(&state.table, &state.places, seat, cards);
+    if has_misplaced_card(
+        &state.table,
+        outcome.after.as_slice(),
+        state.places.as_slice(),
+        outcome.after.as_slice(),
+    ) {
+        Err(Illegal::CardTaken)
+    } else if outcome.lacking {
+        Err(Illegal::NotHeld)
+    } else {
+        Ok(outcome.after)
+    }
+}
+
+/// Why no show may come now, if none may.
+pub fn shut(
+    state: &CardState,
+    live: &LiveRow,
+    due: Due,
+    settled: bool,
+    seat: Seat,
+) -> Option<Illegal>
+    requires { live.now.seats ≡ state.now.seats }
+    ensures not_shut { IfNone result ((cards : List Card) → why.show_why state.now live.now due settled seat.number cards ≡ why.show_why_on state.now live.now seat.number cards) }
+    ensures is_shut { IfSome result (λ reason. (cards : List Card) → why.show_why state.now live.now due settled seat.number cards ≡ Some reason) }
+{
+    match due {
+        Due::Show => None,
+        Due::Over => {
+            if may_show(state, live, seat) {
+                None
+            } else {
+                Some(Illegal::HandOver)
+            }
+        }
+        Due::Deal(_) | Due::Draw(_) | Due::BringIn | Due::Move => {
+            if settled {
+                None
+            } else {
+                Some(Illegal::WrongKind)
+            }
+        }
+    }
+}
+
+/// Why the seat may not muck now.
+pub fn muck_why(state: &CardState, live: &LiveRow, due: Due, seat: Seat) -> Option<Illegal>
+    requires { live.now.seats ≡ state.now.seats }
+    ensures wrong { result ≡ why.muck_why state.now live.now due seat.number }
+    ensures in_hand { IfNone result (seat.number ≤ state.now.seats) }
+{
+    match due {
+        Due::Show => {
+            if may_show(state, live, seat) {
+                None
+            } else {
+                Some(Illegal::WrongSeat)
+            }
+        }
+        Due::Over => {
+            if may_show(state, live, seat) {
+                None
+            } else {
+                Some(Illegal::HandOver)
+            }
+        }
+        Due::Deal(_) | Due::Draw(_) | Due::BringIn | Due::Move => Some(Illegal::WrongKind),
+    }
+}
+
+/// The seat showed, and these are the places after it.
+pub fn set_show(state: &mut CardState, seat: Seat, cards: &CardRow, after: DealtCards)
+    requires in_hand { seat.number ≤ state.old.seats }
+    requires places { placed after
+        ≡ after_show state.old.table.code seat.number (cards_of cards.now) (placed state.old.places) }
+    ensures { IsShown state.old state.new seat.number (cards_of cards.now) }
+{
+    state.places = after;
+    state.shown.set(seat, true);
+}
+
+/// The seat mucked.
+pub fn set_muck(state: &mut CardState, seat: Seat)
+    requires { seat.number ≤ state.old.seats }
+    ensures { IsMucked state.old state.new seat.number }
+{
+    state.mucked.set(seat, true);
+}

@@ -1,0 +1,174 @@
+// Which card may not lie where it is dealt or named.
+ghost use Rattle.std.specs.Prelude.{◌≡◌, ◌≤◌, ◌&&◌, ◌==◌, length, map, not, count_by, nat_lt, is_some};
+ghost use Rattle.std.specs.List.{list_any};
+ghost use Rattle.card_set.specs.Known as known;
+ghost use Rattle.play_event.specs.Places as places;
+ghost use Rattle.play_event.specs.Taken as taken;
+ghost use Rattle.card_places.specs.Plain.{place_of};
+
+use crate::deal_table::DealTable;
+use crate::dealt_card::DealtCard;
+use crate::names::{has_repeat, is_borne_by, is_one_card, is_unknown};
+use card_set::{Card, Slot};
+
+// The card was gone before so many cards were dealt.
+fn is_gone_before(gone_after: Option<u8>, number: u8) -> bool
+    ensures { result ≡ taken.is_gone_before gone_after number }
+{
+    match gone_after {
+        Some(count) => count <= number,
+        None => false,
+    }
+}
+
+// A place may bear the card of another.
+fn may_repeat(card: &DealtCard, other: &DealtCard) -> bool
+    ensures { result ≡ taken.may_repeat (place_of card.now) (place_of other.now) }
+{
+    card.past_deck && is_gone_before(other.gone_after, card.number)
+}
+
+// Two places clash.
+pub fn is_clash(a: &DealtCard, b: &DealtCard) -> bool
+    ensures { result ≡ taken.is_clash (place_of a.now) (place_of b.now) }
+{
+    !(may_repeat(a, b) || may_repeat(b, a)) && is_one_card(a.slot, b.slot)
+}
+
+// A place bears the card, and is not gone where it is dealt past the deck.
+fn lies(rows: &[DealtCard], past_deck: bool, card: Card) -> bool
+    ensures { result ≡ list_any (λ place. not (past_deck && is_some place.gone_after) && taken.is_borne_by card place.slot) (map place_of rows.now) }
+{
+    match rows {
+        [] => false,
+        [row, rest @ ..] => {
+            !(past_deck && row.gone_after.is_some()) && is_borne_by(card, row.slot)
+                || lies(rest, past_deck, card)
+        }
+    }
+}
+
+// The slot may not be dealt behind these places.
+fn is_taken(table: &DealTable, rows: &[DealtCard], past_deck: bool, slot: Slot) -> bool
+    ensures { result ≡ taken.is_taken table.now.code (map place_of rows.now) past_deck slot }
+{
+    match slot {
+        Slot::Known(card) => !table.in_deck(card) || lies(rows, past_deck, card),
+        Slot::Unknown => false,
+    }
+}
+
+// One of the slots may not be dealt behind these places.
+fn some_taken(table: &DealTable, rows: &[DealtCard], past_deck: bool, slots: &[Slot]) -> bool
+    ensures { result ≡ list_any (taken.is_taken table.now.code (map place_of rows.now) past_deck) slots.now }
+{
+    match slots {
+        [] => false,
+        [slot, rest @ ..] => is_taken(table, rows, past_deck, *slot)
+            || some_taken(table, rows, past_deck, rest),
+    }
+}
+
+// How many cards were dealt before the street, and how many were discarded on it.
+fn count_before(rows: &[DealtCard], street: u8) -> usize
+    ensures value { result ≡ count_by (λ place. nat_lt place.street street) (map place_of rows.now) }
+    ensures most { result ≤ length rows.now }
+{
+    let mut count = 0;
+    for row in rows {
+        if row.street < street {
+            count += 1;
+        }
+    }
+    count
+}
+
+fn count_discarded(rows: &[DealtCard], street: u8) -> usize
+    ensures value { result ≡ count_by (λ place. place.discarded == street) (map place_of rows.now) }
+    ensures most { result ≤ length rows.now }
+{
+    let mut count = 0;
+    for row in rows {
+        if row.discarded == street {
+            count += 1;
+        }
+    }
+    count
+}
+
+// A card that is dealt now on this street is dealt past the deck.
+pub fn is_past_deck(table: &DealTable, rows: &[DealtCard], street: u8) -> bool
+    requires { length rows.now ≤ 120 }
+    ensures { result ≡ places.is_past_deck table.now.code (map place_of rows.now) street }
+{
+    table.street(street).draws
+        && (table.deck() as usize) < count_before(rows, street) + count_discarded(rows, street)
+}
+
+// One of the slots may not be dealt on this street.
+pub fn has_taken_card(table: &DealTable, rows: &[DealtCard], street: u8, slots: &[Slot]) -> bool
+    requires { length rows.now ≤ 120 }
+    ensures { result ≡ taken.has_taken_card table.now.code (map place_of rows.now) street slots.now }
+{
+    some_taken(table, rows, is_past_deck(table, rows, street), slots) || has_repeat(slots)
+}
+
+// The deck lacks the card of a slot.
+fn is_foreign(table: &DealTable, slot: Slot) -> bool
+    ensures { result ≡ taken.is_foreign table.now.code slot }
+{
+    match slot {
+        Slot::Known(card) => !table.in_deck(card),
+        Slot::Unknown => false,
+    }
+}
+
+// The place clashes with another of these.
+fn clashes(card: &DealtCard, rows: &[DealtCard]) -> bool
+    ensures { result ≡ list_any (λ other. not (other.number == card.now.number) && taken.is_clash (place_of card.now) other) (map place_of rows.now) }
+{
+    match rows {
+        [] => false,
+        [row, rest @ ..] => row.number != card.number && is_clash(card, row) || clashes(card, rest),
+    }
+}
+
+// A place may not bear its card among these.
+fn is_misplaced(table: &DealTable, rows: &[DealtCard], card: &DealtCard) -> bool
+    ensures { result ≡ taken.is_misplaced table.now.code (map place_of rows.now) (place_of card.now) }
+{
+    is_foreign(table, card.slot) || clashes(card, rows)
+}
+
+// A card became known that may not lie there.
+fn is_newly_misplaced(
+    table: &DealTable,
+    all: &[DealtCard],
+    old: &DealtCard,
+    new: &DealtCard,
+) -> bool
+    ensures { result ≡ ((known.is_unknown old.now.slot && not (known.is_unknown new.now.slot)) && taken.is_misplaced table.now.code (map place_of all.now) (place_of new.now)) }
+{
+    is_unknown(old.slot) && !is_unknown(new.slot) && is_misplaced(table, all, new)
+}
+
+// A card of the new rows that was not known in the old ones may not lie there, among all these.
+pub fn has_misplaced_card(
+    table: &DealTable,
+    all: &[DealtCard],
+    olds: &[DealtCard],
+    news: &[DealtCard],
+) -> bool
+    ensures { result ≡ list_any (taken.is_misplaced table.now.code (map place_of all.now)) (taken.newly_known (map place_of olds.now) (map place_of news.now)) }
+{
+    match olds {
+        [] => false,
+        [old, later_olds @ ..] => match news {
+            [] => false,
+            [new, later_news @ ..] => {
+                is_newly_misplaced(table, all, old, new)
+                    || has_misplaced_card(table, all, later_olds, later_news)
+            }
+        },
+    }
+}

@@ -1,0 +1,118 @@
+// What is read from the state: hands, up-cards and the board.
+ghost use Rattle.std.specs.Prelude.{◌≡◌, ℕ, ◌≤◌, ◌&&◌, true, None, Some, map, filter};
+ghost use Rattle.std.specs.List.{list_any};
+ghost use Rattle.card_set.specs.Known as known;
+ghost use Rattle.card_set.specs.Row.{cards_of, slots_of};
+ghost use Rattle.chip_ledger.specs.LiveRow.{flag_of};
+ghost use Rattle.play_event.specs.Places as places;
+ghost use Rattle.play_event.specs.Places.{is_held_by};
+ghost use Rattle.play_event.specs.SeatSlots.{slots_of_hand, ups_of};
+ghost use Rattle.card_places.specs.Held as held;
+ghost use Rattle.card_places.specs.Placed.{placed};
+ghost use Rattle.card_places.specs.Plain.{place_of, seat_of};
+ghost use Rattle.card_places.specs.Room.{is_owner};
+
+use crate::card_state::CardState;
+use crate::dealt_card::DealtCard;
+use crate::names::{is_unknown, known};
+use card_set::{CardRow, SlotRow};
+use chip_ledger::{LiveRow, Seat};
+use play_event::{HandRow, UpRow};
+
+// What an owner has on the table, in the order of dealing.
+fn held_slots(state: &CardState, owner: Option<Seat>) -> SlotRow
+    requires { is_owner state.now.seats (seat_of owner) ≡ true }
+    ensures { slots_of result ≡ held.held_slots (seat_of owner) (placed state.now.places) }
+{
+    let mut slots = SlotRow::new();
+    for card in state.places.as_slice() {
+        if card.held_by(owner) {
+            slots.push(card.slot);
+        }
+    }
+    slots
+}
+
+// The up-cards of a seat, in the order of dealing.
+fn up_slots(state: &CardState, seat: Seat) -> SlotRow
+    requires { seat.number ≤ state.now.seats }
+    ensures { slots_of result
+        ≡ places.up_slots state.now.table.code (placed state.now.places) seat.number }
+{
+    let mut slots = SlotRow::new();
+    for card in state.places.as_slice() {
+        if card.held_by(Some(seat)) && state.table.is_up(card) {
+            slots.push(card.slot);
+        }
+    }
+    slots
+}
+
+/// The cards that each seat has, in the order of dealing.
+pub fn hands(state: &CardState) -> HandRow
+    requires { state.now.seats ≤ 10 }
+    ensures seats { result.seats ≡ state.now.seats }
+    ensures hands { (seat : ℕ) → 1 ≤ seat → seat ≤ state.now.seats
+        → slots_of_hand result seat ≡ held.held_slots (Some seat) (placed state.now.places) }
+{
+    let mut row = HandRow::new(state.seats);
+    for index in 0..state.seats {
+        let seat = Seat { number: index + 1 };
+        row.set(seat, held_slots(state, Some(seat)));
+    }
+    row
+}
+
+/// The up-cards of each seat, in the order of dealing.
+pub fn up(state: &CardState) -> UpRow
+    requires { state.now.seats ≤ 10 }
+    ensures seats { result.seats ≡ state.now.seats }
+    ensures ups { (seat : ℕ) → 1 ≤ seat → seat ≤ state.now.seats → ups_of result seat
+        ≡ places.up_slots state.now.table.code (placed state.now.places) seat }
+{
+    let mut row = UpRow::new(state.seats);
+    for index in 0..state.seats {
+        let seat = Seat { number: index + 1 };
+        row.set(seat, up_slots(state, seat));
+    }
+    row
+}
+
+/// The known cards of the board, in the order of dealing.
+pub fn board(state: &CardState) -> CardRow
+    ensures { cards_of result
+        ≡ known.known_cards (held.held_slots None (placed state.now.places)) }
+{
+    known(&held_slots(state, None))
+}
+
+// The seat has a card that is unknown.
+fn has_unknown(rows: &[DealtCard], seat: Seat) -> bool
+    ensures { result ≡ list_any
+        (λ place. is_held_by seat.number place && known.is_unknown place.slot)
+        (map place_of rows.now) }
+{
+    for card in rows {
+        if card.held_by(Some(seat)) && is_unknown(card.slot) {
+            return true;
+        }
+    }
+    false
+}
+
+/// Which seats have a card that is unknown.
+pub fn unknown(state: &CardState) -> LiveRow
+    requires least { 2 ≤ state.now.seats }
+    requires most { state.now.seats ≤ 10 }
+    ensures seats { result.seats ≡ state.now.seats }
+    ensures unknown { (seat : ℕ) → 1 ≤ seat → seat ≤ state.now.seats → flag_of result seat
+        ≡ list_any (λ place. is_held_by seat place && known.is_unknown place.slot)
+        (placed state.now.places) }
+{
+    let mut row = LiveRow::new(state.seats);
+    for index in 0..state.seats {
+        let seat = Seat { number: index + 1 };
+        row.set(seat, has_unknown(state.places.as_slice(), seat));
+    }
+    row
+}

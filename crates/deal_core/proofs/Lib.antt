@@ -1,0 +1,14 @@
+-- The answers of the state are those of the rules.
+pub mod Same
+pub mod WhyDeal
+pub mod WhyDiscard
+pub mod WhyShow
+pub mod StandsAfter
+pub mod StandsDiscard
+pub mod StandsShow
+pub mod StandsMove
+pub mod DiscardTurn
+pub mod IsDone
+pub mod Boards
+pub mod Orders
+pub mod Games

@@ -1,0 +1,14 @@
+-- The board is known, and the cards of its places are those that were dealt to it.
+use Rattle.std.proofs.Common.{None, List, ap, ◌∙◌}
+use Rattle.card_set.specs.Known.{known_cards}
+use Rattle.play_event.specs.Places.{Place}
+use Rattle.card_places.specs.Held.{held_slots}
+use Rattle.deal_core.specs.Board.{board_cards}
+use Rattle.deal_core.proofs.Boards.{board_held, all_known}
+use Rattle.deal_core.proofs.cards.Cards.board.Goals as goal
+
+pub returns : goal.returns
+returns g c =
+    λ past stands.
+    c.board.ensures ∙ ap (λ (ps : List Place). known_cards (held_slots None ps)) stands.places
+    ∙ ap known_cards (board_held c.args.self.now.state.table.code past) ∙ all_known (board_cards past)

@@ -1,0 +1,3 @@
+-- The state of the cards stands for a past.
+pub mod Standing
+pub mod Board

@@ -1,0 +1,374 @@
+// The cards of a hand of one game, and each call on them.
+ghost use Rattle.std.specs.Prelude.{◌≡◌, ◌≤◌, ◌<◌, ◌∷◌, [], ℕ, length, slice_get, true, OnOk, OnErr, IfErr, IsSomeAnd, None, Some};
+ghost use Rattle.card_set.specs.Row.{cards_of, slots_of};
+ghost use Rattle.chip_ledger.specs.LiveRow.{flag_of};
+ghost use Rattle.play_event.specs.Due.{is_settled, turn};
+ghost use Rattle.play_event.specs.Past.{Past, Move, Moved, is_fold, moves_of};
+ghost use Rattle.play_event.specs.Played.{IsPlace};
+ghost use Rattle.play_event.specs.Reasons.{why};
+ghost use Rattle.play_event.specs.Said.{said_of};
+ghost use Rattle.play_event.specs.Scripts.{with_event};
+ghost use Rattle.play_event.specs.SeatSlots.{slots_of_hand, ups_of};
+ghost use Rattle.play_event.specs.Showing.{has_mucked};
+ghost use Rattle.play_event.specs.Table.{places_of, up_cards};
+ghost use Rattle.play_event.specs.Trace.{has_unknown_card, traced_places};
+ghost use Rattle.play_event.specs.declared.reason.Due.TheVariants as dues;
+ghost use Rattle.play_event.specs.declared.reason.Due.{Due as DueNow};
+ghost use Rattle.play_event.specs.declared.setup.Rules.{Rules};
+ghost use Rattle.play_event.specs.declared.setup.Setup.{Setup};
+ghost use Rattle.street_laws.specs.CardEvents.{is_showing};
+ghost use Rattle.street_laws.specs.Done.{is_done};
+ghost use Rattle.street_laws.specs.Dues.{IsDueWithin, is_cards_due};
+ghost use Rattle.card_places.specs.CardEvents.{is_deal, is_discard};
+ghost use Rattle.card_places.specs.Dealt.{IsDealt};
+ghost use Rattle.card_places.specs.Discarded.{IsDiscarded};
+ghost use Rattle.card_places.specs.DueStreet.{due_street};
+ghost use Rattle.card_places.specs.Held.{held_slots};
+ghost use Rattle.card_places.specs.Refusals as refusals;
+ghost use Rattle.card_places.specs.Shown.{IsMucked, IsShown};
+ghost use Rattle.deal_core.specs.Board.{board_cards};
+ghost use Rattle.deal_core.specs.Standing.{IsNow, IsSeatOf, StandsFor};
+
+use card_places::{
+    CardState, board, board_why, discard_on, done, empty, fold, hands, hole_why, lay, muck_why,
+    place, set_discard, set_muck, set_show, show_on, shut, slots, street_due, unknown, up,
+};
+use card_set::{CardRow, Slot, SlotRow};
+use chip_ledger::{LiveRow, Seat};
+use play_event::{Due, Event, HandRow, Illegal, Kind, Place, UpRow};
+use std::marker::PhantomData;
+use variant_table::Variant;
+
+/// The cards of a hand of the game `V`. What the calls say of the past holds for every past for which the state stands.
+#[derive(Drop)]
+pub struct Cards<V: Variant> {
+    pub state: CardState,
+    pub game: PhantomData<V>,
+    pub ghost code: { state.table.code ≡ V.CODE },
+}
+
+impl<V: Variant> Cards<V> {
+    /// No cards yet, for so many seats.
+    pub fn start(seats: u8) -> Self
+        requires least { 2 ≤ seats }
+        requires most { seats ≤ V.SEATS }
+        ensures stands { StandsFor result.state [] }
+        ensures seats { result.state.seats ≡ seats }
+    {
+        Cards {
+            state: empty(V::CODE, seats),
+            game: PhantomData,
+        }
+    }
+
+    // Deals hole cards to a seat, where it may have them.
+    fn deal_hole(
+        &mut self,
+        due: Due,
+        live: &LiveRow,
+        seat: Seat,
+        cards: &[Slot],
+    ) -> Result<(), Illegal>
+        requires due { IsDueWithin V.STREETS due }
+        requires live { live.now.seats ≡ self.old.state.seats }
+        ensures right { OnOk result
+            (refusals.hole_why self.old.state live.now due seat.number cards.now ≡ None) }
+        ensures wrong { IfErr result (λ reason.
+            refusals.hole_why self.old.state live.now due seat.number cards.now ≡ Some reason) }
+        ensures dealt { (on : ℕ) → due_street due ≡ Some on
+            → OnOk result (IsDealt self.old.state self.new.state (Some seat.number) on cards.now) }
+        ensures unchanged { OnErr result (self.new ≡ self.old) }
+        ensures seats { self.new.state.seats ≡ self.old.state.seats }
+    {
+        if let Some(reason) = hole_why(&self.state, live, due, seat, cards) {
+            return Err(reason);
+        }
+        match street_due(due) {
+            Some(on) => {
+                lay(&mut self.state, Some(seat), on, cards);
+                Ok(())
+            }
+            None => Ok(()),
+        }
+    }
+
+    // Deals cards to the board, where it may have them.
+    fn deal_board(&mut self, due: Due, cards: &[Slot]) -> Result<(), Illegal>
+        requires { IsDueWithin V.STREETS due }
+        ensures right { OnOk result (refusals.board_why self.old.state due cards.now ≡ None) }
+        ensures wrong { IfErr result (λ reason.
+            refusals.board_why self.old.state due cards.now ≡ Some reason) }
+        ensures dealt { (on : ℕ) → due_street due ≡ Some on
+            → OnOk result (IsDealt self.old.state self.new.state None on cards.now) }
+        ensures unchanged { OnErr result (self.new ≡ self.old) }
+        ensures seats { self.new.state.seats ≡ self.old.state.seats }
+    {
+        if let Some(reason) = board_why(&self.state, due, cards) {
+            return Err(reason);
+        }
+        match street_due(due) {
+            Some(on) => {
+                lay(&mut self.state, None, on, cards);
+                Ok(())
+            }
+            None => Ok(()),
+        }
+    }
+
+    /// Deals hole cards or board cards. Illegal exactly by the rules of play; the state is then as it was.
+    pub fn deal(&mut self, due: Due, live: &LiveRow, event: &Event) -> Result<(), Illegal>
+        requires kind { is_deal (said_of event.now) ≡ true }
+        requires due { IsDueWithin V.STREETS due }
+        requires live { live.now.seats ≡ self.old.state.seats }
+        ensures legal { (setup : Setup) (rules : Rules) (past : Past)
+            → IsNow self.old.state due live.now setup past
+            → OnOk result (why setup rules past (said_of event.now) ≡ None) }
+        ensures illegal { (setup : Setup) (rules : Rules) (past : Past)
+            → IsNow self.old.state due live.now setup past
+            → IfErr result (λ reason. why setup rules past (said_of event.now) ≡ Some reason) }
+        ensures stands { (setup : Setup) (past : Past)
+            → IsNow self.old.state due live.now setup past
+            → OnOk result (StandsFor self.new.state (with_event setup (said_of event.now) past)) }
+        ensures unchanged { OnErr result (self.new ≡ self.old) }
+        ensures seats { self.new.state.seats ≡ self.old.state.seats }
+    {
+        match event.kind {
+            Kind::Hole { seat, cards } => self.deal_hole(due, live, seat, cards.as_slice()),
+            Kind::Board { cards } => {
+                let known = slots(&cards);
+                self.deal_board(due, known.as_slice())
+            }
+            // The condition leaves no other kind.
+            _ => Err(Illegal::WrongKind),
+        }
+    }
+
+    // Discards cards of a seat, where it may.
+    fn discard_of(
+        &mut self,
+        due: Due,
+        live: &LiveRow,
+        seat: Seat,
+        cards: &SlotRow,
+    ) -> Result<(), Illegal>
+        requires due { IsDueWithin V.STREETS due }
+        requires live { live.now.seats ≡ self.old.state.seats }
+        ensures right { OnOk result (refusals.discard_why self.old.state live.now due seat.number
+            (slots_of cards.now) ≡ None) }
+        ensures wrong { IfErr result (λ reason. refusals.discard_why self.old.state live.now due
+            seat.number (slots_of cards.now) ≡ Some reason) }
+        ensures discarded { (on : ℕ) → due ≡ dues.Draw on
+            → OnOk result (IsDiscarded self.old.state self.new.state on seat.number
+            (slots_of cards.now)) }
+        ensures unchanged { OnErr result (self.new ≡ self.old) }
+        ensures seats { self.new.state.seats ≡ self.old.state.seats }
+    {
+        match due {
+            Due::Over => Err(Illegal::HandOver),
+            Due::Draw(on) => match discard_on(&self.state, live, on, seat, cards) {
+                Ok(after) => {
+                    set_discard(&mut self.state, on, seat, cards, after);
+                    Ok(())
+                }
+                Err(reason) => Err(reason),
+            },
+            Due::Deal(_) | Due::BringIn | Due::Move | Due::Show => Err(Illegal::WrongKind),
+        }
+    }
+
+    /// Discards cards of a seat that draws. Illegal exactly by the rules of play; the state is then as it was.
+    pub fn discard(&mut self, due: Due, live: &LiveRow, event: &Event) -> Result<(), Illegal>
+        requires kind { is_discard (said_of event.now) ≡ true }
+        requires due { IsDueWithin V.STREETS due }
+        requires live { live.now.seats ≡ self.old.state.seats }
+        ensures legal { (setup : Setup) (rules : Rules) (past : Past)
+            → IsNow self.old.state due live.now setup past
+            → OnOk result (why setup rules past (said_of event.now) ≡ None) }
+        ensures illegal { (setup : Setup) (rules : Rules) (past : Past)
+            → IsNow self.old.state due live.now setup past
+            → IfErr result (λ reason. why setup rules past (said_of event.now) ≡ Some reason) }
+        ensures stands { (setup : Setup) (past : Past)
+            → IsNow self.old.state due live.now setup past
+            → OnOk result (StandsFor self.new.state (with_event setup (said_of event.now) past)) }
+        ensures unchanged { OnErr result (self.new ≡ self.old) }
+        ensures seats { self.new.state.seats ≡ self.old.state.seats }
+    {
+        match event.kind {
+            Kind::Discard { seat, cards } => self.discard_of(due, live, seat, &cards),
+            // The condition leaves no other kind.
+            _ => Err(Illegal::WrongKind),
+        }
+    }
+
+    // Shows cards of a seat, where it may.
+    fn show_of(
+        &mut self,
+        due: Due,
+        live: &LiveRow,
+        settled: bool,
+        seat: Seat,
+        cards: &CardRow,
+    ) -> Result<(), Illegal>
+        requires { live.now.seats ≡ self.old.state.seats }
+        ensures right { OnOk result (refusals.show_why self.old.state live.now due settled seat.number
+            (cards_of cards.now) ≡ None) }
+        ensures wrong { IfErr result (λ reason. refusals.show_why self.old.state live.now due settled
+            seat.number (cards_of cards.now) ≡ Some reason) }
+        ensures shown { OnOk result
+            (IsShown self.old.state self.new.state seat.number (cards_of cards.now)) }
+        ensures unchanged { OnErr result (self.new ≡ self.old) }
+        ensures seats { self.new.state.seats ≡ self.old.state.seats }
+    {
+        match shut(&self.state, live, due, settled, seat) {
+            Some(reason) => Err(reason),
+            None => match show_on(&self.state, live, seat, cards) {
+                Ok(after) => {
+                    set_show(&mut self.state, seat, cards, after);
+                    Ok(())
+                }
+                Err(reason) => Err(reason),
+            },
+        }
+    }
+
+    // Mucks the cards of a seat, where it may.
+    fn muck_of(&mut self, due: Due, live: &LiveRow, seat: Seat) -> Result<(), Illegal>
+        requires { live.now.seats ≡ self.old.state.seats }
+        ensures right { OnOk result
+            (refusals.muck_why self.old.state live.now due seat.number ≡ None) }
+        ensures wrong { IfErr result (λ reason.
+            refusals.muck_why self.old.state live.now due seat.number ≡ Some reason) }
+        ensures mucked { OnOk result (IsMucked self.old.state self.new.state seat.number) }
+        ensures unchanged { OnErr result (self.new ≡ self.old) }
+        ensures seats { self.new.state.seats ≡ self.old.state.seats }
+    {
+        match muck_why(&self.state, live, due, seat) {
+            Some(reason) => Err(reason),
+            None => {
+                set_muck(&mut self.state, seat);
+                Ok(())
+            }
+        }
+    }
+
+    /// Shows or mucks the cards of a seat. Illegal exactly by the rules of play; the state is then as it was.
+    pub fn show(
+        &mut self,
+        due: Due,
+        live: &LiveRow,
+        settled: bool,
+        event: &Event,
+    ) -> Result<(), Illegal>
+        requires kind { is_showing (said_of event.now) ≡ true }
+        requires live { live.now.seats ≡ self.old.state.seats }
+        ensures legal { (setup : Setup) (rules : Rules) (past : Past)
+            → IsNow self.old.state due live.now setup past
+            → is_settled setup (moves_of past) (turn setup past) ≡ settled
+            → OnOk result (why setup rules past (said_of event.now) ≡ None) }
+        ensures illegal { (setup : Setup) (rules : Rules) (past : Past)
+            → IsNow self.old.state due live.now setup past
+            → is_settled setup (moves_of past) (turn setup past) ≡ settled
+            → IfErr result (λ reason. why setup rules past (said_of event.now) ≡ Some reason) }
+        ensures stands { (setup : Setup) (past : Past)
+            → IsNow self.old.state due live.now setup past
+            → OnOk result (StandsFor self.new.state (with_event setup (said_of event.now) past)) }
+        ensures unchanged { OnErr result (self.new ≡ self.old) }
+        ensures seats { self.new.state.seats ≡ self.old.state.seats }
+    {
+        match event.kind {
+            Kind::Show { seat, cards } => self.show_of(due, live, settled, seat, &cards),
+            Kind::Muck { seat } => self.muck_of(due, live, seat),
+            // The condition leaves no other kind.
+            _ => Err(Illegal::WrongKind),
+        }
+    }
+
+    /// The seat folded: its cards are gone.
+    pub fn folded(&mut self, seat: Seat)
+        ensures stands { (past : Past) (move : Move) → StandsFor self.old.state past
+            → is_fold move.act ≡ true → move.seat ≡ seat.number
+            → StandsFor self.new.state (Moved move ∷ past) }
+        ensures seats { self.new.state.seats ≡ self.old.state.seats }
+    {
+        fold(&mut self.state, seat);
+    }
+
+    /// Whether the deal, the draw or the show that `due` names is complete. The state need not be told what is due now:
+    /// the next street's deal may be complete before it is looked at.
+    pub fn done(&self, due: Due, live: &LiveRow) -> bool
+        requires due { IsDueWithin V.STREETS due }
+        requires live { live.now.seats ≡ self.now.state.seats }
+        ensures done { (setup : Setup) (past : Past) (now : DueNow)
+            → IsNow self.now.state now live.now setup past → result ≡ is_done setup past due }
+        ensures ended { result ≡ true → is_cards_due due ≡ true }
+    {
+        done(&self.state, live, due)
+    }
+
+    /// The up-cards of each seat, in the order of dealing. Folded seats have none.
+    pub fn up(&self) -> UpRow
+        ensures seats { result.seats ≡ self.now.state.seats }
+        ensures ups { (past : Past) (seat : ℕ) → StandsFor self.now.state past
+            → IsSeatOf self.now.state.seats seat
+            → ups_of result seat ≡ up_cards V.CODE past seat }
+    {
+        up(&self.state)
+    }
+
+    /// The cards that each seat has, in the order of dealing. Discarded cards and those of folded seats are gone.
+    pub fn hands(&self) -> HandRow
+        ensures seats { result.seats ≡ self.now.state.seats }
+        ensures hands { (past : Past) (seat : ℕ) → StandsFor self.now.state past
+            → IsSeatOf self.now.state.seats seat
+            → slots_of_hand result seat ≡ held_slots (Some seat) (places_of V.CODE past) }
+    {
+        hands(&self.state)
+    }
+
+    /// The cards of the board, in the order of dealing.
+    pub fn board(&self) -> CardRow
+        ensures { (past : Past) → StandsFor self.now.state past
+            → cards_of result ≡ board_cards past }
+    {
+        board(&self.state)
+    }
+
+    /// Which seats mucked.
+    pub fn mucked(&self) -> LiveRow
+        ensures seats { result.seats ≡ self.now.state.seats }
+        ensures mucked { (past : Past) (seat : ℕ) → StandsFor self.now.state past
+            → IsSeatOf self.now.state.seats seat → flag_of result seat ≡ has_mucked past seat }
+    {
+        self.state.mucked
+    }
+
+    /// Which seats have a card that is not known.
+    pub fn unknown(&self) -> LiveRow
+        ensures seats { result.seats ≡ self.now.state.seats }
+        ensures unknown { (setup : Setup) (past : Past) (seat : ℕ) → setup.code ≡ V.CODE
+            → StandsFor self.now.state past → IsSeatOf self.now.state.seats seat
+            → flag_of result seat ≡ has_unknown_card setup past seat }
+    {
+        unknown(&self.state)
+    }
+
+    /// How many cards were dealt so far, those that are gone too.
+    pub fn place_count(&self) -> u8
+        ensures count { result ≡ self.now.state.places.count }
+        ensures places { (past : Past) → StandsFor self.now.state past
+            → result ≡ length (places_of V.CODE past) }
+    {
+        self.state.places.count
+    }
+
+    /// The place at this index, from 0, in the order of the trace: by street, then by owner, p1 first and the board last,
+    /// then in the order of dealing. Ask for an index below `place_count`.
+    pub fn place(&self, index: u8) -> Place
+        requires { index < self.now.state.places.count }
+        ensures { (setup : Setup) (past : Past) → setup.code ≡ V.CODE
+            → setup.stacks.seats ≡ self.now.state.seats → StandsFor self.now.state past
+            → IsSomeAnd (slice_get (traced_places setup past) index) (IsPlace result) }
+    {
+        place(&self.state, index)
+    }
+}
