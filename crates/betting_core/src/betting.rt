@@ -1,9 +1,9 @@
-// The betting of a hand of one game: its running numbers, and the game's table.
-ghost use Rattle.std.specs.Prelude.{◌≡◌, ◌≤◌, ◌<◌, ◌∷◌, [], ℕ, true, false, Some, None, IfErr, IfOk, IfSome, OnOk, OnErr, is_some};
+//! The betting of a hand of one game: it takes folds, calls, raises and bring-ins one by one.
+ghost use Rattle.std.specs.Prelude.{◌≡◌, ◌≢◌, ◌≤◌, ◌<◌, ◌∷◌, [], ℕ, true, false, Some, None, IfErr, IfOk, IfSome, OnOk, OnErr, is_some};
 ghost use Rattle.play_event.specs.declared.reason.Due.TheVariants as dues;
 ghost use Rattle.play_event.specs.Games.{street_count};
 ghost use Rattle.play_event.specs.Past.{Past, moves_of};
-ghost use Rattle.chip_ledger.specs.LiveRow.{flag_of};
+ghost use Rattle.chip_ledger.specs.LiveRow.{flag_of, flagged};
 ghost use Rattle.chip_ledger.specs.SeatRow.{amount_of};
 ghost use Rattle.play_event.specs.Chips.{chips_left, chips_put};
 ghost use Rattle.play_event.specs.Due.{is_settled, turn};
@@ -18,7 +18,7 @@ ghost use Rattle.betting_numbers.specs.SeatsSaid.{seat_said, turn_of};
 ghost use Rattle.play_event.specs.Streets.{is_stud, unit};
 ghost use Rattle.betting_numbers.specs.Seen.{all_in_seen};
 ghost use Rattle.betting_numbers.specs.Standing.{StandsFor};
-ghost use Rattle.betting_numbers.specs.Planned.{IsPlan, IsTurn, move_of};
+ghost use Rattle.betting_numbers.specs.Planned.{IsPlan, IsTurn, move_of, IsRefused, IsPlanned, IsOfHand, IsInReach, IsFit, WhereUps, reason_after, past_with, with_move};
 ghost use Rattle.street_laws.specs.CardEvents.{is_card_said};
 ghost use Rattle.street_laws.specs.Seats.{IsSeat};
 ghost use Rattle.betting_numbers.specs.UpTo.{StandsUpTo};
@@ -31,6 +31,7 @@ ghost use Rattle.play_event.specs.Said.{Said, said_of};
 ghost use Rattle.play_event.specs.Scripts.{with_event};
 ghost use Rattle.betting_numbers.specs.UpSeen.{HoldsUps};
 ghost use Rattle.play_event.specs.ValidSetup.{IsValid};
+ghost use Rattle.betting_numbers.specs.Targeted.{AreEndsFor};
 
 use betting_numbers::{Plan, Table, Targets, first_full_bet, not_now, start};
 use chip_ledger::{LiveRow, Seat, SeatRow};
@@ -38,9 +39,15 @@ use play_event::{Act, Due, Event, Illegal, Kind, Move as Moved, Rules, Setup, Sp
 use std::marker::PhantomData;
 use variant_table::{Opener, Size, Variant};
 
-/// The betting of a hand of a game.
+/// The betting of a hand of the game `V`, at some moment of the hand.
+///
+/// What it answers is told by pasts: a past is any list of what took place in a hand, and
+/// `StandsFor` says that the state is what the rules make of that past. A state stands up to its due
+/// (`StandsUpTo`) where the deal, draw or show that it waits for is complete in the past, and
+/// [`dealt`](Betting::dealt) was not called yet.
 #[derive(Drop)]
 pub struct Betting<V: Variant> {
+    /// The running numbers. They are public for the contracts of those who hold a machine.
     pub table: Table,
     pub game: PhantomData<V>,
     pub ghost code: { table.setup.code ≡ V.CODE },
@@ -84,7 +91,7 @@ fn cards<V: Variant>(street: u8) -> Due
 }
 
 impl<V: Variant> Betting<V> {
-    /// The betting before the first card.
+    /// The betting before the first card: antes and blinds are posted, and the first deal is due.
     pub fn start(setup: &Setup, rules: &Rules) -> Self
         requires valid { IsValid setup.now }
         requires code { setup.now.code ≡ V.CODE }
@@ -159,8 +166,10 @@ impl<V: Variant> Betting<V> {
         requires in_hand { seat.number ≤ self.old.table.setup.stacks.seats }
         requires reach { target ≤ all_in_seen self.old.table seat.number }
         requires fits { fits_due (act_said act) self.old.table.due ≡ true }
-        ensures stands { (past : Past) → StandsFor self.old.table past → is_bet_due self.old.table.due ≡ true
-            → StandsFor self.new.table (plays.Moved (move_of self.old.table (moves_of past) seat.number (act_said act) target) ∷ past) }
+        ensures stands { (past : Past) → StandsFor self.old.table past
+            → is_bet_due self.old.table.due ≡ true
+            → StandsFor self.new.table
+            (with_move self.old.table past seat.number (act_said act) target) }
         ensures setup { self.new.table.setup ≡ self.old.table.setup }
         ensures rules { self.new.table.rules ≡ self.old.table.rules }
     {
@@ -174,8 +183,8 @@ impl<V: Variant> Betting<V> {
     fn turn_now(&self, up: &UpRow) -> Option<Seat>
         requires row { up.now.seats ≡ self.now.table.setup.stacks.seats }
         requires bets { is_bet_due self.now.table.due ≡ true }
-        ensures turn { (past : Past) → StandsFor self.now.table past → HoldsUps self.now.table.setup up.now past
-            → IsTurn self.now.table past (turn_of (seat_said result)) }
+        ensures turn { WhereUps self.now.table up.now
+            (λ past. IsTurn self.now.table past (turn_of (seat_said result))) }
         ensures in_hand { IfSome result (λ seat. seat.number ≤ self.now.table.setup.stacks.seats) }
     {
         match V::OPEN {
@@ -191,14 +200,14 @@ impl<V: Variant> Betting<V> {
     // Plans a fold.
     fn fold(&self, up: &UpRow, actor: Option<Seat>) -> Result<Plan, Illegal>
         requires row { up.now.seats ≡ self.now.table.setup.stacks.seats }
-        ensures refused { (past : Past) → StandsFor self.now.table past → HoldsUps self.now.table.setup up.now past
-            → IfErr result (λ reason. why self.now.table.setup self.now.table.rules past (said.Fold (seat_said actor)) ≡ Some reason) }
-        ensures legal { (past : Past) → StandsFor self.now.table past → HoldsUps self.now.table.setup up.now past
-            → IfOk result (λ plan. IsPlan self.now.table past (said.Fold (seat_said actor)) plan.seat.number (act_said plan.act) plan.target) }
+        ensures refused { WhereUps self.now.table up.now
+            (IsRefused self.now.table (said.Fold (seat_said actor)) result) }
+        ensures legal { WhereUps self.now.table up.now
+            (IsPlanned self.now.table (said.Fold (seat_said actor)) result) }
         ensures due { OnOk result (is_bet_due self.now.table.due ≡ true) }
-        ensures fits { IfOk result (λ plan. fits_due (act_said plan.act) self.now.table.due ≡ true) }
-        ensures in_hand { IfOk result (λ plan. plan.seat.number ≤ self.now.table.setup.stacks.seats) }
-        ensures reach { IfOk result (λ plan. plan.target ≤ all_in_seen self.now.table plan.seat.number) }
+        ensures fits { IfOk result (IsFit self.now.table) }
+        ensures in_hand { IfOk result (IsOfHand self.now.table) }
+        ensures reach { IfOk result (IsInReach self.now.table) }
     {
         if let Some(reason) = not_now(self.table.due, true, false) {
             return Err(reason);
@@ -210,14 +219,14 @@ impl<V: Variant> Betting<V> {
     // Plans a call.
     fn call(&self, up: &UpRow, actor: Option<Seat>, stated: Option<u64>) -> Result<Plan, Illegal>
         requires row { up.now.seats ≡ self.now.table.setup.stacks.seats }
-        ensures refused { (past : Past) → StandsFor self.now.table past → HoldsUps self.now.table.setup up.now past
-            → IfErr result (λ reason. why self.now.table.setup self.now.table.rules past (said.Call (seat_said actor) stated) ≡ Some reason) }
-        ensures legal { (past : Past) → StandsFor self.now.table past → HoldsUps self.now.table.setup up.now past
-            → IfOk result (λ plan. IsPlan self.now.table past (said.Call (seat_said actor) stated) plan.seat.number (act_said plan.act) plan.target) }
+        ensures refused { WhereUps self.now.table up.now
+            (IsRefused self.now.table (said.Call (seat_said actor) stated) result) }
+        ensures legal { WhereUps self.now.table up.now
+            (IsPlanned self.now.table (said.Call (seat_said actor) stated) result) }
         ensures due { OnOk result (is_bet_due self.now.table.due ≡ true) }
-        ensures fits { IfOk result (λ plan. fits_due (act_said plan.act) self.now.table.due ≡ true) }
-        ensures in_hand { IfOk result (λ plan. plan.seat.number ≤ self.now.table.setup.stacks.seats) }
-        ensures reach { IfOk result (λ plan. plan.target ≤ all_in_seen self.now.table plan.seat.number) }
+        ensures fits { IfOk result (IsFit self.now.table) }
+        ensures in_hand { IfOk result (IsOfHand self.now.table) }
+        ensures reach { IfOk result (IsInReach self.now.table) }
     {
         if let Some(reason) = not_now(self.table.due, true, false) {
             return Err(reason);
@@ -229,14 +238,14 @@ impl<V: Variant> Betting<V> {
     // Plans a raise.
     fn raise(&self, up: &UpRow, actor: Option<Seat>, amount: Spelled) -> Result<Plan, Illegal>
         requires row { up.now.seats ≡ self.now.table.setup.stacks.seats }
-        ensures refused { (past : Past) → StandsFor self.now.table past → HoldsUps self.now.table.setup up.now past
-            → IfErr result (λ reason. why self.now.table.setup self.now.table.rules past (said.Raise (seat_said actor) amount) ≡ Some reason) }
-        ensures legal { (past : Past) → StandsFor self.now.table past → HoldsUps self.now.table.setup up.now past
-            → IfOk result (λ plan. IsPlan self.now.table past (said.Raise (seat_said actor) amount) plan.seat.number (act_said plan.act) plan.target) }
+        ensures refused { WhereUps self.now.table up.now
+            (IsRefused self.now.table (said.Raise (seat_said actor) amount) result) }
+        ensures legal { WhereUps self.now.table up.now
+            (IsPlanned self.now.table (said.Raise (seat_said actor) amount) result) }
         ensures due { OnOk result (is_bet_due self.now.table.due ≡ true) }
-        ensures fits { IfOk result (λ plan. fits_due (act_said plan.act) self.now.table.due ≡ true) }
-        ensures in_hand { IfOk result (λ plan. plan.seat.number ≤ self.now.table.setup.stacks.seats) }
-        ensures reach { IfOk result (λ plan. plan.target ≤ all_in_seen self.now.table plan.seat.number) }
+        ensures fits { IfOk result (IsFit self.now.table) }
+        ensures in_hand { IfOk result (IsOfHand self.now.table) }
+        ensures reach { IfOk result (IsInReach self.now.table) }
     {
         if let Some(reason) = not_now(self.table.due, true, true) {
             return Err(reason);
@@ -249,14 +258,14 @@ impl<V: Variant> Betting<V> {
     // Plans a bring-in.
     fn bring_in(&self, up: &UpRow, actor: Option<Seat>) -> Result<Plan, Illegal>
         requires row { up.now.seats ≡ self.now.table.setup.stacks.seats }
-        ensures refused { (past : Past) → StandsFor self.now.table past → HoldsUps self.now.table.setup up.now past
-            → IfErr result (λ reason. why self.now.table.setup self.now.table.rules past (said.BringIn (seat_said actor)) ≡ Some reason) }
-        ensures legal { (past : Past) → StandsFor self.now.table past → HoldsUps self.now.table.setup up.now past
-            → IfOk result (λ plan. IsPlan self.now.table past (said.BringIn (seat_said actor)) plan.seat.number (act_said plan.act) plan.target) }
+        ensures refused { WhereUps self.now.table up.now
+            (IsRefused self.now.table (said.BringIn (seat_said actor)) result) }
+        ensures legal { WhereUps self.now.table up.now
+            (IsPlanned self.now.table (said.BringIn (seat_said actor)) result) }
         ensures due { OnOk result (is_bet_due self.now.table.due ≡ true) }
-        ensures fits { IfOk result (λ plan. fits_due (act_said plan.act) self.now.table.due ≡ true) }
-        ensures in_hand { IfOk result (λ plan. plan.seat.number ≤ self.now.table.setup.stacks.seats) }
-        ensures reach { IfOk result (λ plan. plan.target ≤ all_in_seen self.now.table plan.seat.number) }
+        ensures fits { IfOk result (IsFit self.now.table) }
+        ensures in_hand { IfOk result (IsOfHand self.now.table) }
+        ensures reach { IfOk result (IsInReach self.now.table) }
     {
         if let Some(reason) = not_now(self.table.due, false, true) {
             return Err(reason);
@@ -269,14 +278,14 @@ impl<V: Variant> Betting<V> {
     fn plan(&self, up: &UpRow, event: &Event) -> Result<Plan, Illegal>
         requires row { up.now.seats ≡ self.now.table.setup.stacks.seats }
         requires kind { is_card_said (said_of event.now) ≡ false }
-        ensures refused { (past : Past) → StandsFor self.now.table past → HoldsUps self.now.table.setup up.now past
-            → IfErr result (λ reason. why self.now.table.setup self.now.table.rules past (said_of event.now) ≡ Some reason) }
-        ensures legal { (past : Past) → StandsFor self.now.table past → HoldsUps self.now.table.setup up.now past
-            → IfOk result (λ plan. IsPlan self.now.table past (said_of event.now) plan.seat.number (act_said plan.act) plan.target) }
+        ensures refused { WhereUps self.now.table up.now
+            (IsRefused self.now.table (said_of event.now) result) }
+        ensures legal { WhereUps self.now.table up.now
+            (IsPlanned self.now.table (said_of event.now) result) }
         ensures due { OnOk result (is_bet_due self.now.table.due ≡ true) }
-        ensures fits { IfOk result (λ plan. fits_due (act_said plan.act) self.now.table.due ≡ true) }
-        ensures in_hand { IfOk result (λ plan. plan.seat.number ≤ self.now.table.setup.stacks.seats) }
-        ensures reach { IfOk result (λ plan. plan.target ≤ all_in_seen self.now.table plan.seat.number) }
+        ensures fits { IfOk result (IsFit self.now.table) }
+        ensures in_hand { IfOk result (IsOfHand self.now.table) }
+        ensures reach { IfOk result (IsInReach self.now.table) }
     {
         match event.kind {
             Kind::Fold { actor } => self.fold(up, actor),
@@ -295,10 +304,10 @@ impl<V: Variant> Betting<V> {
         requires fits { fits_due (act_said plan.act) self.old.table.due ≡ true }
         ensures stands { (past : Past) (event : Said) → StandsFor self.old.table past
             → IsPlan self.old.table past event plan.seat.number (act_said plan.act) plan.target
-            → StandsFor self.new.table (with_event self.old.table.setup event past) }
+            → StandsFor self.new.table (past_with self.old.table past event) }
         ensures moved { (past : Past) (event : Said) → StandsFor self.old.table past
             → IsPlan self.old.table past event plan.seat.number (act_said plan.act) plan.target
-            → (move : plays.Move) → with_event self.old.table.setup event past ≡ plays.Moved move ∷ past
+            → (move : plays.Move) → past_with self.old.table past event ≡ plays.Moved move ∷ past
             → move_said result ≡ traced_move self.old.table.setup move (moves_of past) }
         ensures setup { self.new.table.setup ≡ self.old.table.setup }
         ensures rules { self.new.table.rules ≡ self.old.table.rules }
@@ -311,19 +320,24 @@ impl<V: Variant> Betting<V> {
         moved
     }
 
-    /// Makes the move of a fold, a call, a raise or a bring-in, where it is legal.
+    /// Makes the move of a fold, a call, a raise or a bring-in, where it is legal, and gives it as the
+    /// trace keeps it. Else it gives the first reason that holds against the event, and nothing changes.
+    ///
+    /// `up` has the up-cards of each seat. They are read in stud, where they decide who opens a street.
     pub fn step(&mut self, up: &UpRow, event: &Event) -> Result<Moved, Illegal>
         requires row { up.now.seats ≡ self.old.table.setup.stacks.seats }
         requires kind { is_card_said (said_of event.now) ≡ false }
-        ensures refused { (past : Past) → StandsFor self.old.table past → HoldsUps self.old.table.setup up.now past
-            → IfErr result (λ reason. why self.old.table.setup self.old.table.rules past (said_of event.now) ≡ Some reason) }
-        ensures legal { (past : Past) → StandsFor self.old.table past → HoldsUps self.old.table.setup up.now past
-            → OnOk result (why self.old.table.setup self.old.table.rules past (said_of event.now) ≡ None) }
-        ensures stands { (past : Past) → StandsFor self.old.table past → HoldsUps self.old.table.setup up.now past
-            → OnOk result (StandsFor self.new.table (with_event self.old.table.setup (said_of event.now) past)) }
-        ensures moved { (past : Past) → StandsFor self.old.table past → HoldsUps self.old.table.setup up.now past
-            → IfOk result (λ moved. (move : plays.Move) → with_event self.old.table.setup (said_of event.now) past ≡ plays.Moved move ∷ past
-            → move_said moved ≡ traced_move self.old.table.setup move (moves_of past)) }
+        ensures refused { WhereUps self.old.table up.now
+            (IsRefused self.old.table (said_of event.now) result) }
+        ensures legal { WhereUps self.old.table up.now
+            (λ past. OnOk result (reason_after self.old.table past (said_of event.now) ≡ None)) }
+        ensures stands { WhereUps self.old.table up.now
+            (λ past. OnOk result (StandsFor self.new.table
+            (past_with self.old.table past (said_of event.now)))) }
+        ensures moved { WhereUps self.old.table up.now
+            (λ past. IfOk result (λ moved. (move : plays.Move)
+            → past_with self.old.table past (said_of event.now) ≡ plays.Moved move ∷ past
+            → move_said moved ≡ traced_move self.old.table.setup move (moves_of past))) }
         ensures unchanged { OnErr result (self.new ≡ self.old) }
         ensures setup { self.new.table.setup ≡ self.old.table.setup }
         ensures rules { self.new.table.rules ≡ self.old.table.rules }
@@ -338,11 +352,14 @@ impl<V: Variant> Betting<V> {
     fn carded(&mut self)
         requires { is_deal_or_draw self.old.table.due ≡ true }
         ensures stands { (past : Past) → StandsUpTo self.old.table past
-            → is_done self.old.table.setup past self.new.table.due ≡ false → StandsFor self.new.table past }
+            → is_done self.old.table.setup past self.new.table.due ≡ false
+            → StandsFor self.new.table past }
         ensures up_to { (past : Past) → StandsUpTo self.old.table past
-            → is_done self.old.table.setup past self.new.table.due ≡ true → StandsUpTo self.new.table past }
+            → is_done self.old.table.setup past self.new.table.due ≡ true
+            → StandsUpTo self.new.table past }
         ensures showdown { (past : Past) → StandsUpTo self.old.table past
-            → is_done self.old.table.setup past self.new.table.due ≡ true → self.new.table.due ≡ dues.Show }
+            → is_done self.old.table.setup past self.new.table.due ≡ true
+            → self.new.table.due ≡ dues.Show }
         ensures setup { self.new.table.setup ≡ self.old.table.setup }
         ensures rules { self.new.table.rules ≡ self.old.table.rules }
     {
@@ -352,7 +369,8 @@ impl<V: Variant> Betting<V> {
     // Ends the showdown.
     fn shown(&mut self)
         requires { self.old.table.due ≡ dues.Show }
-        ensures stands { (past : Past) → StandsUpTo self.old.table past → StandsFor self.new.table past }
+        ensures stands { (past : Past) → StandsUpTo self.old.table past
+            → StandsFor self.new.table past }
         ensures due { self.new.table.due ≡ dues.Over }
         ensures setup { self.new.table.setup ≡ self.old.table.setup }
         ensures rules { self.new.table.rules ≡ self.old.table.rules }
@@ -360,15 +378,20 @@ impl<V: Variant> Betting<V> {
         self.table.set_due(Due::Over);
     }
 
-    /// Ends the deal, the draw or the show that is due.
+    /// Ends the deal, the draw or the show that is due: the betting of the street begins, or what comes
+    /// behind it where nobody has to move, as the next street's deal. Where that is complete in the past
+    /// too it is ended by the next call; a showdown that is ended is over.
     pub fn dealt(&mut self)
         requires { is_cards_due self.old.table.due ≡ true }
         ensures stands { (past : Past) → StandsUpTo self.old.table past
-            → is_done self.old.table.setup past self.new.table.due ≡ false → StandsFor self.new.table past }
+            → is_done self.old.table.setup past self.new.table.due ≡ false
+            → StandsFor self.new.table past }
         ensures up_to { (past : Past) → StandsUpTo self.old.table past
-            → is_done self.old.table.setup past self.new.table.due ≡ true → StandsUpTo self.new.table past }
+            → is_done self.old.table.setup past self.new.table.due ≡ true
+            → StandsUpTo self.new.table past }
         ensures showdown { (past : Past) → StandsUpTo self.old.table past
-            → is_done self.old.table.setup past self.new.table.due ≡ true → self.new.table.due ≡ dues.Show }
+            → is_done self.old.table.setup past self.new.table.due ≡ true
+            → self.new.table.due ≡ dues.Show }
         ensures over { self.old.table.due ≡ dues.Show → self.new.table.due ≡ dues.Over }
         ensures setup { self.new.table.setup ≡ self.old.table.setup }
         ensures rules { self.new.table.rules ≡ self.old.table.rules }
@@ -379,33 +402,39 @@ impl<V: Variant> Betting<V> {
         }
     }
 
-    /// What is due.
+    /// What is due: a deal, a draw, a bring-in, a move, the showdown, or nothing as the hand is over.
     pub fn due(&self) -> Due
         ensures value { result ≡ self.now.table.due }
         ensures within { IsDueWithin V.STREETS result }
-        ensures stands { (past : Past) → StandsFor self.now.table past → result ≡ (turn self.now.table.setup past).1 }
+        ensures stands { (past : Past) → StandsFor self.now.table past
+            → result ≡ (turn self.now.table.setup past).1 }
     {
         self.table.due
     }
 
-    /// Which seats are live.
+    /// Which seats are live: those that have not folded.
     pub fn live(&self) -> LiveRow
         ensures seats { result.seats ≡ self.now.table.setup.stacks.seats }
-        ensures stands { (past : Past) → StandsFor self.now.table past
-            → (seat : ℕ) → IsSeat self.now.table.setup seat → flag_of result seat ≡ is_live (moves_of past) seat }
-        ensures up_to { (past : Past) → StandsUpTo self.now.table past
-            → (seat : ℕ) → IsSeat self.now.table.setup seat → flag_of result seat ≡ is_live (moves_of past) seat }
+        ensures stands { (past : Past) → StandsFor self.now.table past → (seat : ℕ)
+            → IsSeat self.now.table.setup seat
+            → flag_of result seat ≡ is_live (moves_of past) seat }
+        ensures up_to { (past : Past) → StandsUpTo self.now.table past → (seat : ℕ)
+            → IsSeat self.now.table.setup seat
+            → flag_of result seat ≡ is_live (moves_of past) seat }
+        ensures someone { (past : Past) → StandsFor self.now.table past → flagged result ≢ [] }
     {
         self.table.live
     }
 
-    /// The chips of the hand that each seat has put.
+    /// The chips that each seat has put in this hand, antes included.
     pub fn puts(&self) -> SeatRow
         ensures seats { result.seats ≡ self.now.table.setup.stacks.seats }
-        ensures stands { (past : Past) → StandsFor self.now.table past
-            → (seat : ℕ) → IsSeat self.now.table.setup seat → amount_of result seat ≡ chips_put self.now.table.setup (moves_of past) seat }
-        ensures up_to { (past : Past) → StandsUpTo self.now.table past
-            → (seat : ℕ) → IsSeat self.now.table.setup seat → amount_of result seat ≡ chips_put self.now.table.setup (moves_of past) seat }
+        ensures stands { (past : Past) → StandsFor self.now.table past → (seat : ℕ)
+            → IsSeat self.now.table.setup seat
+            → amount_of result seat ≡ chips_put self.now.table.setup (moves_of past) seat }
+        ensures up_to { (past : Past) → StandsUpTo self.now.table past → (seat : ℕ)
+            → IsSeat self.now.table.setup seat
+            → amount_of result seat ≡ chips_put self.now.table.setup (moves_of past) seat }
     {
         self.table.puts
     }
@@ -413,10 +442,12 @@ impl<V: Variant> Betting<V> {
     /// The chips that each seat has left.
     pub fn stacks(&self) -> SeatRow
         ensures seats { result.seats ≡ self.now.table.setup.stacks.seats }
-        ensures stands { (past : Past) → StandsFor self.now.table past
-            → (seat : ℕ) → IsSeat self.now.table.setup seat → amount_of result seat ≡ chips_left self.now.table.setup (moves_of past) seat }
-        ensures up_to { (past : Past) → StandsUpTo self.now.table past
-            → (seat : ℕ) → IsSeat self.now.table.setup seat → amount_of result seat ≡ chips_left self.now.table.setup (moves_of past) seat }
+        ensures stands { (past : Past) → StandsFor self.now.table past → (seat : ℕ)
+            → IsSeat self.now.table.setup seat
+            → amount_of result seat ≡ chips_left self.now.table.setup (moves_of past) seat }
+        ensures up_to { (past : Past) → StandsUpTo self.now.table past → (seat : ℕ)
+            → IsSeat self.now.table.setup seat
+            → amount_of result seat ≡ chips_left self.now.table.setup (moves_of past) seat }
     {
         self.table.stacks_left()
     }
@@ -424,22 +455,27 @@ impl<V: Variant> Betting<V> {
     /// Whether the hand is settled: two or more seats are live, and no betting can come any more.
     pub fn settled(&self) -> bool
         ensures stands { (past : Past) → StandsFor self.now.table past
-            → result ≡ is_settled self.now.table.setup (moves_of past) (turn self.now.table.setup past) }
+            → result
+            ≡ is_settled self.now.table.setup (moves_of past) (turn self.now.table.setup past) }
         ensures up_to { (past : Past) → StandsUpTo self.now.table past
-            → result ≡ is_settled self.now.table.setup (moves_of past) (self.now.table.street, self.now.table.due) }
+            → result
+            ≡ is_settled self.now.table.setup (moves_of past)
+            (self.now.table.street, self.now.table.due) }
     {
         self.table.settled()
     }
 
-    /// Where the seat in turn may raise to: `None` where no move or bring-in is due, it is not known whose turn
-    /// it is, or that seat may not raise.
+    /// Where the seat in turn may raise to: the least and the greatest legal target, and its all-in.
+    /// `None` where no move or bring-in is due, it is not known whose turn it is, or that seat may not
+    /// raise.
     pub fn targets(&self, up: &UpRow) -> Option<Targets>
         requires row { up.now.seats ≡ self.now.table.setup.stacks.seats }
-        ensures some { (past : Past) → StandsFor self.now.table past → HoldsUps self.now.table.setup up.now past
-            → is_some result ≡ has_targets self.now.table.setup self.now.table.rules past }
-        ensures ends { (past : Past) → StandsFor self.now.table past → HoldsUps self.now.table.setup up.now past
-            → IfSome result (λ targets. (seat : ℕ) → IsTurn self.now.table past (TheSeat seat)
-            → AreTargets self.now.table.setup self.now.table.rules (moves_of past) self.now.table.street seat targets.least targets.greatest targets.all_in) }
+        ensures some { WhereUps self.now.table up.now
+            (λ past. is_some result ≡ has_targets self.now.table.setup self.now.table.rules past) }
+        ensures ends { WhereUps self.now.table up.now
+            (λ past. IfSome result (λ targets. (seat : ℕ)
+            → IsTurn self.now.table past (TheSeat seat)
+            → AreEndsFor self.now.table (moves_of past) seat targets)) }
     {
         if betting_due(self.table.due) {
             let turn = self.turn_now(up);

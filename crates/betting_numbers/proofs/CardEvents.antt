@@ -25,6 +25,9 @@ module _ (b : Table) (past : Past) (event : Resolved) (stands : StandsFor b past
   pub early_now : none_later (event ∷ past) b.street ≡ true
   early_now = and_from (nat_le (street_of event) b.street) (none_later past b.street) (le-leb (street_of event) b.street (omega (arith, at))) stands.early
 
+  pub someone_now : 1 ≤ live_count b.setup (moves_of (event ∷ past))
+  someone_now = subst (λ (ms : List Move). 1 ≤ live_count b.setup ms) (sym (moves_kept event past card)) stands.someone
+
   pub more_now : (b.due ≡ dues.Over → ⊥) → nat_le (live_count b.setup (moves_of (event ∷ past))) 1 ≡ false
   more_now other = ap (λ (ms : List Move). nat_le (live_count b.setup ms) 1) (moves_kept event past card) ∙ several_live b.setup past b.street b.due stands.turn_is other
 
@@ -39,6 +42,7 @@ module _ (b : Table) (past : Past) (event : Resolved) (stands : StandsFor b past
     valid = stands.valid;
     standing = standing_now;
     turn_is = first_is_due b.setup (event ∷ past) b.street b.due (more_now other) (record { reached = omega (arith, at); is_due = is; quiet = λ between low high. absurd (omega (arith, low, high, at)) }) within;
+    someone = someone_now;
     early = early_now;
     unshown = λ other. unshown_now;
   }

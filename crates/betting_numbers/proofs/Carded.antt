@@ -17,7 +17,7 @@ use Rattle.street_laws.specs.Done.{HasCome, is_done}
 use Rattle.street_laws.proofs.TurnAfter.{due_by, quiet_is_showdown}
 use Rattle.street_laws.specs.CardEvents.{is_card_event}
 use Rattle.street_laws.proofs.CardTurns.{moves_kept, dealt_more, deal_by, draw_by, none_dealt_in_draw}
-use Rattle.betting_numbers.proofs.CardEvents.{stands_still, stands_up_to, standing_now, early_now, more_now, unshown_now}
+use Rattle.betting_numbers.proofs.CardEvents.{stands_still, stands_up_to, standing_now, early_now, more_now, unshown_now, someone_now}
 use Rattle.street_laws.proofs.Showdown.{nothing_by, show_over, show_is_last}
 
 module _ (b : Table) (past : Past) (event : Resolved) (stands : StandsFor b past) (card : is_card_event event ≡ true) (at : street_of event ≡ b.street) (from_one : 1 ≤ b.street) (within : b.street ≤ street_count b.setup.code)
@@ -101,6 +101,7 @@ module _ (b : Table) (past : Past) (event : Resolved) (stands : StandsFor b past
               ∙ ap (λ (s : Bool). (street_count b.setup.code, if s then dues.Show else dues.Over)) shows
               ∙ ap (λ (n : ℕ). (n, dues.Show)) (sym last)
               ∙ ap (λ (d : Due). (b.street, d)) (sym is);
+          someone = someone_now b past event stands card at from_one within still;
           early = early_now b past event stands card at from_one within still;
           unshown = λ other. unshown_now b past event stands card at from_one within still;
         }

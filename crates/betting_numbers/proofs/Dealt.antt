@@ -33,6 +33,7 @@ use Rattle.street_laws.proofs.TurnAfter.{AreDealt, due_by, cards_come, quiet_is_
 use Rattle.betting_numbers.proofs.StandsAfter.{standing_with_due}
 use Rattle.street_laws.specs.Walk.{walked}
 use Rattle.street_laws.proofs.Walk.{walk_on, due_here}
+use Rattle.street_laws.proofs.LiveSeats.{one_of_several}
 
 -- the cards of a street are dealt where its deal or its draw is complete
 no_draw : (setup : Setup) (past : Past) (street : ℕ) → has_draw setup.code street ≡ false → is_draw_due setup past street ≡ false
@@ -191,6 +192,7 @@ module _ (b next : Table) (past : Past) (up : StandsUpTo b past) (other : b.due 
     valid = subst (λ s. IsValid s) (sym comes.setup) up.valid;
     standing = comes.standing;
     turn_is = ap (λ s. turn s past) comes.setup ∙ shows_by (is_show_due b.setup past) refl unended;
+    someone = subst (λ s. 1 ≤ live_count s (moves_of past)) (sym comes.setup) (one_of_several b.setup (moves_of past) up.more);
     early = early_up past b.street next.street later_street up.early;
     unshown = λ other unended. unshown_still (sym (ap (λ s. is_settled s (moves_of past) (next.street, next.due)) comes.setup) ∙ unended);
   }
@@ -260,6 +262,7 @@ show_ended b past up due_is =
           quiet_is_showdown b.setup past up.more quiet (omega (arith, up.reached, come.0))
           ∙ ap (λ (s : Bool). (street_count b.setup.code, if s then dues.Show else dues.Over)) shown
           ∙ ap (λ (n : ℕ). (n, dues.Over)) (sym come.0);
+      someone = one_of_several b.setup (moves_of past) up.more;
       early = up.early;
       unshown = λ other unended. absurd (true≢false (sym (ap (λ l. l && (true || (nat_le (able_count b.setup (moves_of past)) 1 && not (has_able_seat_to_call b.setup (moves_of past) b.street)))) (settled_shown (live_count b.setup (moves_of past)) up.more)) ∙ unended));
     }

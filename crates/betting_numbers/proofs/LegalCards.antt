@@ -78,6 +78,7 @@ module _ (b : Table) (rules : Rules) (past : Past) (event : Said) (stands : Stan
             few_is_over b.setup (the_event ∷ past) (ap (λ (ms : List Move). nat_le (live_count b.setup ms) 1) same ∙ few)
             ∙ ap (λ (n : ℕ). (n, dues.Over)) at
             ∙ ap (λ (d : Due). (b.street, d)) (sym is);
+        someone = subst (λ (ms : List Move). 1 ≤ live_count b.setup ms) (sym same) stands.someone;
         early = and_from (nat_le (street_of the_event) b.street) (none_later past b.street) (le-leb (street_of the_event) b.street (omega (arith, at))) stands.early;
         unshown = λ other. absurd (other is);
       }

@@ -36,6 +36,8 @@ use Rattle.street_laws.proofs.Later.{early_moves, early_up}
 use Rattle.street_laws.proofs.TurnAfter.{cards_are_dealt, dealt_still, due_by, still_live}
 use Rattle.street_laws.proofs.Walk.{turn_after_move}
 use Rattle.street_laws.proofs.Unsettled.{bets_unfinished, due_after_cards, unsettled}
+use Rattle.street_laws.proofs.LiveSeats.{some_left}
+use Rattle.street_laws.proofs.CardTurns.{several_live}
 
 -- the numbers stand whatever is due
 pub standing_with_due : (setup : Setup) (street : ℕ) (b : Table) (due : Due) (moves : List Move) → Standing setup street b moves → Standing setup street (with_due b due) moves
@@ -186,6 +188,7 @@ module _ (b mid next : Table) (past : Past) (seat target unit : ℕ) (act : Act)
     valid = subst (λ s. IsValid s) (sym comes.setup) stands.valid;
     standing = comes.standing;
     turn_is = ap (λ s. turn s (Moved new_move ∷ past)) comes.setup ∙ turn_there;
+    someone = subst (λ s. 1 ≤ live_count s (moves_of (Moved new_move ∷ past))) (sym comes.setup) (some_left b.setup new_move (moves_of past) (several_live b.setup past b.street b.due stands.turn_is (λ over. true≢false (sym bets ∙ ap is_bet_due over))));
     early = and_from (nat_le b.street next.street) (none_later past next.street) (le-leb b.street next.street later_street) (early_up past b.street next.street later_street stands.early);
     unshown = λ other settled. each_shows;
   }

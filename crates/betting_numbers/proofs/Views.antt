@@ -1,12 +1,18 @@
 -- What is seen of the numbers is what the rules say of the moves.
-use Rattle.std.proofs.Common.{◌≡◌, ◌&&◌, ◌||◌, not, nat_lt, nat_le, List, ap, ◌∙◌}
-use Rattle.play_event.specs.Past.{Move}
-use Rattle.play_event.specs.Seats.{is_able, live_count, able_count}
+use Rattle.std.proofs.Common.{◌≡◌, ◌≢◌, ◌≤◌, ℕ, true, ◌&&◌, ◌||◌, not, nat_lt, nat_le, List, [], sym, ap, ◌∙◌, arith}
+use Rattle.std.specs.List.{list_any}
+use Rattle.std.proofs.lemmas.Bool.{true≢false}
+use Rattle.chip_ledger.specs.LiveRow.{flag_of, flagged}
+use Rattle.chip_ledger.specs.Seat.{seats_of}
+use Rattle.list_laws.proofs.Any.{list_any-from_nothing}
+use Rattle.list_laws.proofs.Counting.{counted_some}
+use Rattle.play_event.specs.Past.{Past, Move, moves_of}
+use Rattle.play_event.specs.Seats.{is_able, live_count, able_count, all_seats}
 use Rattle.play_event.specs.Price.{owed}
 use Rattle.play_event.specs.Due.{is_settled, is_after_betting, has_able_seat_to_call}
 use Rattle.betting_numbers.specs.declared.table.Table.{Table}
-use Rattle.betting_numbers.specs.Seen.{able_seen, owed_seen, able_count_seen, able_owes_seen, settled_seen}
-use Rattle.betting_numbers.specs.Standing.{Standing}
+use Rattle.betting_numbers.specs.Seen.{live_count_seen, able_seen, owed_seen, able_count_seen, able_owes_seen, settled_seen}
+use Rattle.betting_numbers.specs.Standing.{Standing, StandsFor}
 use Rattle.street_laws.proofs.SeatLists.{any_seats}
 use Rattle.betting_numbers.proofs.Bridge.{able_is, owed_is, able_count_is, live_count_is}
 
@@ -21,3 +27,10 @@ module _ (b : Table) (moves : List Move) (st : Standing b.setup b.street b moves
       ap (λ l. nat_le 2 l && (is_after_betting b.due || (nat_le (able_count_seen b) 1 && not (able_owes_seen b)))) (live_count_is b moves st)
       ∙ ap (λ a. nat_le 2 (live_count b.setup moves) && (is_after_betting b.due || (nat_le a 1 && not (able_owes_seen b)))) (able_count_is b moves st)
       ∙ ap (λ o. nat_le 2 (live_count b.setup moves) && (is_after_betting b.due || (nat_le (able_count b.setup moves) 1 && not o))) able_owes_is
+
+-- the row of live seats has a seat
+pub someone_flagged : (b : Table) (past : Past) → StandsFor b past → flagged b.live ≢ []
+someone_flagged b past stands none =
+    let some : 1 ≤ live_count_seen b = omega (arith, live_count_is b (moves_of past) stands.standing, stands.someone) in
+    let found : list_any (flag_of b.live) (seats_of b.live.seats) ≡ true = ap (λ (n : ℕ). list_any (flag_of b.live) (seats_of n)) b.live_seats ∙ counted_some (flag_of b.live) (all_seats b.setup) some in
+    true≢false (sym found ∙ list_any-from_nothing (flag_of b.live) (seats_of b.live.seats) none)

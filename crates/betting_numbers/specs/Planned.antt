@@ -1,24 +1,74 @@
 -- A move that is planned, and whose turn it is, after a past.
-use Rattle.std.specs.Prelude.{◌≡◌, ℕ, List, ◌∷◌, None}
+use Rattle.std.specs.Prelude.{◌≡◌, ◌≤◌, ℕ, true, List, ◌∷◌, Option, Some, None, Result, IfErr, IfOk}
+use Rattle.chip_ledger.specs.declared.numbers.Seat.{Seat}
+use Rattle.play_event.specs.declared.card_rows.UpRow.{UpRow}
+use Rattle.play_event.specs.declared.reason.Illegal.{Illegal}
 use Rattle.play_event.specs.Chips.{street_chips}
 use Rattle.play_event.specs.Mover.{mover}
 use Rattle.play_event.specs.Openers.{InTurn}
 use Rattle.play_event.specs.Past.{Moved, Act, Past, Move, moves_of}
+use Rattle.play_event.specs.Played.{act_said}
 use Rattle.play_event.specs.Reasons.{why}
 use Rattle.play_event.specs.Said.{Said}
 use Rattle.play_event.specs.Scripts.{with_event}
 use Rattle.play_event.specs.Table.{up_cards}
+use Rattle.betting_numbers.specs.declared.planning.Plan.{Plan}
 use Rattle.betting_numbers.specs.declared.table.Table.{Table}
+use Rattle.betting_numbers.specs.SeatsSaid.{seat_said, turn_of}
+use Rattle.betting_numbers.specs.Seen.{all_in_seen}
+use Rattle.betting_numbers.specs.Standing.{StandsFor}
+use Rattle.betting_numbers.specs.Turn.{fits_due}
+use Rattle.betting_numbers.specs.UpSeen.{HoldsUps}
 
 -- a move of a seat to a target, after these moves
 abbrev pub move_of : Table → List Move → ℕ → Act → ℕ → Move
 move_of b moves seat act target = record { street = b.street; seat = seat; act = act; from = street_chips b.setup moves b.street seat; to = target }
 
+-- the past with that move
+abbrev pub with_move : Table → Past → ℕ → Act → ℕ → Past
+with_move b past seat act target = Moved (move_of b (moves_of past) seat act target) ∷ past
+
 -- an event is legal, and it takes place as this move
 pub record IsPlan (b : Table) (past : Past) (event : Said) (seat : ℕ) (act : Act) (target : ℕ) : Type 0 where
   pub legal : why b.setup b.rules past event ≡ None
-  pub moved : with_event b.setup event past ≡ Moved (move_of b (moves_of past) seat act target) ∷ past
+  pub moved : with_event b.setup event past ≡ with_move b past seat act target
 
 -- the turn is this after a past
 abbrev pub IsTurn : Table → Past → InTurn → Type 0
 IsTurn b past in_turn = in_turn ≡ mover b.setup (up_cards b.setup.code past) (moves_of past) b.street
+
+-- after each past for which the state stands, and after which this is the turn
+abbrev pub WhereTurn : Table → Option Seat → (Past → Type 0) → Type 0
+WhereTurn b turn P = (past : Past) → StandsFor b past → IsTurn b past (turn_of (seat_said turn)) → P past
+
+-- after each past for which the state stands, where the row holds its up-cards
+abbrev pub WhereUps : Table → UpRow → (Past → Type 0) → Type 0
+WhereUps b up P = (past : Past) → StandsFor b past → HoldsUps b.setup up past → P past
+
+-- why an event is refused after a past, under the state's setup and rules
+abbrev pub reason_after : Table → Past → Said → Option Illegal
+reason_after b past event = why b.setup b.rules past event
+
+-- the past with one event more
+abbrev pub past_with : Table → Past → Said → Past
+past_with b past event = with_event b.setup event past
+
+-- a refusal has the reason of the rules
+abbrev pub IsRefused : {T : Type 0} → Table → Said → Result T Illegal → Past → Type 0
+IsRefused b event result past = IfErr result (λ reason. reason_after b past event ≡ Some reason)
+
+-- what is planned is legal, and is the move as which the event takes place
+abbrev pub IsPlanned : Table → Said → Result Plan Illegal → Past → Type 0
+IsPlanned b event result past = IfOk result (λ plan. IsPlan b past event plan.seat.number (act_said plan.act) plan.target)
+
+-- the move is of a seat of the hand
+abbrev pub IsOfHand : Table → Plan → Type 0
+IsOfHand b plan = plan.seat.number ≤ b.setup.stacks.seats
+
+-- it goes no further than all-in
+abbrev pub IsInReach : Table → Plan → Type 0
+IsInReach b plan = plan.target ≤ all_in_seen b plan.seat.number
+
+-- it may come where this is due
+abbrev pub IsFit : Table → Plan → Type 0
+IsFit b plan = fits_due (act_said plan.act) b.due ≡ true

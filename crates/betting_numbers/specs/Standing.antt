@@ -1,5 +1,5 @@
 -- For which past the running numbers stand.
-use Rattle.std.specs.Prelude.{◌≡◌, ℕ, true, false, min, List, [], ◌∷◌, Option, Some, None}
+use Rattle.std.specs.Prelude.{◌≡◌, ◌≤◌, ℕ, true, false, min, List, [], ◌∷◌, Option, Some, None}
 use Rattle.std.specs.List.{list_any}
 use Rattle.chip_ledger.specs.Greatest.{greatest}
 use Rattle.chip_ledger.specs.LiveRow.{flag_of}
@@ -12,7 +12,7 @@ use Rattle.play_event.specs.Past.{Past, Move, moves_of, moves_on}
 use Rattle.play_event.specs.Price as prices
 use Rattle.play_event.specs.Price.{doubled_raises}
 use Rattle.play_event.specs.Raising.{has_moved, raises_on}
-use Rattle.play_event.specs.Seats.{is_live}
+use Rattle.play_event.specs.Seats.{is_live, live_count}
 use Rattle.play_event.specs.Showing.{has_to_show}
 use Rattle.play_event.specs.ValidSetup.{IsValid}
 use Rattle.street_laws.specs.Seats.{IsSeat}
@@ -61,6 +61,8 @@ pub record StandsFor (b : Table) (past : Past) : Type 0 where
   pub standing : Standing b.setup b.street b (moves_of past)
   -- the street, and what is due on it, are those of the rules
   pub turn_is : turn b.setup past ≡ (b.street, b.due)
+  -- one seat at least is live
+  pub someone : 1 ≤ live_count b.setup (moves_of past)
   -- no event of the past is of a later street
   pub early : none_later past b.street ≡ true
   -- nobody has shown or mucked while the betting goes on: each live seat has still to do it

@@ -6,6 +6,9 @@ use Rattle.play_event.specs.Targets.{smallest}
 use Rattle.betting_numbers.specs.declared.table.Table.{Table}
 use Rattle.betting_numbers.specs.Seen.{price_seen, all_in_seen}
 use Rattle.betting_numbers.specs.Why.{fulls_seen}
+use Rattle.play_event.specs.Past.{Move}
+use Rattle.play_event.specs.TurnTargets.{AreTargets}
+use Rattle.betting_numbers.specs.declared.targeting.Targets.{Targets}
 
 -- the least legal target
 abbrev pub least_by : Limit → (floor least all_in : ℕ) → (fulls : List ℕ) → ℕ
@@ -15,3 +18,7 @@ least_by limits.Fixed floor least all_in fulls = min all_in (smallest fulls)
 
 abbrev pub least_seen : Limit → Table → (floor seat : ℕ) → ℕ
 least_seen limit b floor seat = least_by limit floor (price_seen b + b.full_raise) (all_in_seen b seat) (fulls_seen b)
+
+-- these are the ends of the legal targets of a seat after these moves, and its all-in
+abbrev pub AreEndsFor : Table → List Move → ℕ → Targets → Type 0
+AreEndsFor b moves seat targets = AreTargets b.setup b.rules moves b.street seat targets.least targets.greatest targets.all_in

@@ -19,6 +19,7 @@ use Rattle.play_event.specs.Streets.{unit}
 use Rattle.play_event.specs.Targets.{above_price}
 use Rattle.betting_numbers.specs.declared.table.Table.{Table}
 use Rattle.betting_numbers.specs.Seen.{price_seen, owed_seen, able_seen, all_in_seen, opponent_seen}
+use Rattle.play_event.specs.Price.{starting_price}
 
 -- a seat is named whose turn it is not
 abbrev pub is_another : Option ℕ → ℕ → Bool
@@ -78,6 +79,10 @@ may_raise_seen limit b seat =
 abbrev pub floor_by : Reopen → (start : ℕ) → Table → ℕ
 floor_by reopen.Full start b = price_seen b + b.full_raise
 floor_by reopen.Always start b = max (start + b.setup.min_bet) b.doubled
+
+-- and where it started at the price of the rules
+abbrev pub floor_seen : Table → ℕ
+floor_seen b = floor_by b.rules.reopen (starting_price b.setup b.street) b
 
 -- the greatest raise of pot limit
 abbrev pub ceiling_seen : Table → ℕ → ℕ

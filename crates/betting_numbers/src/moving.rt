@@ -88,7 +88,8 @@ fn raises_after(count: u32, raised: bool) -> u32
 
 // The least full raise after a move that goes so far above the price.
 fn full_raise_after(full_raise: u64, raised: bool, rise: u64) -> u64
-    ensures { result ≡ (if raised && nat_le full_raise rise then max rise full_raise else full_raise) }
+    ensures { result
+        ≡ (if raised && nat_le full_raise rise then max rise full_raise else full_raise) }
 {
     if raised && full_raise <= rise {
         rise.max(full_raise)

@@ -28,7 +28,9 @@ impl Table {
     // The number of the last seat with this blind, or 0.
     #[tactic(auto, using(street_laws::proofs::SeatLists::last_more))]
     fn last_with(&self, blind: u64) -> u8
-        ensures value { result ≡ unwrap_or (find (λ seat. amount_of self.now.setup.blinds seat == blind) (reverse (all_seats self.now.setup))) 0 }
+        ensures value { result
+            ≡ unwrap_or (find (λ seat. amount_of self.now.setup.blinds seat == blind)
+            (reverse (all_seats self.now.setup))) 0 }
         ensures within { result ≤ self.now.setup.stacks.seats }
     {
         let mut last: u8 = 0;

@@ -8,7 +8,7 @@ ghost use Rattle.play_event.specs.Streets.{limit_of, unit};
 ghost use Rattle.betting_numbers.specs.SeatsSaid.{seat_said, turn_of};
 ghost use Rattle.betting_numbers.specs.Seen.{all_in_seen};
 ghost use Rattle.betting_numbers.specs.Standing.{StandsFor};
-ghost use Rattle.betting_numbers.specs.Planned.{IsPlan, IsTurn};
+ghost use Rattle.betting_numbers.specs.Planned.{IsPlan, IsTurn, IsRefused, IsPlanned, IsOfHand, IsInReach, IsFit, WhereTurn};
 ghost use Rattle.betting_numbers.specs.Turn.{fits_due};
 ghost use Rattle.betting_numbers.specs.Why.{is_unable, now_why, unknown_why};
 
@@ -16,7 +16,7 @@ use crate::table::Table;
 use chip_ledger::Seat;
 use play_event::{Act, Due, Illegal, Limit, Spelled};
 
-/// Whose move it is, and where it goes.
+/// A legal move before it is made: the seat, what it does, and the chips of the street that it has then.
 #[derive(Clone, Copy, Debug, PartialEq, Eq)]
 pub struct Plan {
     pub seat: Seat,
@@ -64,13 +64,13 @@ impl Table {
     pub fn plan_fold(&self, turn: Option<Seat>, actor: Option<Seat>) -> Result<Plan, Illegal>
         requires in_hand { IfSome turn (λ seat. seat.number ≤ self.now.setup.stacks.seats) }
         requires now { now_why true false self.now.due ≡ None }
-        ensures refused { (past : Past) → StandsFor self.now past → IsTurn self.now past (turn_of (seat_said turn))
-            → IfErr result (λ reason. why self.now.setup self.now.rules past (said.Fold (seat_said actor)) ≡ Some reason) }
-        ensures legal { (past : Past) → StandsFor self.now past → IsTurn self.now past (turn_of (seat_said turn))
-            → IfOk result (λ plan. IsPlan self.now past (said.Fold (seat_said actor)) plan.seat.number (act_said plan.act) plan.target) }
-        ensures fits { IfOk result (λ plan. fits_due (act_said plan.act) self.now.due ≡ true) }
-        ensures in_hand { IfOk result (λ plan. plan.seat.number ≤ self.now.setup.stacks.seats) }
-        ensures reach { IfOk result (λ plan. plan.target ≤ all_in_seen self.now plan.seat.number) }
+        ensures refused { WhereTurn self.now turn
+            (IsRefused self.now (said.Fold (seat_said actor)) result) }
+        ensures legal { WhereTurn self.now turn
+            (IsPlanned self.now (said.Fold (seat_said actor)) result) }
+        ensures fits { IfOk result (IsFit self.now) }
+        ensures in_hand { IfOk result (IsOfHand self.now) }
+        ensures reach { IfOk result (IsInReach self.now) }
     {
         match turn {
             None => Err(self.unknown(actor)),
@@ -99,13 +99,13 @@ impl Table {
     ) -> Result<Plan, Illegal>
         requires in_hand { IfSome turn (λ seat. seat.number ≤ self.now.setup.stacks.seats) }
         requires now { now_why true false self.now.due ≡ None }
-        ensures refused { (past : Past) → StandsFor self.now past → IsTurn self.now past (turn_of (seat_said turn))
-            → IfErr result (λ reason. why self.now.setup self.now.rules past (said.Call (seat_said actor) stated) ≡ Some reason) }
-        ensures legal { (past : Past) → StandsFor self.now past → IsTurn self.now past (turn_of (seat_said turn))
-            → IfOk result (λ plan. IsPlan self.now past (said.Call (seat_said actor) stated) plan.seat.number (act_said plan.act) plan.target) }
-        ensures fits { IfOk result (λ plan. fits_due (act_said plan.act) self.now.due ≡ true) }
-        ensures in_hand { IfOk result (λ plan. plan.seat.number ≤ self.now.setup.stacks.seats) }
-        ensures reach { IfOk result (λ plan. plan.target ≤ all_in_seen self.now plan.seat.number) }
+        ensures refused { WhereTurn self.now turn
+            (IsRefused self.now (said.Call (seat_said actor) stated) result) }
+        ensures legal { WhereTurn self.now turn
+            (IsPlanned self.now (said.Call (seat_said actor) stated) result) }
+        ensures fits { IfOk result (IsFit self.now) }
+        ensures in_hand { IfOk result (IsOfHand self.now) }
+        ensures reach { IfOk result (IsInReach self.now) }
     {
         match turn {
             None => Err(self.unknown(actor)),
@@ -139,13 +139,13 @@ impl Table {
         requires limit { limit_of self.now.setup.code ≡ limit }
         requires from_one { 1 ≤ self.now.street }
         requires size { size ≡ unit self.now.setup self.now.street }
-        ensures refused { (past : Past) → StandsFor self.now past → IsTurn self.now past (turn_of (seat_said turn))
-            → IfErr result (λ reason. why self.now.setup self.now.rules past (said.Raise (seat_said actor) amount) ≡ Some reason) }
-        ensures legal { (past : Past) → StandsFor self.now past → IsTurn self.now past (turn_of (seat_said turn))
-            → IfOk result (λ plan. IsPlan self.now past (said.Raise (seat_said actor) amount) plan.seat.number (act_said plan.act) plan.target) }
-        ensures fits { IfOk result (λ plan. fits_due (act_said plan.act) self.now.due ≡ true) }
-        ensures in_hand { IfOk result (λ plan. plan.seat.number ≤ self.now.setup.stacks.seats) }
-        ensures reach { IfOk result (λ plan. plan.target ≤ all_in_seen self.now plan.seat.number) }
+        ensures refused { WhereTurn self.now turn
+            (IsRefused self.now (said.Raise (seat_said actor) amount) result) }
+        ensures legal { WhereTurn self.now turn
+            (IsPlanned self.now (said.Raise (seat_said actor) amount) result) }
+        ensures fits { IfOk result (IsFit self.now) }
+        ensures in_hand { IfOk result (IsOfHand self.now) }
+        ensures reach { IfOk result (IsInReach self.now) }
     {
         match turn {
             None => Err(self.unknown(actor)),
@@ -170,13 +170,13 @@ impl Table {
     pub fn plan_bring_in(&self, turn: Option<Seat>, actor: Option<Seat>) -> Result<Plan, Illegal>
         requires in_hand { IfSome turn (λ seat. seat.number ≤ self.now.setup.stacks.seats) }
         requires now { now_why false true self.now.due ≡ None }
-        ensures refused { (past : Past) → StandsFor self.now past → IsTurn self.now past (turn_of (seat_said turn))
-            → IfErr result (λ reason. why self.now.setup self.now.rules past (said.BringIn (seat_said actor)) ≡ Some reason) }
-        ensures legal { (past : Past) → StandsFor self.now past → IsTurn self.now past (turn_of (seat_said turn))
-            → IfOk result (λ plan. IsPlan self.now past (said.BringIn (seat_said actor)) plan.seat.number (act_said plan.act) plan.target) }
-        ensures fits { IfOk result (λ plan. fits_due (act_said plan.act) self.now.due ≡ true) }
-        ensures in_hand { IfOk result (λ plan. plan.seat.number ≤ self.now.setup.stacks.seats) }
-        ensures reach { IfOk result (λ plan. plan.target ≤ all_in_seen self.now plan.seat.number) }
+        ensures refused { WhereTurn self.now turn
+            (IsRefused self.now (said.BringIn (seat_said actor)) result) }
+        ensures legal { WhereTurn self.now turn
+            (IsPlanned self.now (said.BringIn (seat_said actor)) result) }
+        ensures fits { IfOk result (IsFit self.now) }
+        ensures in_hand { IfOk result (IsOfHand self.now) }
+        ensures reach { IfOk result (IsInReach self.now) }
     {
         match turn {
             None => Err(self.unknown(actor)),

@@ -2,11 +2,12 @@
 ghost use Rattle.std.specs.Prelude.{◌≡◌, ◌≤◌, ◌<◌, ◌-◌, ℕ, ◌&&◌, ◌||◌, ◌==◌, nat_le, nat_lt, min};
 ghost use Rattle.chip_ledger.specs.declared.rows.TheConstants.{MOST_AMOUNT};
 ghost use Rattle.chip_ledger.specs.SeatRow.{amount_of};
+ghost use Rattle.play_event.specs.declared.limit.Limit.TheVariants as limits;
 ghost use Rattle.play_event.specs.Streets.{unit};
 ghost use Rattle.play_event.specs.Chips.{blind_posted, street_chips};
 ghost use Rattle.play_event.specs.Price as prices;
 ghost use Rattle.betting_numbers.specs.Seen.{all_in_seen, owed_seen, price_seen};
-ghost use Rattle.betting_numbers.specs.Why.{bring_in_seen, bring_in_why, call_seen, call_why, cap_by, floor_by, fold_why, is_another, may_raise_seen, ceiling_seen, fulls_list, fulls_seen, greatest_seen, legal_seen, owes_by, raise_to_why, raise_why, stated_why, target_by, target_seen};
+ghost use Rattle.betting_numbers.specs.Why.{bring_in_seen, bring_in_why, call_seen, call_why, cap_by, floor_by, fold_why, is_another, may_raise_seen, ceiling_seen, fulls_list, fulls_seen, greatest_seen, legal_seen, owes_by, raise_to_why, raise_why, stated_why, target_by, target_seen, greatest_by};
 ghost use Rattle.std.specs.List.{list_any};
 ghost use Rattle.chip_ledger.specs.Greatest.{greatest};
 ghost use Rattle.betting_numbers.specs.SeatsSaid.{seat_said};
@@ -205,8 +206,8 @@ impl Table {
 
     // Whether a target is legal, and the greatest that is, in fixed limit.
     fn judge_fixed(fulls: (u128, Option<u128>), all_in: u128, target: u128) -> (bool, u128)
-        ensures legal { result.0 ≡ ((list_any (λ full. target == full) (fulls_list fulls) && nat_le target all_in) || ((target == all_in) && nat_lt target (greatest (fulls_list fulls)))) }
-        ensures greatest { result.1 ≡ min all_in (greatest (fulls_list fulls)) }
+        ensures legal { result.0 ≡ target_by limits.Fixed 0 0 all_in 0 (fulls_list fulls) target }
+        ensures greatest { result.1 ≡ greatest_by limits.Fixed all_in 0 (fulls_list fulls) }
     {
         let (first, other) = fulls;
         match other {

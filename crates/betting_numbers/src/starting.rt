@@ -22,7 +22,8 @@ fn blinds_posted(setup: &Setup) -> SeatRow
     requires antes { setup.now.antes.seats ≡ setup.now.stacks.seats }
     requires blinds { setup.now.blinds.seats ≡ setup.now.stacks.seats }
     ensures seats { result.seats ≡ setup.now.stacks.seats }
-    ensures amounts { (n : ℕ) → 1 ≤ n → n ≤ setup.now.stacks.seats → amount_of result n ≡ blind_posted setup.now n }
+    ensures amounts { (n : ℕ) → 1 ≤ n → n ≤ setup.now.stacks.seats
+        → amount_of result n ≡ blind_posted setup.now n }
 {
     let mut row = SeatRow::new(setup.stacks.seats);
     for index in 0..setup.stacks.seats {
@@ -38,9 +39,11 @@ fn all_posted(setup: &Setup, blinds: &SeatRow) -> SeatRow
     requires seats { blinds.now.seats ≡ setup.now.stacks.seats }
     requires antes { setup.now.antes.seats ≡ setup.now.stacks.seats }
     requires reach { (n : ℕ) → amount_of setup.now.antes n ≤ amount_of setup.now.stacks n }
-    requires blinds { (n : ℕ) → 1 ≤ n → n ≤ setup.now.stacks.seats → amount_of blinds.now n ≡ blind_posted setup.now n }
+    requires blinds { (n : ℕ) → 1 ≤ n → n ≤ setup.now.stacks.seats
+        → amount_of blinds.now n ≡ blind_posted setup.now n }
     ensures seats { result.seats ≡ setup.now.stacks.seats }
-    ensures amounts { (n : ℕ) → 1 ≤ n → n ≤ setup.now.stacks.seats → amount_of result n ≡ posted setup.now n }
+    ensures amounts { (n : ℕ) → 1 ≤ n → n ≤ setup.now.stacks.seats
+        → amount_of result n ≡ posted setup.now n }
     ensures within { (n : ℕ) → 1 ≤ n → amount_of result n ≤ amount_of setup.now.stacks n }
     ensures inside { (n : ℕ) → 1 ≤ n → amount_of blinds.now n ≤ amount_of result n }
 {

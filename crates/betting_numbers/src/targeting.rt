@@ -9,16 +9,17 @@ ghost use Rattle.betting_numbers.specs.SeatsSaid.{seat_said, turn_of};
 ghost use Rattle.betting_numbers.specs.Seen.{all_in_seen};
 ghost use Rattle.betting_numbers.specs.Standing.{StandsFor};
 ghost use Rattle.betting_numbers.specs.Planned.{IsTurn};
-ghost use Rattle.betting_numbers.specs.Targeted.{least_seen};
+ghost use Rattle.betting_numbers.specs.Targeted.{least_seen, AreEndsFor};
 ghost use Rattle.play_event.specs.TurnTargets.{AreTargets, may_raise_now};
 ghost use Rattle.play_event.specs.Targets.{smallest};
-ghost use Rattle.betting_numbers.specs.Why.{floor_by, fulls_list, greatest_seen};
+ghost use Rattle.betting_numbers.specs.Why.{floor_by, fulls_list, greatest_seen, floor_seen};
 
 use crate::table::Table;
 use chip_ledger::Seat;
 use play_event::Limit;
 
-/// The ends of the legal targets of the seat in turn, and its all-in.
+/// Where a seat may raise to, in chips of the street: its least and its greatest legal target, and the
+/// target at which it is all-in. Not every amount between the ends is legal.
 #[derive(Clone, Copy, Debug, PartialEq, Eq)]
 pub struct Targets {
     pub least: u64,
@@ -52,7 +53,8 @@ impl Table {
         requires in_hand { seat.number ≤ self.now.setup.stacks.seats }
         requires from_one { 1 ≤ self.now.street }
         requires size { size ≡ unit self.now.setup self.now.street }
-        ensures { result ≡ least_seen limit self.now (floor_by self.now.rules.reopen (starting_price self.now.setup self.now.street) self.now) seat.number }
+        ensures { result
+            ≡ least_seen limit self.now (floor_seen self.now) seat.number }
     {
         let all_in = self.all_in(seat);
         match limit {
@@ -83,10 +85,12 @@ impl Table {
         requires from_one { 1 ≤ self.now.street }
         requires size { size ≡ unit self.now.setup self.now.street }
         ensures some { (past : Past) → StandsFor self.now past
-            → is_some result ≡ may_raise_now self.now.setup self.now.rules (moves_of past) self.now.street (turn_of (seat_said turn)) }
+            → is_some result
+            ≡ may_raise_now self.now.setup self.now.rules (moves_of past) self.now.street
+            (turn_of (seat_said turn)) }
         ensures ends { (past : Past) → StandsFor self.now past
             → IfSome result (λ targets. (seat : ℕ) → turn_of (seat_said turn) ≡ TheSeat seat
-            → AreTargets self.now.setup self.now.rules (moves_of past) self.now.street seat targets.least targets.greatest targets.all_in) }
+            → AreEndsFor self.now (moves_of past) seat targets) }
     {
         match turn {
             None => None,

@@ -63,7 +63,9 @@ impl Table {
         requires size { size ≡ unit self.now.setup self.now.street }
         requires limit { limit_of self.now.setup.code ≡ limit }
         ensures { (moves : List plays.Move) → Standing self.now.setup self.now.street self.now moves
-            → move_said result ≡ traced_move self.now.setup (move_of self.now moves seat.number (act_said act) target) moves }
+            → move_said result
+            ≡ traced_move self.now.setup
+            (move_of self.now moves seat.number (act_said act) target) moves }
     {
         self.traced_by(limit, size, seat, act, target)
     }

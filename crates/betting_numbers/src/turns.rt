@@ -30,7 +30,8 @@ impl Table {
     fn first_to_move(&self, first: u8, count: u8) -> Option<Seat>
         requires from_one { 1 ≤ first }
         requires within { first + count ≤ self.now.setup.stacks.seats + 1 }
-        ensures found { seat_said result ≡ find (to_move_seen self.now) (range_with_len first count) }
+        ensures found { seat_said result
+            ≡ find (to_move_seen self.now) (range_with_len first count) }
         ensures in_hand { IfSome result (λ seat. seat.number ≤ self.now.setup.stacks.seats) }
     {
         if count == 0 {
@@ -47,7 +48,9 @@ impl Table {
     // Where the turn is passed to, where this seat opens.
     fn passed_to(&self, opener: Seat) -> Seat
         requires { opener.number ≤ self.now.setup.stacks.seats }
-        ensures value { TheSeat result.number ≡ after_last (last_seen self.now) (openers.seat_after self.now.setup) (TheSeat opener.number) }
+        ensures value { TheSeat result.number
+            ≡ after_last (last_seen self.now) (openers.seat_after self.now.setup)
+            (TheSeat opener.number) }
         ensures in_hand { result.number ≤ self.now.setup.stacks.seats }
     {
         match self.last {

@@ -61,7 +61,8 @@ impl Table {
     fn some_before(&self, opener: Opener, up: &UpRow, seat: Seat) -> bool
         requires in_hand { seat.number ≤ self.now.setup.stacks.seats }
         requires row { up.now.seats ≡ self.now.setup.stacks.seats }
-        ensures { result ≡ list_any (before_seen opener self.now up.now seat.number) (all_seats self.now.setup) }
+        ensures { result
+            ≡ list_any (before_seen opener self.now up.now seat.number) (all_seats self.now.setup) }
     {
         let mut found = false;
         for index in 0..self.setup.stacks.seats {
@@ -86,7 +87,8 @@ impl Table {
         requires row { up.now.seats ≡ self.now.setup.stacks.seats }
         requires from_one { 1 ≤ first }
         requires within { first + count ≤ self.now.setup.stacks.seats + 1 }
-        ensures found { seat_said result ≡ find (opens_seen opener self.now up.now) (range_with_len first count) }
+        ensures found { seat_said result
+            ≡ find (opens_seen opener self.now up.now) (range_with_len first count) }
         ensures in_hand { IfSome result (λ seat. seat.number ≤ self.now.setup.stacks.seats) }
     {
         if count == 0 {

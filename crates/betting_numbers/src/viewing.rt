@@ -22,7 +22,8 @@ impl Table {
     /// The chips that each seat has left.
     pub fn stacks_left(&self) -> SeatRow
         ensures seats { result.seats ≡ self.now.setup.stacks.seats }
-        ensures amounts { (n : ℕ) → 1 ≤ n → n ≤ self.now.setup.stacks.seats → amount_of result n ≡ left_seen self.now n }
+        ensures amounts { (n : ℕ) → 1 ≤ n → n ≤ self.now.setup.stacks.seats
+            → amount_of result n ≡ left_seen self.now n }
     {
         let mut row = SeatRow::new(self.setup.stacks.seats);
         for index in 0..self.setup.stacks.seats {

@@ -1,6 +1,6 @@
 -- Lemmas on how many elements of a list pass a test.
-use Rattle.std.proofs.Common.{◌≡◌, ℕ, zero, suc, ◌+◌, ◌<◌, ◌≤◌, Bool, cond, List, [], ◌∷◌, ◌++◌, refl, sym, ap, ◌∙◌, arith, count_by, true, false, ◌||◌}
-use Rattle.std.proofs.lemmas.Bool.{true≢false}
+use Rattle.std.proofs.Common.{◌≡◌, ℕ, zero, suc, ◌+◌, ◌<◌, ◌≤◌, Bool, cond, List, [], ◌∷◌, ◌++◌, refl, sym, ap, ◌∙◌, arith, count_by, true, false, ◌||◌, inl, inr, ◌⊎◌, ◌==◌}
+use Rattle.std.proofs.lemmas.Bool.{true≢false, eqb-true, ne_eqb}
 use Rattle.std.specs.List.{range_with_len, list_any}
 use Rattle.std.proofs.lemmas.List.Sums.{sum_by-cons}
 
@@ -50,3 +50,39 @@ count_all p first zero all = refl
 count_all p first (suc n) all =
     let one : ◌≡◌ {A = ℕ} (cond (p first) 1 0) 1 = ap (λ b. cond b 1 0) (all first) in
     omega (arith, count_by-cons p first (range_with_len (first + 1) n), one, count_all p (first + 1) n all)
+
+-- what passes one of two tests counts no more than both
+either_by : (a b c : Bool) (p q r : ℕ) → (a ≡ true → (b ≡ true) ⊎ (c ≡ true)) → p ≤ q + r → cond a 1 0 + p ≤ (cond b 1 0 + q) + (cond c 1 0 + r)
+either_by true true true p q r h later = omega (arith, later)
+either_by true true false p q r h later = omega (arith, later)
+either_by true false true p q r h later = omega (arith, later)
+either_by true false false p q r h later = elim (h refl) [ inl is ↦ absurd (true≢false (sym is)) | inr is ↦ absurd (true≢false (sym is)) ]
+either_by false true true p q r h later = omega (arith, later)
+either_by false true false p q r h later = omega (arith, later)
+either_by false false true p q r h later = omega (arith, later)
+either_by false false false p q r h later = omega (arith, later)
+
+pub counts_either : {X : Type 0} (p q r : X → Bool) → ((x : X) → p x ≡ true → (q x ≡ true) ⊎ (r x ≡ true)) → (xs : List X) → count_by p xs ≤ count_by q xs + count_by r xs
+counts_either p q r h [] = omega arith
+counts_either p q r h (x ∷ xs) =
+    omega (arith, either_by (p x) (q x) (r x) (count_by p xs) (count_by q xs) (count_by r xs) (h x) (counts_either p q r h xs), count_by-cons p x xs, count_by-cons q x xs, count_by-cons r x xs)
+
+-- a number stands once at most among numbers in a row
+count_later : (k first n : ℕ) → k < first → count_by (λ x. k == x) (range_with_len first n) ≡ 0
+count_later k first zero less = refl
+count_later k first (suc n) less =
+    let other : ◌≡◌ {A = ℕ} (cond (k == first) 1 0) 0 = ap (λ b. cond b 1 0) (ne_eqb k first (λ same. omega (arith, less, same))) in
+    omega (arith, count_by-cons (λ x. k == x) first (range_with_len (first + 1) n), other, count_later k (first + 1) n (omega (arith, less)))
+
+pub count_one : (k first n : ℕ) → count_by (λ x. k == x) (range_with_len first n) ≤ 1
+count_one k first zero = omega arith
+count_one k first (suc n) = one_by (k == first) refl (count_one k (first + 1) n)
+  where
+    one_by : (b : Bool) → (k == first) ≡ b → count_by (λ x. k == x) (range_with_len (first + 1) n) ≤ 1 → count_by (λ x. k == x) (range_with_len first (suc n)) ≤ 1
+    one_by true is later =
+        let same : k ≡ first = eqb-true k first is in
+        let one : ◌≡◌ {A = ℕ} (cond (k == first) 1 0) 1 = ap (λ b. cond b 1 0) is in
+        omega (arith, count_by-cons (λ x. k == x) first (range_with_len (first + 1) n), one, count_later k (first + 1) n (omega (arith, same)))
+    one_by false is later =
+        let none : ◌≡◌ {A = ℕ} (cond (k == first) 1 0) 0 = ap (λ b. cond b 1 0) is in
+        omega (arith, count_by-cons (λ x. k == x) first (range_with_len (first + 1) n), none, later)

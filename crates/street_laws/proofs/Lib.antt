@@ -12,3 +12,4 @@ pub mod AtStart
 pub mod DueStreets
 pub mod Groups
 pub mod Undrawn
+pub mod LiveSeats

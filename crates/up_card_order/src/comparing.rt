@@ -75,7 +75,8 @@ fn times_of(cards: &CardRow, ace: Ace, height: u8) -> usize
 // Puts the heights that occur so many times after the others.
 fn push_occurring(row: &mut Heights, cards: &CardRow, ace: Ace, occurrences: usize)
     requires { row.old.len ≤ 42 }
-    ensures entries { heights_in row.new ≡ heights_in row.old ++ occurring (height_with ace) (cards_of cards.now) occurrences }
+    ensures entries { heights_in row.new
+        ≡ heights_in row.old ++ occurring (height_with ace) (cards_of cards.now) occurrences }
     ensures longer { row.new.len ≤ row.old.len + 14 }
 {
     let heights = all_heights();

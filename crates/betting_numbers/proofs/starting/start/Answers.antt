@@ -1,7 +1,8 @@
 -- Before the first card the numbers are what was posted.
-use Rattle.std.proofs.Common.{refl, arith}
-use Rattle.street_laws.proofs.AtStart.{first_deal}
+use Rattle.std.proofs.Common.{[], refl, arith}
+use Rattle.street_laws.proofs.AtStart.{all_live, first_deal}
 use Rattle.betting_numbers.proofs.starting.start.Goals as goal
+use Rattle.street_laws.proofs.LiveSeats.{one_of_several}
 
 pub returns-clause-stands : goal.returns-clause-stands
 returns-clause-stands c = record {
@@ -20,6 +21,7 @@ returns-clause-stands c = record {
     opened = refl;
   };
   turn_is = first_deal c.args.setup.now;
+  someone = one_of_several c.args.setup.now [] (all_live c.args.setup.now);
   early = refl;
   unshown = λ other unended seat live. refl;
 }

@@ -1,0 +1,41 @@
+//! Rows of hands are read from the input, one a line, and each is printed again with what the
+//! machines answer to its events.
+#![tactic(auto)]
+
+mod betting;
+mod setups;
+mod valid;
+mod words;
+
+use std::alloc::{AllocError, Global};
+use std::io;
+
+fn main(rt: HostRuntime) -> io::Result<()> {
+    let alloc = rt.alloc();
+    for line in rt.lines(alloc) {
+        let row = answered(alloc, line?.as_str())?;
+        println!(rt; "{row}")?;
+    }
+    Ok(())
+}
+
+// A row with its answer behind it. Headings, which begin with `#`, and empty lines stay as they
+// are.
+fn answered(alloc: Global, row: &str) -> Result<String, AllocError> {
+    if row.is_empty() || row.starts_with('#') {
+        return String::from_str(alloc, row);
+    }
+    match answer_to(alloc, row)? {
+        Some(answer) => format!(in alloc; "{row} = {answer}"),
+        None => format!(in alloc; "{row} ? no such row"),
+    }
+}
+
+// The answer of the machine that the first word names, none where the row has no meaning there.
+fn answer_to(alloc: Global, row: &str) -> Result<Option<String>, AllocError> {
+    let (machine, rest) = words::first_and_rest(row);
+    match machine.as_bytes() {
+        b"betting" => betting::answer_to(alloc, rest),
+        _ => Ok(None),
+    }
+}

@@ -1,0 +1,117 @@
+//! Whether a setup is that of a hand.
+ghost use Rattle.std.specs.Prelude.{◌≡◌, ◌≤◌, ℕ, Bool, nat_lt, IsTrue};
+ghost use Rattle.std.specs.List.{list_any};
+ghost use Rattle.chip_ledger.specs.Seat.{seats_of};
+ghost use Rattle.chip_ledger.specs.SeatRow.{amount_of};
+ghost use Rattle.play_event.specs.Streets.{is_opened_by_up_cards};
+ghost use Rattle.play_event.specs.ValidSetup as valid;
+ghost use Rattle.play_event.specs.ValidSetup.{IsSize, IsSizeWhere, IsValid};
+
+use chip_ledger::{Seat, SeatRow};
+use play_event::{Limit, Opener, Setup};
+use variant_table::table_of;
+
+// The greatest stack, blind or bet size.
+const MOST_CHIPS: u64 = 1_000_000_000_000;
+
+/// The setup is that of a hand.
+pub fn is_valid(setup: &Setup) -> bool
+    ensures { IsTrue result → IsValid setup.now }
+{
+    let table = table_of(setup.code);
+    let seats = setup.stacks.seats;
+    if setup.antes.seats != seats || setup.blinds.seats != seats || table.seats < seats {
+        return false;
+    }
+    let fixed = is_fixed(table.limit);
+    let stud = is_stud(table.opener);
+    are_sizes(&setup.stacks)
+        && are_within(&setup.antes, &setup.stacks)
+        && are_few(&setup.blinds, MOST_CHIPS)
+        && is_size_where(stud, setup.bring_in)
+        && is_size_where(fixed, setup.small_bet)
+        && is_size_where(fixed, setup.big_bet)
+        && is_size_where(!fixed, setup.min_bet)
+        && (!setup.dead_antes || has_some(&setup.antes))
+        && (seats != 2 || setup.blinds.amounts[1] <= setup.blinds.amounts[0])
+        && (!stud || are_few(&setup.blinds, 0))
+}
+
+fn is_fixed(limit: Limit) -> bool
+    ensures { result ≡ valid.is_fixed limit }
+{
+    match limit {
+        Limit::Fixed => true,
+        Limit::Pot | Limit::No => false,
+    }
+}
+
+fn is_stud(opener: Opener) -> bool
+    ensures { result ≡ is_opened_by_up_cards opener }
+{
+    match opener {
+        Opener::Blinds => false,
+        Opener::LowUp | Opener::HighUp => true,
+    }
+}
+
+// A stack or a bet size.
+fn is_size(chips: u64) -> bool
+    ensures { IsTrue result → IsSize chips }
+{
+    1 <= chips && chips <= MOST_CHIPS
+}
+
+// A bet size that the game uses, or 0 where it does not use it.
+fn is_size_where(used: bool, chips: u64) -> bool
+    ensures { IsTrue result → IsSizeWhere used chips }
+{
+    if used { is_size(chips) } else { chips == 0 }
+}
+
+// Each seat has a size.
+fn are_sizes(row: &SeatRow) -> bool
+    ensures { IsTrue result
+        → (seat : ℕ) → 1 ≤ seat → seat ≤ row.now.seats → IsSize (amount_of row.now seat) }
+{
+    let mut sizes = true;
+    for index in 0..row.seats {
+        sizes = sizes && is_size(row.get(Seat { number: index + 1 }));
+    }
+    sizes
+}
+
+// No entry is above this.
+fn are_few(row: &SeatRow, most: u64) -> bool
+    ensures { IsTrue result → (seat : ℕ) → amount_of row.now seat ≤ most }
+{
+    let mut few = true;
+    for amount in row.amounts {
+        few = few && amount <= most;
+    }
+    few
+}
+
+// No entry is above the other row's.
+fn are_within(row: &SeatRow, other: &SeatRow) -> bool
+    ensures { IsTrue result → (seat : ℕ) → amount_of row.now seat ≤ amount_of other.now seat }
+{
+    let mut within = true;
+    for (index, amount) in row.amounts.iter().enumerate() {
+        within = within && *amount <= other.amounts[index];
+    }
+    within
+}
+
+// Some seat has an amount.
+#[tactic(auto, using(street_laws::proofs::SeatLists::any_more))]
+fn has_some(row: &SeatRow) -> bool
+    ensures { result
+        ≡ list_any (λ seat. nat_lt 0 (amount_of row.now seat)) (seats_of row.now.seats) }
+{
+    let mut found = false;
+    for index in 0..row.seats {
+        found = found || 0 < row.get(Seat { number: index + 1 });
+    }
+    found
+}
