@@ -7,10 +7,10 @@ use Rattle.variant_table.specs.Plain.{plain_street, no_street}
 use Rattle.variant_table.specs.Variants.{AreValuesOf}
 
 -- the street of a game with this number, from 1, and past the last one a street that deals nothing
-abbrev pub street_of : Game → ℕ → tables.Street
-street_of game number = unwrap_or (slice_get game.streets (number - 1)) no_street
+abbrev pub street_at : Game → ℕ → tables.Street
+street_at game number = unwrap_or (slice_get game.streets (number - 1)) no_street
 
 -- a table has the values of the game, and its streets in order, as far as there are any
 pub record IsTableOf (game : Game) (table : GameTable) : Type 0 where
   pub values : AreValuesOf game table.split table.pick table.limit table.opener table.deck table.seats table.streets
-  pub rows : map plain_street table.rows ≡ map (street_of game) (1 ∷ 2 ∷ 3 ∷ 4 ∷ 5 ∷ [])
+  pub rows : map plain_street table.rows ≡ map (street_at game) (1 ∷ 2 ∷ 3 ∷ 4 ∷ 5 ∷ [])

@@ -2,7 +2,7 @@
 ghost use Rattle.std.specs.Prelude.{◌≡◌, ◌≤◌};
 ghost use Rattle.play_event.specs.Games.{game_of};
 ghost use Rattle.variant_table.specs.Plain.{plain_street};
-ghost use Rattle.variant_table.specs.Tables.{IsTableOf, street_of};
+ghost use Rattle.variant_table.specs.Tables.{IsTableOf, street_at};
 
 use crate::draw::{F2L3D, FB, N2L1D};
 use crate::holdem::{FT, NS, NT};
@@ -75,7 +75,7 @@ fn table<V: Variant>() -> GameTable
 // The street with this number, or past the last one a street that deals nothing.
 fn row<V: Variant>(number: u8) -> Street
     requires { 1 ≤ number }
-    ensures { plain_street result ≡ street_of (game_of V.CODE) number }
+    ensures { plain_street result ≡ street_at (game_of V.CODE) number }
 {
     if number <= V::STREETS {
         V::street(number)
