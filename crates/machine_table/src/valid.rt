@@ -1,5 +1,5 @@
 //! Whether a setup is that of a hand.
-ghost use Rattle.std.specs.Prelude.{◌≡◌, ◌≤◌, ℕ, Bool, nat_lt, IsTrue};
+ghost use Rattle.std.specs.Prelude.{◌≡◌, ◌≤◌, ℕ, true, nat_lt, IsTrue, slice_index};
 ghost use Rattle.std.specs.List.{list_any};
 ghost use Rattle.chip_ledger.specs.Seat.{seats_of};
 ghost use Rattle.chip_ledger.specs.SeatRow.{amount_of};
@@ -7,7 +7,7 @@ ghost use Rattle.play_event.specs.Streets.{is_opened_by_up_cards};
 ghost use Rattle.play_event.specs.ValidSetup as valid;
 ghost use Rattle.play_event.specs.ValidSetup.{IsSize, IsSizeWhere, IsValid};
 
-use chip_ledger::{Seat, SeatRow};
+use chip_ledger::{MOST_AMOUNT, Seat, SeatRow};
 use play_event::{Limit, Opener, Setup};
 use variant_table::table_of;
 
@@ -25,16 +25,21 @@ pub fn is_valid(setup: &Setup) -> bool
     }
     let fixed = is_fixed(table.limit);
     let stud = is_stud(table.opener);
-    are_sizes(&setup.stacks)
-        && are_within(&setup.antes, &setup.stacks)
-        && are_few(&setup.blinds, MOST_CHIPS)
-        && is_size_where(stud, setup.bring_in)
-        && is_size_where(fixed, setup.small_bet)
-        && is_size_where(fixed, setup.big_bet)
-        && is_size_where(!fixed, setup.min_bet)
-        && (!setup.dead_antes || has_some(&setup.antes))
-        && (seats != 2 || setup.blinds.amounts[1] <= setup.blinds.amounts[0])
-        && (!stud || are_few(&setup.blinds, 0))
+    if !are_sizes(&setup.stacks) || !are_within(&setup.antes, &setup.stacks) {
+        return false;
+    }
+    if !are_few(&setup.blinds.amounts, MOST_CHIPS) || !are_few(&setup.rakes.rakes, MOST_AMOUNT) {
+        return false;
+    }
+    if !is_size_where(stud, setup.bring_in) || !is_size_where(!fixed, setup.min_bet) {
+        return false;
+    }
+    if !is_size_where(fixed, setup.small_bet) || !is_size_where(fixed, setup.big_bet) {
+        return false;
+    }
+    have_some_if(setup.dead_antes, &setup.antes)
+        && fall_if(seats == 2, &setup.blinds)
+        && are_none_if(stud, &setup.blinds)
 }
 
 fn is_fixed(limit: Limit) -> bool
@@ -81,13 +86,13 @@ fn are_sizes(row: &SeatRow) -> bool
     sizes
 }
 
-// No entry is above this.
-fn are_few(row: &SeatRow, most: u64) -> bool
-    ensures { IsTrue result → (seat : ℕ) → amount_of row.now seat ≤ most }
+// No amount is above this.
+fn are_few(amounts: &[u64], most: u64) -> bool
+    ensures { IsTrue result → (k : ℕ) → slice_index amounts.now k ≤ most }
 {
     let mut few = true;
-    for amount in row.amounts {
-        few = few && amount <= most;
+    for amount in amounts {
+        few = few && *amount <= most;
     }
     few
 }
@@ -114,4 +119,26 @@ fn has_some(row: &SeatRow) -> bool
         found = found || 0 < row.get(Seat { number: index + 1 });
     }
     found
+}
+
+// Some seat has an amount, where it has to be so.
+fn have_some_if(asked: bool, row: &SeatRow) -> bool
+    ensures { IsTrue result → asked ≡ true
+        → list_any (λ seat. nat_lt 0 (amount_of row.now seat)) (seats_of row.now.seats) ≡ true }
+{
+    !asked || has_some(row)
+}
+
+// The second seat has no more than the first, where it has to be so.
+fn fall_if(asked: bool, row: &SeatRow) -> bool
+    ensures { IsTrue result → asked ≡ true → amount_of row.now 2 ≤ amount_of row.now 1 }
+{
+    !asked || row.amounts[1] <= row.amounts[0]
+}
+
+// No seat has an amount, where it has to be so.
+fn are_none_if(asked: bool, row: &SeatRow) -> bool
+    ensures { IsTrue result → asked ≡ true → (seat : ℕ) → amount_of row.now seat ≡ 0 }
+{
+    !asked || are_few(&row.amounts, 0)
 }
