@@ -2,8 +2,6 @@
 #![tactic(auto)]
 
 mod dealing;
-#[cfg(test)]
-mod known_hands;
 mod tables;
 mod tally;
 

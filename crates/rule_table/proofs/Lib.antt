@@ -1,2 +1,3 @@
--- Lemmas on what can be split.
+-- Lemmas on what can be split, and on lists of cards.
+pub mod CardLists
 pub mod Splittable

@@ -2,6 +2,7 @@
 //! crates answer to it.
 #![tactic(auto)]
 
+mod cards;
 mod games;
 mod playable;
 mod pots;
@@ -38,6 +39,7 @@ fn answered(alloc: Global, row: &str) -> Result<String, AllocError> {
 fn answer_to(alloc: Global, row: &str) -> Result<Option<String>, AllocError> {
     let (subject, rest) = words::first_and_rest(row);
     match subject.as_bytes() {
+        b"cards" => cards::answer_to(alloc, rest),
         b"games" => games::answer_to(alloc, rest),
         b"pots" => pots::answer_to(alloc, rest),
         b"scripts" => scripts::answer_to(alloc, rest),
