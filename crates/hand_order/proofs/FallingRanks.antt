@@ -44,7 +44,7 @@ total_several zero = refl
 total_several (suc m) = omega (arith, total_several m)
 
 -- where as many fit as there are, falling ones are picked
-falling_picked : (height : Rank → ℕ) → IsHeight height → (T : ℕ → ℕ) (m bound : ℕ) (hs : List ℕ) → OfRanks height T → Fits T (several m 1) hs → sum_by T falling_heights ≡ m → FallingFrom bound hs → IsPicked T (several m 1) hs
+pub falling_picked : (height : Rank → ℕ) → IsHeight height → (T : ℕ → ℕ) (m bound : ℕ) (hs : List ℕ) → OfRanks height T → Fits T (several m 1) hs → sum_by T falling_heights ≡ m → FallingFrom bound hs → IsPicked T (several m 1) hs
 falling_picked height is T zero bound [] of fits all falling = tt
 falling_picked height is T zero bound (h ∷ hs) of fits all falling = fits
 falling_picked height is T (suc m) bound [] of fits all falling = fits
@@ -63,7 +63,7 @@ falling_picked height is T (suc m) bound (h ∷ hs) of fits all falling =
     )
 
 -- what is picked is one list
-picked_same : (T : ℕ → ℕ) (ns hs ks : List ℕ) → IsPicked T ns hs → IsPicked T ns ks → hs ≡ ks
+pub picked_same : (T : ℕ → ℕ) (ns hs ks : List ℕ) → IsPicked T ns hs → IsPicked T ns ks → hs ≡ ks
 picked_same T [] [] [] one other = refl
 picked_same T [] [] (k ∷ ks) one other = absurd other
 picked_same T [] (h ∷ hs) ks one other = absurd one

@@ -1,17 +1,14 @@
 -- The points of a low hand do not depend on the order of its cards.
-use Rattle.std.proofs.Common.{◌≡◌, ◌-◌, ◌^◌, ◌<◌, ◌&&◌, ◌==◌, ℕ, Bool, cond, List, length, Option, Some, None, refl, sym, ◌∙◌, ap, arith}
+use Rattle.std.proofs.Common.{◌-◌, ◌^◌, ◌&&◌, ◌==◌, ℕ, Bool, cond, List, Option, Some, None, ◌∙◌, ap, arith}
 use Rattle.std.specs.List.{list_all}
 use Rattle.std.specs.Prelude.{nat_le}
 use Rattle.card_set.specs.declared.card.Card.{Card}
-use Rattle.card_set.specs.CardSet.{AreSameCards}
 use Rattle.card_set.specs.Classes.{has_no_pair, place}
-use Rattle.card_set.specs.Different.{AllDifferent}
 use Rattle.card_set.specs.Ranks.{low_ace}
 use Rattle.card_set.specs.UpCards.{low_class}
 use Rattle.hand_order.specs.declared.straights.LowStraight.TheVariants as straights
 use Rattle.hand_order.specs.Choices.{AreAlike}
 use Rattle.hand_order.specs.Digits.{class_above}
-use Rattle.hand_order.specs.Straights.{high_points}
 use Rattle.hand_order.proofs.Alike.{list_all-same, told_alike}
 use Rattle.hand_order.proofs.HighAlike.{high_alike}
 use Rattle.low_rank.specs.Low.{low_points, low_table}
@@ -24,7 +21,7 @@ unfolding low_class
 razz_alike a b held_a held_b same =
     told_alike (λ four three two ranks flush. Some (16 ^ 6 - class_above (place (low_table four three two)) ranks)) low_ace a b held_a.1 held_b.1 (omega (arith, held_a.0)) (omega (arith, held_b.0)) same
 
-pub eight_alike : AreAlike eight.points 5
+eight_alike : AreAlike eight.points 5
 unfolding low_class
 eight_alike a b held_a held_b same =
     let low = λ (card : Card). nat_le (low_ace card.rank) 8 in

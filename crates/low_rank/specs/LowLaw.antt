@@ -56,7 +56,7 @@ lawful_deuce_seven = lawful_by_numbers (AreHeld 5) deuce.IsWeaker (λ cards. 16 
     (λ less. law.0 (omega arith), λ weaker. let greater = law.1 weaker in omega arith))
 
 -- cards without a pair have the best class
-best_class : (cards : List Card) → has_no_pair low_ace cards ≡ true → low_class cards ≡ 0
+pub best_class : (cards : List Card) → has_no_pair low_ace cards ≡ true → low_class cards ≡ 0
 unfolding low_class
 best_class cards none = ap (λ (b : Bool). place (b ∷ has_one_pair low_ace cards ∷ has_two_pair low_ace cards ∷ has_three_of_a_kind low_ace cards ∷ has_full_house low_ace cards ∷ has_four_of_a_kind low_ace cards ∷ [])) none
 

@@ -2,6 +2,7 @@
 #![tactic(auto)]
 
 mod deuce;
+mod eight;
 mod low;
 mod orders;
 

@@ -1,11 +1,6 @@
-use Rattle.std.proofs.Common.{arith}
 use Rattle.card_set.specs.CardSet.{count_of}
-use Rattle.low_rank.proofs.LowAlike.{eight_alike}
-use Rattle.hand_order.proofs.SetChoices.{few_to_choose}
+use Rattle.hand_order.proofs.SetChoices.{enough_to_choose}
 use Rattle.low_rank.proofs.orders.EightLowHandOrder.best_set.Goals as goal
 
-pub best_listed-requires-clause-few : goal.best_listed-requires-clause-few
-best_listed-requires-clause-few c = few_to_choose 5 (count_of c.args.cards.now) (omega arith) c.requires
-
-pub best_listed-requires-clause-alike : goal.best_listed-requires-clause-alike
-best_listed-requires-clause-alike c = eight_alike
+pub best_eight-requires : goal.best_eight-requires
+best_eight-requires c = enough_to_choose 5 (count_of c.args.cards.now) c.requires

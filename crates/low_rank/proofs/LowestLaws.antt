@@ -1,0 +1,126 @@
+-- The lowest heights that pass make the least number of all that pass.
+use Rattle.std.proofs.Common.{◌≡◌, ℕ, zero, suc, ◌+◌, ◌-◌, ◌*◌, ◌<◌, ◌≤◌, ◌==◌, Bool, true, false, cond, List, [], ◌∷◌, ◌++◌, length, inl, inr, refl, sym, ◌∙◌, ap, subst, arith, length-append}
+use Rattle.std.proofs.lemmas.Bool.{cases_lt, ne_eqb}
+use Rattle.hand_order.specs.Digits.{with_digits}
+use Rattle.hand_order.proofs.Digits.{with_digits-append, with_digits-cons, with_digits-nil}
+use Rattle.hand_order.proofs.FallingRanks.{FallingFrom}
+use Rattle.low_rank.specs.Lowest.{lowest}
+
+-- each height passes the test, and is not below another
+abbrev pub Pass : (ℕ → Bool) → ℕ → List ℕ → Type 0
+Pass has from [] = Unit {0}
+Pass has from (h ∷ hs) = (has h ≡ true) × (from ≤ h) × Pass has from hs
+
+-- a list that is not empty has a last element
+pub record HasLast (xs : List ℕ) : Type 0 where
+  pub front : List ℕ
+  pub last : ℕ
+  pub is : xs ≡ front ++ last ∷ []
+
+last_of : (x : ℕ) (xs : List ℕ) → HasLast (x ∷ xs)
+last_of x [] = record { front = []; last = x; is = refl }
+last_of x (y ∷ ys) = let rest = last_of y ys in record { front = x ∷ rest.front; last = rest.last; is = ap (λ (l : List ℕ). x ∷ l) rest.is }
+
+-- a number with one digit more
+digit_last : (xs : List ℕ) (x : ℕ) → with_digits 0 (xs ++ x ∷ []) ≡ with_digits 0 xs * 16 + x
+digit_last xs x = with_digits-append 0 xs (x ∷ []) ∙ with_digits-cons (with_digits 0 xs) x [] ∙ with_digits-nil (with_digits 0 xs * 16 + x)
+
+front_falls : (bound x : ℕ) (xs : List ℕ) → FallingFrom bound (xs ++ x ∷ []) → FallingFrom bound xs × ((x < bound))
+front_falls bound x [] falling = (tt, falling.0)
+front_falls bound x (y ∷ ys) falling = let rest = front_falls y x ys falling.1 in ((falling.0, rest.0), omega (arith, falling.0, rest.1))
+
+front_passes : (has : ℕ → Bool) (from bound x : ℕ) (xs : List ℕ) → FallingFrom bound (xs ++ x ∷ []) → Pass has from (xs ++ x ∷ []) → Pass has (x + 1) xs × (has x ≡ true) × (from ≤ x)
+front_passes has from bound x [] falling pass = (tt, pass.0, pass.1)
+front_passes has from bound x (y ∷ ys) falling pass =
+    let rest = front_passes has from y x ys falling.1 pass.2 in
+    let below = front_falls y x ys falling.1 in
+    ((pass.0, omega (arith, below.1), rest.0), rest.1, rest.2)
+
+pass_higher : (has : ℕ → Bool) (from : ℕ) (hs : List ℕ) → has from ≡ false → Pass has from hs → Pass has (from + 1) hs
+pass_higher has from [] fails pass = tt
+pass_higher has from (h ∷ hs) fails pass = (pass.0, elim (cases_lt from h) [ inl above ↦ omega arith | inr least ↦ absurd (clash h (omega (arith, pass.1)) pass.0) ], pass_higher has from hs fails pass.2)
+  where
+    clash : (h : ℕ) → h ≡ from → has h ≡ true → ⊥
+    clash h same passes = let off = sym (ap has same) ∙ passes in true_false (sym off ∙ fails)
+      where
+        true_false : true ≡ false → ⊥
+        true_false is = cc
+
+-- no list of as many heights that pass makes a smaller number
+pub record IsLeast (found ks : List ℕ) (n : ℕ) : Type 0 where
+  pub long : length found ≡ n
+  pub least : with_digits 0 found ≤ with_digits 0 ks
+
+least_none : (found ks : List ℕ) (n : ℕ) → found ≡ [] → n ≡ 0 → IsLeast found ks n
+least_none found ks n none zero_n =
+    let same = ap (with_digits 0) none in
+    record { long = ap (length {A = ℕ}) none ∙ sym zero_n; least = omega (arith, same, with_digits-nil 0) }
+
+least_more : (found front ks : List ℕ) (m from last : ℕ) → IsLeast found front m → ks ≡ front ++ last ∷ [] → from ≤ last → IsLeast (found ++ from ∷ []) ks (suc m)
+least_more found front ks m from last rest is below =
+    let same = ap (with_digits 0) is ∙ digit_last front last in
+    record { long = omega (arith, length-append found (from ∷ []), rest.long); least = omega (arith, digit_last found from, same, rest.least) }
+
+one_less : (m : ℕ) → suc m - 1 ≡ m
+one_less m = omega arith
+
+-- the lowest height is the last, where it passes
+pub lowest_some : (has : ℕ → Bool) (heights from m : ℕ) → lowest has (suc heights) from (suc m) ≡ cond (has from) (lowest has heights (from + 1) m ++ from ∷ []) (lowest has heights (from + 1) (suc m))
+lowest_some has heights from m =
+    ap (λ (b : Bool). cond b [] (cond (has from) (lowest has heights (from + 1) (suc m - 1) ++ from ∷ []) (lowest has heights (from + 1) (suc m)))) (ne_eqb (suc m) 0 (λ same. omega arith))
+    ∙ ap (λ (k : ℕ). cond (has from) (lowest has heights (from + 1) k ++ from ∷ []) (lowest has heights (from + 1) (suc m))) (one_less m)
+
+pub lowest_least : (has : ℕ → Bool) (heights from n : ℕ) (ks : List ℕ) → length ks ≡ n → FallingFrom (from + heights) ks → Pass has from ks → IsLeast (lowest has heights from n) ks n
+lowest_least has zero from n [] long falling pass = least_none [] [] n refl (sym long)
+lowest_least has zero from n (k ∷ ks) long falling pass = absurd (omega (arith, falling.0, pass.1))
+lowest_least has (suc heights) from zero ks long falling pass = least_none [] ks 0 refl refl
+lowest_least has (suc heights) from (suc m) [] long falling pass = absurd (omega arith)
+lowest_least has (suc heights) from (suc m) (k ∷ ks) long falling pass =
+    let last = last_of k ks in
+    let falls = subst (FallingFrom (from + suc heights)) last.is falling in
+    let passes = front_passes has from (from + suc heights) last.last last.front falls (subst (Pass has from) last.is pass) in
+    let front = front_falls (from + suc heights) last.last last.front falls in
+    let size = ap (length {A = ℕ}) last.is in
+    subst (λ (l : List ℕ). IsLeast l (k ∷ ks) (suc m)) (sym (lowest_some has heights from m))
+    (by_test (has from) refl
+    (λ here. least_more (lowest has heights (from + 1) m) last.front (k ∷ ks) m from last.last
+    (lowest_least has heights (from + 1) m last.front (omega (arith, size, length-append last.front (last.last ∷ []), long)) (subst (λ (b : ℕ). FallingFrom b last.front) (omega arith) front.0) (pass_from has (last.last + 1) (from + 1) last.front (omega (arith, passes.2)) passes.0))
+    last.is passes.2)
+    (λ off. lowest_least has heights (from + 1) (suc m) (k ∷ ks) long (subst (λ (b : ℕ). FallingFrom b (k ∷ ks)) (omega arith) falling) (pass_higher has from (k ∷ ks) off pass)))
+  where
+    pass_from : (has : ℕ → Bool) (high low : ℕ) (hs : List ℕ) → low ≤ high → Pass has high hs → Pass has low hs
+    pass_from has high low [] le pass = tt
+    pass_from has high low (h ∷ hs) le pass = (pass.0, omega (arith, pass.1), pass_from has high low hs le pass.2)
+
+    by_test : (b : Bool) → has from ≡ b → (has from ≡ true → IsLeast (lowest has heights (from + 1) m ++ from ∷ []) (k ∷ ks) (suc m)) → (has from ≡ false → IsLeast (lowest has heights (from + 1) (suc m)) (k ∷ ks) (suc m)) → IsLeast (cond b (lowest has heights (from + 1) m ++ from ∷ []) (lowest has heights (from + 1) (suc m))) (k ∷ ks) (suc m)
+    by_test true is taken passed = taken is
+    by_test false is taken passed = passed is
+
+-- the lowest heights fall, and pass
+falling_last : (bound x : ℕ) (has : ℕ → Bool) (xs : List ℕ) → FallingFrom bound xs → Pass has (x + 1) xs → x < bound → FallingFrom bound (xs ++ x ∷ [])
+falling_last bound x has [] falling pass below = (below, tt)
+falling_last bound x has (y ∷ ys) falling pass below = (falling.0, falling_last y x has ys falling.1 pass.2 (omega (arith, pass.1)))
+
+pass_last : (has : ℕ → Bool) (x : ℕ) (xs : List ℕ) → Pass has (x + 1) xs → has x ≡ true → Pass has x (xs ++ x ∷ [])
+pass_last has x [] pass is = (is, omega arith, tt)
+pass_last has x (y ∷ ys) pass is = (pass.0, omega (arith, pass.1), pass_last has x ys pass.2 is)
+
+pass_lower : (has : ℕ → Bool) (from : ℕ) (hs : List ℕ) → Pass has (from + 1) hs → Pass has from hs
+pass_lower has from [] pass = tt
+pass_lower has from (h ∷ hs) pass = (pass.0, omega (arith, pass.1), pass_lower has from hs pass.2)
+
+pub lowest_passes : (has : ℕ → Bool) (heights from n : ℕ) → FallingFrom (from + heights) (lowest has heights from n) × Pass has from (lowest has heights from n)
+lowest_passes has zero from n = (tt, tt)
+lowest_passes has (suc heights) from n =
+    by_tests (n == 0) (has from) refl
+    (lowest_passes has heights (from + 1) (n - 1)) (lowest_passes has heights (from + 1) n)
+  where
+    by_tests : (z b : Bool) → has from ≡ b → FallingFrom (from + 1 + heights) (lowest has heights (from + 1) (n - 1)) × Pass has (from + 1) (lowest has heights (from + 1) (n - 1)) → FallingFrom (from + 1 + heights) (lowest has heights (from + 1) n) × Pass has (from + 1) (lowest has heights (from + 1) n)
+        → FallingFrom (from + suc heights) (cond z [] (cond b (lowest has heights (from + 1) (n - 1) ++ from ∷ []) (lowest has heights (from + 1) n))) × Pass has from (cond z [] (cond b (lowest has heights (from + 1) (n - 1) ++ from ∷ []) (lowest has heights (from + 1) n)))
+    by_tests true b is fewer same = (tt, tt)
+    by_tests false true is fewer same =
+        let higher : from + 1 + heights ≡ from + suc heights = omega arith in
+        (falling_last (from + suc heights) from has (lowest has heights (from + 1) (n - 1)) (subst (λ (k : ℕ). FallingFrom k (lowest has heights (from + 1) (n - 1))) higher fewer.0) fewer.1 (omega arith), pass_last has from (lowest has heights (from + 1) (n - 1)) fewer.1 is)
+    by_tests false false is fewer same =
+        let higher : from + 1 + heights ≡ from + suc heights = omega arith in
+        (subst (λ (k : ℕ). FallingFrom k (lowest has heights (from + 1) n)) higher same.0, pass_lower has from (lowest has heights (from + 1) n) same.1)

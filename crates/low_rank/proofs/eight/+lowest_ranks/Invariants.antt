@@ -1,0 +1,5 @@
+use Rattle.low_rank.proofs.eight.+lowest_ranks.Given as goal
+
+-- the heights that are left
+abbrev pub decreases-lowest_ranks : goal.decreases-lowest_ranks
+decreases-lowest_ranks l = l.heights
