@@ -9,7 +9,7 @@ use Rattle.play_event.specs.Games.{game_of}
 use Rattle.variant_table.specs.declared.street.Street.{Street}
 use Rattle.variant_table.specs.declared.table.GameTable.{GameTable}
 use Rattle.variant_table.specs.Plain.{plain_street, no_street}
-use Rattle.variant_table.specs.Tables.{IsTableOf, street_of}
+use Rattle.variant_table.specs.Tables.{IsTableOf, street_at}
 use Rattle.std.proofs.lemmas.List.{length-map}
 use Rattle.card_places.specs.Marks.{IsStreetOf}
 
@@ -41,7 +41,7 @@ read_at (row ∷ rows) (street ∷ streets) (suc k) d is within =
 same_some : (a b : tables.Street) → Some a ≡ Some b → a ≡ b
 same_some a b is = cc
 
-by_index : (game : tables.Game) (k : ℕ) (row : tables.Street) → k < 5 → slice_get (map (street_of game) (1 ∷ 2 ∷ 3 ∷ 4 ∷ 5 ∷ [])) k ≡ Some row → row ≡ unwrap_or (slice_get game.streets k) no_street
+by_index : (game : tables.Game) (k : ℕ) (row : tables.Street) → k < 5 → slice_get (map (street_at game) (1 ∷ 2 ∷ 3 ∷ 4 ∷ 5 ∷ [])) k ≡ Some row → row ≡ unwrap_or (slice_get game.streets k) no_street
 by_index game zero row within is = sym (same_some _ _ is)
 by_index game (suc zero) row within is = sym (same_some _ _ is)
 by_index game (suc (suc zero)) row within is = sym (same_some _ _ is)
@@ -70,5 +70,5 @@ pub past_last : (code : Code) (number : ℕ) (row : Street) → 5 ≤ number - 1
 past_last code number row past is =
     same_street code number row None (past_end (game_of code).streets (number - 1) (omega (arith, past, five_streets code))) is
 
-pub five_rows : (rows : List Street) (game : tables.Game) → map plain_street rows ≡ map (street_of game) (1 ∷ 2 ∷ 3 ∷ 4 ∷ 5 ∷ []) → length rows ≡ 5
+pub five_rows : (rows : List Street) (game : tables.Game) → map plain_street rows ≡ map (street_at game) (1 ∷ 2 ∷ 3 ∷ 4 ∷ 5 ∷ []) → length rows ≡ 5
 five_rows rows game is = sym (length-map rows plain_street) ∙ ap (λ (l : List tables.Street). length l) is
