@@ -1,0 +1,126 @@
+-- Betting that is closed on a street stays closed there under moves of other streets.
+use Rattle.std.proofs.Common.{◌≡◌, ◌≢◌, ℕ, ◌+◌, ◌-◌, ◌≤◌, Bool, true, false, ◌&&◌, ◌||◌, ◌==◌, not, nat_lt, nat_le, inl, inr, List, [], ◌∷◌, map, filter, length, count_by, refl, sym, ◌∙◌, ap, arith, if◌then◌else◌}
+use Rattle.std.specs.List.{list_any}
+use Rattle.std.proofs.lemmas.Bool.{or_parts, or_from, and_parts, and_from, and_left, and_right, and_cases, ne_eqb, lt-ltb, ltb-true, le-leb, leb-true, false_from_ne_true, not-true, cases_Bool, both_ways}
+use Rattle.std.proofs.lemmas.List.Sums.{length-filter}
+use Rattle.play_event.specs.declared.setup.Setup.{Setup}
+use Rattle.play_event.specs.Streets.{is_stud}
+use Rattle.play_event.specs.Past.{Past, Resolved, Move, Dealt, Boarded, Moved, Discarded, Shown, Mucked, moves_of, moves_on, is_fold, street_of}
+use Rattle.play_event.specs.Chips.{chips_added, chips_left, brought}
+use Rattle.play_event.specs.Seats.{is_live, is_able, all_seats, able_count}
+use Rattle.play_event.specs.Price.{price, owed}
+use Rattle.chip_ledger.specs.Greatest.{greatest}
+use Rattle.play_event.specs.Due.{has_to_move, has_moved_since_rise, is_move_due, is_bring_in_due, has_opened_betting}
+use Rattle.list_laws.proofs.Tests.{false_true}
+use Rattle.play_laws.proofs.DueAtEvents.{IsNotDue}
+use Rattle.play_laws.proofs.SettledStreets.{none_still, deal_still, draw_still, is_discard_on}
+
+-- who is able was able
+live_first : (folded before : Bool) → not (folded || before) ≡ true → not before ≡ true
+live_first true before is = false_true is
+live_first false before is = is
+
+pub live_still : (move : Move) (moves : List Move) (seat : ℕ) → is_live (move ∷ moves) seat ≡ true → is_live moves seat ≡ true
+live_still move moves seat is = live_first (is_fold move.act && (move.seat == seat)) (list_any (λ (move : Move). is_fold move.act && (move.seat == seat)) moves) is
+
+pub able_still : (setup : Setup) (move : Move) (moves : List Move) (seat : ℕ) → is_able setup (move ∷ moves) seat ≡ true → is_able setup moves seat ≡ true
+able_still setup move moves seat is =
+    let parts = and_parts (is_live (move ∷ moves) seat) (nat_lt 0 (chips_left setup (move ∷ moves) seat)) is in
+    and_from (is_live moves seat) (nat_lt 0 (chips_left setup moves seat)) (live_still move moves seat parts.0) (lt-ltb 0 (chips_left setup moves seat) (omega (arith, ltb-true 0 (chips_left setup (move ∷ moves) seat) parts.1)))
+
+-- fewer pass
+fewer_step : (first : ℕ) (less more : List ℕ) (a b : Bool) → (a ≡ true → b ≡ true) → length less ≤ length more → length (if a then (first ∷ less) else less) ≤ length (if b then (first ∷ more) else more)
+fewer_step first less more true true both later = omega (arith, later)
+fewer_step first less more true false both later = false_true (both refl)
+fewer_step first less more false true both later = omega (arith, later)
+fewer_step first less more false false both later = later
+
+fewer_length : (p q : ℕ → Bool) (seats : List ℕ) → ((seat : ℕ) → p seat ≡ true → q seat ≡ true) → length (filter p seats) ≤ length (filter q seats)
+fewer_length p q [] both = omega arith
+fewer_length p q (first ∷ rest) both = fewer_step first (filter p rest) (filter q rest) (p first) (q first) (both first) (fewer_length p q rest both)
+
+pub fewer : (p q : ℕ → Bool) (seats : List ℕ) → ((seat : ℕ) → p seat ≡ true → q seat ≡ true) → count_by p seats ≤ count_by q seats
+fewer p q seats both = omega (arith, length-filter p seats, length-filter q seats, fewer_length p q seats both)
+
+pub able_fewer : (setup : Setup) (move : Move) (moves : List Move) → able_count setup (move ∷ moves) ≤ able_count setup moves
+able_fewer setup move moves = fewer (is_able setup (move ∷ moves)) (is_able setup moves) (all_seats setup) (able_still setup move moves)
+
+-- the street's moves are the same
+pub other_moves : (move : Move) (moves : List Move) (street : ℕ) → move.street ≢ street → moves_on street (move ∷ moves) ≡ moves_on street moves
+other_moves move moves street differ = ap (λ b. if b then (move ∷ moves_on street moves) else moves_on street moves) (ne_eqb move.street street differ)
+
+pub owed_same : (setup : Setup) (move : Move) (moves : List Move) (street seat : ℕ) → move.street ≢ street → owed setup (move ∷ moves) street seat ≡ owed setup moves street seat
+owed_same setup move moves street seat differ =
+    ap (λ l. greatest (map (λ other. brought setup street other + chips_added other l) (all_seats setup)) - (brought setup street seat + chips_added seat l)) (other_moves move moves street differ)
+
+moved_same : (setup : Setup) (move : Move) (moves : List Move) (street seat : ℕ) → move.street ≢ street → has_moved_since_rise setup (move ∷ moves) street seat ≡ has_moved_since_rise setup moves street seat
+moved_same setup move moves street seat differ =
+    ap (λ b. if b then ((move.seat == seat) || (nat_le move.to (price setup moves street) && has_moved_since_rise setup moves street seat)) else has_moved_since_rise setup moves street seat) (ne_eqb move.street street differ)
+
+-- who has to move had to
+two_still : (less more : ℕ) → less ≤ more → nat_le 2 less ≡ true → nat_le 2 more ≡ true
+two_still less more on is = le-leb 2 more (omega (arith, on, leb-true 2 less is))
+
+has_to_by : (able before_able moved : Bool) (owes : ℕ) (less more : ℕ) → (able ≡ true → before_able ≡ true) → less ≤ more → (able && (if moved then false else (nat_lt 0 owes || nat_le 2 less))) ≡ true → (before_able && (if moved then false else (nat_lt 0 owes || nat_le 2 more))) ≡ true
+has_to_by false before_able moved owes less more both on is = false_true is
+has_to_by true before_able true owes less more both on is = false_true is
+has_to_by true before_able false owes less more both on is =
+    and_from before_able (nat_lt 0 owes || nat_le 2 more) (both refl) (elim (Rattle.std.proofs.lemmas.Bool.or_cases (nat_lt 0 owes) (nat_le 2 less) is) [
+      | inl some ↦ Rattle.std.proofs.lemmas.Bool.or_left (nat_lt 0 owes) (nat_le 2 more) some
+      | inr two ↦ Rattle.std.proofs.lemmas.Bool.or_right (nat_lt 0 owes) (nat_le 2 more) (two_still less more on two)
+    ])
+
+pub has_to_still : (setup : Setup) (move : Move) (moves : List Move) (street seat : ℕ) → move.street ≢ street → has_to_move setup (move ∷ moves) street seat ≡ true → has_to_move setup moves street seat ≡ true
+has_to_still setup move moves street seat differ is =
+    has_to_by (is_able setup (move ∷ moves) seat) (is_able setup moves seat) (has_moved_since_rise setup moves street seat) (owed setup moves street seat) (able_count setup (move ∷ moves)) (able_count setup moves) (able_still setup move moves seat) (able_fewer setup move moves)
+    (sym (ap (λ b. is_able setup (move ∷ moves) seat && (if b then false else (nat_lt 0 (owed setup (move ∷ moves) street seat) || nat_le 2 (able_count setup (move ∷ moves))))) (moved_same setup move moves street seat differ)
+    ∙ ap (λ o. is_able setup (move ∷ moves) seat && (if has_moved_since_rise setup moves street seat then false else (nat_lt 0 o || nat_le 2 (able_count setup (move ∷ moves))))) (owed_same setup move moves street seat differ)) ∙ is)
+
+pub move_still : (setup : Setup) (move : Move) (moves : List Move) (street : ℕ) → move.street ≢ street → is_move_due setup moves street ≡ false → is_move_due setup (move ∷ moves) street ≡ false
+move_still setup move moves street differ is =
+    none_still (has_to_move setup moves street) (has_to_move setup (move ∷ moves) street) (all_seats setup)
+    (λ seat none. false_from_ne_true (has_to_move setup (move ∷ moves) street seat) (λ now. both_ways (has_to_move setup moves street seat) none (has_to_still setup move moves street seat differ now))) is
+
+bring_by : (first opened : Bool) (less more : ℕ) → less ≤ more → (first && (nat_le 2 more && not opened)) ≡ false → (first && (nat_le 2 less && not opened)) ≡ false
+bring_by false opened less more on is = refl
+bring_by true true less more on is = and_right (nat_le 2 less) false refl
+bring_by true false less more on is = false_from_ne_true (nat_le 2 less && true) (λ now. both_ways (nat_le 2 more && true) is (and_from (nat_le 2 more) true (two_still less more on (and_parts (nat_le 2 less) true now).0) refl))
+
+pub and_group : (a b c d : Bool) → (a && b && c && d) ≡ ((a && b) && (c && d))
+and_group true true c d = refl
+and_group true false c d = refl
+and_group false b c d = refl
+
+pub bring_still : (setup : Setup) (move : Move) (moves : List Move) (street : ℕ) → move.street ≢ street → is_bring_in_due setup moves street ≡ false → is_bring_in_due setup (move ∷ moves) street ≡ false
+bring_still setup move moves street differ is =
+    ap (λ l. is_stud setup.code && (street == 1) && nat_le 2 (able_count setup (move ∷ moves)) && not (list_any (λ (move : Move). has_opened_betting move.act) l)) (other_moves move moves street differ)
+    ∙ and_group (is_stud setup.code) (street == 1) (nat_le 2 (able_count setup (move ∷ moves))) (not (list_any (λ (move : Move). has_opened_betting move.act) (moves_on street moves)))
+    ∙ bring_by (is_stud setup.code && (street == 1)) (list_any (λ (move : Move). has_opened_betting move.act) (moves_on street moves)) (able_count setup (move ∷ moves)) (able_count setup moves) (able_fewer setup move moves)
+    (sym (and_group (is_stud setup.code) (street == 1) (nat_le 2 (able_count setup moves)) (not (list_any (λ (move : Move). has_opened_betting move.act) (moves_on street moves)))) ∙ is)
+
+-- nothing comes due on a street by an event of another
+no_discard : (event : Resolved) (street : ℕ) → street_of event ≢ street → is_discard_on street event ≡ false
+no_discard (Discarded on owner cards) street differ = ne_eqb on street differ
+no_discard (Dealt on owner cards) street differ = refl
+no_discard (Boarded on cards) street differ = refl
+no_discard (Moved move) street differ = refl
+no_discard (Shown on owner cards) street differ = refl
+no_discard (Mucked on owner) street differ = refl
+
+bets_still : (setup : Setup) (before : Past) (event : Resolved) (street : ℕ) → street_of event ≢ street → is_bring_in_due setup (moves_of before) street ≡ false → is_move_due setup (moves_of before) street ≡ false → (is_bring_in_due setup (moves_of (event ∷ before)) street ≡ false) × (is_move_due setup (moves_of (event ∷ before)) street ≡ false)
+bets_still setup before (Moved move) street differ bring move_none = (bring_still setup move (moves_of before) street differ bring, move_still setup move (moves_of before) street differ move_none)
+bets_still setup before (Dealt on owner cards) street differ bring move_none = (bring, move_none)
+bets_still setup before (Boarded on cards) street differ bring move_none = (bring, move_none)
+bets_still setup before (Discarded on owner cards) street differ bring move_none = (bring, move_none)
+bets_still setup before (Shown on owner cards) street differ bring move_none = (bring, move_none)
+bets_still setup before (Mucked on owner) street differ bring move_none = (bring, move_none)
+
+pub not_due_still : (setup : Setup) (before : Past) (event : Resolved) (street : ℕ) → street_of event ≢ street → IsNotDue setup before street → IsNotDue setup (event ∷ before) street
+not_due_still setup before event street differ none =
+    let bets = bets_still setup before event street differ none.no_bring none.no_move in
+    record {
+      no_deal = deal_still setup before event street none.no_deal;
+      no_draw = draw_still setup before event street (no_discard event street differ) none.no_draw;
+      no_bring = bets.0;
+      no_move = bets.1;
+    }

@@ -1,0 +1,277 @@
+-- The laws of places hold of every legal past.
+use Rattle.std.proofs.Common.{◌≡◌, ℕ, suc, ◌+◌, ◌-◌, ◌≤◌, ◌<◌, Bool, true, false, ◌&&◌, ◌==◌, nat_le, inl, inr, ◌⊎◌, Option, Some, None, List, [], ◌∷◌, ◌++◌, map, filter, length, count_by, refl, sym, ◌∙◌, ap, arith, if◌then◌else◌}
+use Rattle.std.proofs.lemmas.Bool.{or_parts, or_cases, and_parts, and_from, and_right, ne_eqb, eq-eqb, eqb-true, cases_eq, cases_Bool, both_ways, lt-ltb, leb-true, false_from_ne_true, not-false, not_from_true}
+use Rattle.std.proofs.lemmas.List.{length-append}
+use Rattle.card_set.specs.declared.card.Slot.{Slot}
+use Rattle.card_set.specs.declared.card.Slot.TheVariants as slots
+use Rattle.play_event.specs.declared.code.Code.{Code}
+use Rattle.play_event.specs.declared.code.Code.TheVariants as games
+use Rattle.play_event.specs.declared.setup.Setup.{Setup}
+use Rattle.play_event.specs.declared.setup.Rules.{Rules}
+use Rattle.play_event.specs.Games.{street_count, hole_cards_on}
+use Rattle.play_event.specs.Streets.{has_draw}
+use Rattle.play_event.specs.Said.{Said}
+use Rattle.play_event.specs.Past.{Past, Resolved, Move, Dealt, Boarded, Moved, Discarded, Shown, Mucked, moves_of, newest_street, is_fold}
+use Rattle.play_event.specs.Seats.{is_live}
+use Rattle.card_set.specs.Known.{known_cards}
+use Rattle.play_event.specs.Dealing.{hole_cards_dealt, hole_cards_owed, cards_discarded, cards_owed, has_drawn}
+use Rattle.play_event.specs.Due.{turn}
+use Rattle.play_event.specs.Places.{Place, is_same_owner, is_in_group, is_past_deck, places_dealt, after_deal, is_held_by, after_fold}
+use Rattle.play_event.specs.Naming.{after_discard, after_show, other_names, blanks_in, is_covered, is_show_of_all}
+use Rattle.play_event.specs.Table.{places_of}
+use Rattle.play_event.specs.CardReasons.{is_seat}
+use Rattle.play_event.specs.Scripts.{with_event, past_of}
+use Rattle.play_event.specs.Laws.{IsAmong, AreLegal}
+use Rattle.list_laws.proofs.Tests.{false_true}
+use Rattle.hand_canon.specs.CanonScript.{moves_before}
+use Rattle.play_laws.specs.LegalPlaces.{owner_folded, PlacesLaw}
+use Rattle.play_laws.proofs.PlaceChanges.{IsChange, AreChanged}
+use Rattle.play_laws.specs.PastLaws.{AreReached, has_move, PastLaw}
+use Rattle.play_laws.proofs.DueAtEvents.{Reaches, turn_reaches}
+use Rattle.play_laws.proofs.LegalEvents.{Stepped, deals, boards, moves, discards, shows, mucks, stepped}
+use Rattle.play_laws.proofs.PastLawKept.{past_law, unmoved_deal, DrawsNext, is_next_to_draw}
+use Rattle.play_laws.proofs.QuietEvents.{discard_marks, show_marks, nothing, marked_changed, held_parts, marks_law, fold_law, move_law, fold_changed}
+use Rattle.play_laws.proofs.DealtPlaces.{deal_law}
+
+-- groups are as long as the deals to them
+same_group : (owner : Option ℕ) (street count draw seat : ℕ) (old new : Place) → IsChange count draw seat old new → is_in_group owner street new ≡ is_in_group owner street old
+same_group owner street count draw seat old new change = ap (λ o. is_same_owner o owner && (new.street == street)) change.owner ∙ ap (λ s. is_same_owner old.owner owner && (s == street)) change.street
+
+group_step : (old new : Place) (olds news : List Place) (a b : Bool) → a ≡ b → length news ≡ length olds → length (if a then (new ∷ news) else news) ≡ length (if b then (old ∷ olds) else olds)
+group_step old new olds news true true same later = ap suc later
+group_step old new olds news true false same later = false_true (sym same)
+group_step old new olds news false true same later = false_true same
+group_step old new olds news false false same later = later
+
+pub changed_group : (owner : Option ℕ) (street count draw seat : ℕ) (olds news : List Place) → AreChanged count draw seat olds news → length (filter (is_in_group owner street) news) ≡ length (filter (is_in_group owner street) olds)
+changed_group owner street count draw seat [] [] changed = refl
+changed_group owner street count draw seat [] (new ∷ news) changed = absurd changed
+changed_group owner street count draw seat (old ∷ olds) [] changed = absurd changed
+changed_group owner street count draw seat (old ∷ olds) (new ∷ news) changed =
+    group_step old new (filter (is_in_group owner street) olds) (filter (is_in_group owner street) news) (is_in_group owner street new) (is_in_group owner street old) (same_group owner street count draw seat old new changed.0) (changed_group owner street count draw seat olds news changed.1)
+
+pub filter_append : (p : Place → Bool) (xs ys : List Place) → filter p (xs ++ ys) ≡ filter p xs ++ filter p ys
+filter_append p [] ys = refl
+filter_append p (first ∷ rest) ys = ap (λ l. if p first then (first ∷ l) else l) (filter_append p rest ys) ∙ by_pass (p first)
+  where
+    by_pass : (b : Bool) → (if b then (first ∷ (filter p rest ++ filter p ys)) else (filter p rest ++ filter p ys)) ≡ (if b then (first ∷ filter p rest) else filter p rest) ++ filter p ys
+    by_pass true = refl
+    by_pass false = refl
+
+dealt_group : (owner to : Option ℕ) (street on : ℕ) (late : Bool) (index number : ℕ) (cards : List Slot) → length (filter (is_in_group owner street) (places_dealt to on late index number cards)) ≡ (if is_same_owner to owner && (on == street) then length cards else 0)
+dealt_group owner to street on late index number [] = by_pass (is_same_owner to owner && (on == street))
+  where
+    by_pass : (b : Bool) → ◌≡◌ {A = ℕ} 0 (if b then 0 else 0)
+    by_pass true = refl
+    by_pass false = refl
+dealt_group owner to street on late index number (slot ∷ rest) = by_pass (is_same_owner to owner && (on == street)) (dealt_group owner to street on late (index + 1) (number + 1) rest)
+  where
+    place : Place
+    place = record { owner = to; street = on; index = index; number = number; slot = slot; past_deck = late; gone_after = None; discarded = 0 }
+
+    by_pass : (b : Bool) → length (filter (is_in_group owner street) (places_dealt to on late (index + 1) (number + 1) rest)) ≡ (if b then length rest else 0) → length (if b then (place ∷ filter (is_in_group owner street) (places_dealt to on late (index + 1) (number + 1) rest)) else filter (is_in_group owner street) (places_dealt to on late (index + 1) (number + 1) rest)) ≡ (if b then length (slot ∷ rest) else 0)
+    by_pass true later = ap suc later
+    by_pass false later = later
+
+pub deal_group : (code : Code) (owner to : Option ℕ) (street on : ℕ) (cards : List Slot) (placed : List Place) → length (filter (is_in_group owner street) (after_deal code to on cards placed)) ≡ (if is_same_owner to owner && (on == street) then length cards else 0) + length (filter (is_in_group owner street) placed)
+deal_group code owner to street on cards placed =
+    let news : List Place = places_dealt to on (is_past_deck code placed on) (count_by (is_in_group to on) placed) (length placed) cards in
+    omega (arith, ap (λ (l : List Place). length l) (filter_append (is_in_group owner street) placed news), length-append (filter (is_in_group owner street) placed) (filter (is_in_group owner street) news), dealt_group owner to street on (is_past_deck code placed on) (count_by (is_in_group to on) placed) (length placed) cards)
+
+and_swap : (a b : Bool) (n : ℕ) → (if a && b then n else 0) ≡ (if b && a then n else 0)
+and_swap true true n = refl
+and_swap true false n = refl
+and_swap false true n = refl
+and_swap false false n = refl
+
+pub group_count : (code : Code) (before : Past) (street seat : ℕ) → length (filter (is_in_group (Some seat) street) (places_of code before)) ≡ hole_cards_dealt before street seat
+group_count code [] street seat = refl
+group_count code (Dealt on owner cards ∷ before) street seat =
+    deal_group code (Some seat) (Some owner) street on cards (places_of code before)
+    ∙ ap (λ n. n + length (filter (is_in_group (Some seat) street) (places_of code before))) (and_swap (owner == seat) (on == street) (length cards))
+    ∙ ap (λ n. (if (on == street) && (owner == seat) then length cards else 0) + n) (group_count code before street seat)
+group_count code (Boarded on cards ∷ before) street seat =
+    omega (arith, deal_group code (Some seat) None street on (map (λ card. slots.Known card) cards) (places_of code before), group_count code before street seat)
+group_count code (Moved move ∷ before) street seat = by_fold (is_fold move.act) (group_count code before street seat)
+  where
+    by_fold : (b : Bool) → length (filter (is_in_group (Some seat) street) (places_of code before)) ≡ hole_cards_dealt before street seat → length (filter (is_in_group (Some seat) street) (if b then after_fold move.seat (places_of code before) else places_of code before)) ≡ hole_cards_dealt before street seat
+    by_fold true later = changed_group (Some seat) street (length (places_of code before)) move.street move.seat (places_of code before) (after_fold move.seat (places_of code before)) (fold_changed move.seat (length (places_of code before)) move.street (places_of code before)) ∙ later
+    by_fold false later = later
+group_count code (Discarded on owner cards ∷ before) street seat =
+    let placed = places_of code before in
+    changed_group (Some seat) street (length placed) on owner placed (after_discard on owner cards placed)
+    (marked_changed (is_held_by owner) (length placed) on owner placed (after_discard on owner cards placed) (held_parts owner) (discard_marks (is_held_by owner) (length placed) on (known_cards cards) (other_names (filter (is_held_by owner) placed) (known_cards cards)) (blanks_in cards) placed))
+    ∙ group_count code before street seat
+group_count code (Shown on owner cards ∷ before) street seat =
+    let placed = places_of code before in
+    let covers : Place → Bool = is_covered code owner (is_show_of_all placed owner cards) in
+    changed_group (Some seat) street (length placed) on owner placed (after_show code owner cards placed)
+    (marked_changed nothing (length placed) on owner placed (after_show code owner cards placed) (λ old is. false_true is) (show_marks covers (length placed) on cards (other_names (filter covers placed) cards) 0 placed))
+    ∙ group_count code before street seat
+group_count code (Mucked on owner ∷ before) street seat = group_count code before street seat
+
+-- who did not draw discarded nothing
+undrawn_none : (before : Past) (street seat : ℕ) → has_drawn before street seat ≡ false → cards_discarded before street seat ≡ 0
+undrawn_none [] street seat is = refl
+undrawn_none (Dealt on owner cards ∷ before) street seat is = undrawn_none before street seat is
+undrawn_none (Boarded on cards ∷ before) street seat is = undrawn_none before street seat is
+undrawn_none (Moved move ∷ before) street seat is = undrawn_none before street seat is
+undrawn_none (Shown on owner cards ∷ before) street seat is = undrawn_none before street seat is
+undrawn_none (Mucked on owner ∷ before) street seat is = undrawn_none before street seat is
+undrawn_none (Discarded on owner cards ∷ before) street seat is =
+    let parts = or_parts ((on == street) && (owner == seat)) (has_drawn before street seat) is in
+    omega (arith, ap (λ b. if b then length cards else 0) parts.0, undrawn_none before street seat parts.1)
+
+-- a place among those that pass makes their number one at least
+some_at : (p : Place → Bool) (first place : Place) (rest : List Place) (b : Bool) → p first ≡ b → p place ≡ true → ((first ≡ place) ⊎ (1 ≤ length (filter p rest))) → 1 ≤ length (if b then (first ∷ filter p rest) else filter p rest)
+some_at p first place rest true here is in_it = omega arith
+some_at p first place rest false here is (inl same) = false_true (sym here ∙ (ap p same ∙ is))
+some_at p first place rest false here is (inr more) = more
+
+pub some_passes : (p : Place → Bool) (placed : List Place) (place : Place) → IsAmong placed place → p place ≡ true → 1 ≤ length (filter p placed)
+some_passes p [] place among is = absurd among
+some_passes p (first ∷ rest) place (inl same) is = some_at p first place rest (p first) refl is (inl same)
+some_passes p (first ∷ rest) place (inr later) is = some_at p first place rest (p first) refl is (inr (some_passes p rest place later is))
+
+-- all moves are before a street that has none
+all_before : (newest street : ℕ) (list : List Move) → AreReached newest list → newest ≤ street → has_move street list ≡ false → moves_before street list ≡ list
+all_before newest street [] reached on none = refl
+all_before newest street (move ∷ rest) reached on none =
+    let parts = or_parts (move.street == street) (has_move street rest) none in
+    let early : move.street < street = elim (Rattle.std.proofs.lemmas.Bool.cases_lt move.street street) [
+      | inl less ↦ less
+      | inr more ↦ absurd (both_ways (move.street == street) parts.0 (eq-eqb move.street street (omega (arith, more, reached.0, on))))
+    ] in
+    ap (λ b. if b then (move ∷ moves_before street rest) else moves_before street rest) (lt-ltb move.street street early)
+    ∙ ap (λ l. move ∷ l) (all_before newest street rest reached.1 on parts.1)
+
+-- a seat that is owed cards is live
+owed_live : (setup : Setup) (before : Past) (street seat : ℕ) → PastLaw setup before → is_seat setup seat ≡ true → 1 ≤ cards_owed setup before street seat → owner_folded (moves_of before) (Some seat) ≡ false
+owed_live setup before street seat law is owed = by_live (is_live (moves_of before) seat) refl
+  where
+    none : is_live (moves_of before) seat ≡ false → cards_owed setup before street seat ≡ 0
+    none folded =
+        let parts = and_parts (nat_le 1 seat) (nat_le seat setup.stacks.seats) is in
+        ap (λ n. if has_draw setup.code street then n else hole_cards_owed setup before street seat) (law.folded_owed street seat (leb-true 1 seat parts.0) (leb-true seat setup.stacks.seats parts.1) folded)
+        ∙ (ap (λ b. if has_draw setup.code street then 0 else (if b then hole_cards_on setup.code street - hole_cards_dealt before street seat else 0)) folded
+        ∙ by_draw (has_draw setup.code street))
+      where
+        by_draw : (b : Bool) → ◌≡◌ {A = ℕ} (if b then 0 else 0) 0
+        by_draw true = refl
+        by_draw false = refl
+
+    by_live : (b : Bool) → is_live (moves_of before) seat ≡ b → owner_folded (moves_of before) (Some seat) ≡ false
+    by_live true live = not_from_true (is_live (moves_of before) seat) live
+    by_live false folded = absurd (omega (arith, owed, none folded))
+
+-- the law at a later street
+later_law : (code : Code) (list : List Move) (newest street : ℕ) (placed : List Place) → PlacesLaw code list newest placed → newest ≤ street → PlacesLaw code list street placed
+later_law code list newest street placed law on =
+    record {
+      number_within = law.number_within;
+      gone_within = law.gone_within;
+      since = law.since;
+      reached = λ place among. omega (arith, law.reached place among, on);
+      out_reached = λ place among. omega (arith, law.out_reached place among, on);
+      gone_is = law.gone_is;
+      out_after = law.out_after;
+      folded_after = law.folded_after;
+      gone_when = law.gone_when;
+      late = law.late;
+    }
+
+-- each legal event keeps it
+abbrev pub PlacesOf : Setup → Past → Type 0
+PlacesOf setup before = PlacesLaw setup.code (moves_of before) (newest_street before) (places_of setup.code before)
+
+pub places_law : (setup : Setup) (before : Past) (at : ℕ) (event : Resolved) → PastLaw setup before → PlacesOf setup before → Reaches setup before at → Stepped setup before at event → PlacesOf setup (event ∷ before)
+places_law setup before at _ past law come (deals seat cards due is some few free) =
+    deal_law setup.code (moves_of before) (newest_street before) at (Some seat) cards (places_of setup.code before) law come.on (omega (arith, past.since, come.on))
+    (owed_live setup before at seat past is (omega (arith, some, few)))
+    (all_before (newest_street before) at (moves_of before) past.moved come.on (unmoved_deal setup before at past due))
+places_law setup before at _ past law come (boards cards due some few free) =
+    deal_law setup.code (moves_of before) (newest_street before) at None (map (λ card. slots.Known card) cards) (places_of setup.code before) law come.on (omega (arith, past.since, come.on)) refl
+    (all_before (newest_street before) at (moves_of before) past.moved come.on (unmoved_deal setup before at past (inl due)))
+places_law setup before at _ past law come (shows seat cards may free) =
+    let placed = places_of setup.code before in
+    let covers : Place → Bool = is_covered setup.code seat (is_show_of_all placed seat cards) in
+    marks_law setup.code (moves_of before) (newest_street before) at seat nothing placed (after_show setup.code seat cards placed) law come.on (omega (arith, past.since, come.on)) (λ old is. false_true is) (λ old among is. false_true is)
+    (show_marks covers (length placed) at cards (other_names (filter covers placed) cards) 0 placed)
+places_law setup before at _ past law come (mucks seat may) = later_law setup.code (moves_of before) (newest_street before) at (places_of setup.code before) law come.on
+places_law setup before at _ past law come (discards seat cards no_deal draw next few free held) =
+    let placed = places_of setup.code before in
+    let who = is_next_to_draw setup before at seat next in
+    marks_law setup.code (moves_of before) (newest_street before) at seat (is_held_by seat) placed (after_discard at seat cards placed) law come.on (omega (arith, past.since, come.on)) (held_parts seat)
+    (λ old among is. early old among (held_parts seat old is).1 who)
+    (discard_marks (is_held_by seat) (length placed) at (known_cards cards) (other_names (filter (is_held_by seat) placed) (known_cards cards)) (blanks_in cards) placed)
+  where
+    early : (old : Place) → IsAmong (places_of setup.code before) old → old.owner ≡ Some seat → DrawsNext setup before at seat → old.street < at
+    early old among mine who = elim (Rattle.std.proofs.lemmas.Bool.cases_lt old.street at) [
+      | inl less ↦ less
+      | inr more ↦
+          let here : old.street ≡ at = omega (arith, more, law.reached old among, come.on) in
+          let in_it : is_in_group (Some seat) at old ≡ true = and_from (is_same_owner old.owner (Some seat)) (old.street == at) (ap (λ o. is_same_owner o (Some seat)) mine ∙ eq-eqb seat seat refl) (eq-eqb old.street at here) in
+          let draws_there : has_draw setup.code at ≡ true = (and_parts (has_draw setup.code at) _ draw).0 in
+          absurd (omega (arith, some_passes (is_in_group (Some seat) at) (places_of setup.code before) old among in_it, group_count setup.code before at seat, past.drawn_count at seat draws_there, undrawn_none before at seat who.undrawn))
+    ]
+places_law setup before at _ past law come (moves move no_deal no_draw on) = by_fold (is_fold move.act) refl
+  where
+    by_fold : (b : Bool) → is_fold move.act ≡ b → PlacesLaw setup.code (move ∷ moves_of before) move.street (if b then after_fold move.seat (places_of setup.code before) else places_of setup.code before)
+    by_fold true is = fold_law setup.code move (moves_of before) (newest_street before) (places_of setup.code before) law is (omega (arith, on, come.on)) (omega (arith, on, come.on, past.since))
+    by_fold false is = move_law setup.code move (moves_of before) (newest_street before) (places_of setup.code before) law is (omega (arith, on, come.on)) (omega (arith, on, come.on, past.since))
+
+-- and so it holds of every legal past
+some_streets : (code : Code) → 1 ≤ street_count code
+some_streets games.FT = omega arith
+some_streets games.NT = omega arith
+some_streets games.NS = omega arith
+some_streets games.PO = omega arith
+some_streets games.FO8 = omega arith
+some_streets games.F7S = omega arith
+some_streets games.F7S8 = omega arith
+some_streets games.FR = omega arith
+some_streets games.N2L1D = omega arith
+some_streets games.F2L3D = omega arith
+some_streets games.FB = omega arith
+
+at_start : (setup : Setup) → PastLaw setup []
+at_start setup =
+    record {
+      within = some_streets setup.code;
+      since = omega arith;
+      moved = tt;
+      moved_done = λ street has. false_true has;
+      drawn_count = λ street seat draws_there. omega arith;
+      undrawn = λ street seat none. refl;
+      owed_now = λ street seat least most differ. refl;
+      folded_owed = λ street seat least most folded. refl;
+    }
+
+no_places : (setup : Setup) → PlacesOf setup []
+no_places setup =
+    record {
+      number_within = λ place among. absurd among;
+      gone_within = λ place count among is. absurd among;
+      since = λ place among. absurd among;
+      reached = λ place among. absurd among;
+      out_reached = λ place among. absurd among;
+      gone_is = λ place among. absurd among;
+      out_after = λ place among some. absurd among;
+      folded_after = λ place street among is. absurd among;
+      gone_when = λ a b in_a in_b is. absurd in_a;
+      late = λ place among is. absurd among;
+    }
+
+pub record LegalPast (setup : Setup) (before : Past) : Type 0 where
+  pub past : PastLaw setup before
+  pub places : PlacesOf setup before
+
+pub legal_past : (setup : Setup) (rules : Rules) (events : List Said) → AreLegal setup rules events → LegalPast setup (past_of setup events)
+unfolding with_event
+legal_past setup rules [] legal = record { past = at_start setup; places = no_places setup }
+legal_past setup rules (event ∷ events) legal =
+    let before = past_of setup events in
+    let it = legal_past setup rules events legal.1 in
+    let come = turn_reaches setup before it.past.within in
+    let step = stepped setup rules before event legal.0 in
+    record { past = past_law setup before (turn setup before).0 _ it.past come step; places = places_law setup before (turn setup before).0 _ it.past it.places come step }

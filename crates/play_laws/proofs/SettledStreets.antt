@@ -1,0 +1,139 @@
+-- What is not due on a street does not come due there by later events.
+use Rattle.std.proofs.Common.{◌≡◌, ℕ, zero, suc, ◌+◌, ◌-◌, ◌≤◌, ◌<◌, Bool, true, false, ◌&&◌, ◌||◌, ◌==◌, not, nat_lt, inl, inr, Some, is_some, List, [], ◌∷◌, length, find, refl, sym, ◌∙◌, ap, arith, if◌then◌else◌}
+use Rattle.std.specs.List.{list_any, range_with_len}
+use Rattle.std.proofs.lemmas.Bool.{or_parts, or_from, and_parts, and_left, and_right, and_from, ltb-false, le-ltb, cases_Bool, false_from_ne_true, not-true, not-false, not_from_true, or_left, or_right, eqb-true, ne_eqb}
+use Rattle.play_event.specs.declared.setup.Setup.{Setup}
+use Rattle.play_event.specs.Games.{hole_cards_on}
+use Rattle.play_event.specs.Streets.{has_draw}
+use Rattle.play_event.specs.Past.{Past, Resolved, Move, Dealt, Boarded, Moved, Discarded, Shown, Mucked, moves_of, is_fold}
+use Rattle.play_event.specs.Seats.{is_live, all_seats}
+use Rattle.play_event.specs.Dealing.{is_deal_due, is_draw_due, hole_cards_dealt, has_drawn, hole_cards_owed, board_cards_owed, replacements_owed, next_to_draw}
+use Rattle.list_laws.proofs.Tests.{false_true}
+use Rattle.list_laws.proofs.Options.{some_is_none}
+use Rattle.std.proofs.lemmas.Option.{same_Some}
+
+-- tests that pass less
+pub none_still : (p q : ℕ → Bool) (seats : List ℕ) → ((seat : ℕ) → p seat ≡ false → q seat ≡ false) → list_any p seats ≡ false → list_any q seats ≡ false
+none_still p q [] less is = refl
+none_still p q (seat ∷ rest) less is =
+    let parts = or_parts (p seat) (list_any p rest) is in or_from (q seat) (list_any q rest) (less seat parts.0) (none_still p q rest less parts.1)
+
+found_less : (p q : ℕ → Bool) (first : ℕ) (rest : List ℕ) (a b : Bool) → (b ≡ true → a ≡ true) → (is_some (find p rest) ≡ false → is_some (find q rest) ≡ false) → is_some (if a then Some first else find p rest) ≡ false → is_some (if b then Some first else find q rest) ≡ false
+found_less p q first rest true b less later is = false_true (sym is)
+found_less p q first rest false true less later is = false_true (less refl)
+found_less p q first rest false false less later is = later is
+
+pub none_found_still : (p q : ℕ → Bool) (seats : List ℕ) → ((seat : ℕ) → q seat ≡ true → p seat ≡ true) → is_some (find p seats) ≡ false → is_some (find q seats) ≡ false
+none_found_still p q [] less is = refl
+none_found_still p q (seat ∷ rest) less is = found_less p q seat rest (p seat) (q seat) (less seat) (none_found_still p q rest less) is
+
+-- hole cards owed do not grow
+owed_less : (folded before : Bool) (owed : ℕ) → (if not (folded || before) then owed else 0) ≤ (if not before then owed else 0)
+owed_less true true owed = omega arith
+owed_less true false owed = omega arith
+owed_less false true owed = omega arith
+owed_less false false owed = omega arith
+
+less_dealt : (live : Bool) (on more dealt : ℕ) → (if live then on - (more + dealt) else 0) ≤ (if live then on - dealt else 0)
+less_dealt true on more dealt = omega arith
+less_dealt false on more dealt = omega arith
+
+pub hole_owed_still : (setup : Setup) (before : Past) (event : Resolved) (street seat : ℕ) → hole_cards_owed setup (event ∷ before) street seat ≤ hole_cards_owed setup before street seat
+hole_owed_still setup before (Dealt on owner cards) street seat = less_dealt (is_live (moves_of before) seat) (hole_cards_on setup.code street) (if (on == street) && (owner == seat) then length cards else 0) (hole_cards_dealt before street seat)
+hole_owed_still setup before (Boarded on cards) street seat = omega arith
+hole_owed_still setup before (Moved move) street seat = owed_less (is_fold move.act && (move.seat == seat)) (list_any (λ (move : Move). is_fold move.act && (move.seat == seat)) (moves_of before)) (hole_cards_on setup.code street - hole_cards_dealt before street seat)
+hole_owed_still setup before (Discarded on owner cards) street seat = omega arith
+hole_owed_still setup before (Shown on owner cards) street seat = omega arith
+hole_owed_still setup before (Mucked on owner) street seat = omega arith
+
+pub board_owed_still : (setup : Setup) (before : Past) (event : Resolved) (street : ℕ) → board_cards_owed setup (event ∷ before) street ≤ board_cards_owed setup before street
+board_owed_still setup before (Boarded on cards) street = omega arith
+board_owed_still setup before (Dealt on owner cards) street = omega arith
+board_owed_still setup before (Moved move) street = omega arith
+board_owed_still setup before (Discarded on owner cards) street = omega arith
+board_owed_still setup before (Shown on owner cards) street = omega arith
+board_owed_still setup before (Mucked on owner) street = omega arith
+
+less_than : (a b : ℕ) → b ≤ a → nat_lt 0 a ≡ false → nat_lt 0 b ≡ false
+less_than a b less is = le-ltb 0 b (omega (arith, less, ltb-false 0 a is))
+
+pub deal_still : (setup : Setup) (before : Past) (event : Resolved) (street : ℕ) → is_deal_due setup before street ≡ false → is_deal_due setup (event ∷ before) street ≡ false
+deal_still setup before event street is =
+    let parts = or_parts (list_any (λ seat. nat_lt 0 (hole_cards_owed setup before street seat)) (all_seats setup)) (nat_lt 0 (board_cards_owed setup before street)) is in
+    or_from (list_any (λ seat. nat_lt 0 (hole_cards_owed setup (event ∷ before) street seat)) (all_seats setup)) (nat_lt 0 (board_cards_owed setup (event ∷ before) street))
+    (none_still (λ seat. nat_lt 0 (hole_cards_owed setup before street seat)) (λ seat. nat_lt 0 (hole_cards_owed setup (event ∷ before) street seat)) (all_seats setup) (λ seat. less_than (hole_cards_owed setup before street seat) (hole_cards_owed setup (event ∷ before) street seat) (hole_owed_still setup before event street seat)) parts.0)
+    (less_than (board_cards_owed setup before street) (board_cards_owed setup (event ∷ before) street) (board_owed_still setup before event street) parts.1)
+
+-- an event is a discard on a street
+abbrev pub is_discard_on : ℕ → Resolved → Bool
+is_discard_on street (Discarded on owner cards) = on == street
+is_discard_on street (Dealt on owner cards) = false
+is_discard_on street (Boarded on cards) = false
+is_discard_on street (Moved move) = false
+is_discard_on street (Shown on owner cards) = false
+is_discard_on street (Mucked on owner) = false
+
+not_here : (b c : Bool) (n : ℕ) → b ≡ false → (if b && c then n else 0) ≡ 0
+not_here b c n is = ap (λ x. if x && c then n else 0) is
+
+pub replaced_still : (before : Past) (event : Resolved) (street seat : ℕ) → is_discard_on street event ≡ false → replacements_owed (event ∷ before) street seat ≤ replacements_owed before street seat
+replaced_still before (Dealt on owner cards) street seat no_discard = omega arith
+replaced_still before (Boarded on cards) street seat no_discard = omega arith
+replaced_still before (Moved move) street seat no_discard = omega arith
+replaced_still before (Discarded on owner cards) street seat no_discard = omega (arith, not_here (on == street) (owner == seat) (length cards) no_discard)
+replaced_still before (Shown on owner cards) street seat no_discard = omega arith
+replaced_still before (Mucked on owner) street seat no_discard = omega arith
+
+-- who has to draw had to draw before
+live_before : (folded before drawn : Bool) → (not (folded || before) && not drawn) ≡ true → (not before && not drawn) ≡ true
+live_before true before drawn is = false_true is
+live_before false before drawn is = is
+
+drawn_before : (live drew before : Bool) → (live && not (drew || before)) ≡ true → (live && not before) ≡ true
+drawn_before false drew before is = false_true is
+drawn_before true true before is = false_true is
+drawn_before true false before is = is
+
+pub to_draw_still : (before : Past) (event : Resolved) (street seat : ℕ) → (is_live (moves_of (event ∷ before)) seat && not (has_drawn (event ∷ before) street seat)) ≡ true → (is_live (moves_of before) seat && not (has_drawn before street seat)) ≡ true
+to_draw_still before (Dealt on owner cards) street seat is = is
+to_draw_still before (Boarded on cards) street seat is = is
+to_draw_still before (Moved move) street seat is = live_before (is_fold move.act && (move.seat == seat)) (list_any (λ (move : Move). is_fold move.act && (move.seat == seat)) (moves_of before)) (has_drawn before street seat) is
+to_draw_still before (Discarded on owner cards) street seat is = drawn_before (is_live (moves_of before) seat) ((on == street) && (owner == seat)) (has_drawn before street seat) is
+to_draw_still before (Shown on owner cards) street seat is = is
+to_draw_still before (Mucked on owner) street seat is = is
+
+draw_by : (draws a b c d : Bool) → (a ≡ false → c ≡ false) → (b ≡ false → d ≡ false) → (draws && (a || b)) ≡ false → (draws && (c || d)) ≡ false
+draw_by false a b c d first second is = refl
+draw_by true a b c d first second is = let parts = or_parts a b is in or_from c d (first parts.0) (second parts.1)
+
+pub draw_still : (setup : Setup) (before : Past) (event : Resolved) (street : ℕ) → is_discard_on street event ≡ false → is_draw_due setup before street ≡ false → is_draw_due setup (event ∷ before) street ≡ false
+draw_still setup before event street no_discard is =
+    draw_by (has_draw setup.code street) (is_some (next_to_draw setup before street)) (list_any (λ seat. nat_lt 0 (replacements_owed before street seat)) (all_seats setup)) (is_some (next_to_draw setup (event ∷ before) street)) (list_any (λ seat. nat_lt 0 (replacements_owed (event ∷ before) street seat)) (all_seats setup))
+    (none_found_still (λ seat. is_live (moves_of before) seat && not (has_drawn before street seat)) (λ seat. is_live (moves_of (event ∷ before)) seat && not (has_drawn (event ∷ before) street seat)) (all_seats setup) (to_draw_still before event street))
+    (none_still (λ seat. nat_lt 0 (replacements_owed before street seat)) (λ seat. nat_lt 0 (replacements_owed (event ∷ before) street seat)) (all_seats setup) (λ seat. less_than (replacements_owed before street seat) (replacements_owed (event ∷ before) street seat) (replaced_still before event street seat no_discard))) is
+
+-- where no draw is due on a street, no seat is owed cards there
+at_range : (p : ℕ → Bool) (first count seat : ℕ) → list_any p (range_with_len first count) ≡ false → first ≤ seat → seat < first + count → p seat ≡ false
+at_range p first zero seat is least most = absurd (omega (arith, least, most))
+at_range p first (suc count) seat is least most =
+    let parts = or_parts (p first) (list_any p (range_with_len (first + 1) count)) is in
+    elim (Rattle.std.proofs.lemmas.Bool.cases_lt first seat) [
+      | inl above ↦ at_range p (first + 1) count seat parts.1 (omega (arith, above)) (omega (arith, most))
+      | inr below ↦ let same : seat ≡ first = omega (arith, below, least) in ap p same ∙ parts.0
+    ]
+
+pub none_owed : (setup : Setup) (before : Past) (street seat : ℕ) → has_draw setup.code street ≡ true → is_draw_due setup before street ≡ false → 1 ≤ seat → seat ≤ setup.stacks.seats → replacements_owed before street seat ≡ 0
+none_owed setup before street seat draws is least most =
+    let inside : (is_some (next_to_draw setup before street) || list_any (λ seat. nat_lt 0 (replacements_owed before street seat)) (all_seats setup)) ≡ false = sym (ap (λ b. b && (is_some (next_to_draw setup before street) || list_any (λ seat. nat_lt 0 (replacements_owed before street seat)) (all_seats setup))) draws) ∙ is in
+    let parts = or_parts (is_some (next_to_draw setup before street)) (list_any (λ seat. nat_lt 0 (replacements_owed before street seat)) (all_seats setup)) inside in
+    omega (arith, ltb-false 0 (replacements_owed before street seat) (at_range (λ seat. nat_lt 0 (replacements_owed before street seat)) 1 setup.stacks.seats seat parts.1 least (omega (arith, most))))
+
+-- what is found passes, and is in the range
+found_here : (p : ℕ → Bool) (first count seat : ℕ) (b : Bool) → p first ≡ b → (find p (range_with_len (first + 1) count) ≡ Some seat → (p seat ≡ true) × ((first + 1 ≤ seat) × (seat < (first + 1) + count))) → (if b then Some first else find p (range_with_len (first + 1) count)) ≡ Some seat → (p seat ≡ true) × ((first ≤ seat) × (seat < first + suc count))
+found_here p first count seat true here later is =
+    let same : first ≡ seat = same_Some first seat is in (ap p (sym same) ∙ here, (omega (arith, same), omega (arith, same)))
+found_here p first count seat false here later is = let it = later is in (it.0, (omega (arith, it.1.0), omega (arith, it.1.1)))
+
+pub found_in_range : (p : ℕ → Bool) (first count seat : ℕ) → find p (range_with_len first count) ≡ Some seat → (p seat ≡ true) × ((first ≤ seat) × (seat < first + count))
+found_in_range p first zero seat is = absurd (some_is_none (sym is))
+found_in_range p first (suc count) seat is = found_here p first count seat (p first) refl (found_in_range p (first + 1) count seat) is
