@@ -1,0 +1,6 @@
+//! The law of confluence: a legal and complete script and the canonical script of its trace have one trace.
+#![tactic(auto)]
+
+mod laws;
+
+pub use laws::{law_of_canonical_scripts, law_of_confluence, law_of_tidy_traces};
