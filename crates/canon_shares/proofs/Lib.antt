@@ -1,0 +1,2 @@
+-- The canonical script leaves the shares of the script.
+pub mod SameShares

@@ -1,0 +1,2 @@
+-- What is read of the end of a trace.
+pub mod WholeTrace
