@@ -20,7 +20,7 @@ use Rattle.card_places.specs.Drawn.{named_at}
 use Rattle.street_laws.specs.Dues.{IsDueWithin}
 use Rattle.card_places.specs.DueStreet.{due_street}
 use Rattle.card_places.specs.Placed.{placed}
-use Rattle.card_places.specs.Refusals.{owed_of, owed_seen, board_owed_seen, hole_why_on, board_why_on, hole_why, board_why}
+use Rattle.card_places.specs.Refusals.{owed_of, owed_in, board_owed_in, hole_why_on, board_why_on, hole_why, board_why}
 use Rattle.card_places.specs.Room.{is_seat_of, is_street, hole_most, most_of, AreNamedWithin, IsOwed}
 use Rattle.card_places.proofs.Rooms.{seat_parts, street_parts}
 
@@ -52,7 +52,7 @@ IsOwedIn t owner street count = IsOwed t.table.code t.seats t.draws (placed t.pl
 
 owed_on : (t : CardState) (live : LiveRow) (on seat : ℕ) (cards : List Slot) → 1 ≤ on → on ≤ street_count t.table.code → hole_why_on t live on seat cards ≡ None → IsOwedIn t (Some seat) on (length cards)
 owed_on t live on seat cards first last is =
-    let owed : ℕ = owed_seen t live on seat in
+    let owed : ℕ = owed_in t live on seat in
     let parts = count_at (length cards == 0) (nat_lt owed (length cards)) (not (is_seat_of t.seats seat) || (owed == 0)) (has_taken_card t.table.code (placed t.places) on cards) is in
     let some : 1 ≤ length cards = some_cards (length cards) parts.1 in
     record {
@@ -81,7 +81,7 @@ hole_owed t live dues.Over on seat cards street within is = absurd cc
 
 board_owed_on : (t : CardState) (on : ℕ) (cards : List Slot) → 1 ≤ on → on ≤ street_count t.table.code → board_why_on t on cards ≡ None → IsOwedIn t None on (length cards)
 board_owed_on t on cards first last is =
-    let owed : ℕ = board_owed_seen t on in
+    let owed : ℕ = board_owed_in t on in
     let parts = count_at (length cards == 0) (nat_lt owed (length cards)) false (has_taken_card t.table.code (placed t.places) on cards) is in
     record {
       owner_in = refl;

@@ -16,7 +16,7 @@ use Rattle.card_places.specs.declared.dealt_cards.DealtCards.{DealtCards}
 use Rattle.card_places.specs.Discarded.{IsRightDiscard}
 use Rattle.card_places.specs.Drawn.{drew_at}
 use Rattle.card_places.specs.Placed.{placed}
-use Rattle.card_places.specs.Refusals.{has_to_draw, next_seen, draws_next_seen, discard_why_on}
+use Rattle.card_places.specs.Refusals.{has_to_draw, next_to_draw_in, is_next_in, discard_why_on}
 use Rattle.card_places.specs.Room.{is_seat_of}
 use Rattle.card_places.proofs.HeldCards.{discard_takes}
 
@@ -57,8 +57,8 @@ pub record IsDrawer (t : CardState) (on seat : ℕ) (cards : List Slot) : Type 0
 
 pub drawer_is : (t : CardState) (live : LiveRow) (on seat : ℕ) (cards : List Slot) → discard_why_on t live on seat cards ≡ None → IsDrawer t on seat cards
 drawer_is t live on seat cards is =
-    let parts = chain_parts (draws_next_seen t live on seat) _ _ (has_no_place (filter (is_held_by seat) (placed t.places)) (known_cards cards) (blanks_in cards)) is in
-    let found = find_found (has_to_draw t live on) 1 t.seats seat (by_found (next_seen t live on) seat parts.0) in
+    let parts = chain_parts (is_next_in t live on seat) _ _ (has_no_place (filter (is_held_by seat) (placed t.places)) (known_cards cards) (blanks_in cards)) is in
+    let found = find_found (has_to_draw t live on) 1 t.seats seat (by_found (next_to_draw_in t live on) seat parts.0) in
     record {
       first = found.1;
       last = omega (arith, found.2);

@@ -2,6 +2,7 @@
 pub mod Plain
 pub mod Placed
 pub mod Held
+pub mod Covered
 pub mod Marks
 pub mod Searches
 pub mod Drawn

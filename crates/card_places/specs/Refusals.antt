@@ -28,12 +28,12 @@ use Rattle.card_places.specs.Room.{is_seat_of}
 abbrev pub owed_of : (draws live : Bool) (hole named dealt : ℕ) → ℕ
 owed_of draws live hole named dealt = if draws then named - dealt else (if live then hole - dealt else 0)
 
-abbrev pub owed_seen : CardState → LiveRow → ℕ → ℕ → ℕ
-owed_seen t live on seat =
+abbrev pub owed_in : CardState → LiveRow → ℕ → ℕ → ℕ
+owed_in t live on seat =
     owed_of (has_draw t.table.code on) (flag_of live seat) (hole_cards_on t.table.code on) (named_at t.draws on seat) (count_by (is_in_group (Some seat) on) (placed t.places))
 
-abbrev pub board_owed_seen : CardState → ℕ → ℕ
-board_owed_seen t on = board_cards_on t.table.code on - count_by (is_in_group None on) (placed t.places)
+abbrev pub board_owed_in : CardState → ℕ → ℕ
+board_owed_in t on = board_cards_on t.table.code on - count_by (is_in_group None on) (placed t.places)
 
 -- the reasons of a deal in their order
 abbrev pub deal_chain : (wrong_seat : Bool) (owed count : ℕ) (taken : Bool) → Option Illegal
@@ -45,12 +45,12 @@ deal_chain wrong_seat owed count taken =
 
 abbrev pub hole_why_on : CardState → LiveRow → ℕ → ℕ → List Slot → Option Illegal
 hole_why_on t live on seat cards =
-    let owed = owed_seen t live on seat in
+    let owed = owed_in t live on seat in
     deal_chain (not (is_seat_of t.seats seat) || (owed == 0)) owed (length cards) (has_taken_card t.table.code (placed t.places) on cards)
 
 abbrev pub board_why_on : CardState → ℕ → List Slot → Option Illegal
 board_why_on t on cards =
-    let owed = board_owed_seen t on in
+    let owed = board_owed_in t on in
     if is_wrong_deal owed (length cards) then Some reasons.WrongCount
     else if has_taken_card t.table.code (placed t.places) on cards then Some reasons.CardTaken
     else None
@@ -77,11 +77,11 @@ board_why t dues.Show cards = Some reasons.WrongKind
 abbrev pub has_to_draw : CardState → LiveRow → ℕ → ℕ → Bool
 has_to_draw t live on seat = flag_of live seat && not (drew_at t.draws on seat)
 
-abbrev pub next_seen : CardState → LiveRow → ℕ → Option ℕ
-next_seen t live on = find (has_to_draw t live on) (seats_of t.seats)
+abbrev pub next_to_draw_in : CardState → LiveRow → ℕ → Option ℕ
+next_to_draw_in t live on = find (has_to_draw t live on) (seats_of t.seats)
 
-abbrev pub draws_next_seen : CardState → LiveRow → ℕ → ℕ → Bool
-draws_next_seen t live on seat = option_map_or (λ next. next == seat) (next_seen t live on) false
+abbrev pub is_next_in : CardState → LiveRow → ℕ → ℕ → Bool
+is_next_in t live on seat = option_map_or (λ next. next == seat) (next_to_draw_in t live on) false
 
 -- the reasons of a discard in their order
 abbrev pub discard_chain : (next : Bool) (held count : ℕ) (taken lacking : Bool) → Option Illegal
@@ -94,7 +94,7 @@ discard_chain next held count taken lacking =
 
 abbrev pub discard_why_on : CardState → LiveRow → ℕ → ℕ → List Slot → Option Illegal
 discard_why_on t live on seat cards =
-    discard_chain (draws_next_seen t live on seat) (held_count (placed t.places) seat) (length cards)
+    discard_chain (is_next_in t live on seat) (held_count (placed t.places) seat) (length cards)
     (has_misplaced_card t.table.code (placed t.places) (after_discard on seat cards (placed t.places)))
     (has_no_place (filter (is_held_by seat) (placed t.places)) (known_cards cards) (blanks_in cards))
 
@@ -107,8 +107,8 @@ discard_why t live dues.Move seat cards = Some reasons.WrongKind
 discard_why t live dues.Show seat cards = Some reasons.WrongKind
 
 -- a seat may show or muck: it is live, and did neither
-abbrev pub may_show_seen : CardState → LiveRow → ℕ → Bool
-may_show_seen t live seat = is_seat_of t.seats seat && (flag_of live seat && not (flag_of t.shown seat || flag_of t.mucked seat))
+abbrev pub may_show_in : CardState → LiveRow → ℕ → Bool
+may_show_in t live seat = is_seat_of t.seats seat && (flag_of live seat && not (flag_of t.shown seat || flag_of t.mucked seat))
 
 abbrev pub may_show_many : Code → List Place → ℕ → ℕ → Bool
 may_show_many code placed seat count =
@@ -125,13 +125,13 @@ show_chain may many taken others =
 
 abbrev pub show_why_on : CardState → LiveRow → ℕ → List Card → Option Illegal
 show_why_on t live seat cards =
-    show_chain (may_show_seen t live seat) (may_show_many t.table.code (placed t.places) seat (length cards))
+    show_chain (may_show_in t live seat) (may_show_many t.table.code (placed t.places) seat (length cards))
     (has_misplaced_card t.table.code (placed t.places) (after_show t.table.code seat cards (placed t.places)))
     (is_show_of_others (filter (is_covered t.table.code seat (is_show_of_all (placed t.places) seat cards)) (placed t.places)) cards)
 
 -- why a seat may not show these cards now, the hand being settled or not
 abbrev pub show_why : CardState → LiveRow → Due → Bool → ℕ → List Card → Option Illegal
-show_why t live dues.Over settled seat cards = if may_show_seen t live seat then show_why_on t live seat cards else Some reasons.HandOver
+show_why t live dues.Over settled seat cards = if may_show_in t live seat then show_why_on t live seat cards else Some reasons.HandOver
 show_why t live dues.Show settled seat cards = show_why_on t live seat cards
 show_why t live (dues.Deal on) settled seat cards = if settled then show_why_on t live seat cards else Some reasons.WrongKind
 show_why t live (dues.Draw on) settled seat cards = if settled then show_why_on t live seat cards else Some reasons.WrongKind
@@ -140,31 +140,31 @@ show_why t live dues.Move settled seat cards = if settled then show_why_on t liv
 
 -- why a seat may not muck now
 abbrev pub muck_why : CardState → LiveRow → Due → ℕ → Option Illegal
-muck_why t live dues.Over seat = if may_show_seen t live seat then None else Some reasons.HandOver
-muck_why t live dues.Show seat = if may_show_seen t live seat then None else Some reasons.WrongSeat
+muck_why t live dues.Over seat = if may_show_in t live seat then None else Some reasons.HandOver
+muck_why t live dues.Show seat = if may_show_in t live seat then None else Some reasons.WrongSeat
 muck_why t live (dues.Deal on) seat = Some reasons.WrongKind
 muck_why t live (dues.Draw on) seat = Some reasons.WrongKind
 muck_why t live dues.BringIn seat = Some reasons.WrongKind
 muck_why t live dues.Move seat = Some reasons.WrongKind
 
 -- how many cards of a deal a seat lacks
-abbrev pub lacks_seen : CardState → LiveRow → ℕ → ℕ → Bool
-lacks_seen t live on seat = nat_lt 0 (if flag_of live seat then hole_cards_on t.table.code on - count_by (is_in_group (Some seat) on) (placed t.places) else 0)
+abbrev pub lacks_in : CardState → LiveRow → ℕ → ℕ → Bool
+lacks_in t live on seat = nat_lt 0 (if flag_of live seat then hole_cards_on t.table.code on - count_by (is_in_group (Some seat) on) (placed t.places) else 0)
 
-abbrev pub owed_draw_seen : CardState → ℕ → ℕ → Bool
-owed_draw_seen t on seat = nat_lt 0 (named_at t.draws on seat - count_by (is_in_group (Some seat) on) (placed t.places))
+abbrev pub is_owed_draw_in : CardState → ℕ → ℕ → Bool
+is_owed_draw_in t on seat = nat_lt 0 (named_at t.draws on seat - count_by (is_in_group (Some seat) on) (placed t.places))
 
-abbrev pub to_show_seen : CardState → LiveRow → ℕ → Bool
-to_show_seen t live seat = flag_of live seat && not (flag_of t.shown seat || flag_of t.mucked seat)
+abbrev pub has_to_show_in : CardState → LiveRow → ℕ → Bool
+has_to_show_in t live seat = flag_of live seat && not (flag_of t.shown seat || flag_of t.mucked seat)
 
-abbrev pub board_lacks_seen : CardState → ℕ → Bool
-board_lacks_seen t on = nat_lt 0 (board_owed_seen t on)
+abbrev pub board_lacks_in : CardState → ℕ → Bool
+board_lacks_in t on = nat_lt 0 (board_owed_in t on)
 
 -- what is due is complete
-abbrev pub done_seen : CardState → LiveRow → Due → Bool
-done_seen t live (dues.Deal on) = not (list_any (lacks_seen t live on) (seats_of t.seats) || nat_lt 0 (board_owed_seen t on))
-done_seen t live (dues.Draw on) = not (has_draw t.table.code on && (is_some (next_seen t live on) || list_any (owed_draw_seen t on) (seats_of t.seats)))
-done_seen t live dues.Show = not (list_any (to_show_seen t live) (seats_of t.seats))
-done_seen t live dues.BringIn = false
-done_seen t live dues.Move = false
-done_seen t live dues.Over = false
+abbrev pub is_done_in : CardState → LiveRow → Due → Bool
+is_done_in t live (dues.Deal on) = not (list_any (lacks_in t live on) (seats_of t.seats) || nat_lt 0 (board_owed_in t on))
+is_done_in t live (dues.Draw on) = not (has_draw t.table.code on && (is_some (next_to_draw_in t live on) || list_any (is_owed_draw_in t on) (seats_of t.seats)))
+is_done_in t live dues.Show = not (list_any (has_to_show_in t live) (seats_of t.seats))
+is_done_in t live dues.BringIn = false
+is_done_in t live dues.Move = false
+is_done_in t live dues.Over = false

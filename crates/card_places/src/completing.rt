@@ -14,7 +14,7 @@ use play_event::Due;
 fn lacks(state: &CardState, live: &LiveRow, on: u8, seat: Seat) -> bool
     requires live { live.now.seats ≡ state.now.seats }
     requires seat { seat.number ≤ state.now.seats }
-    ensures { result ≡ why.lacks_seen state.now live.now on seat.number }
+    ensures { result ≡ why.lacks_in state.now live.now on seat.number }
 {
     let street = state.table.street(on);
     live.get(seat) && state.places.in_group(Some(seat), on) < street.down + street.up
@@ -25,7 +25,7 @@ fn lacks(state: &CardState, live: &LiveRow, on: u8, seat: Seat) -> bool
 fn some_lacks(state: &CardState, live: &LiveRow, on: u8) -> bool
     requires live { live.now.seats ≡ state.now.seats }
     requires ten { state.now.seats ≤ 10 }
-    ensures { result ≡ list_any (why.lacks_seen state.now live.now on) (seats_of state.now.seats) }
+    ensures { result ≡ list_any (why.lacks_in state.now live.now on) (seats_of state.now.seats) }
 {
     let mut any = false;
     for index in 0..state.seats {
@@ -40,7 +40,7 @@ fn some_lacks(state: &CardState, live: &LiveRow, on: u8) -> bool
 fn some_owed(state: &CardState, on: u8) -> bool
     requires street { on ≤ 5 }
     requires ten { state.now.seats ≤ 10 }
-    ensures { result ≡ list_any (why.owed_draw_seen state.now on) (seats_of state.now.seats) }
+    ensures { result ≡ list_any (why.is_owed_draw_in state.now on) (seats_of state.now.seats) }
 {
     let mut any = false;
     for index in 0..state.seats {
@@ -56,7 +56,7 @@ fn some_owed(state: &CardState, on: u8) -> bool
 fn some_to_show(state: &CardState, live: &LiveRow) -> bool
     requires live { live.now.seats ≡ state.now.seats }
     requires ten { state.now.seats ≤ 10 }
-    ensures { result ≡ list_any (why.to_show_seen state.now live.now) (seats_of state.now.seats) }
+    ensures { result ≡ list_any (why.has_to_show_in state.now live.now) (seats_of state.now.seats) }
 {
     let mut any = false;
     for index in 0..state.seats {
@@ -69,7 +69,7 @@ fn some_to_show(state: &CardState, live: &LiveRow) -> bool
 
 // The board lacks cards of the street.
 fn board_lacks(state: &CardState, on: u8) -> bool
-    ensures { result ≡ why.board_lacks_seen state.now on }
+    ensures { result ≡ why.board_lacks_in state.now on }
 {
     state.places.in_group(None, on) < state.table.street(on).board
 }
@@ -79,7 +79,7 @@ pub fn done(state: &CardState, live: &LiveRow, due: Due) -> bool
     requires due { IsDueWithin 5 due }
     requires live { live.now.seats ≡ state.now.seats }
     requires ten { state.now.seats ≤ 10 }
-    ensures { result ≡ why.done_seen state.now live.now due }
+    ensures { result ≡ why.is_done_in state.now live.now due }
 {
     match due {
         Due::Deal(on) => !(some_lacks(state, live, on) || board_lacks(state, on)),

@@ -6,7 +6,7 @@ ghost use Rattle.card_places.specs.Placed.{placed};
 ghost use Rattle.card_places.specs.Plain.{place_of, seat_of};
 
 use crate::dealt_card::DealtCard;
-use crate::dealt_cards::DealtCards;
+use crate::dealt_cards::{DealtCards, MOST_CARDS};
 use card_set::Slot;
 use chip_ledger::Seat;
 
@@ -22,7 +22,7 @@ impl DealtCards {
 
     /// Puts a card after the others.
     pub fn push(&mut self, card: DealtCard)
-        requires { self.old.count < 120 }
+        requires { self.old.count < MOST_CARDS }
         ensures places { placed self.new ≡ placed self.old ++ place_of card ∷ [] }
         ensures count { self.new.count ≡ self.old.count + 1 }
     {
@@ -61,7 +61,9 @@ impl DealtCards {
     pub fn put(&mut self, owner: Option<Seat>, street: u8, past_deck: bool, cards: &[Slot])
         requires { self.old.count + length cards.now ≤ 120 }
         ensures { placed self.new ≡ placed self.old
-            ++ places_dealt (seat_of owner) street past_deck (count_by (is_in_group (seat_of owner) street) (placed self.old)) (length (placed self.old)) cards.now }
+            ++ places_dealt (seat_of owner) street past_deck
+            (count_by (is_in_group (seat_of owner) street) (placed self.old))
+            (length (placed self.old)) cards.now }
     {
         let mut index = self.in_group(owner, street);
         for slot in cards {

@@ -38,7 +38,8 @@ pub fn first_to_draw(
     requires live { live.now.seats ≡ state.now.seats }
     requires from_one { 1 ≤ first }
     requires within { first + count ≤ state.now.seats + 1 }
-    ensures { seat_of result ≡ find (why.has_to_draw state.now live.now on) (range_with_len first count) }
+    ensures { seat_of result ≡ find (why.has_to_draw state.now live.now on)
+        (range_with_len first count) }
 {
     if count == 0 {
         return None;
@@ -55,7 +56,7 @@ pub fn first_to_draw(
 fn is_next_to_draw(state: &CardState, live: &LiveRow, on: u8, seat: Seat) -> bool
     requires street { on ≤ 5 }
     requires live { live.now.seats ≡ state.now.seats }
-    ensures { result ≡ why.draws_next_seen state.now live.now on seat.number }
+    ensures { result ≡ why.is_next_in state.now live.now on seat.number }
 {
     match first_to_draw(state, live, on, 1, state.seats) {
         Some(next) => next.number == seat.number,
@@ -65,8 +66,11 @@ fn is_next_to_draw(state: &CardState, live: &LiveRow, on: u8, seat: Seat) -> boo
 
 // The places after a discard.
 fn discarded(table: &DealTable, places: &DealtCards, on: u8, seat: Seat, cards: &SlotRow) -> Outcome
-    ensures after { placed result.after ≡ naming.after_discard on seat.number (slots_of cards.now) (placed places.now) }
-    ensures lacking { result.lacking ≡ reasons.has_no_place (filter (is_held_by seat.number) (placed places.now)) (known_cards (slots_of cards.now)) (naming.blanks_in (slots_of cards.now)) }
+    ensures after { placed result.after ≡ naming.after_discard on seat.number (slots_of cards.now)
+        (placed places.now) }
+    ensures lacking { result.lacking ≡ reasons.has_no_place
+        (filter (is_held_by seat.number) (placed places.now)) (known_cards (slots_of cards.now))
+        (naming.blanks_in (slots_of cards.now)) }
 {
     let names = known(cards);
     let blanks = blanks(cards.as_slice()) as u8;
@@ -83,8 +87,10 @@ pub fn discard_on(
 ) -> Result<DealtCards, Illegal>
     requires street { on ≤ 5 }
     requires live { live.now.seats ≡ state.now.seats }
-    ensures right { IfOk result (λ after. IsRightDiscard state.now live.now on seat.number (slots_of cards.now) after) }
-    ensures wrong { IfErr result (λ reason. why.discard_why_on state.now live.now on seat.number (slots_of cards.now) ≡ Some reason) }
+    ensures right { IfOk result (λ after. IsRightDiscard state.now live.now on seat.number
+        (slots_of cards.now) after) }
+    ensures wrong { IfErr result (λ reason. why.discard_why_on state.now live.now on seat.number
+        (slots_of cards.now) ≡ Some reason) }
 {
     if !is_next_to_draw(state, live, on, seat) {
         return Err(Illegal::WrongSeat);

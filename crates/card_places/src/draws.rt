@@ -50,8 +50,12 @@ impl Draws {
         requires most { count ≤ 7 }
         ensures drew { drew_at self.new street seat.number ≡ true }
         ensures named { named_at self.new street seat.number ≡ count }
-        ensures others { (on number : ℕ) → 1 ≤ number → number ≤ 10 → (on ≢ street) ⊎ (number ≢ seat.number) → drew_at self.new on number ≡ drew_at self.old on number }
-        ensures others_named { (on number : ℕ) → 1 ≤ number → number ≤ 10 → (on ≢ street) ⊎ (number ≢ seat.number) → named_at self.new on number ≡ named_at self.old on number }
+        ensures others { (on number : ℕ) → 1 ≤ number → number ≤ 10
+            → (on ≢ street) ⊎ (number ≢ seat.number) → drew_at self.new on number
+            ≡ drew_at self.old on number }
+        ensures others_named { (on number : ℕ) → 1 ≤ number → number ≤ 10
+            → (on ≢ street) ⊎ (number ≢ seat.number) → named_at self.new on number
+            ≡ named_at self.old on number }
     {
         let index = 10 * street as usize + seat.number as usize - 1;
         self.named[index] = count;

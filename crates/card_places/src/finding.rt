@@ -44,7 +44,8 @@ pub fn find(
     taken: u8,
     blanks: u8,
 ) -> Found
-    ensures { IsFound result (found_by (mark_by street count) (cards_of names.now) card.slot (drop taken (cards_of others.now)) blanks (place_of card)) (cards_of others.now) }
+    ensures { IsFound result (found_by (mark_by street count) (cards_of names.now) card.slot
+        (drop taken (cards_of others.now)) blanks (place_of card)) (cards_of others.now) }
 {
     match card.slot {
         Slot::Known(known) => {

@@ -5,6 +5,7 @@ ghost use Rattle.card_set.specs.Row.{cards_of};
 ghost use Rattle.play_event.specs.CardReasons as reasons;
 ghost use Rattle.play_event.specs.Naming as naming;
 ghost use Rattle.card_set.specs.Known as known;
+ghost use Rattle.card_places.specs.Covered.{after_named, covered};
 ghost use Rattle.card_places.specs.Marks.{mark_by};
 ghost use Rattle.card_places.specs.Placed.{placed};
 ghost use Rattle.card_places.specs.Plain.{place_of};
@@ -26,7 +27,8 @@ pub struct Outcome {
 
 // A covered place is unknown.
 fn is_free(table: &DealTable, card: &DealtCard, seat: Seat, all: bool) -> bool
-    ensures { result ≡ (naming.is_covered table.now.code seat.number all (place_of card.now) && known.is_unknown card.now.slot) }
+    ensures { result ≡ (naming.is_covered table.now.code seat.number all (place_of card.now)
+        && known.is_unknown card.now.slot) }
 {
     covers(table, card, seat, all) && is_unknown(card.slot)
 }
@@ -34,7 +36,8 @@ fn is_free(table: &DealTable, card: &DealtCard, seat: Seat, all: bool) -> bool
 // How many covered places are unknown.
 #[tactic(auto, using(crate::proofs::Covered::free_more))]
 fn free_count(table: &DealTable, rows: &[DealtCard], seat: Seat, all: bool) -> usize
-    ensures value { result ≡ count_by (λ place. known.is_unknown place.slot) (filter (naming.is_covered table.now.code seat.number all) (map place_of rows.now)) }
+    ensures value { result ≡ count_by (λ place. known.is_unknown place.slot)
+        (covered table.now.code seat.number all (map place_of rows.now)) }
     ensures most { result ≤ length rows.now }
 {
     let mut count = 0;
@@ -54,7 +57,8 @@ pub fn leaves_out(
     all: bool,
     names: &[Card],
 ) -> bool
-    ensures { result ≡ list_any (λ place. reasons.is_left_out names.now place.slot) (filter (naming.is_covered table.now.code seat.number all) (map place_of rows.now)) }
+    ensures { result ≡ list_any (λ place. reasons.is_left_out names.now place.slot)
+        (covered table.now.code seat.number all (map place_of rows.now)) }
 {
     for row in rows {
         if covers(table, row, seat, all) && left_out(row.slot, names) {
@@ -74,9 +78,12 @@ pub fn tried(
     names: &CardRow,
     blanks: u8,
 ) -> Outcome
-    ensures after { placed result.after ≡ naming.after_names (naming.is_covered table.now.code seat.number all) (mark_by street (length (placed places.now))) (cards_of names.now) (naming.other_names (filter (naming.is_covered table.now.code seat.number all) (placed places.now)) (cards_of names.now)) blanks (placed places.now) }
+    ensures after { placed result.after ≡ after_named table.now.code seat.number all
+        (mark_by street (length (placed places.now))) (cards_of names.now) blanks
+        (placed places.now) }
     ensures count { result.after.count ≡ places.now.count }
-    ensures lacking { result.lacking ≡ reasons.has_no_place (filter (naming.is_covered table.now.code seat.number all) (placed places.now)) (cards_of names.now) blanks }
+    ensures lacking { result.lacking ≡ reasons.has_no_place
+        (covered table.now.code seat.number all (placed places.now)) (cards_of names.now) blanks }
 {
     let rows = places.as_slice();
     let others = other_names(table, rows, seat, all, names);

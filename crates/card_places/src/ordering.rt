@@ -16,7 +16,8 @@ use play_event::Place;
 // The card at an index of those of the street and the owner, or how far the index is past them.
 fn in_group(rows: &[DealtCard], owner: Option<Seat>, street: u8, index: u8) -> Result<DealtCard, u8>
     ensures found { IfOk result (λ card.
-        slice_get (group (map place_of rows.now) street (seat_of owner)) index ≡ Some (place_of card)) }
+        slice_get (group (map place_of rows.now) street (seat_of owner)) index
+        ≡ Some (place_of card)) }
     ensures past { IfErr result (λ left.
         index ≡ left + length (group (map place_of rows.now) street (seat_of owner))) }
 {

@@ -24,7 +24,7 @@ pub fn owed(state: &CardState, live: &LiveRow, on: u8, seat: Seat) -> u8
     requires street { on ≤ 5 }
     requires live { live.now.seats ≡ state.now.seats }
     requires seat { seat.number ≤ state.now.seats }
-    ensures { result ≡ why.owed_seen state.now live.now on seat.number }
+    ensures { result ≡ why.owed_in state.now live.now on seat.number }
 {
     let street = state.table.street(on);
     let dealt = state.places.in_group(Some(seat), on);

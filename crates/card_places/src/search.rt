@@ -3,6 +3,7 @@ ghost use Rattle.std.specs.Prelude.{◌≡◌, ◌∷◌, List, filter, map};
 ghost use Rattle.card_set.specs.Row.{cards_of};
 ghost use Rattle.play_event.specs.Places.{Place};
 ghost use Rattle.play_event.specs.Naming as naming;
+ghost use Rattle.card_places.specs.Covered.{covered};
 ghost use Rattle.card_places.specs.Placed.{placed};
 ghost use Rattle.card_places.specs.Plain.{place_of};
 ghost use Rattle.card_places.specs.Searches.{search_from};
@@ -36,7 +37,8 @@ pub fn covers(table: &DealTable, card: &DealtCard, seat: Seat, all: bool) -> boo
 
 // What the names make of the next place.
 fn look(table: &DealTable, search: &Search, card: DealtCard, taken: u8, blanks: u8) -> Found
-    ensures { (rest : List Place) → search_from table.now.code search.now taken blanks (place_of card ∷ rest)
+    ensures { (rest : List Place) → search_from table.now.code search.now taken blanks
+        (place_of card ∷ rest)
         ≡ place_of result.card ∷ search_from table.now.code search.now result.taken result.blanks rest }
 {
     if covers(table, &card, search.seat, search.all) {
@@ -66,7 +68,8 @@ pub fn other_names(
     all: bool,
     names: &CardRow,
 ) -> CardRow
-    ensures { cards_of result ≡ naming.other_names (filter (naming.is_covered table.now.code seat.number all) (map place_of rows.now)) (cards_of names.now) }
+    ensures { cards_of result ≡ naming.other_names
+        (covered table.now.code seat.number all (map place_of rows.now)) (cards_of names.now) }
 {
     let mut others = *names;
     for card in rows {
@@ -79,7 +82,8 @@ pub fn other_names(
 
 // The places after the names found theirs.
 pub fn run(table: &DealTable, places: &DealtCards, search: &Search, blanks: u8) -> DealtCards
-    ensures places { placed result ≡ search_from table.now.code search.now 0 blanks (placed places.now) }
+    ensures places { placed result ≡ search_from table.now.code search.now 0 blanks
+        (placed places.now) }
     ensures count { result.count ≡ places.now.count }
 {
     let mut rows = places.rows;

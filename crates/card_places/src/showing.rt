@@ -8,6 +8,7 @@ ghost use Rattle.play_event.specs.Naming as naming;
 ghost use Rattle.play_event.specs.Naming.{after_show};
 ghost use Rattle.card_set.specs.Known as known;
 ghost use Rattle.play_event.specs.Places as plain;
+ghost use Rattle.card_places.specs.Covered.{after_named, covered};
 ghost use Rattle.card_places.specs.Placed.{placed};
 ghost use Rattle.card_places.specs.Plain.{place_of};
 ghost use Rattle.card_places.specs.Shown.{IsMucked, IsRightShow, IsShown};
@@ -27,7 +28,7 @@ use play_event::{Due, Illegal};
 // The seat may show or muck.
 fn may_show(state: &CardState, live: &LiveRow, seat: Seat) -> bool
     requires { live.now.seats ≡ state.now.seats }
-    ensures may { result ≡ why.may_show_seen state.now live.now seat.number }
+    ensures may { result ≡ why.may_show_in state.now live.now seat.number }
     ensures in_hand { IsTrue result → seat.number ≤ state.now.seats }
 {
     seat.number <= state.seats
@@ -44,7 +45,8 @@ fn is_held_down(table: &DealTable, card: &DealtCard, seat: Seat) -> bool
 
 // How many cards the seat holds face down.
 fn held_down(table: &DealTable, rows: &[DealtCard], seat: Seat) -> usize
-    ensures value { result ≡ count_by (naming.is_held_down table.now.code seat.number) (map place_of rows.now) }
+    ensures value { result ≡ count_by (naming.is_held_down table.now.code seat.number)
+        (map place_of rows.now) }
     ensures most { result ≤ length rows.now }
 {
     let mut count = 0;
@@ -58,7 +60,8 @@ fn held_down(table: &DealTable, rows: &[DealtCard], seat: Seat) -> usize
 
 // An up-card of the seat is unknown.
 fn hides_up(table: &DealTable, rows: &[DealtCard], seat: Seat) -> bool
-    ensures { result ≡ list_any known.is_unknown (plain.up_slots table.now.code (map place_of rows.now) seat.number) }
+    ensures { result ≡ list_any known.is_unknown
+        (plain.up_slots table.now.code (map place_of rows.now) seat.number) }
 {
     for row in rows {
         if row.held_by(Some(seat)) && table.is_up(row) && is_unknown(row.slot) {
@@ -70,7 +73,8 @@ fn hides_up(table: &DealTable, rows: &[DealtCard], seat: Seat) -> bool
 
 // A show may have so many cards.
 fn may_show_many(state: &CardState, seat: Seat, count: u8) -> bool
-    ensures { result ≡ why.may_show_many state.now.table.code (placed state.now.places) seat.number count }
+    ensures { result ≡ why.may_show_many state.now.table.code
+        (placed state.now.places) seat.number count }
 {
     let rows = state.places.as_slice();
     count == state.places.held(Some(seat))
@@ -93,8 +97,10 @@ fn shown_of(
     all: bool,
     cards: &CardRow,
 ) -> Outcome
-    ensures after { placed result.after ≡ naming.after_names (naming.is_covered table.now.code seat.number all) (λ place. place) (cards_of cards.now) (naming.other_names (filter (naming.is_covered table.now.code seat.number all) (placed places.now)) (cards_of cards.now)) 0 (placed places.now) }
-    ensures lacking { result.lacking ≡ reasons.is_show_of_others (filter (naming.is_covered table.now.code seat.number all) (placed places.now)) (cards_of cards.now) }
+    ensures after { placed result.after ≡ after_named table.now.code seat.number all
+        (λ place. place) (cards_of cards.now) 0 (placed places.now) }
+    ensures lacking { result.lacking ≡ reasons.is_show_of_others
+        (covered table.now.code seat.number all (placed places.now)) (cards_of cards.now) }
 {
     let outcome = tried(table, places, seat, all, None, cards, 0);
     let lacking = outcome.lacking
@@ -107,8 +113,11 @@ fn shown_of(
 
 // The places after a show, and whether it names other cards.
 fn shown(table: &DealTable, places: &DealtCards, seat: Seat, cards: &CardRow) -> Outcome
-    ensures after { placed result.after ≡ naming.after_show table.now.code seat.number (cards_of cards.now) (placed places.now) }
-    ensures lacking { result.lacking ≡ reasons.is_show_of_others (filter (naming.is_covered table.now.code seat.number (naming.is_show_of_all (placed places.now) seat.number (cards_of cards.now))) (placed places.now)) (cards_of cards.now) }
+    ensures after { placed result.after ≡ naming.after_show table.now.code seat.number
+        (cards_of cards.now) (placed places.now) }
+    ensures lacking { result.lacking ≡ reasons.is_show_of_others
+        (covered table.now.code seat.number (naming.is_show_of_all (placed places.now) seat.number
+        (cards_of cards.now)) (placed places.now)) (cards_of cards.now) }
 {
     let all = is_show_of_all(places, seat, cards);
     shown_of(table, places, seat, all, cards)
@@ -122,8 +131,10 @@ pub fn show_on(
     cards: &CardRow,
 ) -> Result<DealtCards, Illegal>
     requires live { live.now.seats ≡ state.now.seats }
-    ensures right { IfOk result (λ after. IsRightShow state.now live.now seat.number (cards_of cards.now) after) }
-    ensures wrong { IfErr result (λ reason. why.show_why_on state.now live.now seat.number (cards_of cards.now) ≡ Some reason) }
+    ensures right { IfOk result (λ after. IsRightShow state.now live.now seat.number
+        (cards_of cards.now) after) }
+    ensures wrong { IfErr result (λ reason. why.show_why_on state.now live.now seat.number
+        (cards_of cards.now) ≡ Some reason) }
     ensures in_hand { OnOk result (seat.number ≤ state.now.seats) }
 {
     if !may_show(state, live, seat) {
@@ -156,8 +167,11 @@ pub fn shut(
     seat: Seat,
 ) -> Option<Illegal>
     requires { live.now.seats ≡ state.now.seats }
-    ensures not_shut { IfNone result ((cards : List Card) → why.show_why state.now live.now due settled seat.number cards ≡ why.show_why_on state.now live.now seat.number cards) }
-    ensures is_shut { IfSome result (λ reason. (cards : List Card) → why.show_why state.now live.now due settled seat.number cards ≡ Some reason) }
+    ensures not_shut { IfNone result ((cards : List Card)
+        → why.show_why state.now live.now due settled seat.number cards
+        ≡ why.show_why_on state.now live.now seat.number cards) }
+    ensures is_shut { IfSome result (λ reason. (cards : List Card)
+        → why.show_why state.now live.now due settled seat.number cards ≡ Some reason) }
 {
     match due {
         Due::Show => None,
@@ -207,7 +221,8 @@ pub fn muck_why(state: &CardState, live: &LiveRow, due: Due, seat: Seat) -> Opti
 pub fn set_show(state: &mut CardState, seat: Seat, cards: &CardRow, after: DealtCards)
     requires in_hand { seat.number ≤ state.old.seats }
     requires places { placed after
-        ≡ after_show state.old.table.code seat.number (cards_of cards.now) (placed state.old.places) }
+        ≡ after_show state.old.table.code seat.number (cards_of cards.now)
+        (placed state.old.places) }
     ensures { IsShown state.old state.new seat.number (cards_of cards.now) }
 {
     state.places = after;

@@ -37,7 +37,8 @@ pub fn is_clash(a: &DealtCard, b: &DealtCard) -> bool
 
 // A place bears the card, and is not gone where it is dealt past the deck.
 fn lies(rows: &[DealtCard], past_deck: bool, card: Card) -> bool
-    ensures { result ≡ list_any (λ place. not (past_deck && is_some place.gone_after) && taken.is_borne_by card place.slot) (map place_of rows.now) }
+    ensures { result ≡ list_any (λ place. not (past_deck && is_some place.gone_after)
+        && taken.is_borne_by card place.slot) (map place_of rows.now) }
 {
     match rows {
         [] => false,
@@ -60,7 +61,8 @@ fn is_taken(table: &DealTable, rows: &[DealtCard], past_deck: bool, slot: Slot) 
 
 // One of the slots may not be dealt behind these places.
 fn some_taken(table: &DealTable, rows: &[DealtCard], past_deck: bool, slots: &[Slot]) -> bool
-    ensures { result ≡ list_any (taken.is_taken table.now.code (map place_of rows.now) past_deck) slots.now }
+    ensures { result ≡ list_any (taken.is_taken table.now.code
+        (map place_of rows.now) past_deck) slots.now }
 {
     match slots {
         [] => false,
@@ -71,7 +73,8 @@ fn some_taken(table: &DealTable, rows: &[DealtCard], past_deck: bool, slots: &[S
 
 // How many cards were dealt before the street, and how many were discarded on it.
 fn count_before(rows: &[DealtCard], street: u8) -> usize
-    ensures value { result ≡ count_by (λ place. nat_lt place.street street) (map place_of rows.now) }
+    ensures value { result ≡ count_by (λ place. nat_lt place.street street)
+        (map place_of rows.now) }
     ensures most { result ≤ length rows.now }
 {
     let mut count = 0;
@@ -108,7 +111,8 @@ pub fn is_past_deck(table: &DealTable, rows: &[DealtCard], street: u8) -> bool
 // One of the slots may not be dealt on this street.
 pub fn has_taken_card(table: &DealTable, rows: &[DealtCard], street: u8, slots: &[Slot]) -> bool
     requires { length rows.now ≤ 120 }
-    ensures { result ≡ taken.has_taken_card table.now.code (map place_of rows.now) street slots.now }
+    ensures { result ≡ taken.has_taken_card table.now.code
+        (map place_of rows.now) street slots.now }
 {
     some_taken(table, rows, is_past_deck(table, rows, street), slots) || has_repeat(slots)
 }
@@ -125,7 +129,8 @@ fn is_foreign(table: &DealTable, slot: Slot) -> bool
 
 // The place clashes with another of these.
 fn clashes(card: &DealtCard, rows: &[DealtCard]) -> bool
-    ensures { result ≡ list_any (λ other. not (other.number == card.now.number) && taken.is_clash (place_of card.now) other) (map place_of rows.now) }
+    ensures { result ≡ list_any (λ other. not (other.number == card.now.number)
+        && taken.is_clash (place_of card.now) other) (map place_of rows.now) }
 {
     match rows {
         [] => false,
@@ -135,7 +140,8 @@ fn clashes(card: &DealtCard, rows: &[DealtCard]) -> bool
 
 // A place may not bear its card among these.
 fn is_misplaced(table: &DealTable, rows: &[DealtCard], card: &DealtCard) -> bool
-    ensures { result ≡ taken.is_misplaced table.now.code (map place_of rows.now) (place_of card.now) }
+    ensures { result ≡ taken.is_misplaced table.now.code (map place_of rows.now)
+        (place_of card.now) }
 {
     is_foreign(table, card.slot) || clashes(card, rows)
 }
@@ -147,7 +153,8 @@ fn is_newly_misplaced(
     old: &DealtCard,
     new: &DealtCard,
 ) -> bool
-    ensures { result ≡ ((known.is_unknown old.now.slot && not (known.is_unknown new.now.slot)) && taken.is_misplaced table.now.code (map place_of all.now) (place_of new.now)) }
+    ensures { result ≡ ((known.is_unknown old.now.slot && not (known.is_unknown new.now.slot))
+        && taken.is_misplaced table.now.code (map place_of all.now) (place_of new.now)) }
 {
     is_unknown(old.slot) && !is_unknown(new.slot) && is_misplaced(table, all, new)
 }
@@ -159,7 +166,8 @@ pub fn has_misplaced_card(
     olds: &[DealtCard],
     news: &[DealtCard],
 ) -> bool
-    ensures { result ≡ list_any (taken.is_misplaced table.now.code (map place_of all.now)) (taken.newly_known (map place_of olds.now) (map place_of news.now)) }
+    ensures { result ≡ list_any (taken.is_misplaced table.now.code (map place_of all.now))
+        (taken.newly_known (map place_of olds.now) (map place_of news.now)) }
 {
     match olds {
         [] => false,

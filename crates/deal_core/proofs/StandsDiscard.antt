@@ -14,28 +14,9 @@ use Rattle.play_event.specs.Scripts.{with_event}
 use Rattle.card_places.specs.declared.card_state.CardState.{CardState}
 use Rattle.card_places.specs.Drawn.{drew_at, named_at}
 use Rattle.card_places.specs.Discarded.{IsDiscarded}
+use Rattle.street_laws.proofs.Undrawn.{undrawn_none}
 use Rattle.deal_core.proofs.Same.{back, same_places}
 use Rattle.deal_core.specs.Standing.{IsSeatOf, StandsFor}
-
-or_parts : (a b : Bool) → (a || b) ≡ false → (a ≡ false) × (b ≡ false)
-or_parts true b is = absurd cc
-or_parts false b is = (refl, is)
-
-if_false : (b : Bool) (n m : ℕ) → b ≡ false → m ≡ 0 → (if b then n else 0) + m ≡ 0
-if_false true n m is none = absurd cc
-if_false false n m is none = omega (arith, none)
-
--- who did not draw discarded nothing
-pub undrawn_none : (before : Past) (street seat : ℕ) → has_drawn before street seat ≡ false → cards_discarded before street seat ≡ 0
-undrawn_none [] street seat is = refl
-undrawn_none (Dealt on owner cards ∷ before) street seat is = undrawn_none before street seat is
-undrawn_none (Boarded on cards ∷ before) street seat is = undrawn_none before street seat is
-undrawn_none (Moved move ∷ before) street seat is = undrawn_none before street seat is
-undrawn_none (Shown on owner cards ∷ before) street seat is = undrawn_none before street seat is
-undrawn_none (Mucked on owner ∷ before) street seat is = undrawn_none before street seat is
-undrawn_none (Discarded on owner cards ∷ before) street seat is =
-    let parts = or_parts ((on == street) && (owner == seat)) (has_drawn before street seat) is in
-    if_false ((on == street) && (owner == seat)) (length cards) (cards_discarded before street seat) parts.0 (undrawn_none before street seat parts.1)
 
 other_one : (on street seat n : ℕ) → ((on == street) && (seat == n)) ≡ false → (street ≢ on) ⊎ (n ≢ seat)
 other_one on street seat n is = by_street (on == street) refl is

@@ -32,7 +32,7 @@ use Rattle.card_places.specs.declared.card_state.CardState.{CardState}
 use Rattle.card_places.specs.Drawn.{named_at}
 use Rattle.card_places.specs.Placed.{placed}
 use Rattle.deal_core.specs.Standing.{IsSeatOf, IsNow}
-use Rattle.card_places.specs.Refusals.{owed_of, owed_seen, board_owed_seen, deal_chain, hole_why_on, board_why_on, hole_why, board_why}
+use Rattle.card_places.specs.Refusals.{owed_of, owed_in, board_owed_in, deal_chain, hole_why_on, board_why_on, hole_why, board_why}
 use Rattle.card_places.specs.Room.{is_seat_of}
 use Rattle.street_laws.specs.Dues.{IsDueWithin}
 use Rattle.card_places.specs.DueStreet.{due_street}
@@ -84,7 +84,7 @@ module _ (t : CardState) (due : Due) (live : LiveRow) (setup : Setup) (past : Pa
   pub dealt_is : (owner : Option ℕ) (on : ℕ) → count_by (is_in_group owner on) (placed t.places) ≡ count_by (is_in_group owner on) (places_of setup.code past)
   dealt_is owner on = ap (count_by (is_in_group owner on)) (now.stands.places ∙ ap (λ (c : Code). places_of c past) (sym now.code_is))
 
-  pub owed_is : (on seat : ℕ) → on ≤ 5 → IsSeatOf t.seats seat → cards_owed setup past on seat ≡ owed_seen t live on seat
+  pub owed_is : (on seat : ℕ) → on ≤ 5 → IsSeatOf t.seats seat → cards_owed setup past on seat ≡ owed_in t live on seat
   owed_is on seat within in_hand = sym (
       ap (λ (c : Code). owed_of (has_draw c on) (flag_of live seat) (hole_cards_on c on) (named_at t.draws on seat) (count_by (is_in_group (Some seat) on) (placed t.places))) (sym now.code_is)
       ∙ ap (λ (l : Bool). owed_of (has_draw setup.code on) l (hole_cards_on setup.code on) (named_at t.draws on seat) (count_by (is_in_group (Some seat) on) (placed t.places))) (now.lives seat in_hand)
@@ -92,7 +92,7 @@ module _ (t : CardState) (due : Due) (live : LiveRow) (setup : Setup) (past : Pa
       ∙ ap (λ (n : ℕ). owed_of (has_draw setup.code on) (is_live (moves_of past) seat) (hole_cards_on setup.code on) (cards_discarded past on seat) n) (dealt_is (Some seat) on ∙ group_count setup.code (Some seat) past on)
       )
 
-  pub board_owed_is : (on : ℕ) → board_cards_owed setup past on ≡ board_owed_seen t on
+  pub board_owed_is : (on : ℕ) → board_cards_owed setup past on ≡ board_owed_in t on
   board_owed_is on = sym (
       ap (λ (c : Code). board_cards_on c on - count_by (is_in_group None on) (placed t.places)) (sym now.code_is)
       ∙ ap (λ (n : ℕ). board_cards_on setup.code on - n) (dealt_is None on ∙ group_count setup.code None past on)
@@ -107,12 +107,12 @@ module _ (t : CardState) (due : Due) (live : LiveRow) (setup : Setup) (past : Pa
   on_is on seat cards within =
       ap (λ (n : ℕ). deal_chain (not (is_seat_of n seat) || (cards_owed setup past on seat == 0)) (cards_owed setup past on seat) (length cards) (has_taken_card setup.code (places_of setup.code past) on cards)) now.seats
       ∙ ap (λ (b : Bool). deal_chain (not (is_seat_of t.seats seat) || (cards_owed setup past on seat == 0)) (cards_owed setup past on seat) (length cards) b) (taken_is on cards)
-      ∙ chain_same (is_seat_of t.seats seat) (cards_owed setup past on seat) (owed_seen t live on seat) (length cards) (has_taken_card t.table.code (placed t.places) on cards) (λ is. owed_is on seat within (seat_in t.seats seat is))
+      ∙ chain_same (is_seat_of t.seats seat) (cards_owed setup past on seat) (owed_in t live on seat) (length cards) (has_taken_card t.table.code (placed t.places) on cards) (λ is. owed_is on seat within (seat_in t.seats seat is))
 
   board_is : (on : ℕ) (cards : List Slot) → (if is_wrong_deal (board_cards_owed setup past on) (length cards) then Some reasons.WrongCount else if has_taken_card setup.code (places_of setup.code past) on cards then Some reasons.CardTaken else None) ≡ board_why_on t on cards
   board_is on cards =
       ap (λ (o : ℕ). if is_wrong_deal o (length cards) then Some reasons.WrongCount else if has_taken_card setup.code (places_of setup.code past) on cards then Some reasons.CardTaken else None) (board_owed_is on)
-      ∙ ap (λ (b : Bool). if is_wrong_deal (board_owed_seen t on) (length cards) then Some reasons.WrongCount else if b then Some reasons.CardTaken else None) (taken_is on cards)
+      ∙ ap (λ (b : Bool). if is_wrong_deal (board_owed_in t on) (length cards) then Some reasons.WrongCount else if b then Some reasons.CardTaken else None) (taken_is on cards)
 
 -- where this is due
 hole_by : (t : CardState) (due : Due) (live : LiveRow) (setup : Setup) (rules : Rules) (past : Past) (seat : ℕ) (cards : List Slot) → IsNow t due live setup past → IsDueWithin 5 due → first_reason (all_reasons setup rules past ((turn setup past).0, due) (said.Hole seat cards)) ≡ hole_why t live due seat cards

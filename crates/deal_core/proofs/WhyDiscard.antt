@@ -25,13 +25,13 @@ use Rattle.play_event.specs.Reasons.{why, first_reason, all_reasons}
 use Rattle.card_places.specs.declared.card_state.CardState.{CardState}
 use Rattle.card_places.specs.Placed.{placed}
 use Rattle.deal_core.specs.Standing.{IsSeatOf, IsNow}
-use Rattle.card_places.specs.Refusals.{has_to_draw, next_seen, discard_chain, discard_why_on, discard_why}
+use Rattle.card_places.specs.Refusals.{has_to_draw, next_to_draw_in, discard_chain, discard_why_on, discard_why}
 use Rattle.street_laws.specs.Dues.{IsDueWithin}
 use Rattle.list_laws.proofs.Finding.{find_agree}
 use Rattle.street_laws.proofs.DueStreets.{draw_street}
 
 module _ (t : CardState) (due : Due) (live : LiveRow) (setup : Setup) (past : Past) (now : IsNow t due live setup past) where
-  pub next_is : (on : ℕ) → on ≤ 5 → next_to_draw setup past on ≡ next_seen t live on
+  pub next_is : (on : ℕ) → on ≤ 5 → next_to_draw setup past on ≡ next_to_draw_in t live on
   next_is on within =
       ap (λ (n : ℕ). find (λ seat. is_live (moves_of past) seat && not (has_drawn past on seat)) (seats_of n)) now.seats
       ∙ find_agree (λ seat. is_live (moves_of past) seat && not (has_drawn past on seat)) (has_to_draw t live on) 1 t.seats

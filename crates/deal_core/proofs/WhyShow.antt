@@ -23,7 +23,7 @@ use Rattle.play_event.specs.Reasons.{why, first_reason, all_reasons}
 use Rattle.card_places.specs.declared.card_state.CardState.{CardState}
 use Rattle.card_places.specs.Placed.{placed}
 use Rattle.deal_core.specs.Standing.{IsNow}
-use Rattle.card_places.specs.Refusals.{may_show_seen, may_show_many, show_chain, show_why_on, show_why, muck_why}
+use Rattle.card_places.specs.Refusals.{may_show_in, may_show_many, show_chain, show_why_on, show_why, muck_why}
 use Rattle.card_places.specs.Room.{is_seat_of}
 use Rattle.deal_core.proofs.WhyDeal.{seat_in}
 
@@ -48,7 +48,7 @@ muck_show true = refl
 muck_show false = refl
 
 module _ (t : CardState) (due : Due) (live : LiveRow) (setup : Setup) (past : Past) (now : IsNow t due live setup past) where
-  pub may_is : (seat : ℕ) → may_show setup past seat ≡ may_show_seen t live seat
+  pub may_is : (seat : ℕ) → may_show setup past seat ≡ may_show_in t live seat
   may_is seat =
       ap (λ (n : ℕ). is_seat_of n seat && has_to_show past seat) now.seats
       ∙ and_same (is_seat_of t.seats seat) (has_to_show past seat) (flag_of live seat && not (flag_of t.shown seat || flag_of t.mucked seat))
@@ -81,7 +81,7 @@ unfolding chain
 show_by t dues.Over live setup rules past settled seat cards now is =
     ap (λ (o : Option Illegal). if not (may_show setup past seat) then Some reasons.HandOver else o) (chain_is t dues.Over live setup past now seat cards)
     ∙ ap (λ (b : Bool). if not b then Some reasons.HandOver else show_why_on t live seat cards) (may_is t dues.Over live setup past now seat)
-    ∙ at_over (may_show_seen t live seat) (show_why_on t live seat cards)
+    ∙ at_over (may_show_in t live seat) (show_why_on t live seat cards)
 show_by t dues.Show live setup rules past settled seat cards now is = chain_is t dues.Show live setup past now seat cards
 show_by t (dues.Deal on) live setup rules past settled seat cards now is =
     between settled _ _ (show_why_on t live seat cards) (settled_is setup past (dues.Deal on) settled now.due_is is) (chain_is t (dues.Deal on) live setup past now seat cards)

@@ -5,4 +5,4 @@ use Rattle.card_places.specs.Refusals as why
 use Rattle.card_places.proofs.completing.some_to_show.Given as goal
 
 abbrev pub invariant-loop-index : goal.invariant-loop-index
-invariant-loop-index l = l.any ≡ list_any (why.to_show_seen l.state l.live) (seats_of l.index)
+invariant-loop-index l = l.any ≡ list_any (why.has_to_show_in l.state l.live) (seats_of l.index)
