@@ -1,5 +1,5 @@
 -- What a record states of the end of a hand, beside what its trace comes to, and the first number that differs.
-use Rattle.std.specs.Prelude.{◌≡◌, ℕ, ℤ, pos, ◌-ℤ◌, ◌≤◌, Bool, not, List, [], ◌∷◌, ◌++◌, map, find, sum_by, Option, Some, None, All}
+use Rattle.std.specs.Prelude.{◌≡◌, ℕ, ℤ, pos, ◌-ℤ◌, ◌≤◌, Bool, not, if◌then◌else◌, List, [], ◌∷◌, ◌++◌, map, find, sum_by, Option, Some, None, All}
 use Rattle.std.specs.Option.{ForSome, option_map_or}
 use Rattle.std.specs.Ordering.{int_eq}
 use Rattle.chip_ledger.specs.declared.pots.Pot.{Pot}
@@ -29,6 +29,10 @@ pub record Comparison : Type 0 where
   pub stated : ℤ
   pub replayed : ℤ
 
+-- a fact with its two numbers
+abbrev pub comparison : Fact → ℤ → ℤ → Comparison
+comparison fact stated replayed = record { fact = fact; stated = stated; replayed = replayed }
+
 -- what a seat wins of the pots: its shares together
 abbrev pub win_of : Trace → ℕ → ℕ
 win_of trace seat = sum_by (λ share. amount_of share seat) (shares_in trace.shares)
@@ -43,35 +47,43 @@ value_of trace seat = pos (amount_of trace.finish seat) -ℤ pos (amount_of trac
 
 -- a stated finishing stack
 abbrev pub finish_compared : Trace → SeatRow → ℕ → Comparison
-finish_compared trace row seat = record { fact = Finish seat; stated = pos (amount_of row seat); replayed = pos (amount_of trace.finish seat) }
+finish_compared trace row seat = comparison (Finish seat) (pos (amount_of row seat)) (pos (amount_of trace.finish seat))
 
 -- a stated win
 abbrev pub win_compared : Trace → SeatRow → ℕ → Comparison
-win_compared trace row seat = record { fact = Win seat; stated = pos (amount_of row seat); replayed = pos (win_of trace seat) }
+win_compared trace row seat = comparison (Win seat) (pos (amount_of row seat)) (pos (win_of trace seat))
 
 -- a stated total of the pots
 abbrev pub pots_compared : Trace → ℕ → Comparison
-pots_compared trace total = record { fact = Pots; stated = pos total; replayed = pos (pot_total_of trace) }
+pots_compared trace total = comparison Pots (pos total) (pos (pot_total_of trace))
 
 -- a stated value
 abbrev pub value_compared : Trace → NetRow → ℕ → Comparison
-value_compared trace row seat = record { fact = Value seat; stated = net_of row seat; replayed = value_of trace seat }
+value_compared trace row seat = comparison (Value seat) (net_of row seat) (value_of trace seat)
 
 -- what is compared of a row, seat by seat, if there is a row
 abbrev pub row_compared : {Row : Type 0} → Trace → (Trace → Row → ℕ → Comparison) → Option Row → List Comparison
 row_compared trace compared row = option_map_or (λ stated. map (compared trace stated) (all_seats trace.setup)) row []
+
+-- what is compared of the total of the pots, if it is stated
+abbrev pub total_compared : Trace → Option ℕ → List Comparison
+total_compared trace total = option_map_or (λ stated. pots_compared trace stated ∷ []) total []
 
 -- all that is stated, in the order in which it is compared
 abbrev pub all_compared : Trace → Stated → List Comparison
 all_compared trace stated =
     row_compared trace finish_compared stated.finish
     ++ (row_compared trace win_compared stated.wins
-    ++ (option_map_or (λ total. pots_compared trace total ∷ []) stated.pot_total []
+    ++ (total_compared trace stated.pot_total
     ++ row_compared trace value_compared stated.values))
 
 -- the numbers of a comparison differ
 abbrev pub is_different : Comparison → Bool
 is_different comparison = not (int_eq comparison.stated comparison.replayed)
+
+-- a comparison whose numbers differ
+abbrev pub difference_of : Comparison → Option Comparison
+difference_of comparison = if is_different comparison then Some comparison else None
 
 -- the first stated fact that differs, with both numbers
 abbrev pub first_difference : Trace → Stated → Option Comparison
@@ -86,7 +98,7 @@ which_said (whiches.Value seat) = Value seat.number
 
 -- what is said of a fact that differs
 abbrev pub difference_said : FactDiffers → Comparison
-difference_said differs = record { fact = which_said differs.which; stated = differs.stated; replayed = differs.replayed }
+difference_said differs = comparison (which_said differs.which) differs.stated differs.replayed
 
 -- what is stated fits a trace: its rows are of so many seats, and its total is no more than a row may hold
 pub record IsStatedFor (seats : ℕ) (stated : Stated) : Type 0 where

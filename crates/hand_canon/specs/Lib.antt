@@ -5,5 +5,11 @@ pub mod TraceCore
 pub mod CanonScript
 pub mod TraceRows
 pub mod Tidy
+pub mod LegalHand
+pub mod WholeTrace
 pub mod AllowedNotes
+pub mod Sound
 pub mod Agreement
+pub mod Numbers
+pub mod Words
+pub mod RowTests

@@ -1,7 +1,7 @@
 -- What the rows of a trace say, with plain numbers for seats.
 use Rattle.std.specs.Prelude.{map, option_map}
 use Rattle.chip_ledger.specs.LiveRow.{flagged}
-use Rattle.chip_ledger.specs.PotRow.{plain, pots_in}
+use Rattle.chip_ledger.specs.PotRow.{plain_pots}
 use Rattle.chip_ledger.specs.SeatRow.{amount_of}
 use Rattle.play_event.specs.declared.played.Place.{Place}
 use Rattle.play_event.specs.Played.{move_said}
@@ -23,6 +23,6 @@ core_said trace =
       moves = map move_said trace.moves;
       shown = flagged trace.shown;
       mucked = flagged trace.mucked;
-      pots = map plain (pots_in trace.pots);
+      pots = plain_pots trace.pots;
       returned = map (amount_of trace.pots.returned) (all_seats trace.setup);
     }

@@ -1,5 +1,14 @@
 //! The first stated fact that differs from the trace is found, with both numbers.
-use chip_ledger::Seat;
+ghost use Rattle.std.specs.Prelude.{◌≡◌, ◌≤◌, ◌*◌, find, option_map, pos};
+ghost use Rattle.std.specs.Option.{ForSome};
+ghost use Rattle.std.specs.Result.{result_err};
+ghost use Rattle.chip_ledger.specs.SeatRow.{amount_of};
+ghost use Rattle.chip_ledger.specs.declared.rows.TheConstants.{MOST_AMOUNT};
+ghost use Rattle.hand_canon.specs.Agreement.{HasBoundedPots, IsStatedFor, comparison, difference_of, difference_said, finish_compared, first_difference, is_different, pot_total_of, row_compared, total_compared, value_compared, value_of, which_said, win_compared, win_of};
+
+use crate::record::{NetRow, Stated};
+use crate::trace::Trace;
+use chip_ledger::{Seat, SeatRow};
 
 /// A fact that a record may state of the end of a hand.
 #[derive(Clone, Copy, Debug, PartialEq, Eq)]
@@ -20,4 +29,209 @@ pub struct FactDiffers {
     pub which: Which,
     pub stated: i64,
     pub replayed: i64,
+}
+
+/// Whether what a record states of the end of a hand is what its trace comes to: the finishing stacks first, then the
+/// wins, the pots together, and the values, each from p1 upward.
+///
+/// # Errors
+///
+/// The first stated number that differs, with both.
+pub fn check_stated(trace: &Trace, stated: &Stated) -> Result<(), FactDiffers>
+    requires stated { IsStatedFor trace.now.setup.stacks.seats stated.now }
+    requires pots { HasBoundedPots trace.now }
+    ensures { option_map difference_said (result_err result)
+        ≡ first_difference trace.now stated.now }
+{
+    match first_differing(trace, stated) {
+        Some(differs) => Err(differs),
+        None => Ok(()),
+    }
+}
+
+// The first stated fact that differs.
+fn first_differing(trace: &Trace, stated: &Stated) -> Option<FactDiffers>
+    requires stated { IsStatedFor trace.now.setup.stacks.seats stated.now }
+    requires pots { HasBoundedPots trace.now }
+    ensures { option_map difference_said result ≡ first_difference trace.now stated.now }
+{
+    let finish = first_finish(trace, stated.finish);
+    if finish.is_some() {
+        return finish;
+    }
+    let win = first_win(trace, stated.wins);
+    if win.is_some() {
+        return win;
+    }
+    let total = differing_total(trace, stated.pot_total);
+    if total.is_some() {
+        return total;
+    }
+    first_value(trace, stated.values)
+}
+
+// The first stated finishing stack that differs.
+fn first_finish(trace: &Trace, row: Option<SeatRow>) -> Option<FactDiffers>
+    requires { ForSome row (λ row. row.seats ≡ trace.now.setup.stacks.seats) }
+    ensures { option_map difference_said result
+        ≡ find is_different (row_compared trace.now finish_compared row) }
+{
+    let Some(row) = row else {
+        return None;
+    };
+    for index in 0..trace.setup.stacks.seats {
+        let found = differing_finish(trace, &row, Seat { number: index + 1 });
+        if found.is_some() {
+            return found;
+        }
+    }
+    None
+}
+
+// The stated finishing stack of a seat, if it differs.
+fn differing_finish(trace: &Trace, row: &SeatRow, seat: Seat) -> Option<FactDiffers>
+    requires { seat.number ≤ row.now.seats }
+    ensures { option_map difference_said result
+        ≡ difference_of (finish_compared trace.now row.now seat.number) }
+{
+    compare(
+        Which::Finish(seat),
+        signed(row.get(seat)),
+        signed(finish(trace, seat)),
+    )
+}
+
+// The first stated win that differs.
+fn first_win(trace: &Trace, row: Option<SeatRow>) -> Option<FactDiffers>
+    requires { ForSome row (λ row. row.seats ≡ trace.now.setup.stacks.seats) }
+    ensures { option_map difference_said result
+        ≡ find is_different (row_compared trace.now win_compared row) }
+{
+    let Some(row) = row else {
+        return None;
+    };
+    for index in 0..trace.setup.stacks.seats {
+        let found = differing_win(trace, &row, Seat { number: index + 1 });
+        if found.is_some() {
+            return found;
+        }
+    }
+    None
+}
+
+// The stated win of a seat, if it differs.
+fn differing_win(trace: &Trace, row: &SeatRow, seat: Seat) -> Option<FactDiffers>
+    requires { seat.number ≤ row.now.seats }
+    ensures { option_map difference_said result
+        ≡ difference_of (win_compared trace.now row.now seat.number) }
+{
+    compare(
+        Which::Win(seat),
+        signed(row.get(seat)),
+        signed(win(trace, seat)),
+    )
+}
+
+// The stated total of the pots, if it differs.
+fn differing_total(trace: &Trace, total: Option<u64>) -> Option<FactDiffers>
+    requires pots { HasBoundedPots trace.now }
+    requires total { ForSome total (λ total. total ≤ MOST_AMOUNT) }
+    ensures { option_map difference_said result
+        ≡ find is_different (total_compared trace.now total) }
+{
+    let Some(total) = total else {
+        return None;
+    };
+    compare(Which::Pots, signed(total), signed(pot_total(trace)))
+}
+
+// The first stated value that differs.
+fn first_value(trace: &Trace, row: Option<NetRow>) -> Option<FactDiffers>
+    requires { ForSome row (λ row. row.seats ≡ trace.now.setup.stacks.seats) }
+    ensures { option_map difference_said result
+        ≡ find is_different (row_compared trace.now value_compared row) }
+{
+    let Some(row) = row else {
+        return None;
+    };
+    for index in 0..trace.setup.stacks.seats {
+        let found = differing_value(trace, &row, Seat { number: index + 1 });
+        if found.is_some() {
+            return found;
+        }
+    }
+    None
+}
+
+// The stated value of a seat, if it differs.
+fn differing_value(trace: &Trace, row: &NetRow, seat: Seat) -> Option<FactDiffers>
+    requires { seat.number ≤ row.now.seats }
+    ensures { option_map difference_said result
+        ≡ difference_of (value_compared trace.now row.now seat.number) }
+{
+    compare(Which::Value(seat), row.get(seat), value(trace, seat))
+}
+
+// A fact whose two numbers differ, if they do.
+fn compare(which: Which, stated: i64, replayed: i64) -> Option<FactDiffers>
+    ensures { option_map difference_said result
+        ≡ difference_of (comparison (which_said which) stated replayed) }
+{
+    if stated == replayed {
+        return None;
+    }
+    Some(FactDiffers {
+        which,
+        stated,
+        replayed,
+    })
+}
+
+// Chips as a number with a sign.
+fn signed(chips: u64) -> i64
+    requires { chips ≤ 11 * MOST_AMOUNT }
+    ensures { result ≡ pos chips }
+{
+    chips as i64
+}
+
+// The finishing stack of a seat.
+fn finish(trace: &Trace, seat: Seat) -> u64
+    ensures stack { result ≡ amount_of trace.now.finish seat.number }
+    ensures bounded { result ≤ MOST_AMOUNT }
+{
+    trace.finish.amounts[seat.number as usize - 1]
+}
+
+// What a seat wins of the pots: its shares together.
+fn win(trace: &Trace, seat: Seat) -> u64
+    ensures won { result ≡ win_of trace.now seat.number }
+    ensures bounded { result ≤ 11 * MOST_AMOUNT }
+{
+    let mut all = 0;
+    for share in &trace.shares.shares[..trace.shares.count as usize] {
+        all += share.amounts[seat.number as usize - 1];
+    }
+    all
+}
+
+// All pots together.
+fn pot_total(trace: &Trace) -> u64
+    requires { HasBoundedPots trace.now }
+    ensures sum { result ≡ pot_total_of trace.now }
+    ensures bounded { result ≤ 11 * MOST_AMOUNT }
+{
+    let mut all = 0;
+    for pot in &trace.pots.pots[..trace.pots.count as usize] {
+        all += pot.chips;
+    }
+    all
+}
+
+// The finishing stack of a seat less its starting stack.
+fn value(trace: &Trace, seat: Seat) -> i64
+    ensures { result ≡ value_of trace.now seat.number }
+{
+    let index = seat.number as usize - 1;
+    trace.finish.amounts[index] as i64 - trace.setup.stacks.amounts[index] as i64
 }

@@ -2,14 +2,20 @@
 #![tactic(auto)]
 
 mod agreement;
+mod canonical;
+mod folds;
+mod gathered;
 mod limits;
 mod notes;
+mod numbered;
 mod record;
+mod streets;
 mod text;
 mod trace;
 mod writing;
 
 pub use agreement::{FactDiffers, Which};
+pub use canonical::canon;
 pub use limits::{
     MOST_FILE_MOVES, MOST_HANDS, MOST_MOVES, MOST_OTHER_EVENTS, MOST_TEXT_BYTES, Quantity,
 };

@@ -58,6 +58,13 @@ impl Places {
     {
         self.places.len()
     }
+
+    /// The places, in order.
+    pub fn as_slice(&self) -> &[Place]
+        ensures { result.now ≡ self.now }
+    {
+        self.places.as_slice()
+    }
 }
 
 /// The moves of a hand, in the order in which they were made.
@@ -109,6 +116,13 @@ impl Moves {
         ensures { result ≡ length self.now }
     {
         self.moves.len()
+    }
+
+    /// The moves, in order.
+    pub fn as_slice(&self) -> &[Move]
+        ensures { result.now ≡ self.now }
+    {
+        self.moves.as_slice()
     }
 }
 

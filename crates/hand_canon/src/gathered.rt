@@ -1,0 +1,114 @@
+// The cards of a trace that were dealt on one street, or discarded in one draw, owner by owner.
+ghost use Rattle.std.specs.Prelude.{◌≡◌, ◌≤◌, ◌<◌, ◌≢◌, ℕ, ◌+◌, ◌∷◌, [], ◌++◌, Some, None, length, map};
+ghost use Rattle.card_set.specs.Row.{cards_of, slots_of};
+ghost use Rattle.card_set.specs.Known.{known_cards};
+ghost use Rattle.play_event.specs.SeatSlots.{slots_of_hand};
+ghost use Rattle.hand_canon.specs.CanonScript.{dealt_slots, discarded_slots};
+ghost use Rattle.hand_canon.specs.RowTests.{slot_for};
+ghost use Rattle.hand_canon.specs.TraceRows.{place_said};
+
+use card_set::{CardRow, Slot, SlotRow};
+use play_event::{HandRow, Place};
+
+/// The cards that each seat, of ten, was dealt on a street.
+pub(crate) fn dealt_to_seats(places: &[Place], street: u8) -> HandRow
+    requires { (n : ℕ) → length (dealt_slots (map place_said places.now) (Some n) street) ≤ 7 }
+    ensures seats { result.seats ≡ 10 }
+    ensures dealt { (n : ℕ) → 1 ≤ n
+        → slots_of_hand result n ≡ dealt_slots (map place_said places.now) (Some n) street }
+{
+    let mut dealt = HandRow::new(10);
+    let mut rest = places;
+    while let [place, behind @ ..] = rest {
+        add(&mut dealt, *place, place.street == street);
+        rest = behind;
+    }
+    dealt
+}
+
+/// The cards that each seat, of ten, discarded in the draw of a street; on street 0 those that it holds at the end.
+pub(crate) fn discarded_by_seats(places: &[Place], street: u8) -> HandRow
+    requires { (n : ℕ) → length (discarded_slots (map place_said places.now) n street) ≤ 7 }
+    ensures seats { result.seats ≡ 10 }
+    ensures discarded { (n : ℕ) → 1 ≤ n
+        → slots_of_hand result n ≡ discarded_slots (map place_said places.now) n street }
+{
+    let mut discarded = HandRow::new(10);
+    let mut rest = places;
+    while let [place, behind @ ..] = rest {
+        add(&mut discarded, *place, place.gone == street);
+        rest = behind;
+    }
+    discarded
+}
+
+// Gives the owner of a place its card, where the place counts and a seat is the owner.
+fn add(hands: &mut HandRow, place: Place, counts: bool)
+    requires seats { hands.old.seats ≡ 10 }
+    requires room { (n : ℕ) → 1 ≤ n
+        → length (slots_of_hand hands.old n) + length (slot_for (Some n) counts place) ≤ 7 }
+    ensures seats { hands.new.seats ≡ 10 }
+    ensures added { (n : ℕ) → 1 ≤ n
+        → slots_of_hand hands.new n ≡ slots_of_hand hands.old n ++ slot_for (Some n) counts place }
+{
+    if !counts {
+        return;
+    }
+    if let Some(seat) = place.owner {
+        let mut cards = hands.get(seat);
+        cards.push(place.slot);
+        hands.set(seat, cards);
+    }
+}
+
+/// The cards that were dealt to the board on a street.
+pub(crate) fn dealt_to_board(places: &[Place], street: u8) -> SlotRow
+    requires { length (dealt_slots (map place_said places.now) None street) ≤ 7 }
+    ensures { slots_of result ≡ dealt_slots (map place_said places.now) None street }
+{
+    let mut board = SlotRow::new();
+    let mut rest = places;
+    while let [place, behind @ ..] = rest {
+        add_to_board(&mut board, *place, place.street == street);
+        rest = behind;
+    }
+    board
+}
+
+// Puts the card of a place on the board, where the place counts and is the board's.
+fn add_to_board(board: &mut SlotRow, place: Place, counts: bool)
+    requires { length (slots_of board.old) + length (slot_for None counts place) ≤ 7 }
+    ensures { slots_of board.new ≡ slots_of board.old ++ slot_for None counts place }
+{
+    if counts && place.owner.is_none() {
+        board.push(place.slot);
+    }
+}
+
+/// The known cards of a row, in order.
+#[tactic(auto, using(crate::proofs::OneByOne::one_known_more))]
+pub(crate) fn known_row(slots: &SlotRow) -> CardRow
+    ensures { cards_of result ≡ known_cards (slots_of slots.now) }
+{
+    let mut cards = CardRow::new();
+    for slot in slots.as_slice() {
+        cards = with_known(cards, *slot);
+    }
+    cards
+}
+
+// The cards and one more, where it is known.
+fn with_known(cards: CardRow, slot: Slot) -> CardRow
+    requires { cards.len < 7 }
+    ensures cards { cards_of result ≡ cards_of cards ++ known_cards (slot ∷ []) }
+    ensures longer { result.len ≤ cards.len + 1 }
+{
+    match slot {
+        Slot::Known(card) => {
+            let mut more = cards;
+            more.push(card);
+            more
+        }
+        Slot::Unknown => cards,
+    }
+}

@@ -1,0 +1,47 @@
+// The events of a script that is being written have the numbers 1, 2 and so on.
+ghost use Rattle.std.specs.Prelude.{◌≡◌, [], ◌∷◌, ◌++◌, ◌+◌, OnOk};
+ghost use Rattle.play_event.specs.Said.{kind_said};
+ghost use Rattle.hand_canon.specs.Numbers.{AreNumbered, number_of};
+
+use card_set::Memory;
+use play_event::{Event, Kind, Script};
+use std::alloc::Global;
+
+/// A script that is being written.
+#[derive(Debug, Drop)]
+pub(crate) struct Numbered {
+    pub(crate) script: Script,
+    ghost numbered: { AreNumbered script },
+}
+
+impl Numbered {
+    ghost use Rattle.hand_canon.specs.Words.{words_of};
+
+    /// No events.
+    pub(crate) fn new(alloc: Global) -> Self
+        ensures { words_of result ≡ [] }
+    {
+        Numbered {
+            script: Script::new(alloc),
+        }
+    }
+
+    /// Puts an event after the others.
+    pub(crate) fn push(&mut self, kind: Kind) -> Result<(), Memory>
+        ensures { OnOk result (words_of self.new ≡ words_of self.old ++ kind_said kind ∷ []) }
+    {
+        let at = number_after(self.script.len());
+        self.script.push(Event { at, kind })
+    }
+}
+
+// The number of the event after so many others. Numbers end at the greatest that an event can have.
+fn number_after(count: usize) -> u32
+    ensures { result ≡ number_of (count + 1) }
+{
+    if count < u32::MAX as usize {
+        count as u32 + 1
+    } else {
+        u32::MAX
+    }
+}
