@@ -5,7 +5,8 @@ use Rattle.play_event.specs.declared.setup.Rules.{Rules}
 use Rattle.play_event.specs.declared.setup.Setup.{Setup}
 use Rattle.hand_canon.specs.CanonScript.{canonical_script}
 use Rattle.hand_canon.specs.TraceCore.{core_after}
-use Rattle.canon_laws.specs.Confluence.{IsPlayed, canon_of}
+use Rattle.hand_canon.specs.LegalHand.{IsPlayed}
+use Rattle.canon_laws.specs.Confluence.{canon_of}
 use Rattle.canon_laws.proofs.Confluent.{confluent}
 
 -- one trace has one canonical script; and each script has the trace of its canonical script

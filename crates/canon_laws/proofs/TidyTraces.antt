@@ -21,7 +21,7 @@ use Rattle.play_event.specs.Scripts.{past_of, past_at_end}
 use Rattle.card_set.specs.Known.{is_unknown}
 use Rattle.play_event.specs.Laws.{AreLegal, IsAmong}
 use Rattle.hand_canon.specs.TraceCore.{TraceCore, core_of, core_after}
-use Rattle.canon_laws.specs.Confluence.{IsPlayed}
+use Rattle.hand_canon.specs.LegalHand.{IsPlayed}
 use Rattle.hand_canon.specs.CanonScript.{dealt_slots, discarded_slots, held_slots}
 use Rattle.std.proofs.lemmas.Option.{same_Some}
 use Rattle.list_laws.proofs.Options.{some_is_none}

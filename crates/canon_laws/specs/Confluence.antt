@@ -1,17 +1,11 @@
 -- The confluence of scripts: the canonical script of a legal script's trace is legal, and has this trace.
-use Rattle.std.specs.Prelude.{◌≡◌, false, List, reverse}
+use Rattle.std.specs.Prelude.{◌≡◌, List}
 use Rattle.play_event.specs.declared.setup.Setup.{Setup}
 use Rattle.play_event.specs.declared.setup.Rules.{Rules}
 use Rattle.play_event.specs.Said.{Said}
-use Rattle.play_event.specs.Scripts.{has_early_end}
-use Rattle.play_event.specs.Laws.{AreLegal}
 use Rattle.hand_canon.specs.TraceCore.{core_after}
 use Rattle.hand_canon.specs.CanonScript.{canonical_script}
-
--- a script is played to its end: each of its events is legal, and after the last one nothing is due but shows
-pub record IsPlayed (setup : Setup) (rules : Rules) (script : List Said) : Type 0 where
-  pub legal : AreLegal setup rules (reverse script)
-  pub complete : has_early_end setup script ≡ false
+use Rattle.hand_canon.specs.LegalHand.{IsPlayed}
 
 -- another script is played to its end, and leaves the trace of this one
 pub record HasTraceOf (setup : Setup) (rules : Rules) (script other : List Said) : Type 0 where

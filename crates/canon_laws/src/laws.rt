@@ -8,7 +8,8 @@ ghost use Rattle.play_event.specs.declared.setup.Setup.{Setup};
 ghost use Rattle.hand_canon.specs.TraceCore.{core_after};
 ghost use Rattle.hand_canon.specs.Tidy.{IsTidy};
 ghost use Rattle.hand_canon.specs.declared.limits.TheConstants.{MOST_MOVES};
-ghost use Rattle.canon_laws.specs.Confluence.{IsConfluent, IsPlayed, canon_of};
+ghost use Rattle.hand_canon.specs.LegalHand.{IsPlayed};
+ghost use Rattle.canon_laws.specs.Confluence.{IsConfluent, canon_of};
 
 /// The canonical script of the trace of a script that is played to its end is played to its end, under the same rules,
 /// and leaves this trace. The function does nothing: its contract is a law.
