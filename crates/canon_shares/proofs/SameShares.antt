@@ -4,9 +4,10 @@ use Rattle.play_event.specs.Said.{Said}
 use Rattle.play_event.specs.declared.setup.Rules.{Rules}
 use Rattle.play_event.specs.declared.setup.Setup.{Setup}
 use Rattle.hand_canon.specs.TraceCore.{TraceCore, core_after}
-use Rattle.canon_laws.specs.Confluence.{IsPlayed, canon_of}
+use Rattle.canon_laws.specs.Confluence.{canon_of}
 use Rattle.canon_laws.proofs.Confluent.{confluent}
-use Rattle.canon_shares.specs.WholeTrace.{HasShares, IsLegalHand, IsShareable}
+use Rattle.hand_canon.specs.LegalHand.{IsLegalHand, IsPlayed, IsShareable}
+use Rattle.hand_canon.specs.WholeTrace.{HasShares}
 
 -- the canonical script leaves the trace of the script
 pub same_trace : (setup : Setup) (rules : Rules) (script : List Said) → IsPlayed setup rules script → core_after setup (canon_of setup script) ≡ core_after setup script

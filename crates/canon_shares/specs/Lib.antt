@@ -1,2 +1,1 @@
--- What is read of the end of a trace.
-pub mod WholeTrace
+-- Nothing is defined here: the laws speak of what `hand_canon` defines.

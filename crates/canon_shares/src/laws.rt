@@ -4,8 +4,9 @@ ghost use Rattle.play_event.specs.Said.{Said};
 ghost use Rattle.play_event.specs.declared.setup.Rules.{Rules};
 ghost use Rattle.play_event.specs.declared.setup.Setup.{Setup};
 ghost use Rattle.hand_canon.specs.TraceCore.{core_after};
-ghost use Rattle.canon_laws.specs.Confluence.{IsPlayed, canon_of};
-ghost use Rattle.canon_shares.specs.WholeTrace.{HasShares, IsLegalHand};
+ghost use Rattle.canon_laws.specs.Confluence.{canon_of};
+ghost use Rattle.hand_canon.specs.LegalHand.{IsLegalHand, IsPlayed};
+ghost use Rattle.hand_canon.specs.WholeTrace.{HasShares};
 
 /// The canonical script of the trace of a legal hand is a legal hand under the same rules, with the same trace, shares
 /// and finishing stacks. The function does nothing: its contract is a law.

@@ -2,7 +2,7 @@
 use Rattle.std.specs.Prelude.{◌≡◌, ℕ, ◌≤◌, ◌==◌, Bool, true, false, not, List, reverse, flat_map, count_by, None}
 use Rattle.std.specs.List.{list_any}
 use Rattle.card_set.specs.Known.{known_cards}
-use Rattle.chip_ledger.specs.Rakes.{HaveRakes, nets_of}
+use Rattle.chip_ledger.specs.Rakes.{first_rake_above}
 use Rattle.play_event.specs.declared.setup.Setup.{Setup}
 use Rattle.play_event.specs.declared.setup.Rules.{Rules}
 use Rattle.play_event.specs.Said as said
@@ -20,9 +20,9 @@ pub record IsPlayed (setup : Setup) (rules : Rules) (script : List Said) : Type 
   pub legal : AreLegal setup rules (reverse script)
   pub complete : has_early_end setup script ≡ false
 
--- what is seen at the end of a hand: the shown seats, the cards that each seat holds, and the board
-abbrev pub showdown_at_end : Setup → TraceCore → Showdown
-showdown_at_end setup trace =
+-- what is seen at the end of a hand with this trace: the shown seats, the cards that each seat holds, and the board
+abbrev pub showdown_in : Setup → TraceCore → Showdown
+showdown_in setup trace =
     record {
       seats = setup.stacks.seats;
       shown = λ seat. list_any (λ other. other == seat) trace.shown;
@@ -30,11 +30,15 @@ showdown_at_end setup trace =
       board = known_cards (flat_map (dealt_slots trace.places None) (streets_of setup));
     }
 
--- a hand is legal: its script is played to its end, no rake is above its pot, and no pot is without a shown hand
+-- the pots of a trace can be shared: no rake is above its pot, and each pot that two or more seats may win has a shown hand
+pub record IsShareable (setup : Setup) (trace : TraceCore) : Type 0 where
+  pub no_rake_above : first_rake_above setup.rakes trace.pots ≡ None
+  pub no_unshown : first_unshown (showdown_in setup trace) trace.pots ≡ None
+
+-- a script is that of a legal hand: it is played to its end, and the pots that it leaves can be shared
 pub record IsLegalHand (setup : Setup) (rules : Rules) (script : List Said) : Type 0 where
   pub played : IsPlayed setup rules script
-  pub raked : HaveRakes (core_after setup script).pots setup.rakes
-  pub all_shown : first_unshown (showdown_at_end setup (core_after setup script)) (nets_of setup.rakes (core_after setup script).pots) ≡ None
+  pub shareable : IsShareable setup (core_after setup script)
 
 -- an event says a move
 abbrev pub is_move : Said → Bool
