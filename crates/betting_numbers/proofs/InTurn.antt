@@ -125,15 +125,6 @@ bring_in_now (dues.Draw street) is = absurd (cc)
 bring_in_now dues.Move is = absurd (cc)
 bring_in_now dues.Show is = absurd (cc)
 
--- an event that may come now comes where betting is due
-pub bets_now : (at_move at_bring_in : Bool) (due : Due) → None ≡ now_why at_move at_bring_in due → is_bet_due due ≡ true
-bets_now at_move at_bring_in dues.Move is = refl
-bets_now at_move at_bring_in dues.BringIn is = refl
-bets_now at_move at_bring_in dues.Over is = absurd (cc)
-bets_now at_move at_bring_in (dues.Deal street) is = absurd (cc)
-bets_now at_move at_bring_in (dues.Draw street) is = absurd (cc)
-bets_now at_move at_bring_in dues.Show is = absurd (cc)
-
 -- a bring-in is never due in a game with blinds
 no_bring_in : (b : Table) (past : Past) → StandsFor b past → opener_of b.setup.code ≡ openers.Blinds → b.due ≡ dues.BringIn → ⊥
 no_bring_in b past stands game due_is =

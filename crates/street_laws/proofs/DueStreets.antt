@@ -1,17 +1,14 @@
 -- The street of a due deal or draw.
-use Rattle.std.proofs.Common.{◌≡◌, ℕ, ◌≤◌, Bool, true, false, if◌then◌else◌, refl, sym, ap, subst, ◌∙◌}
-use Rattle.std.proofs.lemmas.Bool.{eqb-true, eq-eqb}
+use Rattle.std.proofs.Common.{◌≡◌, ℕ, ◌≤◌, true, refl, sym, ap, subst}
+use Rattle.std.proofs.lemmas.Bool.{eqb-true}
 use Rattle.play_event.proofs.StreetLaws.{due_is_first}
 use Rattle.play_event.specs.Dealing.{is_deal_due, is_draw_due}
 use Rattle.play_event.specs.Due.{turn, is_bring_in_due, is_move_due}
 use Rattle.play_event.specs.Past.{Past, moves_of}
-use Rattle.play_event.specs.Streets.{has_draw}
-use Rattle.play_event.specs.declared.code.Code.{Code}
 use Rattle.play_event.specs.declared.reason.Due.TheVariants as dues
 use Rattle.play_event.specs.declared.reason.Due.{Due}
 use Rattle.play_event.specs.declared.setup.Setup.{Setup}
 use Rattle.street_laws.specs.Dues.{IsDueWithin, is_of_street}
-use Rattle.street_laws.specs.Walk.{street_cards}
 use Rattle.street_laws.proofs.CardTurns.{deal_by, draw_by}
 
 -- what is due on a street is due within the streets
@@ -22,18 +19,6 @@ here_within dues.BringIn street most is low high = tt
 here_within dues.Move street most is low high = tt
 here_within dues.Show street most is low high = tt
 here_within dues.Over street most is low high = tt
-
-here_by : (draws : Bool) (street : ℕ) → is_of_street street (if draws then dues.Draw street else dues.Deal street) ≡ true
-here_by true street = eq-eqb street street refl
-here_by false street = eq-eqb street street refl
-
--- the cards with which a street begins are of that street
-pub cards_here : (code : Code) (street : ℕ) → is_of_street street (street_cards code street) ≡ true
-cards_here code street = here_by (has_draw code street) street
-
--- and so it is where the street and what is due stay
-pub here_at : (street now : ℕ) (due next : Due) → is_of_street street due ≡ true → now ≡ street → next ≡ due → is_of_street now next ≡ true
-here_at street now due next is same same_due = ap (λ (n : ℕ). is_of_street n next) same ∙ ap (is_of_street street) same_due ∙ is
 
 -- a deal or a draw that is due is of the street that is due
 pub deal_street : (setup : Setup) (past : Past) (on : ℕ) → (turn setup past).1 ≡ dues.Deal on → on ≡ (turn setup past).0

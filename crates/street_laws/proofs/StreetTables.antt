@@ -40,11 +40,6 @@ each_street _ (suc (suc (suc zero))) low high = refl
 each_street _ (suc (suc (suc (suc zero)))) low high = refl
 each_street _ (suc (suc (suc (suc (suc more))))) low high = absurd (omega (arith, high))
 
--- the first street deals hole cards
-pub first_street_deals : (code : Code) → nat_lt 0 (hole_cards_on code 1) ≡ true
-first_street_deals games.FT = refl
-first_street_deals _ = refl
-
 pub first_draws : (code : Code) → has_draw code 1 ≡ false
 first_draws games.FT = refl
 first_draws _ = refl

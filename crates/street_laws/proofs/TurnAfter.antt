@@ -1,5 +1,5 @@
 -- What is due after a move, and what is due where the next street begins.
-use Rattle.std.proofs.Common.{◌≡◌, ℕ, zero, suc, ◌+◌, ◌-◌, ◌<◌, ◌≤◌, Bool, true, false, ◌&&◌, ◌||◌, ◌==◌, not, nat_lt, nat_le, if◌then◌else◌, inl, inr, ◌⊎◌, List, ◌∷◌, Option, Some, None, is_some, unwrap_or, refl, sym, ap, ◌∙◌, arith}
+use Rattle.std.proofs.Common.{◌≡◌, ℕ, zero, suc, ◌+◌, ◌-◌, ◌<◌, ◌≤◌, Bool, true, false, ◌&&◌, ◌||◌, ◌==◌, not, nat_lt, nat_le, if◌then◌else◌, List, ◌∷◌, Option, Some, None, is_some, unwrap_or, refl, sym, ap, ◌∙◌, arith}
 use Rattle.std.proofs.lemmas.Bool.{and_parts, or_parts, and_from, or_from, ltb-false, leb-false, true≢false}
 use Rattle.std.proofs.lemmas.Option.{same_Some}
 use Rattle.std.specs.List.{list_any}
@@ -7,7 +7,6 @@ use Rattle.std.specs.Option.{option_map}
 use Rattle.list_laws.proofs.Any.{list_any-weaker, none_passes}
 use Rattle.list_laws.proofs.Counting.{counted_some}
 use Rattle.list_laws.proofs.Finding.{some_found, none_stronger}
-use Rattle.list_laws.proofs.Options.{some_is_none}
 use Rattle.play_event.proofs.StreetLaws.{due_is_first}
 use Rattle.play_event.specs.Dealing.{is_deal_due, is_draw_due, hole_cards_owed, board_cards_owed, next_to_draw, has_drawn, replacements_owed, hole_cards_dealt}
 use Rattle.play_event.specs.Due.{turn, due_on, first_due, found_or, showdown, is_bring_in_due, is_move_due, is_unfinished}
@@ -38,11 +37,6 @@ dealt_by : (street : ℕ) (deal draw bring_in move : Bool) (due : Due) → due_b
 dealt_by street true draw bring_in move due is bets = bets_differ due (dues.Deal street) (sym (same_Some (dues.Deal street) due is)) bets refl
 dealt_by street false true bring_in move due is bets = bets_differ due (dues.Draw street) (sym (same_Some (dues.Draw street) due is)) bets refl
 dealt_by street false false bring_in move due is bets = (refl, refl)
-
-pub betting_by : (street : ℕ) (bring_in move : Bool) (due : Due) → due_by street false false bring_in move ≡ Some due → (bring_in ≡ true) ⊎ (move ≡ true)
-betting_by street true move due is = inl refl
-betting_by street false true due is = inr refl
-betting_by street false false due is = absurd (some_is_none (sym is))
 
 -- no card is owed on the street
 pub record AreDealt (setup : Setup) (past : Past) (street : ℕ) : Type 0 where
