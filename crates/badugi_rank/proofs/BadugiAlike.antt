@@ -1,24 +1,24 @@
 -- The points of a badugi hand do not depend on the order of its cards.
-use Rattle.std.proofs.Common.{◌≡◌, ◌≢◌, ◌-◌, ◌^◌, ◌≤◌, ◌<◌, ◌&&◌, ◌||◌, ◌==◌, ℕ, not, Bool, true, false, cond, List, [], ◌∷◌, ◌++◌, length, Option, Some, None, ◌⊎◌, inl, inr, refl, sym, ◌∙◌, ap, subst, arith, eqb-true, eq-eqb}
+use Rattle.std.proofs.Common.{◌≡◌, ◌-◌, ◌^◌, ◌&&◌, ◌||◌, ◌==◌, ℕ, not, Bool, true, false, cond, List, [], ◌∷◌, ◌++◌, length, Option, Some, None, ◌⊎◌, inl, inr, refl, sym, ◌∙◌, ap, subst, arith, eqb-true, eq-eqb}
 use Rattle.std.specs.List.{list_all}
 use Rattle.std.proofs.lemmas.Bool.{and_parts, or_cases}
 use Rattle.card_set.specs.declared.card.Card.{Card}
 use Rattle.card_set.specs.declared.set.CardSet.{CardSet}
 use Rattle.card_set.specs.CardSet.{AreSameCards, count_of, is_one_of, listed, IsListing}
 use Rattle.card_set.specs.Deck.{is_same_card, suits_before}
-use Rattle.card_set.specs.Different.{Every, Lacks, AllDifferent}
+use Rattle.card_set.specs.Different.{AllDifferent}
 use Rattle.card_set.specs.Ranks.{low_ace, ranks_of}
-use Rattle.card_set.proofs.Counted.{passes_or_not}
 use Rattle.card_set.proofs.DeckLaws.{is_same_card-self, is_same_card-true}
-use Rattle.card_set.proofs.Listing.{count_of-listing, length-same, listed_listing, lacks_one_of, ranks_of-same, same_listings}
-use Rattle.hand_order.specs.Choices.{choices, AreAlike, AreHeld, CanChoose}
+use Rattle.card_set.proofs.Listing.{count_of-listing, listed_listing, lacks_one_of, ranks_of-same, same_listings}
+use Rattle.hand_order.specs.Choices.{choices, AreAlike, CanChoose}
 use Rattle.hand_order.specs.Digits.{class_above}
 use Rattle.hand_order.specs.Points.{better, greatest}
 use Rattle.hand_order.proofs.Alike.{Passes, all_every, both_ways, every_all, every_map}
 use Rattle.hand_order.proofs.Greatest.{greatest-append}
 use Rattle.hand_order.proofs.SameChoices.{every_one_of, greatest-same, one_of_every}
-use Rattle.hand_order.proofs.SetChoices.{enough_to_choose, few_to_choose, only_choice}
+use Rattle.hand_order.proofs.SetChoices.{only_choice}
 use Rattle.badugi_rank.specs.Badugi.{candidates, choice_points, has_in_common, has_nothing_in_common, points}
+use Rattle.list_laws.proofs.Tests.{passes_or_not}
 
 -- cards that have something in common are one
 abbrev AreApart : List Card → Type 0

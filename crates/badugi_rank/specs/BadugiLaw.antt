@@ -7,7 +7,7 @@ use Rattle.card_set.specs.declared.card.Card.{Card}
 use Rattle.card_set.specs.Different.{AllDifferent}
 use Rattle.card_set.specs.Deck.{suits_before}
 use Rattle.card_set.specs.Ranks.{low_ace, ranks_of, times}
-use Rattle.card_set.proofs.Counted.{IsHeight-low_ace, all_once, length-ranks_of, times-cons, times-none, passes_or_not}
+use Rattle.card_set.proofs.Counted.{IsHeight-low_ace, all_once, length-ranks_of, times-cons, times-none}
 use Rattle.hand_order.specs.Best.{IsPointsOfHolding}
 use Rattle.hand_order.specs.Choices.{choices, IsAmong, AreHeld}
 use Rattle.hand_order.specs.Digits.{class_above}
@@ -18,6 +18,7 @@ use Rattle.hand_order.proofs.Lawful.{greatest_of_holding, beats_exactly, lawful_
 use Rattle.hand_order.proofs.RankDigits.{AreDigits-ranks_of}
 use Rattle.hand_order.proofs.Ranked.{IsRanked, ranked_low_law}
 use Rattle.badugi_rank.specs.Badugi.{has_in_common, has_nothing_in_common, IsRainbow, IsWeakerChoice, candidates, IsHand, IsWeaker, choice_points, points}
+use Rattle.list_laws.proofs.Tests.{passes_or_not}
 
 -- at most four cards
 abbrev pub AreFew : List Card → Type 0

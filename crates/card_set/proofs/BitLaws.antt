@@ -1,11 +1,10 @@
 -- The bits of a set of cards: one that is set or cleared, those of a suit, and how many are set.
 use lib.Count.{ones}
-use Rattle.std.proofs.Common.{◌≡◌, ◌≢◌, ℕ, zero, suc, ◌+◌, ◌-◌, ◌*◌, ◌/◌, ◌%◌, ◌^◌, ◌<◌, ◌==◌, min, Bool, true, false, cond, sum_by, inl, inr, refl, sym, ◌∙◌, ap, subst, arith, eqb-true, bit_and, bit_or, count_ones, w64}
+use Rattle.std.proofs.Common.{◌≡◌, ◌≢◌, ℕ, ◌+◌, ◌-◌, ◌*◌, ◌/◌, ◌%◌, ◌^◌, ◌<◌, ◌==◌, min, true, false, cond, sum_by, sym, ◌∙◌, ap, subst, arith, bit_and, bit_or, count_ones, w64}
 use Rattle.std.specs.Int.{bit_at, bit_not}
-use Rattle.std.proofs.lemmas.Bool.{cases_lt, eqb-false}
 use Rattle.std.proofs.lemmas.List.Sums.{length-filter}
-use Rattle.std.proofs.lemmas.Nat.{shr-shr, or_lt, one_shl, and_le_l, ones_cat, ones-le}
-use Rattle.std.proofs.lemmas.Nat.Bits.{bit_at_lowest, bit_at-suc, bit_at_and, bit_at_ones, bit_at-lt, bit_at_clear_same, bit_at_clear_other, bit_at_set_same, bit_at_set_other}
+use Rattle.std.proofs.lemmas.Nat.{shr-shr, or_lt, one_shl, and_le_l}
+use Rattle.std.proofs.lemmas.Nat.Bits.{bit_at_and, bit_at_ones, bit_at-lt, bit_at_clear_same, bit_at_clear_other, bit_at_set_same, bit_at_set_other}
 use Rattle.std.proofs.Math.Pow.{pow-lt}
 use Rattle.card_set.specs.declared.card.Card.{Card}
 use Rattle.card_set.specs.declared.card.Rank.{Rank}
@@ -14,6 +13,7 @@ use Rattle.card_set.specs.declared.set.CardSet.{CardSet}
 use Rattle.card_set.specs.CardSet.{bit_place, count_of, every_card, is_in}
 use Rattle.card_set.specs.Deck.{ranks_below}
 use Rattle.card_set.proofs.DeckLaws.{ranks_same, suits_before-few, suits_same}
+use Rattle.list_laws.proofs.Bits.{bit_counts, first_sum, first_sum-agree, ones_sum}
 
 pub ranks_below-few : (rank : Rank) → ranks_below rank < 13
 ranks_below-few ranks.Two = omega arith
@@ -87,48 +87,10 @@ suit_bits bits s k within =
     ∙ omega arith
     ∙ ap (λ (n : ℕ). n % 2) (shr-shr bits (13 * s) k)
 
--- the sum of the first values of a function
-first_sum : (ℕ → ℕ) → ℕ → ℕ
-first_sum f zero = 0
-first_sum f (suc j) = f 0 + first_sum (λ k. f (suc k)) j
-
-first_sum-agree : (f g : ℕ → ℕ) (j : ℕ) → ((k : ℕ) → f k ≡ g k) → first_sum f j ≡ first_sum g j
-unfolding first_sum
-first_sum-agree f g zero same = refl
-first_sum-agree f g (suc j) same = omega (arith, same 0, first_sum-agree (λ k. f (suc k)) (λ k. g (suc k)) j (λ k. same (suc k)))
-
-no_ones : (n : ℕ) → n ≡ 0 → count_ones n ≡ 0
-no_ones n is = omega (arith, ones-le 0 n (omega arith))
-
-one_bit : (b : ℕ) → b < 2 → count_ones b ≡ b
-unfolding ones
-one_bit zero small = refl
-one_bit (suc zero) small = refl
-one_bit (suc (suc b)) small = absurd (omega arith)
-
--- as many bits are set as the sum of the bits
-ones_sum : (j n : ℕ) → n < 2 ^ j → count_ones n ≡ first_sum (bit_at n) j
-unfolding first_sum
-ones_sum zero n small = no_ones n (omega arith)
-ones_sum (suc j) n small =
-    let split : n / 2 * 2 ^ 1 + n % 2 ≡ n = omega arith in
-    let half : n / 2 < 2 ^ j = omega arith in
-    ap count_ones (sym split)
-    ∙ ones_cat 1 (n / 2) (n % 2) (omega arith)
-    ∙ omega (arith, ones_sum j (n / 2) half, one_bit (n % 2) (omega arith), bit_at_lowest n, first_sum-agree (bit_at (n / 2)) (λ k. bit_at n (suc k)) j (λ k. sym (bit_at-suc n k)))
-
 -- the bits of the 52 cards are all bits
 all_places : (f : ℕ → ℕ) → sum_by (λ card. f (bit_place card)) every_card ≡ first_sum f 52
 unfolding every_card first_sum
 all_places f = omega arith
-
--- a bit is set or not
-bit_counts : (n k : ℕ) → cond (bit_at n k == 1) 1 0 ≡ bit_at n k
-bit_counts n k = by_test (bit_at n k == 1) refl
-  where
-    by_test : (b : Bool) → (bit_at n k == 1) ≡ b → cond b 1 0 ≡ bit_at n k
-    by_test true is = sym (eqb-true (bit_at n k) 1 is)
-    by_test false is = let apart = eqb-false (bit_at n k) 1 is in elim (cases_lt 0 (bit_at n k)) [ inl some ↦ absurd (apart (omega (arith, bit_at-lt n k))) | inr none ↦ omega arith ]
 
 -- the bits that are set are as many as the cards of the set
 pub ones_count : (set : CardSet) → count_ones set.bits ≡ count_of set

@@ -1,9 +1,8 @@
 -- How often ranks occur adds up to the number of cards, so the class of a hand tells how many different ranks it has.
-use Rattle.std.proofs.Common.{◌≡◌, ℕ, ◌+◌, ◌*◌, ◌<◌, ◌≤◌, ◌==◌, Bool, true, false, cond, ◌&&◌, List, [], ◌∷◌, ◌++◌, length, count_by, sum_by, find, unwrap_or, refl, sym, ◌∙◌, ap, arith, length-append, eqb-true, ◌⊎◌, inl, inr}
+use Rattle.std.proofs.Common.{◌≡◌, ℕ, ◌+◌, ◌*◌, ◌≤◌, ◌==◌, Bool, true, false, cond, ◌&&◌, List, [], ◌∷◌, ◌++◌, length, count_by, sum_by, find, unwrap_or, refl, sym, ◌∙◌, ap, arith, length-append, eqb-true, inl, inr}
 use Rattle.std.specs.List.{list_all}
 use Rattle.std.proofs.lemmas.List.Sums.{sum_by-cons, length-filter}
 use Rattle.std.proofs.lemmas.Bool.{and_parts}
-use Rattle.std.proofs.lemmas.Bool.Decides.{nat_tests}
 use Rattle.card_set.specs.declared.card.Card.{Card}
 use Rattle.card_set.specs.declared.card.Rank.{Rank}
 use Rattle.card_set.specs.declared.card.Rank.TheVariants as ranks
@@ -14,16 +13,9 @@ use Rattle.card_set.specs.Ranks.{high_ace, low_ace, falling_heights, times, occu
 use Rattle.card_set.specs.Spelling.{all_ranks}
 use Rattle.card_set.proofs.DeckLaws.{suits_same}
 use Rattle.card_set.specs.Different.{Lacks, AllDifferent}
-
--- a sum of sums is the sum of both
-pub sum_by-plus : {X : Type 0} (f g : X → ℕ) (xs : List X) → sum_by (λ x. f x + g x) xs ≡ sum_by f xs + sum_by g xs
-sum_by-plus f g [] = refl
-sum_by-plus f g (x ∷ xs) = omega (arith, sum_by-cons (λ x. f x + g x) x xs, sum_by-cons f x xs, sum_by-cons g x xs, sum_by-plus f g xs)
-
--- two functions that agree have one sum
-pub sum_by-agree : {X : Type 0} (f g : X → ℕ) (xs : List X) → ((x : X) → f x ≡ g x) → sum_by f xs ≡ sum_by g xs
-sum_by-agree f g [] same = refl
-sum_by-agree f g (x ∷ xs) same = omega (arith, sum_by-cons f x xs, sum_by-cons g x xs, same x, sum_by-agree f g xs same)
+use Rattle.list_laws.proofs.Counting.{count_by-cons, count_by-none, counts-le-sum, sum_by-values}
+use Rattle.list_laws.proofs.Sums.{sum_by-plus, sum_by-same}
+use Rattle.list_laws.proofs.Tests.{and_true, passes_or_not}
 
 -- no card has this height
 pub times-none : (height : Rank → ℕ) (h : ℕ) → times height [] h ≡ 0
@@ -53,25 +45,9 @@ no_times height = refl
 pub all_times : (height : Rank → ℕ) → IsHeight height → (cards : List Card) → sum_by (times height cards) falling_heights ≡ length cards
 all_times height is [] = no_times height
 all_times height is (card ∷ cards) =
-    sum_by-agree (times height (card ∷ cards)) (λ h. cond (height card.rank == h) 1 0 + times height cards h) falling_heights (times-cons height card cards)
+    sum_by-same (times height (card ∷ cards)) (λ h. cond (height card.rank == h) 1 0 + times height cards h) (times-cons height card cards) falling_heights
     ∙ sum_by-plus (λ h. cond (height card.rank == h) 1 0) (times height cards) falling_heights
     ∙ omega (arith, is.one card.rank, all_times height is cards)
-
--- the elements with each value, where no value is above four
-weighed : (value four three two one sum : ℕ) → value ≤ 4 → sum ≡ 4 * four + 3 * three + 2 * two + one → value + sum ≡ 4 * (cond (value == 4) 1 0 + four) + 3 * (cond (value == 3) 1 0 + three) + 2 * (cond (value == 2) 1 0 + two) + (cond (value == 1) 1 0 + one)
-weighed value four three two one sum few is = grind (arith, nat_tests)
-
--- a count, one element more
-pub count_by-cons : {X : Type 0} (p : X → Bool) (x : X) (xs : List X) → count_by p (x ∷ xs) ≡ cond (p x) 1 0 + count_by p xs
-count_by-cons p x xs = sum_by-cons (λ x. cond (p x) 1 0) x xs
-
--- a sum is read from how many elements have each value
-sum_by-values : {X : Type 0} (f : X → ℕ) (xs : List X) → ((x : X) → f x ≤ 4) → sum_by f xs ≡ 4 * count_by (λ x. f x == 4) xs + 3 * count_by (λ x. f x == 3) xs + 2 * count_by (λ x. f x == 2) xs + count_by (λ x. f x == 1) xs
-sum_by-values f [] few = refl
-sum_by-values f (x ∷ xs) few =
-    sum_by-cons f x xs
-    ∙ weighed (f x) (count_by (λ x. f x == 4) xs) (count_by (λ x. f x == 3) xs) (count_by (λ x. f x == 2) xs) (count_by (λ x. f x == 1) xs) (sum_by f xs) (few x) (sum_by-values f xs few)
-    ∙ omega (arith, count_by-cons (λ x. f x == 4) x xs, count_by-cons (λ x. f x == 3) x xs, count_by-cons (λ x. f x == 2) x xs, count_by-cons (λ x. f x == 1) x xs)
 
 -- as many ranks occur so many times as heights do
 pub ranks_occurring_count : (height : Rank → ℕ) (cards : List Card) (n : ℕ) → ranks_occurring height cards n ≡ count_by (λ h. times height cards h == n) falling_heights
@@ -95,11 +71,6 @@ count_by-no p card rest is = let b = ap {B = ℕ} (λ t. cond t 1 0) is in omega
 
 count_by-yes : (p : Card → Bool) (card : Card) (rest : List Card) → p card ≡ true → count_by p (card ∷ rest) ≡ 1 + count_by p rest
 count_by-yes p card rest is = let b = ap {B = ℕ} (λ t. cond t 1 0) is in omega (arith, count_by-cons p card rest, b)
-
--- a test passes or not
-pub passes_or_not : (b : Bool) → (b ≡ true) ⊎ (b ≡ false)
-passes_or_not true = inl refl
-passes_or_not false = inr refl
 
 -- no card of a list passes a test that only a card passes which the list lacks
 none_like : (p : Card → Bool) (card : Card) (cards : List Card) → Lacks card cards → ((other : Card) → p other ≡ true → card ≡ other) → count_by p cards ≡ 0
@@ -157,21 +128,6 @@ only_card height is h s first second one other =
 pub few_times : (height : Rank → ℕ) → IsHeight height → (cards : List Card) → AllDifferent cards → (h : ℕ) → times height cards h ≤ 4
 few_times height is cards different h =
     omega (arith, by_suits height cards h, at_most_one (is_card height h 0) cards different (only_card height is h 0), at_most_one (is_card height h 1) cards different (only_card height is h 1), at_most_one (is_card height h 2) cards different (only_card height is h 2), at_most_one (is_card height h 3) cards different (only_card height is h 3))
-
--- a test that holds beside another changes nothing
-and_true : (a b : Bool) → b ≡ true → (a && b) ≡ a
-and_true true b is = is
-and_true false b is = refl
-
-not_equal : (value n : ℕ) → value ≤ 1 → 1 < n → ◌≡◌ {A = ℕ} (cond (value == n) 1 0) 0
-not_equal value n once above = grind (arith, nat_tests)
-
--- no element has a value that is above every element's
-count_by-none : {X : Type 0} (f : X → ℕ) (n : ℕ) (xs : List X) → ((x : X) → f x ≤ 1) → 1 < n → count_by (λ x. f x == n) xs ≡ 0
-count_by-none f n [] once above = refl
-count_by-none f n (x ∷ xs) once above =
-    let here = not_equal (f x) n (once x) above in
-    omega (arith, count_by-cons (λ x. f x == n) x xs, here, count_by-none f n xs once above)
 
 -- where all cards have a suit, those of a height are those of the height and the suit
 times_in_suit : (height : Rank → ℕ) (cards : List Card) (h s : ℕ) → list_all (λ card. suits_before card.suit == s) cards ≡ true → times height cards h ≡ count_by (is_card height h s) cards
@@ -265,16 +221,6 @@ low_ace-back ranks.Ace = refl
 
 pub IsHeight-low_ace : IsHeight low_ace
 IsHeight-low_ace = record { one = low_ace-one; back = low_ace-back }
-
--- an element has at most one of the values
-few_values : (value four three two one sum : ℕ) → four + three + two + one ≤ sum → cond (value == 4) 1 0 + four + (cond (value == 3) 1 0 + three) + (cond (value == 2) 1 0 + two) + (cond (value == 1) 1 0 + one) ≤ value + sum
-few_values value four three two one sum few = grind (arith, nat_tests)
-
--- the elements with these values are at most the sum
-counts-le-sum : {X : Type 0} (f : X → ℕ) (xs : List X) → count_by (λ x. f x == 4) xs + count_by (λ x. f x == 3) xs + count_by (λ x. f x == 2) xs + count_by (λ x. f x == 1) xs ≤ sum_by f xs
-counts-le-sum f [] = omega arith
-counts-le-sum f (x ∷ xs) =
-    omega (arith, few_values (f x) (count_by (λ x. f x == 4) xs) (count_by (λ x. f x == 3) xs) (count_by (λ x. f x == 2) xs) (count_by (λ x. f x == 1) xs) (sum_by f xs) (counts-le-sum f xs), sum_by-cons f x xs, count_by-cons (λ x. f x == 4) x xs, count_by-cons (λ x. f x == 3) x xs, count_by-cons (λ x. f x == 2) x xs, count_by-cons (λ x. f x == 1) x xs)
 
 -- cards have at most as many different ranks
 pub ranks_of-le : (height : Rank → ℕ) → IsHeight height → (cards : List Card) → length (ranks_of height cards) ≤ length cards

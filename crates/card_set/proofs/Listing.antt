@@ -1,8 +1,8 @@
 -- Each of the 52 cards stands once in the deck, so what is counted among different cards is told by which cards they are.
-use Rattle.std.proofs.Common.{◌≡◌, ℕ, zero, suc, ◌+◌, ◌<◌, ◌≤◌, ◌==◌, ◌&&◌, ◌||◌, Bool, true, false, cond, List, [], ◌∷◌, ◌++◌, ◌⊎◌, length, filter, map, get_or, count_by, inl, inr, refl, sym, ◌∙◌, ap, subst, arith, eq-eqb}
+use Rattle.std.proofs.Common.{◌≡◌, ℕ, ◌+◌, ◌<◌, ◌==◌, ◌&&◌, ◌||◌, Bool, true, false, cond, List, [], ◌∷◌, ◌++◌, ◌⊎◌, length, filter, map, get_or, count_by, inl, inr, refl, sym, ◌∙◌, ap, subst, arith, eq-eqb}
 use Rattle.std.specs.List.{range_with_len}
 use Rattle.std.specs.Prelude.{nat_le}
-use Rattle.std.proofs.lemmas.Bool.{and_parts, cases_lt, leb-true, ne_eqb}
+use Rattle.std.proofs.lemmas.Bool.{and_parts, leb-true, ne_eqb}
 use Rattle.std.proofs.lemmas.List.{get_or-map}
 use Rattle.std.proofs.lemmas.List.FromFn.{get_or-range_with_len}
 use Rattle.card_set.specs.declared.card.Card.{Card}
@@ -13,40 +13,17 @@ use Rattle.card_set.specs.Deck.{deck_place, is_same_card}
 use Rattle.card_set.specs.Different.{Lacks, AllDifferent}
 use Rattle.card_set.specs.Filler.{filler_card}
 use Rattle.card_set.specs.Ranks.{falling_heights, occurring, ranks_of, times}
-use Rattle.card_set.proofs.Counted.{count_by-cons, passes_or_not, sum_by-agree, sum_by-plus}
 use Rattle.card_set.proofs.BitLaws.{ranks_below-few}
 use Rattle.card_set.proofs.DeckLaws.{deck_place-same, is_same_card-true, suits_before-few}
+use Rattle.list_laws.proofs.Counting.{count_by-cons, count_by-map, counted_never, range_once}
+use Rattle.list_laws.proofs.Lists.{filter-agree}
+use Rattle.list_laws.proofs.Sums.{sum_by-plus, sum_by-same}
+use Rattle.list_laws.proofs.Tests.{and_false, passes_or_not, true_false}
 
 -- the places of the 52 cards are all places
 places : map deck_place every_card ≡ range_with_len 0 52
 unfolding every_card
 places = refl
-
-count_by-map : {X Y : Type 0} (p : Y → Bool) (f : X → Y) (xs : List X) → count_by p (map f xs) ≡ count_by (λ x. p (f x)) xs
-count_by-map p f [] = refl
-count_by-map p f (x ∷ xs) = omega (arith, count_by-cons p (f x) (map f xs), count_by-cons (λ x. p (f x)) x xs, count_by-map p f xs)
-
-true_false : true ≡ false → ⊥
-true_false is = cc
-
--- a number stands once among the numbers from another on
-range_none : (k a n : ℕ) → k < a → count_by (λ j. k == j) (range_with_len a n) ≡ 0
-range_none k a zero before = refl
-range_none k a (suc n) before =
-    let here = ap (λ (b : Bool). cond {A = ℕ} b 1 0) (ne_eqb k a (λ same. omega arith)) in
-    omega (arith, count_by-cons (λ j. k == j) a (range_with_len (a + 1) n), here, range_none k (a + 1) n (omega arith))
-
-range_once : (k a n : ℕ) → a ≤ k → k < a + n → count_by (λ j. k == j) (range_with_len a n) ≡ 1
-range_once k a zero from before = absurd (omega arith)
-range_once k a (suc n) from before =
-    elim (cases_lt a k) [
-      | inl later ↦
-          let here = ap (λ (b : Bool). cond {A = ℕ} b 1 0) (ne_eqb k a (λ same. omega arith)) in
-          omega (arith, count_by-cons (λ j. k == j) a (range_with_len (a + 1) n), here, range_once k (a + 1) n (omega arith) (omega arith))
-      | inr first ↦
-          let here = ap (λ (b : Bool). cond {A = ℕ} b 1 0) (eq-eqb k a (omega arith)) in
-          omega (arith, count_by-cons (λ j. k == j) a (range_with_len (a + 1) n), here, range_none k (a + 1) n (omega arith))
-    ]
 
 -- each card stands once in the deck
 deck_once : (card : Card) → deck_place card < 52 → count_by (is_same_card card) every_card ≡ 1
@@ -88,10 +65,6 @@ pub is_one_of-filter : (p : Card → Bool) (card : Card) (cards : List Card) →
 is_one_of-filter p card [] = refl
 is_one_of-filter p card (first ∷ rest) = by_tests (p first) refl (passes_or_not (is_same_card first card)) (is_one_of-filter p card rest)
   where
-    and_false : (b : Bool) → (b && false) ≡ false
-    and_false true = refl
-    and_false false = refl
-
     by_tests : (t : Bool) → p first ≡ t → (is_same_card first card ≡ true) ⊎ (is_same_card first card ≡ false) → is_one_of card (filter p rest) ≡ (is_one_of card rest && p card) → is_one_of card (cond t (first ∷ filter p rest) (filter p rest)) ≡ ((is_same_card first card || is_one_of card rest) && p card)
     by_tests true is (inl same) others =
         let passes : p card ≡ true = ap p (sym (is_same_card-true first card same)) ∙ is in
@@ -179,10 +152,6 @@ counted_step p card rest lacks other = by_test (passes_or_not (is_same_card card
         let first = ap (λ (b : Bool). cond {A = ℕ} (b && p card) 1 0) apart in
         omega (arith, left, first)
 
-counted_never : {X : Type 0} (xs : List X) → count_by (λ x. false) xs ≡ 0
-counted_never [] = refl
-counted_never (x ∷ xs) = omega (arith, count_by-cons (λ x. false) x xs, counted_never xs)
-
 counted_card : (p : Card → Bool) (card : Card) → count_by (λ other. is_same_card card other && p card) every_card ≡ cond (p card) 1 0
 counted_card p card = by_test (p card)
   where
@@ -190,19 +159,15 @@ counted_card p card = by_test (p card)
     and_true true = refl
     and_true false = refl
 
-    and_false : (b : Bool) → (b && false) ≡ false
-    and_false true = refl
-    and_false false = refl
-
     by_test : (b : Bool) → count_by (λ other. is_same_card card other && b) every_card ≡ cond b 1 0
-    by_test true = sum_by-agree (λ other. cond (is_same_card card other && true) 1 0) (λ other. cond (is_same_card card other) 1 0) every_card (λ other. ap (λ (t : Bool). cond t 1 0) (and_true (is_same_card card other))) ∙ deck_once card (place_within card)
-    by_test false = sum_by-agree (λ other. cond (is_same_card card other && false) 1 0) (λ other. 0) every_card (λ other. ap (λ (t : Bool). cond t 1 0) (and_false (is_same_card card other))) ∙ counted_never every_card
+    by_test true = sum_by-same (λ other. cond (is_same_card card other && true) 1 0) (λ other. cond (is_same_card card other) 1 0) (λ other. ap (λ (t : Bool). cond t 1 0) (and_true (is_same_card card other))) every_card ∙ deck_once card (place_within card)
+    by_test false = sum_by-same (λ other. cond (is_same_card card other && false) 1 0) (λ other. 0) (λ other. ap (λ (t : Bool). cond t 1 0) (and_false (is_same_card card other))) every_card ∙ counted_never every_card
 
 pub counted_in_deck : (p : Card → Bool) (cards : List Card) → AllDifferent cards → count_by p cards ≡ count_by (λ other. is_one_of other cards && p other) every_card
 counted_in_deck p [] different = sym (counted_never every_card)
 counted_in_deck p (card ∷ rest) different =
     let all =
-    sum_by-agree (λ other. cond (is_one_of other (card ∷ rest) && p other) 1 0) (λ other. cond (is_same_card card other && p card) 1 0 + cond (is_one_of other rest && p other) 1 0) every_card (counted_step p card rest different.0)
+    sum_by-same (λ other. cond (is_one_of other (card ∷ rest) && p other) 1 0) (λ other. cond (is_same_card card other && p card) 1 0 + cond (is_one_of other rest && p other) 1 0) (counted_step p card rest different.0) every_card
     ∙ sum_by-plus (λ other. cond (is_same_card card other && p card) 1 0) (λ other. cond (is_one_of other rest && p other) 1 0) every_card in
     omega (arith, count_by-cons p card rest, all, counted_card p card, counted_in_deck p rest different.1)
 
@@ -210,7 +175,7 @@ counted_in_deck p (card ∷ rest) different =
 pub count_by-same : (p : Card → Bool) (a b : List Card) → AllDifferent a → AllDifferent b → AreSameCards a b → count_by p a ≡ count_by p b
 count_by-same p a b different_a different_b same =
     counted_in_deck p a different_a
-    ∙ sum_by-agree (λ other. cond (is_one_of other a && p other) 1 0) (λ other. cond (is_one_of other b && p other) 1 0) every_card (λ other. ap (λ (t : Bool). cond (t && p other) 1 0) (same other))
+    ∙ sum_by-same (λ other. cond (is_one_of other a && p other) 1 0) (λ other. cond (is_one_of other b && p other) 1 0) (λ other. ap (λ (t : Bool). cond (t && p other) 1 0) (same other)) every_card
     ∙ sym (counted_in_deck p b different_b)
 
 length-count : (cards : List Card) → length cards ≡ count_by (λ card. true) cards
@@ -225,10 +190,6 @@ length-same a b different_a different_b same = length-count a ∙ count_by-same 
 pub times-same : (height : Rank → ℕ) (a b : List Card) → AllDifferent a → AllDifferent b → AreSameCards a b → (h : ℕ) → times height a h ≡ times height b h
 unfolding times
 times-same height a b different_a different_b same h = count_by-same (λ card. height card.rank == h) a b different_a different_b same
-
-filter-agree : {X : Type 0} (p q : X → Bool) (xs : List X) → ((x : X) → p x ≡ q x) → filter p xs ≡ filter q xs
-filter-agree p q [] same = refl
-filter-agree p q (x ∷ xs) same = ap (λ (b : Bool). cond b (x ∷ filter p xs) (filter p xs)) (same x) ∙ ap (λ l. cond (q x) (x ∷ l) l) (filter-agree p q xs same)
 
 pub occurring-same : (height : Rank → ℕ) (a b : List Card) → AllDifferent a → AllDifferent b → AreSameCards a b → (n : ℕ) → occurring height a n ≡ occurring height b n
 unfolding occurring

@@ -1,5 +1,5 @@
 -- A set with one card more, and the cards of a set so far in the order of the deck.
-use Rattle.std.proofs.Common.{◌≡◌, ◌≢◌, ℕ, ◌+◌, ◌<◌, ◌≤◌, ◌||◌, Bool, true, false, cond, List, [], ◌∷◌, ◌++◌, length, filter, take, drop, get_or, ◌⊎◌, inl, inr, refl, sym, ◌∙◌, ap, arith, length-append, take-append-drop, length-take, take_all}
+use Rattle.std.proofs.Common.{◌≡◌, ◌≢◌, ℕ, ◌+◌, ◌<◌, ◌≤◌, ◌||◌, Bool, true, false, cond, List, [], ◌∷◌, ◌++◌, length, filter, take, drop, get_or, ◌⊎◌, inl, inr, sym, ◌∙◌, ap, arith, length-append, take-append-drop, length-take, take_all}
 use Rattle.std.proofs.lemmas.List.{take_more}
 use Rattle.std.proofs.lemmas.List.Elements.{filter_more, filter-append}
 use Rattle.card_set.specs.declared.card.Card.{Card}
@@ -8,24 +8,9 @@ use Rattle.card_set.specs.CardSet.{every_card, is_one_of}
 use Rattle.card_set.specs.Deck.{deck_place, is_same_card}
 use Rattle.card_set.specs.Filler.{filler_card}
 use Rattle.card_set.specs.Row.{cards_of}
-use Rattle.card_set.proofs.Counted.{passes_or_not}
 use Rattle.card_set.proofs.DeckLaws.{is_same_card-true, is_same_card-self}
 use Rattle.card_set.proofs.Listing.{deck_at, deck_length}
-
-or_right : (a b : Bool) → b ≡ true → (a || b) ≡ true
-or_right true b is = refl
-or_right false b is = is
-
-or_false : (b : Bool) → (b || false) ≡ b
-or_false true = refl
-or_false false = refl
-
-or_assoc : (a b c : Bool) → (a || (b || c)) ≡ ((a || b) || c)
-or_assoc true b c = refl
-or_assoc false b c = refl
-
-true_false : true ≡ false → ⊥
-true_false is = cc
+use Rattle.list_laws.proofs.Tests.{or_assoc, or_false, or_right, passes_or_not, true_false}
 
 -- a card at the end
 pub is_one_of-more : (card other : Card) (cards : List Card) → is_one_of card (cards ++ other ∷ []) ≡ (is_one_of card cards || is_same_card other card)

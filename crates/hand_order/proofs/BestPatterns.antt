@@ -1,12 +1,11 @@
 -- The best pattern is read from the masks of the heights that occur once, twice, three times and four times at least.
-use Rattle.std.proofs.Common.{◌≡◌, ◌↔◌, ℕ, suc, ◌+◌, ◌-◌, ◌*◌, ◌^◌, ◌%◌, ◌<◌, ◌≤◌, ◌==◌, min, Bool, true, false, cond, List, [], ◌∷◌, ◌++◌, sum_by, inl, inr, refl, sym, ◌∙◌, ap, subst, arith, eqb-true, bit_and, w16}
+use Rattle.std.proofs.Common.{◌≡◌, ◌↔◌, ℕ, suc, ◌+◌, ◌-◌, ◌*◌, ◌^◌, ◌%◌, ◌<◌, ◌≤◌, ◌==◌, Bool, true, false, cond, List, [], ◌∷◌, ◌++◌, inl, inr, refl, sym, ◌∙◌, ap, subst, arith, eqb-true, bit_and, w16}
 use Rattle.std.specs.Int.{bit_at, bit_not}
 use Rattle.std.proofs.lemmas.Bool.{cases_lt, eqb-false}
 use Rattle.std.proofs.lemmas.Nat.{and_le_l}
 use Rattle.std.proofs.lemmas.Nat.Bits.{bit_at-zero}
-use Rattle.std.proofs.lemmas.List.Sums.{sum_by-cons}
 use Rattle.card_set.specs.Ranks.{falling_heights, high_ace}
-use Rattle.card_set.proofs.Counted.{IsHeight-high_ace, passes_or_not}
+use Rattle.card_set.proofs.Counted.{IsHeight-high_ace}
 use Rattle.hand_order.proofs.Digits.{AreDigits}
 use Rattle.hand_order.specs.Tops.{highest, tops, Shows}
 use Rattle.hand_order.proofs.Fits.{picked_fits}
@@ -15,6 +14,9 @@ use Rattle.hand_order.proofs.OwnRanks.{InRange-high_ace}
 use Rattle.hand_order.proofs.PlainHands.{pattern_cases, four_and_one, three_and_two, three_alone, two_and_two, two_alone, ones_alone}
 use Rattle.hand_order.proofs.ShownRanks.{top_shown, tops_picked}
 use Rattle.hand_order.specs.Picks.{without, Fits, IsPicked, OfRanks, AreSome, pattern, IsPattern, IsBestPattern, AreCounts}
+use Rattle.list_laws.proofs.Numbers.{positive}
+use Rattle.list_laws.proofs.Sums.{once_sum, some_sum}
+use Rattle.list_laws.proofs.Tests.{passes_or_not}
 
 -- a mask without any bit shows nothing
 pub nothing_shown : (mask n h : ℕ) (T : ℕ → ℕ) → Shows mask n T → mask ≡ 0 → n ≤ T h → ⊥
@@ -36,16 +38,6 @@ no_second more n m a x y T shows is positive fewer often other =
 -- where no pair is left, each of the others occurs once
 others_once : (more a : ℕ) (T : ℕ → ℕ) → Shows more 2 (without T a) → more ≡ 0 → (h : ℕ) → without T a h ≤ 1
 others_once more a T shows is h = elim (cases_lt 1 (without T a h)) [ inl often ↦ absurd (nothing_shown more 2 h (without T a) shows is (omega arith)) | inr once ↦ once ]
-
--- heights that occur once are as many as their cards
-once_sum : (T : ℕ → ℕ) (hs : List ℕ) → ((h : ℕ) → T h ≤ 1) → sum_by T hs ≤ sum_by (λ h. min 1 (T h)) hs
-once_sum T [] once = omega arith
-once_sum T (h ∷ hs) once = omega (arith, sum_by-cons T h hs, sum_by-cons (λ k. min 1 (T k)) h hs, once h, once_sum T hs once)
-
--- some card is of some height
-some_sum : (T : ℕ → ℕ) (hs : List ℕ) → ((h : ℕ) → T h ≤ 4) → sum_by T hs ≤ 4 * sum_by (λ h. min 1 (T h)) hs
-some_sum T [] few = omega arith
-some_sum T (h ∷ hs) few = omega (arith, sum_by-cons T h hs, sum_by-cons (λ k. min 1 (T k)) h hs, few h, some_sum T hs few)
 
 without-few : (T : ℕ → ℕ) (a : ℕ) → ((h : ℕ) → T h ≤ 4) → (h : ℕ) → without T a h ≤ 4
 without-few T a few h = by_test (a == h)
@@ -219,9 +211,6 @@ best_ones four three two all T counts four_shows no_quads three_shows none two_s
       none = none_by T 0 (λ less ks fits. no_four four T ks four_shows no_quads fits) (λ less ks fits. no_three three T (2 ∷ []) ks three_shows none fits) (λ less ks fits. no_three three T (1 ∷ 1 ∷ []) ks three_shows none fits) (λ less ks fits. no_two two T (2 ∷ 1 ∷ []) ks two_shows nil fits) (λ less ks fits. no_two two T (1 ∷ 1 ∷ 1 ∷ []) ks two_shows nil fits);
     }
 
-pub positive : (n : ℕ) → (n ≡ 0 → ⊥) → 0 < n
-positive n some = elim (cases_lt 0 n) [ inl is ↦ is | inr least ↦ absurd (some (omega arith)) ]
-
 -- a mask without a bit that was found shows the others
 pub cleared_at : (mask rest place n other : ℕ) (T : ℕ → ℕ) → Shows mask n T → 0 < n → place ≡ other → rest ≡ bit_and mask (bit_not w16 (1 * 2 ^ place % 2 ^ 16)) → ((k : ℕ) → bit_at rest k ≡ cond (place == k) 0 (bit_at mask k)) → Shows rest n (without T (other + 2))
 cleared_at mask rest place n other T shows some is number bits =
@@ -237,6 +226,3 @@ grown_one start pushed result more place other none is_pushed is is_result =
 
 pub grown_two : (pushed more : List ℕ) (first place other : ℕ) → pushed ≡ (first + 2) ∷ (place + 2) ∷ [] → place ≡ other → pushed ++ more ≡ (first + 2) ∷ (other + 2) ∷ more
 grown_two pushed more first place other is_pushed is = ap (λ (l : List ℕ). l ++ more) is_pushed ∙ ap (λ (p : ℕ). (first + 2) ∷ (p + 2) ∷ more) is
-
-pub none_before : (start more : List ℕ) → start ≡ [] → start ++ more ≡ more
-none_before start more none = ap (λ (l : List ℕ). l ++ more) none

@@ -5,11 +5,14 @@ use Rattle.std.proofs.lemmas.List.Sums.{sum_by-cons}
 use Rattle.card_set.specs.declared.card.Card.{Card}
 use Rattle.card_set.specs.declared.card.Rank.{Rank}
 use Rattle.card_set.specs.Ranks.{falling_heights, times}
-use Rattle.card_set.proofs.Counted.{IsHeight, times-none, times-cons, passes_or_not, count_by-cons}
+use Rattle.card_set.proofs.Counted.{IsHeight, times-none, times-cons}
 use Rattle.hand_order.specs.Choices.{choices, IsAmong}
 use Rattle.hand_order.proofs.Fits.{needs, fits_needs, needs_fit, fits-within}
 use Rattle.hand_order.proofs.Wanted.{wanted_chosen}
 use Rattle.hand_order.specs.Picks.{without, Fits, IsOfRank, OfRanks, total, AreSome, among_numbers}
+use Rattle.list_laws.proofs.Counting.{count-le-sum}
+use Rattle.list_laws.proofs.Sums.{sum_by-at, sum_by-none, sum_by-plus, sum_by-same}
+use Rattle.list_laws.proofs.Tests.{passes_or_not}
 
 pub times_of_ranks : (height : Rank → ℕ) (cards : List Card) → OfRanks height (times height cards)
 times_of_ranks height [] h some = absurd (omega (arith, times-none height h))
@@ -41,27 +44,6 @@ sum_without height is T h of =
     let one = subst (λ (x : ℕ). sum_by (λ k. cond (x == k) 1 0) falling_heights ≡ 1) of.1 (is.one of.0) in
     let moved = ap (λ (n : ℕ). T h * n + sum_by (without T h) falling_heights) one in
     sum_by-split T h falling_heights ∙ moved ∙ omega arith
-
-sum_by-same : (T U : ℕ → ℕ) (ks : List ℕ) → ((k : ℕ) → T k ≡ U k) → sum_by T ks ≡ sum_by U ks
-sum_by-same T U [] same = refl
-sum_by-same T U (k ∷ ks) same = omega (arith, sum_by-cons T k ks, sum_by-cons U k ks, same k, sum_by-same T U ks same)
-
-sum_by-plus : (T U : ℕ → ℕ) (ks : List ℕ) → sum_by (λ k. T k + U k) ks ≡ sum_by T ks + sum_by U ks
-sum_by-plus T U [] = refl
-sum_by-plus T U (k ∷ ks) = omega (arith, sum_by-cons (λ k. T k + U k) k ks, sum_by-cons T k ks, sum_by-cons U k ks, sum_by-plus T U ks)
-
-sum_by-none : (ks : List ℕ) → sum_by (λ k. 0) ks ≡ 0
-sum_by-none [] = refl
-sum_by-none (k ∷ ks) = omega (arith, sum_by-cons (λ k. 0) k ks, sum_by-none ks)
-
--- one number at one height
-sum_by-at : (n h : ℕ) (ks : List ℕ) → sum_by (λ k. cond (h == k) n 0) ks ≡ n * sum_by (λ k. cond (h == k) 1 0) ks
-sum_by-at n h [] = omega arith
-sum_by-at n h (k ∷ ks) = omega (arith, sum_by-cons (λ k. cond (h == k) n 0) k ks, ap (λ (m : ℕ). n * m) (sum_by-cons (λ k. cond (h == k) 1 0) k ks), sum_by-at n h ks, here (h == k))
-  where
-    here : (b : Bool) → cond b n 0 + n * sum_by (λ k. cond (h == k) 1 0) ks ≡ n * (cond b 1 0 + sum_by (λ k. cond (h == k) 1 0) ks)
-    here true = grind arith
-    here false = grind arith
 
 sum_at : (height : Rank → ℕ) → IsHeight height → (n h : ℕ) → IsOfRank height h → sum_by (λ k. cond (h == k) n 0) falling_heights ≡ n
 sum_at height is n h of =
@@ -98,20 +80,11 @@ total-le height is T (n ∷ ns) [] of some fits = absurd fits
 total-le height is T (n ∷ ns) (h ∷ hs) of some fits =
     omega (arith, fits.0, sum_without height is T h (of h (omega (arith, fits.0, some.0))), total-le height is (without T h) ns hs (without_of_ranks height T h of) some.1 fits.1)
 
--- a count is at most the sum
-count-le-sum : (T : ℕ → ℕ) (n : ℕ) (ks : List ℕ) → 0 < n → count_by (λ k. T k == n) ks ≤ sum_by T ks
-count-le-sum T n [] some = omega arith
-count-le-sum T n (k ∷ ks) some = omega (arith, sum_by-cons T k ks, count_by-cons (λ k. T k == n) k ks, count-le-sum T n ks some, here (T k == n) refl)
-  where
-    here : (b : Bool) → (T k == n) ≡ b → cond b 1 0 ≤ T k
-    here true is = let same = eqb-true (T k) n is in omega arith
-    here false is = omega arith
-
 -- a count without a height
 count_without : (height : Rank → ℕ) → IsHeight height → (T : ℕ → ℕ) (n h : ℕ) → 0 < n → IsOfRank height h → count_by (λ k. T k == n) falling_heights ≡ cond (T h == n) 1 0 + count_by (λ k. without T h k == n) falling_heights
 count_without height is T n h some of =
     sum_without height is (λ k. cond (T k == n) 1 0) h of
-    ∙ ap (λ (m : ℕ). cond (T h == n) 1 0 + m) (sum_by-same (without (λ k. cond (T k == n) 1 0) h) (λ k. cond (without T h k == n) 1 0) falling_heights (λ k. here k (h == k)))
+    ∙ ap (λ (m : ℕ). cond (T h == n) 1 0 + m) (sum_by-same (without (λ k. cond (T k == n) 1 0) h) (λ k. cond (without T h k == n) 1 0) (λ k. here k (h == k)) falling_heights)
   where
     here : (k : ℕ) (b : Bool) → ◌≡◌ {A = ℕ} (cond b 0 (cond (T k == n) 1 0)) (cond (cond b 0 (T k) == n) 1 0)
     here k true = sym (ap (λ (t : Bool). cond {A = ℕ} t 1 0) (ne_eqb 0 n (λ same. omega arith)))

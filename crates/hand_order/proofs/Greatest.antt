@@ -7,9 +7,7 @@ use Rattle.std.proofs.lemmas.Bool.{cases_lt}
 use Rattle.card_set.specs.declared.card.Card.{Card}
 use Rattle.hand_order.specs.Choices.{IsAmong}
 use Rattle.hand_order.specs.Points.{better, greatest}
-
-pub max_assoc : (x y z : ℕ) → max (max x y) z ≡ max x (max y z)
-max_assoc x y z = omega arith
+use Rattle.list_laws.proofs.Numbers.{max_assoc}
 
 -- the better of three is found in any order
 better_assoc : (a b c : Option ℕ) → better (better a b) c ≡ better a (better b c)

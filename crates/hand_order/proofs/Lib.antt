@@ -12,8 +12,6 @@ pub mod HighAlike
 pub mod HighLaw
 pub mod HighReadings
 pub mod Lawful
-pub mod LevelLaws
-pub mod MaskBits
 pub mod OwnRanks
 pub mod PlainHands
 pub mod RankDigits

@@ -11,7 +11,7 @@ use Rattle.card_set.specs.declared.card.Suit.TheVariants as suits
 use Rattle.card_set.specs.Deck.{ranks_below, suits_before, is_same_card}
 use Rattle.card_set.specs.Different.{Lacks, AllDifferent}
 use Rattle.card_set.specs.Ranks.{times, high_ace}
-use Rattle.card_set.proofs.Counted.{IsHeight-high_ace, times-none, times-cons, passes_or_not, few_times, all_times}
+use Rattle.card_set.proofs.Counted.{IsHeight-high_ace, times-none, times-cons, few_times, all_times}
 use Rattle.card_set.proofs.DeckLaws.{is_same_card-true}
 use Rattle.card_set.specs.declared.set.CardSet.{CardSet}
 use Rattle.card_set.specs.CardSet.{is_in, is_one_of, IsListing}
@@ -21,6 +21,7 @@ use Rattle.hand_order.proofs.FittingChoices.{times_of_ranks}
 use Rattle.hand_order.specs.Tops.{Shows}
 use Rattle.hand_order.proofs.OwnRanks.{InRange-high_ace}
 use Rattle.hand_order.proofs.SuitedHands.{of_suit}
+use Rattle.list_laws.proofs.Tests.{passes_or_not}
 
 -- the height of a rank is two more than the ranks below it
 pub height_below : (rank : Rank) → high_ace rank ≡ ranks_below rank + 2

@@ -9,10 +9,12 @@ use Rattle.card_set.specs.declared.card.Rank.{Rank}
 use Rattle.card_set.specs.Ranks.{falling_heights}
 use Rattle.card_set.proofs.Counted.{IsHeight}
 use Rattle.hand_order.specs.Tops.{highest, lowered, tops, Shows}
-use Rattle.hand_order.proofs.MaskBits.{top_set, top_highest, cleared}
 use Rattle.hand_order.proofs.FittingChoices.{without_of_ranks, sum_without}
 use Rattle.hand_order.proofs.OwnRanks.{several}
 use Rattle.hand_order.specs.Picks.{without, IsPicked, IsOfRank, OfRanks}
+use Rattle.list_laws.proofs.Bits.{cleared, top_highest, top_set}
+use Rattle.list_laws.proofs.Numbers.{one_less}
+use Rattle.list_laws.proofs.Sums.{sum_by-same}
 
 -- the highest bit that is shown
 pub top_shown : (mask n : ℕ) (T : ℕ → ℕ) → Shows mask n T → 0 < mask → (n ≤ T (highest mask + 2)) × ((h : ℕ) → n ≤ T h → h ≤ highest mask + 2)
@@ -55,15 +57,11 @@ none_occur : (T : ℕ → ℕ) (hs : List ℕ) → ((h : ℕ) → T h ≡ 0) →
 none_occur T [] none = refl
 none_occur T (h ∷ hs) none = omega (arith, sum_by-cons (λ h. min 1 (T h)) h hs, none h, none_occur T hs none)
 
-same_sum : (f g : ℕ → ℕ) (hs : List ℕ) → ((h : ℕ) → f h ≡ g h) → sum_by f hs ≡ sum_by g hs
-same_sum f g [] same = refl
-same_sum f g (h ∷ hs) same = omega (arith, sum_by-cons f h hs, sum_by-cons g h hs, same h, same_sum f g hs same)
-
 -- one height fewer
 pub different_without : (height : Rank → ℕ) → IsHeight height → (T : ℕ → ℕ) (h : ℕ) → IsOfRank height h → different_heights T ≡ min 1 (T h) + different_heights (without T h)
 different_without height is T h of =
     let split = sum_without height is (λ k. min 1 (T k)) h of in
-    let same = same_sum (without (λ k. min 1 (T k)) h) (λ k. min 1 (without T h k)) falling_heights (λ k. here (h == k) (T k)) in
+    let same = sum_by-same (without (λ k. min 1 (T k)) h) (λ k. min 1 (without T h k)) (λ k. here (h == k) (T k)) falling_heights in
     omega (arith, split, same)
   where
     here : (b : Bool) (t : ℕ) → cond b 0 (min 1 t) ≡ min 1 (cond b 0 t)
@@ -104,9 +102,6 @@ tops_picked height is T (suc n) mask of shows enough =
     by_zero : (b : Bool) → (mask == 0) ≡ b → 0 < mask → IsPicked T (several (suc n) 1) ((highest mask + 2) ∷ tops n (lowered mask)) → IsPicked T (several (suc n) 1) (cond b [] ((highest mask + 2) ∷ tops n (lowered mask)))
     by_zero true is_zero positive picked = absurd (omega (arith, eqb-true mask 0 is_zero))
     by_zero false is_zero positive picked = picked
-
-one_less : (n : ℕ) → suc n - 1 ≡ n
-one_less n = omega arith
 
 -- one height more, and then the others
 pub tops_grown : (row pushed result : List ℕ) (mask need place rest : ℕ) → (need ≡ 0 → ⊥) → (mask ≡ 0 → ⊥) → place ≡ highest mask → pushed ≡ row ++ (place + 2) ∷ [] → rest ≡ bit_and mask (bit_not w16 (1 * 2 ^ place % 2 ^ 16)) → result ≡ pushed ++ tops (need - 1) rest → result ≡ row ++ tops need mask

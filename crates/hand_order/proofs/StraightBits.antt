@@ -1,9 +1,8 @@
 -- Heights that fit and are a straight are five heights that occur, and the other way round; the bits of a mask tell them.
-use Rattle.std.proofs.Common.{◌≡◌, ◌↔◌, ℕ, ◌+◌, ◌-◌, ◌/◌, ◌^◌, ◌%◌, ◌<◌, ◌≤◌, ◌==◌, ◌&&◌, ◌||◌, Bool, true, false, cond, List, [], ◌∷◌, length, ◌⊎◌, inl, inr, refl, sym, ◌∙◌, ap, subst, arith, eqb-true, eq-eqb, bit_and, max}
+use Rattle.std.proofs.Common.{◌≡◌, ◌↔◌, ℕ, ◌+◌, ◌-◌, ◌/◌, ◌^◌, ◌<◌, ◌≤◌, ◌==◌, ◌&&◌, ◌||◌, Bool, true, false, cond, List, [], ◌∷◌, length, ◌⊎◌, inl, inr, refl, sym, ap, subst, arith, eqb-true, eq-eqb, bit_and, max}
 use Rattle.std.specs.Int.{bit_at}
 use Rattle.std.proofs.lemmas.Bool.{cases_lt, and_parts, or_cases, ne_eqb}
-use Rattle.std.proofs.lemmas.Nat.{shr-shr}
-use Rattle.std.proofs.lemmas.Nat.Bits.{bit_at_and, bit_at-lt, bit_at-zero}
+use Rattle.std.proofs.lemmas.Nat.Bits.{bit_at_and, bit_at-lt}
 use Rattle.hand_order.specs.declared.straights.LowStraight.{LowStraight}
 use Rattle.hand_order.specs.declared.straights.LowStraight.TheVariants as straights
 use Rattle.hand_order.specs.Picks.{without, Fits, pattern}
@@ -12,6 +11,8 @@ use Rattle.hand_order.specs.Straights.{is_run, is_low_straight, straight_top}
 use Rattle.hand_order.specs.Tops.{Shows}
 use Rattle.hand_order.proofs.FallingRanks.{FallingFrom, fits_below}
 use Rattle.hand_order.proofs.OwnRanks.{several}
+use Rattle.list_laws.proofs.Bits.{moved}
+use Rattle.list_laws.proofs.Tests.{all_five, all_four, five_all}
 
 without-le : (T : ℕ → ℕ) (h k : ℕ) → without T h k ≤ T k
 without-le T h k = by_test (h == k)
@@ -107,12 +108,6 @@ pub record IsFoundStraight (low : LowStraight) (T : ℕ → ℕ) (top : ℕ) : T
   pub run : (is_run hs || is_low_straight low hs) ≡ true
   pub tops : straight_top hs ≡ top
 
-all_four : (a b c d : Bool) → a ≡ true → b ≡ true → c ≡ true → d ≡ true → (a && b && c && d) ≡ true
-all_four true true true d is_a is_b is_c is_d = is_d
-all_four true true false d is_a is_b is_c is_d = absurd (cc)
-all_four true false c d is_a is_b is_c is_d = absurd (cc)
-all_four false b c d is_a is_b is_c is_d = absurd (cc)
-
 run_list : (low : LowStraight) (T : ℕ → ℕ) (e : ℕ) → Occur T ((e + 4) ∷ (e + 3) ∷ (e + 2) ∷ (e + 1) ∷ e ∷ []) → IsFoundStraight low T (e + 4)
 run_list low T e occur =
     let falling : FallingFrom (e + 5) ((e + 4) ∷ (e + 3) ∷ (e + 2) ∷ (e + 1) ∷ e ∷ []) = search arith in
@@ -166,10 +161,6 @@ bit_of mask T k h shows is occurs = (shows.each k).1 (subst (λ (j : ℕ). 0 < T
 height_of : (mask : ℕ) (T : ℕ → ℕ) (k h : ℕ) → Shows mask 1 T → k + 2 ≡ h → bit_at mask k ≡ 1 → 0 < T h
 height_of mask T k h shows is set = subst (λ (j : ℕ). 0 < T j) is ((shows.each k).0 set)
 
--- a mask that is moved down
-moved : (mask j k : ℕ) → bit_at (mask / 2 ^ j) k ≡ bit_at mask (k + j)
-moved mask j k = ap (λ (n : ℕ). n % 2) (shr-shr mask j k) ∙ ap (bit_at mask) (omega arith)
-
 -- the bits that five masks have, each moved down once more
 pub runs_bits : (mask k : ℕ) → (bit_at (bit_and (bit_and (bit_and (bit_and mask (mask / 2 ^ 1)) (mask / 2 ^ 2)) (mask / 2 ^ 3)) (mask / 2 ^ 4)) k ≡ 1) ↔ IsRunFrom mask k
 runs_bits mask k =
@@ -203,20 +194,6 @@ run_found mask runs T place shows bits set =
       height_of mask T (place + 1) (place + 6 - 3) shows (omega arith) run.1,
       height_of mask T place (place + 6 - 4) shows (omega arith) run.0,
     )
-
-five_all : (a b c d e : Bool) → (a && b && c && d && e) ≡ true → (a ≡ true) × (b ≡ true) × (c ≡ true) × (d ≡ true) × (e ≡ true)
-five_all true true true true e is = (refl, refl, refl, refl, is)
-five_all true true true false e is = absurd (cc)
-five_all true true false d e is = absurd (cc)
-five_all true false c d e is = absurd (cc)
-five_all false b c d e is = absurd (cc)
-
-all_five : (a b c d e : Bool) → a ≡ true → b ≡ true → c ≡ true → d ≡ true → e ≡ true → (a && b && c && d && e) ≡ true
-all_five true true true true e is_a is_b is_c is_d is_e = is_e
-all_five true true true false e is_a is_b is_c is_d is_e = is_d
-all_five true true false d e is_a is_b is_c is_d is_e = absurd (cc)
-all_five true false c d e is_a is_b is_c is_d is_e = absurd (cc)
-all_five false b c d e is_a is_b is_c is_d is_e = absurd (cc)
 
 -- the ace and four bits in a row
 abbrev pub ace_and_four : ℕ → ℕ → Bool
@@ -252,13 +229,6 @@ nine_bits mask T top shows has = low_bits mask T 4 shows (has.1, has.2, has.3, h
 
 pub nine_heights : (mask : ℕ) (T : ℕ → ℕ) → Shows mask 1 T → ace_and_four mask 4 ≡ true → HasLow straights.NineHigh T 9
 nine_heights mask T shows set = let occur = low_heights mask T 4 shows set in (refl, occur.0, occur.1, occur.2, occur.3, occur.4)
-
--- a mask without bits has no bit set
-pub no_bit : {P : Type 0} (mask k : ℕ) → mask ≡ 0 → bit_at mask k ≡ 1 → P
-no_bit mask k none set = let off = ap (λ (m : ℕ). bit_at m k) none ∙ bit_at-zero k in absurd (omega arith)
-
-pub not_set : {b : Bool} (top : ℕ) → b ≡ true → b ≡ false → top ≤ 0
-not_set top set off = let different : true ≡ false = sym set ∙ off in absurd (cc)
 
 -- the greater of two tops
 pub tops_most : (low : LowStraight) (T : ℕ → ℕ) (run begun most top : ℕ) → (HasRun T top → top ≤ run) → (HasLow low T top → top ≤ begun) → most ≡ max run begun → HasStraight low T top → top ≤ most

@@ -19,11 +19,11 @@ use Rattle.hand_order.proofs.BestPatterns.{picked_digits}
 use Rattle.hand_order.proofs.Digits.{number_below, with_digits-cons, with_digits-nil}
 use Rattle.hand_order.proofs.Fits.{fits-length, picked_fits, picked_number}
 use Rattle.hand_order.proofs.FittingChoices.{without_of_ranks}
-use Rattle.hand_order.proofs.MaskBits.{top_set}
 use Rattle.hand_order.proofs.OwnRanks.{several}
 use Rattle.hand_order.proofs.PlainHands.{ones_alone}
 use Rattle.hand_order.proofs.ShownRanks.{different_heights, different_without, lowered_shows, top_shown, tops_picked}
 use Rattle.hand_order.proofs.StraightBits.{has_list}
+use Rattle.list_laws.proofs.Bits.{top_set}
 
 -- the highest bits are no more than the different heights
 tops_few : (T : ℕ → ℕ) (n mask : ℕ) → OfRanks high_ace T → Shows mask 1 T → length (tops n mask) ≤ different_heights T

@@ -9,6 +9,7 @@ use Rattle.card_set.proofs.Counted.{IsHeight, times-none, times-cons}
 use Rattle.hand_order.specs.Choices.{choices, IsAmong}
 use Rattle.hand_order.proofs.SameChoices.{none_chosen, with_first, without_first}
 use Rattle.hand_order.specs.Picks.{Within}
+use Rattle.list_laws.proofs.Sums.{sum_by-zero}
 
 -- a choice of so many cards that has exactly the wanted heights
 pub record IsWanted (height : Rank → ℕ) (wanted : ℕ → ℕ) (n : ℕ) (cards : List Card) : Type 0 where
@@ -19,10 +20,6 @@ pub record IsWanted (height : Rank → ℕ) (wanted : ℕ → ℕ) (n : ℕ) (ca
 -- one fewer of a height
 abbrev pub fewer : (ℕ → ℕ) → ℕ → ℕ → ℕ
 fewer wanted k h = cond (k == h) (wanted h - 1) (wanted h)
-
-sum_by-zero : {X : Type 0} (f : X → ℕ) (xs : List X) → ((x : X) → f x ≡ 0) → sum_by f xs ≡ 0
-sum_by-zero f [] none = refl
-sum_by-zero f (x ∷ xs) none = omega (arith, sum_by-cons f x xs, none x, sum_by-zero f xs none)
 
 -- the sum of one fewer of a height
 sum_by-fewer : (wanted : ℕ → ℕ) (k : ℕ) (hs : List ℕ) → 1 ≤ wanted k → sum_by (fewer wanted k) hs + sum_by (λ h. cond (k == h) 1 0) hs ≡ sum_by wanted hs

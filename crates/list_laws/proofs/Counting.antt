@@ -1,8 +1,9 @@
 -- Lemmas on how many elements of a list pass a test.
-use Rattle.std.proofs.Common.{◌≡◌, ℕ, zero, suc, ◌+◌, ◌<◌, ◌≤◌, Bool, cond, List, [], ◌∷◌, ◌++◌, refl, sym, ap, ◌∙◌, arith, count_by, true, false, ◌||◌, inl, inr, ◌⊎◌, ◌==◌}
-use Rattle.std.proofs.lemmas.Bool.{true≢false, eqb-true, ne_eqb}
+use Rattle.std.proofs.Common.{◌≡◌, ℕ, zero, suc, ◌+◌, ◌<◌, ◌≤◌, Bool, cond, List, [], ◌∷◌, ◌++◌, refl, sym, ap, ◌∙◌, arith, count_by, true, false, ◌||◌, inl, inr, ◌⊎◌, ◌==◌, ◌*◌, sum_by, map, eqb-true}
+use Rattle.std.proofs.lemmas.Bool.{true≢false, eqb-true, eq-eqb, ne_eqb, cases_lt}
 use Rattle.std.specs.List.{range_with_len, list_any}
 use Rattle.std.proofs.lemmas.List.Sums.{sum_by-cons}
+use Rattle.std.proofs.lemmas.Bool.Decides.{nat_tests}
 
 -- one element more in front
 pub count_by-cons : {X : Type 0} (p : X → Bool) (x : X) (xs : List X) → count_by p (x ∷ xs) ≡ cond (p x) 1 0 + count_by p xs
@@ -86,3 +87,68 @@ count_one k first (suc n) = one_by (k == first) refl (count_one k (first + 1) n)
     one_by false is later =
         let none : ◌≡◌ {A = ℕ} (cond (k == first) 1 0) 0 = ap (λ b. cond b 1 0) is in
         omega (arith, count_by-cons (λ x. k == x) first (range_with_len (first + 1) n), none, later)
+
+-- the elements with each value, where no value is above four
+pub weighed : (value four three two one sum : ℕ) → value ≤ 4 → sum ≡ 4 * four + 3 * three + 2 * two + one → value + sum ≡ 4 * (cond (value == 4) 1 0 + four) + 3 * (cond (value == 3) 1 0 + three) + 2 * (cond (value == 2) 1 0 + two) + (cond (value == 1) 1 0 + one)
+weighed value four three two one sum few is = grind (arith, nat_tests)
+
+-- a sum is read from how many elements have each value
+pub sum_by-values : {X : Type 0} (f : X → ℕ) (xs : List X) → ((x : X) → f x ≤ 4) → sum_by f xs ≡ 4 * count_by (λ x. f x == 4) xs + 3 * count_by (λ x. f x == 3) xs + 2 * count_by (λ x. f x == 2) xs + count_by (λ x. f x == 1) xs
+sum_by-values f [] few = refl
+sum_by-values f (x ∷ xs) few =
+    sum_by-cons f x xs
+    ∙ weighed (f x) (count_by (λ x. f x == 4) xs) (count_by (λ x. f x == 3) xs) (count_by (λ x. f x == 2) xs) (count_by (λ x. f x == 1) xs) (sum_by f xs) (few x) (sum_by-values f xs few)
+    ∙ omega (arith, count_by-cons (λ x. f x == 4) x xs, count_by-cons (λ x. f x == 3) x xs, count_by-cons (λ x. f x == 2) x xs, count_by-cons (λ x. f x == 1) x xs)
+
+-- an element has at most one of the values
+pub few_values : (value four three two one sum : ℕ) → four + three + two + one ≤ sum → cond (value == 4) 1 0 + four + (cond (value == 3) 1 0 + three) + (cond (value == 2) 1 0 + two) + (cond (value == 1) 1 0 + one) ≤ value + sum
+few_values value four three two one sum few = grind (arith, nat_tests)
+
+-- the elements with these values are at most the sum
+pub counts-le-sum : {X : Type 0} (f : X → ℕ) (xs : List X) → count_by (λ x. f x == 4) xs + count_by (λ x. f x == 3) xs + count_by (λ x. f x == 2) xs + count_by (λ x. f x == 1) xs ≤ sum_by f xs
+counts-le-sum f [] = omega arith
+counts-le-sum f (x ∷ xs) =
+    omega (arith, few_values (f x) (count_by (λ x. f x == 4) xs) (count_by (λ x. f x == 3) xs) (count_by (λ x. f x == 2) xs) (count_by (λ x. f x == 1) xs) (sum_by f xs) (counts-le-sum f xs), sum_by-cons f x xs, count_by-cons (λ x. f x == 4) x xs, count_by-cons (λ x. f x == 3) x xs, count_by-cons (λ x. f x == 2) x xs, count_by-cons (λ x. f x == 1) x xs)
+
+-- a value of at most one is no greater number
+pub not_equal : (value n : ℕ) → value ≤ 1 → 1 < n → ◌≡◌ {A = ℕ} (cond (value == n) 1 0) 0
+not_equal value n once above = grind (arith, nat_tests)
+
+-- no element has a value that is above every element's
+pub count_by-none : {X : Type 0} (f : X → ℕ) (n : ℕ) (xs : List X) → ((x : X) → f x ≤ 1) → 1 < n → count_by (λ x. f x == n) xs ≡ 0
+count_by-none f n [] once above = refl
+count_by-none f n (x ∷ xs) once above =
+    let here = not_equal (f x) n (once x) above in
+    omega (arith, count_by-cons (λ x. f x == n) x xs, here, count_by-none f n xs once above)
+
+-- over a list that was mapped
+pub count_by-map : {X Y : Type 0} (p : Y → Bool) (f : X → Y) (xs : List X) → count_by p (map f xs) ≡ count_by (λ x. p (f x)) xs
+count_by-map p f [] = refl
+count_by-map p f (x ∷ xs) = omega (arith, count_by-cons p (f x) (map f xs), count_by-cons (λ x. p (f x)) x xs, count_by-map p f xs)
+
+-- a number stands once among numbers in a row that reach over it
+pub range_once : (k a n : ℕ) → a ≤ k → k < a + n → count_by (λ j. k == j) (range_with_len a n) ≡ 1
+range_once k a zero from before = absurd (omega arith)
+range_once k a (suc n) from before =
+    elim (cases_lt a k) [
+      | inl later ↦
+          let here = ap (λ (b : Bool). cond {A = ℕ} b 1 0) (ne_eqb k a (λ same. omega arith)) in
+          omega (arith, count_by-cons (λ j. k == j) a (range_with_len (a + 1) n), here, range_once k (a + 1) n (omega arith) (omega arith))
+      | inr first ↦
+          let here = ap (λ (b : Bool). cond {A = ℕ} b 1 0) (eq-eqb k a (omega arith)) in
+          omega (arith, count_by-cons (λ j. k == j) a (range_with_len (a + 1) n), here, count_later k (a + 1) n (omega arith))
+    ]
+
+-- a test that never passes counts none
+pub counted_never : {X : Type 0} (xs : List X) → count_by (λ x. false) xs ≡ 0
+counted_never [] = refl
+counted_never (x ∷ xs) = omega (arith, count_by-cons (λ x. false) x xs, counted_never xs)
+
+-- a count is at most the sum
+pub count-le-sum : (T : ℕ → ℕ) (n : ℕ) (ks : List ℕ) → 0 < n → count_by (λ k. T k == n) ks ≤ sum_by T ks
+count-le-sum T n [] some = omega arith
+count-le-sum T n (k ∷ ks) some = omega (arith, sum_by-cons T k ks, count_by-cons (λ k. T k == n) k ks, count-le-sum T n ks some, here (T k == n) refl)
+  where
+    here : (b : Bool) → (T k == n) ≡ b → cond b 1 0 ≤ T k
+    here true is = let same = eqb-true (T k) n is in omega arith
+    here false is = omega arith

@@ -10,3 +10,4 @@ pub mod Options
 pub mod Counting
 pub mod Finding
 pub mod Earliest
+pub mod Bits

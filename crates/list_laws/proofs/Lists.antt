@@ -1,5 +1,5 @@
 -- Lemmas on lists without elements, first elements and fronts.
-use Rattle.std.proofs.Common.{Bool, List, None, Some, [], ap, arith, cond, drop, false, length, map, refl, replicate, set, slice_get, suc, sym, take, true, zero, ℕ, ◌++◌, ◌+◌, ◌-◌, ◌<◌, ◌∙◌, ◌∷◌, ◌≡◌, ◌≢◌}
+use Rattle.std.proofs.Common.{Bool, List, None, Some, [], ap, arith, cond, drop, false, length, map, refl, replicate, set, slice_get, suc, sym, take, true, zero, ℕ, ◌++◌, ◌+◌, ◌-◌, ◌<◌, ◌∙◌, ◌∷◌, ◌≡◌, ◌≢◌, filter}
 use Rattle.std.proofs.lemmas.List.{drop-drop, take-append-drop, take_at, take_rest}
 
 -- what is mapped to nothing is nothing
@@ -35,3 +35,12 @@ front_and_rest bytes front rest start n is len =
     sym (ap (λ l. l ++ drop (start + n) bytes) whole
     ∙ ap (λ l. take n (drop start bytes) ++ l) (sym (drop-drop n start bytes))
     ∙ take-append-drop n (drop start bytes))
+
+-- tests that agree keep the same
+pub filter-agree : {X : Type 0} (p q : X → Bool) (xs : List X) → ((x : X) → p x ≡ q x) → filter p xs ≡ filter q xs
+filter-agree p q [] same = refl
+filter-agree p q (x ∷ xs) same = ap (λ (b : Bool). cond b (x ∷ filter p xs) (filter p xs)) (same x) ∙ ap (λ l. cond (q x) (x ∷ l) l) (filter-agree p q xs same)
+
+-- nothing before a list adds nothing
+pub none_before : (start more : List ℕ) → start ≡ [] → start ++ more ≡ more
+none_before start more none = ap (λ (l : List ℕ). l ++ more) none

@@ -1,6 +1,6 @@
 -- Lemmas on numbers and their comparisons.
-use Rattle.std.proofs.Common.{Bool, List, [], arith, false, nat_le, nat_lt, refl, sym, true, ℕ, ◌&&◌, ◌*◌, ◌+◌, ◌<◌, ◌==◌, ◌∙◌, ◌∷◌, ◌≡◌, ◌≤◌}
-use Rattle.std.proofs.lemmas.Bool.{eq-eqb, eqb-true, le-leb}
+use Rattle.std.proofs.Common.{Bool, List, [], arith, false, nat_le, nat_lt, refl, sym, true, ℕ, ◌&&◌, ◌*◌, ◌+◌, ◌<◌, ◌==◌, ◌∙◌, ◌∷◌, ◌≡◌, ◌≤◌, max, suc, ◌-◌, inl, inr}
+use Rattle.std.proofs.lemmas.Bool.{eq-eqb, eqb-true, le-leb, cases_lt}
 use Rattle.std.proofs.lemmas.Bool.Decides.{nat_tests}
 use Rattle.std.specs.Char.{digit_value}
 use Rattle.std.specs.Str.Parse.{digits_value_after}
@@ -28,3 +28,15 @@ and_zero false n = refl
 pub more_digits : (before : ℕ) (digits : List ℕ) → before ≤ digits_value_after 10 before digits
 more_digits before [] = omega arith
 more_digits before (digit ∷ digits) = omega (arith, more_digits (before * 10 + digit_value digit) digits)
+
+-- the greatest of three, in either grouping
+pub max_assoc : (x y z : ℕ) → max (max x y) z ≡ max x (max y z)
+max_assoc x y z = omega arith
+
+-- what is not 0 is above it
+pub positive : (n : ℕ) → (n ≡ 0 → ⊥) → 0 < n
+positive n some = elim (cases_lt 0 n) [ inl is ↦ is | inr least ↦ absurd (some (omega arith)) ]
+
+-- one more and one less
+pub one_less : (n : ℕ) → suc n - 1 ≡ n
+one_less n = omega arith

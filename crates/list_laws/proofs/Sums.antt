@@ -1,5 +1,5 @@
 -- Lemmas on sums over a list that was mapped or filtered, and on terms that agree.
-use Rattle.std.proofs.Common.{Bool, List, [], ap, arith, cond, false, filter, map, refl, sum_by, sym, true, ℕ, ◌+◌, ◌∙◌, ◌∷◌, ◌≡◌}
+use Rattle.std.proofs.Common.{Bool, List, [], ap, arith, cond, false, filter, map, refl, sum_by, sym, true, ℕ, ◌+◌, ◌∙◌, ◌∷◌, ◌≡◌, ◌==◌, ◌≤◌, ◌*◌, min}
 use Rattle.std.proofs.lemmas.Bool.{or_parts}
 use Rattle.std.proofs.lemmas.List.Sums.{sum_by-cons}
 use Rattle.std.specs.List.{list_any}
@@ -55,3 +55,32 @@ pub sum_by-filter : {X : Type 0} (p : X → Bool) (f : X → ℕ)
 sum_by-filter p f h [] = refl
 sum_by-filter p f h (x ∷ xs) =
     omega (arith, sum_of_kept f x (filter p xs) (p x) (h x), sum_by-filter p f h xs, sum_by-cons f x xs)
+
+-- terms of 0
+pub sum_by-zero : {X : Type 0} (f : X → ℕ) (xs : List X) → ((x : X) → f x ≡ 0) → sum_by f xs ≡ 0
+sum_by-zero f [] none = refl
+sum_by-zero f (x ∷ xs) none = omega (arith, sum_by-cons f x xs, none x, sum_by-zero f xs none)
+
+-- terms of 0, of numbers
+pub sum_by-none : (ks : List ℕ) → sum_by (λ k. 0) ks ≡ 0
+sum_by-none [] = refl
+sum_by-none (k ∷ ks) = omega (arith, sum_by-cons (λ k. 0) k ks, sum_by-none ks)
+
+-- one number at one height
+pub sum_by-at : (n h : ℕ) (ks : List ℕ) → sum_by (λ k. cond (h == k) n 0) ks ≡ n * sum_by (λ k. cond (h == k) 1 0) ks
+sum_by-at n h [] = omega arith
+sum_by-at n h (k ∷ ks) = omega (arith, sum_by-cons (λ k. cond (h == k) n 0) k ks, ap (λ (m : ℕ). n * m) (sum_by-cons (λ k. cond (h == k) 1 0) k ks), sum_by-at n h ks, here (h == k))
+  where
+    here : (b : Bool) → cond b n 0 + n * sum_by (λ k. cond (h == k) 1 0) ks ≡ n * (cond b 1 0 + sum_by (λ k. cond (h == k) 1 0) ks)
+    here true = grind arith
+    here false = grind arith
+
+-- heights that occur once are as many as their cards
+pub once_sum : (T : ℕ → ℕ) (hs : List ℕ) → ((h : ℕ) → T h ≤ 1) → sum_by T hs ≤ sum_by (λ h. min 1 (T h)) hs
+once_sum T [] once = omega arith
+once_sum T (h ∷ hs) once = omega (arith, sum_by-cons T h hs, sum_by-cons (λ k. min 1 (T k)) h hs, once h, once_sum T hs once)
+
+-- some card is of some height
+pub some_sum : (T : ℕ → ℕ) (hs : List ℕ) → ((h : ℕ) → T h ≤ 4) → sum_by T hs ≤ 4 * sum_by (λ h. min 1 (T h)) hs
+some_sum T [] few = omega arith
+some_sum T (h ∷ hs) few = omega (arith, sum_by-cons T h hs, sum_by-cons (λ k. min 1 (T k)) h hs, few h, some_sum T hs few)

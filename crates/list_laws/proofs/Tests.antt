@@ -1,5 +1,5 @@
 -- Lemmas on tests that are joined by and, or and not.
-use Rattle.std.proofs.Common.{Bool, ap, arith, false, if◌then◌else◌, not, refl, sym, true, ℕ, ◌&&◌, ◌<◌, ◌||◌, ◌↔◌, ◌∙◌, ◌≡◌}
+use Rattle.std.proofs.Common.{Bool, ap, arith, false, if◌then◌else◌, not, refl, sym, true, ℕ, ◌&&◌, ◌<◌, ◌||◌, ◌↔◌, ◌∙◌, ◌≡◌, ◌⊎◌, ◌≤◌, inl, inr}
 
 -- what never holds proves anything
 pub false_true : {A : Type 0} → false ≡ true → A
@@ -63,3 +63,54 @@ chosen false x some = absurd (omega (arith, some))
 -- what holds exactly where another holds, the other way round
 pub flip : (A B : Type 0) → A ↔ B → B ↔ A
 flip A B same = (same.1, same.0)
+
+-- a test passes or not
+pub passes_or_not : (b : Bool) → (b ≡ true) ⊎ (b ≡ false)
+passes_or_not true = inl refl
+passes_or_not false = inr refl
+
+-- a test that holds beside another changes nothing
+pub and_true : (a b : Bool) → b ≡ true → (a && b) ≡ a
+and_true true b is = is
+and_true false b is = refl
+
+-- the second of two tests is enough
+pub or_right : (a b : Bool) → b ≡ true → (a || b) ≡ true
+or_right true b is = refl
+or_right false b is = is
+
+-- three tests, in either grouping
+pub or_assoc : (a b c : Bool) → (a || (b || c)) ≡ ((a || b) || c)
+or_assoc true b c = refl
+or_assoc false b c = refl
+
+-- nothing holds and fails
+pub true_false : true ≡ false → ⊥
+true_false is = cc
+
+-- four tests that hold, hold together
+pub all_four : (a b c d : Bool) → a ≡ true → b ≡ true → c ≡ true → d ≡ true → (a && b && c && d) ≡ true
+all_four true true true d is_a is_b is_c is_d = is_d
+all_four true true false d is_a is_b is_c is_d = absurd (cc)
+all_four true false c d is_a is_b is_c is_d = absurd (cc)
+all_four false b c d is_a is_b is_c is_d = absurd (cc)
+
+-- five that hold together, each hold
+pub five_all : (a b c d e : Bool) → (a && b && c && d && e) ≡ true → (a ≡ true) × (b ≡ true) × (c ≡ true) × (d ≡ true) × (e ≡ true)
+five_all true true true true e is = (refl, refl, refl, refl, is)
+five_all true true true false e is = absurd (cc)
+five_all true true false d e is = absurd (cc)
+five_all true false c d e is = absurd (cc)
+five_all false b c d e is = absurd (cc)
+
+-- and five that hold, hold together
+pub all_five : (a b c d e : Bool) → a ≡ true → b ≡ true → c ≡ true → d ≡ true → e ≡ true → (a && b && c && d && e) ≡ true
+all_five true true true true e is_a is_b is_c is_d is_e = is_e
+all_five true true true false e is_a is_b is_c is_d is_e = is_d
+all_five true true false d e is_a is_b is_c is_d is_e = absurd (cc)
+all_five true false c d e is_a is_b is_c is_d is_e = absurd (cc)
+all_five false b c d e is_a is_b is_c is_d is_e = absurd (cc)
+
+-- what holds and fails proves any bound
+pub not_set : {b : Bool} (top : ℕ) → b ≡ true → b ≡ false → top ≤ 0
+not_set top set off = let different : true ≡ false = sym set ∙ off in absurd (cc)

@@ -5,9 +5,9 @@ use Rattle.card_set.specs.declared.set.CardSet.{CardSet}
 use Rattle.card_set.specs.CardSet.{is_in, is_one_of, IsListing}
 use Rattle.card_set.specs.Deck.{is_same_card}
 use Rattle.card_set.specs.Different.{Every, Lacks, AllDifferent}
-use Rattle.card_set.proofs.Counted.{passes_or_not}
 use Rattle.card_set.proofs.DeckLaws.{is_same_card-self, is_same_card-true}
 use Rattle.card_set.proofs.SetLaws.{is_one_of-more}
+use Rattle.list_laws.proofs.Tests.{passes_or_not}
 
 true_false : true ≡ false → ⊥
 true_false same = cc

@@ -3,9 +3,9 @@ use Rattle.hand_order.specs.Digits.{class_above}
 use Rattle.hand_order.specs.Heights.{heights_of}
 use Rattle.hand_order.specs.Ladder.{flush_class}
 use Rattle.hand_order.specs.Tops.{tops}
-use Rattle.hand_order.proofs.BestPatterns.{none_before}
 use Rattle.hand_order.proofs.SuitBits.{suit_best, suit_none, tops_below}
 use Rattle.hand_order.proofs.high.suit_points.Goals as goal
+use Rattle.list_laws.proofs.Lists.{none_before}
 
 pub returns-then-as_slice-lt5 : goal.returns-then-as_slice-lt5
 returns-then-as_slice-lt5 c = λ T of shows.

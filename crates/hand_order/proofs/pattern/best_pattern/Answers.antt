@@ -2,8 +2,10 @@ use Rattle.std.proofs.Common.{ℕ, ◌+◌, List, [], ◌∷◌, arith, sym, ap,
 use Rattle.hand_order.specs.Heights.{heights_of}
 use Rattle.hand_order.specs.Tops.{highest, tops}
 use Rattle.hand_order.specs.Picks.{IsBestPattern}
-use Rattle.hand_order.proofs.BestPatterns.{positive, cleared_at, grown_one, grown_two, none_before, best_four, best_full, best_three, best_pairs, best_pair, best_ones}
+use Rattle.hand_order.proofs.BestPatterns.{cleared_at, grown_one, grown_two, best_four, best_full, best_three, best_pairs, best_pair, best_ones}
 use Rattle.hand_order.proofs.pattern.best_pattern.Goals as goal
+use Rattle.list_laws.proofs.Lists.{none_before}
+use Rattle.list_laws.proofs.Numbers.{positive}
 
 pub returns-then-four-ne0 : goal.returns-then-four-ne0
 returns-then-four-ne0 c = λ T counts all two three four.

@@ -1,4 +1,3 @@
-use Rattle.std.proofs.Common.{arith}
 use Rattle.card_set.specs.CardSet.{count_of}
 use Rattle.hand_order.proofs.SetChoices.{enough_to_choose}
 use Rattle.high_rank.proofs.Ladders.{short_best}
