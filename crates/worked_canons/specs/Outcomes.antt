@@ -1,0 +1,21 @@
+-- What is computed of a written hand: its canonical script, and whether that is legal, complete, and leaves the same trace.
+use Rattle.std.specs.Prelude.{◌≡◌, true, false, List}
+use Rattle.play_event.specs.declared.setup.Setup.{Setup}
+use Rattle.play_event.specs.Said.{Said}
+use Rattle.play_event.specs.Scripts.{has_early_end}
+use Rattle.worked_hands.specs.Outcomes.{AllLegal}
+use Rattle.hand_canon.specs.TraceCore.{core_after}
+use Rattle.canon_laws.specs.Confluence.{canon_of}
+use Rattle.worked_canons.specs.TraceNumbers.{are_same, trace_numbers}
+
+-- the events of the canonical script are legal
+abbrev pub HasLegalCanon : Setup → List Said → Type 0
+HasLegalCanon setup script = AllLegal setup (canon_of setup script)
+
+-- the canonical script is complete
+abbrev pub HasCompleteCanon : Setup → List Said → Type 0
+HasCompleteCanon setup script = has_early_end setup (canon_of setup script) ≡ false
+
+-- the canonical script leaves the trace of the script
+abbrev pub HasSameTrace : Setup → List Said → Type 0
+HasSameTrace setup script = are_same (trace_numbers (core_after setup (canon_of setup script))) (trace_numbers (core_after setup script)) ≡ true
