@@ -34,7 +34,7 @@ use Rattle.low_rank.proofs.LowestLaws.{Pass, lowest_least, lowest_passes, lowest
 abbrev pub is_low : Card → Bool
 is_low card = nat_le (low_ace card.rank) 8
 
-InRange-low_ace : InRange low_ace
+pub InRange-low_ace : InRange low_ace
 InRange-low_ace ranks.Two = (omega arith, omega arith)
 InRange-low_ace ranks.Three = (omega arith, omega arith)
 InRange-low_ace ranks.Four = (omega arith, omega arith)
@@ -67,7 +67,7 @@ low_heights (card ∷ rest) h some = by_test (is_low card) refl (low_heights res
     by_test false is others some = others some
 
 -- heights that are filtered fall and pass
-filter_falls : (q : ℕ → Bool) (b bound : ℕ) → b < bound → FallingFrom bound (filter q (down b))
+pub filter_falls : (q : ℕ → Bool) (b bound : ℕ) → b < bound → FallingFrom bound (filter q (down b))
 filter_falls q zero bound below = tt
 filter_falls q (suc b) bound below = by_test (q (suc b)) (filter_falls q b (suc b) (omega arith)) (filter_falls q b bound (omega arith))
   where
@@ -75,7 +75,7 @@ filter_falls q (suc b) bound below = by_test (q (suc b)) (filter_falls q b (suc 
     by_test true under over = (below, under)
     by_test false under over = over
 
-filter_passes : (q has : ℕ → Bool) → ((h : ℕ) → 1 ≤ h → q h ≡ true → has h ≡ true) → (b : ℕ) → Pass has 1 (filter q (down b))
+pub filter_passes : (q has : ℕ → Bool) → ((h : ℕ) → 1 ≤ h → q h ≡ true → has h ≡ true) → (b : ℕ) → Pass has 1 (filter q (down b))
 filter_passes q has turn zero = tt
 filter_passes q has turn (suc b) = by_test (q (suc b)) refl (filter_passes q has turn b)
   where
@@ -83,11 +83,11 @@ filter_passes q has turn (suc b) = by_test (q (suc b)) refl (filter_passes q has
     by_test true is rest = (turn (suc b) (omega arith) is, omega arith, rest)
     by_test false is rest = rest
 
-all_down : falling_heights ≡ down 14
+pub all_down : falling_heights ≡ down 14
 unfolding falling_heights
 all_down = refl
 
-empty_of : (xs : List ℕ) → length xs ≡ 0 → xs ≡ []
+pub empty_of : (xs : List ℕ) → length xs ≡ 0 → xs ≡ []
 empty_of [] none = refl
 empty_of (x ∷ xs) none = absurd (omega arith)
 
@@ -114,9 +114,9 @@ five_ranks cards held none =
 abbrev pub Tells : (ℕ → Bool) → List Card → Type 0
 Tells has cards = (h : ℕ) → 1 ≤ h → h ≤ 8 → (has h ≡ true → 0 < times low_ace (filter is_low cards) h) × (0 < times low_ace (filter is_low cards) h → has h ≡ true)
 
-falls_within : (bound : ℕ) (has : ℕ → Bool) (T : ℕ → ℕ) (hs : List ℕ) → FallingFrom bound hs → ((h : ℕ) → has h ≡ true → h ≤ 8) → Pass has 1 hs → FallingFrom 9 hs
-falls_within bound has T [] falling low pass = tt
-falls_within bound has T (h ∷ hs) falling low pass = (omega (arith, low h pass.0), falling.1)
+pub falls_within : (bound most : ℕ) (has : ℕ → Bool) (hs : List ℕ) → FallingFrom bound hs → ((h : ℕ) → has h ≡ true → h ≤ most) → Pass has 1 hs → FallingFrom (most + 1) hs
+falls_within bound most has [] falling low pass = tt
+falls_within bound most has (h ∷ hs) falling low pass = (omega (arith, low h pass.0), falling.1)
 
 -- a hand that qualifies has ranks that are among the low ones of the cards
 record IsLowHand (has : ℕ → Bool) (choice : List Card) : Type 0 where
@@ -156,7 +156,7 @@ low_hand has cards choice tells among held qualified =
       ranks = filter q falling_heights;
       same = ones_only choice parts.0;
       long = five_ranks choice held parts.0;
-      falling = falls_within 15 (λ h. has h && nat_le h 8) (times low_ace choice) (filter q falling_heights) falling (λ h is. leb-true h 8 (and_parts (has h) (nat_le h 8) is).1) pass;
+      falling = falls_within 15 8 (λ h. has h && nat_le h 8) (filter q falling_heights) falling (λ h is. leb-true h 8 (and_parts (has h) (nat_le h 8) is).1) pass;
       pass = weaken has 1 (filter q falling_heights) pass;
     }
 
@@ -247,7 +247,7 @@ digits_within : (bound : ℕ) (hs : List ℕ) → bound ≤ 16 → FallingFrom b
 digits_within bound [] below falling = tt
 digits_within bound (h ∷ hs) below falling = (omega (arith, falling.0), digits_within h hs (omega (arith, falling.0)) falling.1)
 
-few_lowest : (has : ℕ → Bool) (heights from n : ℕ) → length (lowest has heights from n) ≤ n
+pub few_lowest : (has : ℕ → Bool) (heights from n : ℕ) → length (lowest has heights from n) ≤ n
 few_lowest has zero from n = omega arith
 few_lowest has (suc heights) from zero = omega arith
 few_lowest has (suc heights) from (suc m) =

@@ -29,7 +29,7 @@ same_height ranks.Jack h low high = refl
 same_height ranks.Queen h low high = refl
 same_height ranks.King h low high = refl
 
-low_times : (cards : List Card) (h : ℕ) → 2 ≤ h → h ≤ 13 → times low_ace cards h ≡ times high_ace cards h
+pub low_times : (cards : List Card) (h : ℕ) → 2 ≤ h → h ≤ 13 → times low_ace cards h ≡ times high_ace cards h
 low_times [] h low high = omega (arith, times-none low_ace h, times-none high_ace h)
 low_times (card ∷ rest) h low high = omega (arith, times-cons low_ace card rest h, times-cons high_ace card rest h, same_height card.rank h low high, low_times rest h low high)
 
@@ -48,7 +48,7 @@ ace_height ranks.Jack = refl
 ace_height ranks.Queen = refl
 ace_height ranks.King = refl
 
-aces : (cards : List Card) → times low_ace cards 1 ≡ times high_ace cards 14
+pub aces : (cards : List Card) → times low_ace cards 1 ≡ times high_ace cards 14
 aces [] = omega (arith, times-none low_ace 1, times-none high_ace 14)
 aces (card ∷ rest) = omega (arith, times-cons low_ace card rest 1, times-cons high_ace card rest 14, ace_height card.rank, aces rest)
 

@@ -1,5 +1,8 @@
 pub mod EightBest
 pub mod EightMask
+pub mod FreeRanks
 pub mod LowAlike
 pub mod LowNumber
 pub mod LowestLaws
+pub mod RazzChoices
+pub mod RazzMasks

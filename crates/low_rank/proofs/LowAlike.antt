@@ -16,21 +16,6 @@ use Rattle.low_rank.specs.Razz as razz
 use Rattle.low_rank.specs.EightLow as eight
 use Rattle.low_rank.specs.DeuceSeven as deuce
 
-pub razz_alike : AreAlike razz.points 5
-unfolding low_class
-razz_alike a b held_a held_b same =
-    told_alike (λ four three two ranks flush. Some (16 ^ 6 - class_above (place (low_table four three two)) ranks)) low_ace a b held_a.1 held_b.1 (omega (arith, held_a.0)) (omega (arith, held_b.0)) same
-
-eight_alike : AreAlike eight.points 5
-unfolding low_class
-eight_alike a b held_a held_b same =
-    let low = λ (card : Card). nat_le (low_ace card.rank) 8 in
-    told_alike (λ four three two ranks flush. cond ((four == 0 && three == 0 && two == 0) && list_all low a) (Some (16 ^ 6 - class_above (place (low_table four three two)) ranks)) None) low_ace a b held_a.1 held_b.1 (omega (arith, held_a.0)) (omega (arith, held_b.0)) same
-    ∙ ap (λ (t : Bool). cond (eight_ranks b && t) (Some (low_points b)) None) (list_all-same low a b same)
-  where
-    eight_ranks : List Card → Bool
-    eight_ranks cards = has_no_pair low_ace cards
-
 pub deuce_alike : AreAlike deuce.points 5
 deuce_alike a b held_a held_b same =
     ap (option_less) (high_alike straights.Nothing a b held_a held_b same)

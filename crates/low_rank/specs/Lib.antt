@@ -4,3 +4,4 @@ pub mod Low
 pub mod LowLaw
 pub mod Lowest
 pub mod Razz
+pub mod RazzBest

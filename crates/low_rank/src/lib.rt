@@ -5,6 +5,7 @@ mod deuce;
 mod eight;
 mod low;
 mod orders;
+mod razz;
 
 pub use deuce::DeuceSeven;
 pub use low::up_low;

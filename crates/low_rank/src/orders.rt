@@ -1,8 +1,8 @@
 // The low orders in which the ace is low and straights and flushes do not count.
 use crate::eight::best_eight;
-use crate::low::low_score;
+use crate::razz::best_razz;
 use card_set::{CardRow, CardSet};
-use hand_order::{HandOrder, Judge, Score, best_listed};
+use hand_order::{HandOrder, Score};
 
 /// The order of razz, over any five cards: no pair is best, and the lower ranks are better.
 #[derive(Clone, Copy, Debug)]
@@ -23,11 +23,11 @@ impl HandOrder for RazzLow {
     const HELD: u8 = 5;
 
     fn score(cards: &CardRow) -> Option<Score> {
-        Some(low_score(cards))
+        Some(best_razz(&CardSet::of(cards)))
     }
 
     fn best_set(cards: &CardSet) -> Option<Score> {
-        best_listed(&RazzHands, cards, 5)
+        Some(best_razz(cards))
     }
 
     ghost lawful = { lawful_razz };
@@ -60,21 +60,4 @@ impl HandOrder for EightLow {
     }
 
     ghost lawful = { lawful_eight_low };
-}
-
-// Judges a whole hand.
-#[derive(Drop)]
-struct RazzHands;
-
-impl Judge for RazzHands {
-    ghost use Rattle.hand_order.specs.Choices.{AreHeld};
-    ghost use Rattle.low_rank.specs.Razz.{points};
-
-    ghost accepts = { λ judge cards. AreHeld 5 cards };
-
-    ghost points = { λ judge cards. points cards };
-
-    fn judge(&self, chosen: &CardRow) -> Option<Score> {
-        Some(low_score(chosen))
-    }
 }

@@ -1,11 +1,6 @@
-use Rattle.std.proofs.Common.{arith}
 use Rattle.card_set.specs.CardSet.{count_of}
-use Rattle.low_rank.proofs.LowAlike.{razz_alike}
-use Rattle.hand_order.proofs.SetChoices.{few_to_choose}
+use Rattle.hand_order.proofs.SetChoices.{enough_to_choose}
 use Rattle.low_rank.proofs.orders.RazzLowHandOrder.best_set.Goals as goal
 
-pub best_listed-requires-clause-few : goal.best_listed-requires-clause-few
-best_listed-requires-clause-few c = few_to_choose 5 (count_of c.args.cards.now) (omega arith) c.requires
-
-pub best_listed-requires-clause-alike : goal.best_listed-requires-clause-alike
-best_listed-requires-clause-alike c = razz_alike
+pub best_razz-requires : goal.best_razz-requires
+best_razz-requires c = enough_to_choose 5 (count_of c.args.cards.now) c.requires

@@ -1,0 +1,214 @@
+// The best hand of razz is read from how often ranks occur: of the best class that can be had, the lowest ranks.
+ghost use Rattle.std.specs.Prelude.{◌≡◌, ◌<◌, ◌≤◌, ◌+◌, ◌⊎◌, ◌++◌, ℕ, List, length, Some};
+ghost use Rattle.std.specs.Int.{bit_at};
+ghost use Rattle.card_set.specs.declared.card.Card.{Card};
+ghost use Rattle.card_set.specs.CardSet.{count_of, IsListing};
+ghost use Rattle.hand_order.specs.Choices.{choices};
+ghost use Rattle.hand_order.specs.Heights.{heights_of};
+ghost use Rattle.hand_order.specs.Points.{greatest};
+ghost use Rattle.low_rank.specs.Lowest.{lowest};
+ghost use Rattle.low_rank.specs.Razz.{points};
+ghost use Rattle.low_rank.specs.RazzBest.{
+    HasClass, both_ranks, class_ranks, is_free, is_height_of, low_count, lowest_ranks, often, often_ranks, seldom,
+    seldom_ranks,
+};
+
+use card_set::{CardSet, Suit};
+use hand_order::{RankRow, Score, class_above};
+
+/// The score of the best five of a set's cards in razz. No choice of five is listed.
+pub fn best_razz(cards: &CardSet) -> Score
+    requires { 5 ≤ count_of cards.now }
+    ensures { (listing : List Card) → IsListing cards.now listing
+        → Some result.points ≡ greatest points (choices 5 listing) }
+{
+    let masks = SuitMasks {
+        clubs: cards.rank_mask(Suit::C),
+        diamonds: cards.rank_mask(Suit::D),
+        hearts: cards.rank_mask(Suit::H),
+        spades: cards.rank_mask(Suit::S),
+    };
+    let best = best_class(&masks, 0);
+    Score {
+        points: 0x100_0000 - class_above(best.class, best.ranks.as_slice()),
+    }
+}
+
+// The ranks of each suit.
+#[derive(Clone, Copy, Debug)]
+pub struct SuitMasks {
+    pub clubs: u16,
+    pub diamonds: u16,
+    pub hearts: u16,
+    pub spades: u16,
+}
+
+// A class and the ranks that decide within it.
+#[derive(Clone, Copy, Debug)]
+struct LowRanks {
+    class: u32,
+    ranks: RankRow,
+}
+
+// Which ranks a class has: first those that occur oftener, then the others.
+#[derive(Clone, Copy, Debug)]
+struct Shape {
+    often: u8,
+    often_ranks: u8,
+    seldom: u8,
+    seldom_ranks: u8,
+}
+
+// The first class from this one on that the ranks can make. All can make the last.
+fn best_class(masks: &SuitMasks, class: u32) -> LowRanks
+    requires { class ≤ 5 }
+    ensures within { result.class ≤ 5 }
+    ensures ranks { heights_of result.ranks ≡ class_ranks (low_count masks.now) result.class }
+    ensures none { (better : ℕ) → class ≤ better → better < result.class
+        → HasClass (low_count masks.now) better → ⊥ }
+    ensures made { (result.class ≡ 5) ⊎ HasClass (low_count masks.now) result.class }
+{
+    let shape = shape_of(class);
+    let ranks = lowest_of_shape(masks, &shape);
+    if class == 5 || ranks.as_slice().len() == usize::from(shape.often_ranks + shape.seldom_ranks) {
+        return LowRanks { class, ranks };
+    }
+    best_class(masks, class + 1)
+}
+
+// The shape of each class: five ranks, a pair, two pairs, three, a full house, four of a rank.
+fn shape_of(class: u32) -> Shape
+    requires { class ≤ 5 }
+    ensures often { result.often ≡ often class }
+    ensures often_ranks { result.often_ranks ≡ often_ranks class }
+    ensures seldom { result.seldom ≡ seldom class }
+    ensures seldom_ranks { result.seldom_ranks ≡ seldom_ranks class }
+{
+    Shape {
+        often: if class == 5 {
+            4
+        } else if class == 4 {
+            3
+        } else if class == 3 {
+            3
+        } else {
+            2
+        },
+        often_ranks: if class == 0 {
+            0
+        } else if class == 2 {
+            2
+        } else {
+            1
+        },
+        seldom: if class == 4 { 2 } else { 1 },
+        seldom_ranks: if class == 0 {
+            5
+        } else if class == 1 {
+            3
+        } else if class == 3 {
+            2
+        } else {
+            1
+        },
+    }
+}
+
+// The lowest ranks that can make a shape.
+fn lowest_of_shape(masks: &SuitMasks, shape: &Shape) -> RankRow
+    requires { shape.now.often_ranks + shape.now.seldom_ranks ≤ 5 }
+    ensures { heights_of result ≡ both_ranks (low_count masks.now)
+        shape.now.often shape.now.often_ranks shape.now.seldom shape.now.seldom_ranks }
+{
+    let first = lowest_ranks(masks, shape.often, &RankRow::new(), shape.often_ranks);
+    let others = lowest_ranks(masks, shape.seldom, &first, shape.seldom_ranks);
+    joined(&first, &others)
+}
+
+// The heights of one row, then those of the other.
+fn joined(first: &RankRow, others: &RankRow) -> RankRow
+    requires { length (heights_of first.now) + length (heights_of others.now) ≤ 5 }
+    ensures { heights_of result ≡ heights_of first.now ++ heights_of others.now }
+{
+    let mut row = *first;
+    for height in others.as_slice() {
+        row.push(*height);
+    }
+    row
+}
+
+// So many of the lowest ranks that occur often enough and are none of the others, the greatest first.
+#[tactic(auto, unfolding(crate::specs::RazzBest::lowest_ranks))]
+fn lowest_ranks(masks: &SuitMasks, least: u8, others: &RankRow, need: u8) -> RankRow
+    requires { need ≤ 5 }
+    ensures list { heights_of result
+        ≡ lowest_ranks (is_free (low_count masks.now) least (heights_of others.now)) need }
+    ensures long { length (heights_of result) ≤ need }
+{
+    lowest_free(masks, least, others, 13, 1, need)
+}
+
+// The same among as many heights from one on.
+fn lowest_free(
+    masks: &SuitMasks,
+    least: u8,
+    others: &RankRow,
+    heights: u8,
+    from: u8,
+    need: u8,
+) -> RankRow
+    requires first { 1 ≤ from }
+    requires last { from + heights ≤ 14 }
+    requires few { need ≤ 5 }
+    ensures list { heights_of result
+        ≡ lowest (is_free (low_count masks.now) least (heights_of others.now)) heights from need }
+    ensures long { length (heights_of result) ≤ need }
+{
+    if heights == 0 || need == 0 {
+        return RankRow::new();
+    }
+    if !is_free(masks, least, others, from) {
+        return lowest_free(masks, least, others, heights - 1, from + 1, need);
+    }
+    let mut row = lowest_free(masks, least, others, heights - 1, from + 1, need - 1);
+    row.push(from);
+    row
+}
+
+// Whether a rank occurs often enough and is none of the others.
+fn is_free(masks: &SuitMasks, least: u8, others: &RankRow, height: u8) -> bool
+    requires first { 1 ≤ height }
+    requires last { height ≤ 13 }
+    ensures { result ≡ is_free (low_count masks.now) least (heights_of others.now) height }
+{
+    least <= count_of_suits(masks, height) && !is_height_of(others.as_slice(), height)
+}
+
+// How many suits have a rank.
+fn count_of_suits(masks: &SuitMasks, height: u8) -> u8
+    requires first { 1 ≤ height }
+    requires last { height ≤ 13 }
+    ensures { result ≡ low_count masks.now height }
+{
+    let place = if height == 1 { 12 } else { height - 2 };
+    bit_of(masks.clubs, place)
+        + bit_of(masks.diamonds, place)
+        + bit_of(masks.hearts, place)
+        + bit_of(masks.spades, place)
+}
+
+// A bit of a mask, 1 where it is set.
+fn bit_of(mask: u16, place: u8) -> u8
+    requires { place < 16 }
+    ensures bit { result ≡ bit_at mask place }
+    ensures few { result ≤ 1 }
+{
+    (mask >> place & 1) as u8
+}
+
+// Whether a height is one of these.
+fn is_height_of(heights: &[u8], height: u8) -> bool
+    ensures { result ≡ is_height_of heights.now height }
+{
+    heights.iter().any(|other| *other == height)
+}
