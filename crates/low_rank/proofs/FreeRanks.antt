@@ -1,12 +1,12 @@
 -- Of two groups of ranks the lowest that are free make the least number of all that can be had.
-use Rattle.std.proofs.Common.{◌≡◌, ℕ, zero, suc, ◌+◌, ◌<◌, ◌≤◌, ◌==◌, ◌&&◌, ◌||◌, ◌⊎◌, not, Bool, true, false, cond, List, [], ◌∷◌, ◌++◌, length, inl, inr, refl, sym, ◌∙◌, ap, subst, arith, eqb-true, eq-eqb, length-append}
+use Rattle.std.proofs.Common.{◌≡◌, ℕ, zero, suc, ◌+◌, ◌<◌, ◌≤◌, ◌==◌, ◌&&◌, ◌||◌, ◌⊎◌, not, Bool, true, false, cond, List, [], ◌∷◌, ◌++◌, length, inl, inr, refl, sym, ◌∙◌, ap, subst, arith, eq-eqb, length-append}
 use Rattle.std.specs.Prelude.{nat_le}
 use Rattle.std.proofs.lemmas.Bool.{and_parts, cases_lt, le-leb, leb-true, ne_eqb}
 use Rattle.card_set.specs.Classes.{IsLower}
-use Rattle.card_set.proofs.Counted.{passes_or_not}
 use Rattle.hand_order.specs.Digits.{with_digits}
 use Rattle.hand_order.proofs.Digits.{AreDigits, same_before}
 use Rattle.hand_order.proofs.FallingRanks.{FallingFrom}
+use Rattle.list_laws.proofs.Tests.{and_false, and_true}
 use Rattle.low_rank.specs.Lowest.{lowest}
 use Rattle.low_rank.specs.RazzBest.{both_ranks, class_ranks, first_ranks, is_free, is_height_of, lowest_ranks, often, often_ranks, seldom, seldom_ranks}
 use Rattle.low_rank.proofs.EightBest.{few_lowest}
@@ -38,19 +38,11 @@ passing_agree f g (suc heights) from same =
 abbrev but : (ℕ → Bool) → ℕ → ℕ → Bool
 but has x h = has h && not (x == h)
 
-and_true : (b : Bool) → (b && true) ≡ b
-and_true true = refl
-and_true false = refl
-
 but_other : (has : ℕ → Bool) (x h : ℕ) → (x ≡ h → ⊥) → but has x h ≡ has h
-but_other has x h other = ap (λ (b : Bool). has h && not b) (ne_eqb x h other) ∙ and_true (has h)
+but_other has x h other = ap (λ (b : Bool). has h && not b) (ne_eqb x h other) ∙ and_true (has h) true refl
 
 but_here : (has : ℕ → Bool) (x h : ℕ) → x ≡ h → but has x h ≡ false
-but_here has x h same = ap (λ (b : Bool). has h && not b) (eq-eqb x h same) ∙ off (has h)
-  where
-    off : (b : Bool) → (b && false) ≡ false
-    off true = refl
-    off false = refl
+but_here has x h same = ap (λ (b : Bool). has h && not b) (eq-eqb x h same) ∙ and_false (has h)
 
 passing_but : (has : ℕ → Bool) (heights from x : ℕ) → has x ≡ true → from ≤ x → x < from + heights → passing (but has x) heights from + 1 ≡ passing has heights from
 passing_but has zero from x is low high = absurd (omega arith)
@@ -83,7 +75,7 @@ pass_but has from x bound (h ∷ hs) above falling pass =
 
 -- as many fewer pass as are taken away
 passing_spared : (has : ℕ → Bool) (heights from bound : ℕ) (xs : List ℕ) → bound ≤ from + heights → FallingFrom bound xs → Pass has from xs → passing (spared has xs) heights from + length xs ≡ passing has heights from
-passing_spared has heights from bound [] below falling pass = omega (arith, passing_agree (spared has []) has heights from (λ h above. and_true (has h)))
+passing_spared has heights from bound [] below falling pass = omega (arith, passing_agree (spared has []) has heights from (λ h above. and_true (has h) true refl))
 passing_spared has heights from bound (x ∷ xs) below falling pass =
     omega (
       arith,

@@ -11,27 +11,29 @@ use Rattle.card_set.specs.Classes.{place}
 use Rattle.card_set.specs.Different.{AllDifferent}
 use Rattle.card_set.specs.Ranks.{falling_heights, low_ace, occurring, ranks_occurring, ranks_of, times}
 use Rattle.card_set.specs.UpCards.{low_class}
-use Rattle.card_set.proofs.Counted.{IsHeight-low_ace, count_by-cons, counted, few_times, passes_or_not, sum_by-agree, sum_by-plus}
+use Rattle.card_set.proofs.Counted.{IsHeight-low_ace, counted, few_times}
 use Rattle.hand_order.specs.Choices.{choices, AreHeld, IsAmong}
 use Rattle.hand_order.specs.Digits.{class_above, with_digits}
 use Rattle.hand_order.specs.Picks.{Within}
 use Rattle.hand_order.specs.Points.{greatest}
-use Rattle.hand_order.proofs.Digits.{AreDigits, number_below}
+use Rattle.hand_order.proofs.Digits.{number_below}
 use Rattle.hand_order.proofs.FallingRanks.{FallingFrom}
 use Rattle.hand_order.proofs.FittingChoices.{times_of_ranks}
 use Rattle.hand_order.proofs.Greatest.{Says, says_greatest}
 use Rattle.hand_order.proofs.Held.{held_chosen}
 use Rattle.hand_order.proofs.OwnRanks.{down}
 use Rattle.hand_order.proofs.PlainHands.{choice_within}
-use Rattle.hand_order.proofs.RankDigits.{AreDigits-ranks_of}
 use Rattle.hand_order.proofs.SameChoices.{none_chosen, with_first}
 use Rattle.hand_order.proofs.Shapes.{by_counts}
-use Rattle.hand_order.proofs.Wanted.{IsWanted, wanted_chosen}
+use Rattle.hand_order.proofs.Wanted.{wanted_chosen}
+use Rattle.list_laws.proofs.Counting.{count_by-cons}
+use Rattle.list_laws.proofs.Sums.{sum_by-plus, sum_by-same}
+use Rattle.list_laws.proofs.Tests.{passes_or_not}
 use Rattle.low_rank.specs.Low.{low_points, low_table}
 use Rattle.low_rank.specs.Razz.{points}
 use Rattle.low_rank.specs.RazzBest.{HasClass, class_ranks, first_ranks, is_free, is_height_of, lowest_ranks, often, often_ranks, seldom, seldom_ranks}
 use Rattle.low_rank.proofs.EightBest.{all_down, empty_of, falls_within, filter_falls, filter_passes}
-use Rattle.low_rank.proofs.FreeRanks.{AreLowest, both_least, digits_both, digits_of, few_ranks, ranks_shape}
+use Rattle.low_rank.proofs.FreeRanks.{both_least, digits_both, digits_of, few_ranks, ranks_shape}
 use Rattle.low_rank.proofs.LowestLaws.{Pass}
 
 -- the lists of ranks by how often they occur have the shape of a class
@@ -206,7 +208,7 @@ all_found xs falling pass =
 
 sum_wanted : (m o : ℕ) (a b : List ℕ) → AreApart a b → sum_by (wanted m a o b) falling_heights ≡ m * length a + o * length b
 sum_wanted m o a b is =
-    sum_by-agree (wanted m a o b) (λ h. cond (is_height_of a h) m 0 + cond (is_height_of b h) o 0) falling_heights (λ h. by_tests h (is_height_of a h) refl (is_height_of b h) refl)
+    sum_by-same (wanted m a o b) (λ h. cond (is_height_of a h) m 0 + cond (is_height_of b h) o 0) (λ h. by_tests h (is_height_of a h) refl (is_height_of b h) refl) falling_heights
     ∙ sum_by-plus (λ h. cond (is_height_of a h) m 0) (λ h. cond (is_height_of b h) o 0) falling_heights
     ∙ omega (arith, sum_cond m (is_height_of a) falling_heights, sum_cond o (is_height_of b) falling_heights, ap (λ (n : ℕ). m * n) (all_found a is.falls is.pass), ap (λ (n : ℕ). o * n) (all_found b is.others_fall is.others_pass))
   where

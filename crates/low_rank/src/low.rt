@@ -16,7 +16,8 @@ use hand_order::{Ace, Score, class_above, count_of_ranks, ranks_of};
 pub fn up_low(cards: &CardRow) -> Score
     requires { AreUpCards (cards_of cards.now) }
     ensures points { result.points ≡ low_points (cards_of cards.now) }
-    ensures ordered { (other : List Card) → AreUpCards other → length other ≡ length (cards_of cards.now)
+    ensures ordered { (other : List Card) → AreUpCards other
+        → length other ≡ length (cards_of cards.now)
         → ((low_points other < result.points) ↔ IsWeakerLow other (cards_of cards.now)) }
 {
     low_score(cards)

@@ -9,8 +9,17 @@ ghost use Rattle.hand_order.specs.Points.{greatest};
 ghost use Rattle.low_rank.specs.Lowest.{lowest};
 ghost use Rattle.low_rank.specs.Razz.{points};
 ghost use Rattle.low_rank.specs.RazzBest.{
-    HasClass, both_ranks, class_ranks, is_free, is_height_of, low_count, lowest_ranks, often, often_ranks, seldom,
-    seldom_ranks,
+  HasClass,
+  both_ranks,
+  class_ranks,
+  is_free,
+  is_height_of,
+  low_count,
+  lowest_ranks,
+  often,
+  often_ranks,
+  seldom,
+  seldom_ranks,
 };
 
 use card_set::{CardSet, Suit};

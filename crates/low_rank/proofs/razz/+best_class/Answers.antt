@@ -1,4 +1,4 @@
-use Rattle.std.proofs.Common.{◌≡◌, ℕ, length, inl, inr, arith, ap, subst, ◌∙◌}
+use Rattle.std.proofs.Common.{◌≡◌, ℕ, length, inl, inr, arith, ap, subst}
 use Rattle.std.proofs.lemmas.Bool.{cases_lt}
 use Rattle.low_rank.specs.RazzBest.{HasClass, low_count}
 use Rattle.low_rank.proofs.FreeRanks.{shape_ranks}
