@@ -93,32 +93,42 @@ fn shape_of(class: u32) -> Shape
     ensures seldom { result.seldom ≡ seldom class }
     ensures seldom_ranks { result.seldom_ranks ≡ seldom_ranks class }
 {
-    Shape {
-        often: if class == 5 {
-            4
-        } else if class == 4 {
-            3
-        } else if class == 3 {
-            3
-        } else {
-            2
+    match class {
+        0 => Shape {
+            often: 2,
+            often_ranks: 0,
+            seldom: 1,
+            seldom_ranks: 5,
         },
-        often_ranks: if class == 0 {
-            0
-        } else if class == 2 {
-            2
-        } else {
-            1
+        1 => Shape {
+            often: 2,
+            often_ranks: 1,
+            seldom: 1,
+            seldom_ranks: 3,
         },
-        seldom: if class == 4 { 2 } else { 1 },
-        seldom_ranks: if class == 0 {
-            5
-        } else if class == 1 {
-            3
-        } else if class == 3 {
-            2
-        } else {
-            1
+        2 => Shape {
+            often: 2,
+            often_ranks: 2,
+            seldom: 1,
+            seldom_ranks: 1,
+        },
+        3 => Shape {
+            often: 3,
+            often_ranks: 1,
+            seldom: 1,
+            seldom_ranks: 2,
+        },
+        4 => Shape {
+            often: 3,
+            often_ranks: 1,
+            seldom: 2,
+            seldom_ranks: 1,
+        },
+        _ => Shape {
+            often: 4,
+            often_ranks: 1,
+            seldom: 1,
+            seldom_ranks: 1,
         },
     }
 }
