@@ -1,5 +1,5 @@
 -- What is read of the rows of moves is what is read of the moves.
-use Rattle.std.proofs.Common.{◌≡◌, ℕ, ◌≤◌, nat_lt, ◌==◌, ◌&&◌, Bool, not, List, map, filter, reverse, count_by, refl, sym, ap, ◌∙◌}
+use Rattle.std.proofs.Common.{◌≡◌, ℕ, ◌≤◌, nat_lt, ◌==◌, ◌&&◌, Bool, not, List, map, filter, reverse, sym, ap, ◌∙◌}
 use Rattle.std.specs.List.{flat_map, list_any}
 use Rattle.std.proofs.lemmas.List.{reverse-reverse}
 use Rattle.chip_ledger.specs.declared.rows.LiveRow.{LiveRow}

@@ -1,5 +1,5 @@
 -- Legal hands: scripts that are played to their end, and whose pots can be shared.
-use Rattle.std.specs.Prelude.{◌≡◌, ℕ, ◌≤◌, ◌==◌, Bool, true, false, not, List, reverse, flat_map, count_by, None}
+use Rattle.std.specs.Prelude.{◌≡◌, ◌≤◌, ◌==◌, Bool, true, false, not, List, reverse, flat_map, count_by, None}
 use Rattle.std.specs.List.{list_any}
 use Rattle.card_set.specs.Known.{known_cards}
 use Rattle.chip_ledger.specs.Rakes.{first_rake_above}

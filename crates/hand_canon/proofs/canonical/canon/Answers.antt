@@ -1,6 +1,6 @@
 -- The streets one after another, the showdown behind them, and few enough events that each has its number.
-use Rattle.std.proofs.Common.{◌≡◌, ◌≤◌, ◌∙◌, ◌++◌, ℕ, ap, arith, length, map, sym, List, ◌+◌}
-use Rattle.std.specs.List.{flat_map, range_with_len}
+use Rattle.std.proofs.Common.{◌≡◌, ◌≤◌, ◌∙◌, ◌++◌, ℕ, ap, arith, length, sym, List, ◌+◌}
+use Rattle.std.specs.List.{flat_map}
 use Rattle.std.proofs.lemmas.List.{length-map}
 use Rattle.chip_ledger.specs.Seat.{seats_of}
 use Rattle.play_event.specs.Games.{street_count}

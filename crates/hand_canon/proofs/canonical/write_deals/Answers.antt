@@ -1,5 +1,5 @@
 -- The deals to the seats, and then the board's.
-use Rattle.std.proofs.Common.{◌≡◌, ◌∙◌, ◌++◌, ℕ, Some, None, ap, map, sym}
+use Rattle.std.proofs.Common.{◌∙◌, Some, None, ap, map, sym}
 use Rattle.card_set.specs.Row.{slots_of}
 use Rattle.hand_canon.specs.CanonScript.{dealt_slots}
 use Rattle.hand_canon.specs.TraceRows.{place_said}

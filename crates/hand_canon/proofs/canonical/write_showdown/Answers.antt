@@ -1,5 +1,5 @@
 -- Nothing is written where fewer than two seats are live, and else the show or muck of each.
-use Rattle.std.proofs.Common.{◌≡◌, ◌≤◌, ◌∙◌, ℕ, ap, arith, map, sym}
+use Rattle.std.proofs.Common.{◌∙◌, ap, arith, map, sym}
 use Rattle.std.specs.List.{list_any}
 use Rattle.hand_canon.specs.CanonScript.{discarded_slots, plain_moves}
 use Rattle.hand_canon.specs.RowTests.{is_fold_of}

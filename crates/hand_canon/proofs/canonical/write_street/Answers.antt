@@ -1,5 +1,5 @@
 -- Discards, deals and moves, one after the other.
-use Rattle.std.proofs.Common.{◌≡◌, ◌∙◌, ◌++◌, List, ap, sym}
+use Rattle.std.proofs.Common.{◌∙◌, ◌++◌, List, ap, sym}
 use Rattle.std.specs.List.{flat_map}
 use Rattle.play_event.specs.Said.{Said}
 use Rattle.hand_canon.specs.CanonScript.{deals_said, discards_said, moves_named, plain_moves}

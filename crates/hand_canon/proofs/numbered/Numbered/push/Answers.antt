@@ -1,4 +1,4 @@
-use Rattle.std.proofs.Common.{◌∙◌, ◌+◌, ap, arith}
+use Rattle.std.proofs.Common.{◌∙◌, ◌+◌, ap}
 use Rattle.hand_canon.specs.Numbers.{number_of}
 use Rattle.hand_canon.proofs.WrittenWords.{numbered_after}
 use Rattle.hand_canon.proofs.numbered.Numbered.push.Goals as goal
