@@ -45,6 +45,7 @@ board_due setup before street some =
     ap (λ b. if b then Some (dues.Deal street) else if is_draw_due setup before street then Some (dues.Draw street) else if is_bring_in_due setup (moves_of before) street then Some dues.BringIn else if is_move_due setup (moves_of before) street then Some dues.Move else None)
     (or_right (list_any (λ seat. nat_lt 0 (hole_cards_owed setup before street seat)) (all_seats setup)) (nat_lt 0 (board_cards_owed setup before street)) (lt-ltb 0 (board_cards_owed setup before street) some))
 
+-- the canonical deal of the board is legal, and makes its places
 pub board_run : (setup : Setup) (rules : Rules) (before : Past) (street : ℕ) (cards : List Slot) → HasCome setup before street → ((slot : Slot) → IsOneOf cards slot → is_unknown slot ≡ false) → board_cards_owed setup before street ≡ length cards → has_taken_card setup.code (places_of setup.code before) street cards ≡ false → Runs setup rules before (board_said cards) (with_board street cards before)
 board_run setup rules before street [] come known owed free = refl
 board_run setup rules before street (slot ∷ rest) come known owed free =

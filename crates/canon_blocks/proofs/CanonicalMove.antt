@@ -17,7 +17,9 @@ use Rattle.play_event.specs.Reasons.{why, first_reason}
 use Rattle.play_event.specs.Scripts.{with_event, resolved_on, resolved_by}
 use Rattle.hand_canon.specs.CanonScript.{move_named}
 use Rattle.play_laws.proofs.MoverUps.{SameUps, mover_same}
-use Rattle.play_laws.proofs.NamedMoves.{IsMoveSaid, fold_said, call_said, raise_said, bring_said, move_reasons, why_move, named_move, named_none, named_place, none_found}
+use Rattle.play_event.proofs.ReasonLaws.{none_found}
+use Rattle.play_laws.proofs.MoveKinds.{IsMoveSaid, fold_said, call_said, raise_said, bring_said}
+use Rattle.play_laws.proofs.NamedMoves.{move_reasons, why_move, named_move, named_none, named_place}
 use Rattle.play_laws.proofs.MovesLaw.{ups_by, IsMover, free, shown, IsBetDue, bring_first, move_now, FitsMove}
 use Rattle.canon_blocks.proofs.CardEvents.{HasCome, due_there}
 
@@ -68,10 +70,12 @@ pub record IsReady (setup : Setup) (placed : List Place) (before : Past) (older 
   pub no_draw : is_draw_due setup before street ≡ false
   pub ups : SameUps setup older (up_cards setup.code before) (ups_by setup.code placed street)
 
+-- a move is legal as the canonical script says it, and takes place alike
 pub record IsPlayedAgain (setup : Setup) (rules : Rules) (before : Past) (move : Move) : Type 0 where
   pub legal : why setup rules before (move_named move) ≡ None
   pub after : with_event setup (move_named move) before ≡ Moved move ∷ before
 
+-- a move that fits is played again wherever the same moves and up-cards stand
 pub move_again : (setup : Setup) (rules : Rules) (placed : List Place) (before : Past) (older : List Move) (move : Move) → FitsMove setup rules placed older move → IsReady setup placed before older move.street → IsPlayedAgain setup rules before move
 unfolding with_event
 move_again setup rules placed before older move fits ready =

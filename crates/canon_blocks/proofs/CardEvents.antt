@@ -51,6 +51,7 @@ still_there setup before street event come on same =
 abbrev pub NoneHoldAt : Setup → Rules → Past → ℕ × Due → Said → Type 0
 NoneHoldAt setup rules before now event = NoneHold (all_reasons setup rules before now event)
 
+-- an event is legal where none of the reasons holds
 pub legal_at : (setup : Setup) (rules : Rules) (before : Past) (now : ℕ × Due) (event : Said) → turn setup before ≡ now → NoneHoldAt setup rules before now event → why setup rules before event ≡ None
 legal_at setup rules before now event turned none =
     let P : ℕ × Due → Type 0 = λ at. NoneHoldAt setup rules before at event in
@@ -66,33 +67,40 @@ deal_legal setup rules before street due seat cards turned going kind owed count
     legal_at setup rules before (street, due) (said.Hole seat cards) turned
     (ap (λ b. b && true) going, (ap (λ b. not (b || false)) kind, (owed, (count, (free, (refl, (refl, (refl, (refl, (refl, (refl, (refl, tt))))))))))))
 
+-- what a deal leaves
 pub deal_placed : (setup : Setup) (before : Past) (street : ℕ) (due : Due) (seat : ℕ) (cards : List Slot) → turn setup before ≡ (street, due) → with_event setup (said.Hole seat cards) before ≡ past.Dealt street seat cards ∷ before
 unfolding with_event
 deal_placed setup before street due seat cards turned = ap (λ (at : ℕ × Due). past.Dealt at.0 seat cards ∷ before) turned
 
+-- a deal of the board is legal where it is owed and free
 pub board_legal : (setup : Setup) (rules : Rules) (before : Past) (street : ℕ) (cards : List Card) → turn setup before ≡ (street, dues.Deal street) → is_due_kind setup.code (dues.Deal street) (said.Board cards) ≡ true → is_wrong_deal (board_cards_owed setup before street) (length cards) ≡ false → has_taken_card setup.code (places_of setup.code before) street (map (λ card. slots.Known card) cards) ≡ false → why setup rules before (said.Board cards) ≡ None
 board_legal setup rules before street cards turned kind count free =
     legal_at setup rules before (street, dues.Deal street) (said.Board cards) turned
     (refl, (ap (λ b. not (b || false)) kind, (refl, (count, (free, (refl, (refl, (refl, (refl, (refl, (refl, (refl, tt))))))))))))
 
+-- what it leaves
 pub board_placed : (setup : Setup) (before : Past) (street : ℕ) (due : Due) (cards : List Card) → turn setup before ≡ (street, due) → with_event setup (said.Board cards) before ≡ past.Boarded street cards ∷ before
 unfolding with_event
 board_placed setup before street due cards turned = ap (λ (at : ℕ × Due). past.Boarded at.0 cards ∷ before) turned
 
+-- a discard is legal by the seat that draws next, of cards that it holds
 pub discard_legal : (setup : Setup) (rules : Rules) (before : Past) (street seat : ℕ) (cards : List Slot) → turn setup before ≡ (street, dues.Draw street) → is_next_to_draw setup before street seat ≡ true → is_wrong_count setup before (places_of setup.code before) street (said.Discard seat cards) ≡ false → has_misplaced_card setup.code (places_of setup.code before) (after_discard street seat cards (places_of setup.code before)) ≡ false → is_not_held setup.code (places_of setup.code before) (said.Discard seat cards) ≡ false → why setup rules before (said.Discard seat cards) ≡ None
 discard_legal setup rules before street seat cards turned next count free held =
     legal_at setup rules before (street, dues.Draw street) (said.Discard seat cards) turned
     (refl, (refl, (ap not next, (count, (free, (held, (refl, (refl, (refl, (refl, (refl, (refl, tt))))))))))))
 
+-- what it leaves
 pub discard_placed : (setup : Setup) (before : Past) (street : ℕ) (due : Due) (seat : ℕ) (cards : List Slot) → turn setup before ≡ (street, due) → with_event setup (said.Discard seat cards) before ≡ past.Discarded street seat cards ∷ before
 unfolding with_event
 discard_placed setup before street due seat cards turned = ap (λ (at : ℕ × Due). past.Discarded at.0 seat cards ∷ before) turned
 
+-- a show is legal by a seat that has to show, of cards that it holds
 pub show_legal : (setup : Setup) (rules : Rules) (before : Past) (street seat : ℕ) (cards : List Card) → turn setup before ≡ (street, dues.Show) → may_show setup before seat ≡ true → may_show_so_many setup before (places_of setup.code before) seat (length cards) ≡ true → has_misplaced_card setup.code (places_of setup.code before) (after_show setup.code seat cards (places_of setup.code before)) ≡ false → is_not_held setup.code (places_of setup.code before) (said.Show seat cards) ≡ false → why setup rules before (said.Show seat cards) ≡ None
 show_legal setup rules before street seat cards turned may count free held =
     legal_at setup rules before (street, dues.Show) (said.Show seat cards) turned
     (refl, (refl, (ap not may, (ap not count, (free, (held, (refl, (refl, (refl, (refl, (refl, (refl, tt))))))))))))
 
+-- so is a muck
 pub muck_legal : (setup : Setup) (rules : Rules) (before : Past) (street seat : ℕ) → turn setup before ≡ (street, dues.Show) → may_show setup before seat ≡ true → why setup rules before (said.Muck seat) ≡ None
 muck_legal setup rules before street seat turned may =
     legal_at setup rules before (street, dues.Show) (said.Muck seat) turned

@@ -26,6 +26,7 @@ blanks_length : (taken : Place → Bool) (placed : List Place) → length (filte
 blanks_length taken [] = refl
 blanks_length taken (place ∷ rest) = blanks_step taken place rest place.slot (taken place) refl (blanks_length taken rest)
 
+-- the blanks among what is taken
 pub blanks_same : (taken : Place → Bool) (placed : List Place) → blanks_in (slots_taken taken placed) ≡ blanks_taken taken placed
 blanks_same taken placed = sym (length-filter is_unknown (slots_taken taken placed)) ∙ blanks_length taken placed
 
@@ -66,6 +67,7 @@ marked_slot : (taken : Place → Bool) (mark : Place → Place) (place : Place) 
 marked_slot taken mark place true same = same
 marked_slot taken mark place false same = refl
 
+-- a discard by known names makes no further card known
 pub none_known : (taken : Place → Bool) (mark : Place → Place) (placed : List Place) → ((place : Place) → (mark place).slot ≡ place.slot) → newly_known placed (map (marked_if taken mark) placed) ≡ []
 none_known taken mark [] same = refl
 none_known taken mark (place ∷ rest) same =
@@ -80,6 +82,7 @@ pub record IsCleanDiscard (code : Code) (street seat : ℕ) (taken : Place → B
   pub free : has_misplaced_card code placed (after_discard street seat (slots_taken taken placed) placed) ≡ false
   pub held : has_no_place (filter (is_held_by seat) placed) (names_taken taken placed) (blanks_in (slots_taken taken placed)) ≡ false
 
+-- a discard that names what it takes, as it is known, takes just this
 pub clean_discard : (code : Code) (street seat : ℕ) (taken : Place → Bool) (placed : List Place) → ((place : Place) → taken place ≡ true → is_held_by seat place ≡ true) → TakenTogether (is_held_by seat) taken placed → BlanksFirst (is_held_by seat) taken placed → IsCleanDiscard code street seat taken placed
 clean_discard code street seat taken placed sub together first =
     let covers : Place → Bool = is_held_by seat in

@@ -29,11 +29,13 @@ HoldsKnown seat placed = (place : Place) → IsAmong placed place → is_held_by
 abbrev pub held_cards : ℕ → List Place → List Card
 held_cards seat placed = names_taken (is_held_by seat) placed
 
+-- where all slots are known there are as many cards
 pub known_length : (list : List Slot) → ((slot : Slot) → Rattle.play_event.proofs.ClashLaws.IsOneOf list slot → is_unknown slot ≡ false) → length (known_cards list) ≡ length list
 known_length [] known = refl
 known_length (slots.Known card ∷ rest) known = ap suc (known_length rest (λ slot among. known slot (inr among)))
 known_length (slots.Unknown ∷ rest) known = false_true (sym (known slots.Unknown (inl refl)))
 
+-- a slot of places is that of one of them
 pub one_of_map : (placed : List Place) (slot : Slot) → Rattle.play_event.proofs.ClashLaws.IsOneOf (map (λ (p : Place). p.slot) placed) slot → (place : Place) × (IsAmong placed place × (place.slot ≡ slot))
 one_of_map [] slot among = absurd among
 one_of_map (first ∷ rest) slot (inl same) = (first, (inl refl, same))
@@ -97,6 +99,7 @@ pub record IsCleanShow (code : Code) (seat : ℕ) (placed : List Place) : Type 0
   pub free : has_misplaced_card code placed (after_show code seat (held_cards seat placed) placed) ≡ false
   pub held : is_not_held code placed (said.Show seat (held_cards seat placed)) ≡ false
 
+-- a show of all known cards of a seat changes nothing
 pub clean_show : (code : Code) (seat : ℕ) (placed : List Place) → HoldsKnown seat placed → IsCleanShow code seat placed
 clean_show code seat placed known =
     let covers : Place → Bool = covers_all seat in

@@ -47,6 +47,7 @@ owed_some : (b : Bool) (on dealt : ℕ) → 0 < (if b then on - dealt else 0) �
 owed_some true on dealt some = omega (arith, some)
 owed_some false on dealt some = absurd (omega (arith, some))
 
+-- a street that deals hole cards deals to any seat that is owed some
 pub hole_street : (setup : Setup) (street : ℕ) → has_draw setup.code street ≡ false → 0 < hole_cards_on setup.code street → DealsOn setup street (dues.Deal street)
 hole_street setup street no_draw deals =
     record {
@@ -69,11 +70,13 @@ any_never : (p : ℕ → Bool) (seats : List ℕ) → ((seat : ℕ) → p seat �
 any_never p [] never = refl
 any_never p (seat ∷ rest) never = ap (λ b. b || list_any p rest) (never seat) ∙ any_never p rest never
 
+-- a street without cards has no deal due
 pub no_deal : (setup : Setup) (before : Past) (street : ℕ) → hole_cards_on setup.code street ≡ 0 → board_cards_on setup.code street ≡ 0 → is_deal_due setup before street ≡ false
 no_deal setup before street no_hole no_board =
     ap (λ b. b || nat_lt 0 (board_cards_owed setup before street)) (any_never (λ seat. nat_lt 0 (hole_cards_owed setup before street seat)) (all_seats setup) (λ seat. no_owed (is_live (moves_of before) seat) (hole_cards_on setup.code street) (hole_cards_dealt before street seat) no_hole))
     ∙ le-ltb 0 (board_cards_owed setup before street) (omega (arith, no_board))
 
+-- so does a street that draws, where discards are to be replaced
 pub draw_street : (setup : Setup) (street : ℕ) → has_draw setup.code street ≡ true → hole_cards_on setup.code street ≡ 0 → board_cards_on setup.code street ≡ 0 → DealsOn setup street (dues.Draw street)
 draw_street setup street draws no_hole no_board =
     record {
@@ -127,6 +130,7 @@ owes_still setup before street first [] cards count owes = λ seat least most. o
 owes_still setup before street first (slot ∷ rest) cards count owes = λ seat least most.
     owed_still setup before street first seat (slot ∷ rest) (λ same. omega (arith, same, least)) ∙ owes seat (omega (arith, least)) (omega (arith, most))
 
+-- the canonical deals to a range of seats take place one after another
 pub deals_run : (setup : Setup) (rules : Rules) (before : Past) (street : ℕ) (due : Due) (cards : ℕ → List Slot) (first count : ℕ) → HasCome setup before street → DealsOn setup street due → 1 ≤ first → first + count ≤ setup.stacks.seats + 1 → OwesRange setup before street cards first count → AllFree setup.code street cards (range_with_len first count) before → Runs setup rules before (flat_map (λ seat. deal_said seat (cards seat)) (range_with_len first count)) (with_deals street cards (range_with_len first count) before)
 deals_run setup rules before street due cards first zero come deals least most owes free = refl
 deals_run setup rules before street due cards first (suc count) come deals least most owes free =

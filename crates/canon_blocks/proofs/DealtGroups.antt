@@ -98,6 +98,7 @@ maybe_dealt code moves placed street seat before finals [] group so_far more non
     subst P (sym (append-nil finals) ∙ ap (λ g. finals ++ g) (sym (none refl))) so_far
 maybe_dealt code moves placed street seat before finals (slot ∷ rest) group so_far more none = more
 
+-- where no cards are dealt there is no group
 pub no_cards : (group : List Place) → map (λ (place : Place). place.slot) group ≡ [] → group ≡ []
 no_cards [] is = refl
 no_cards (first ∷ rest) is = absurd cc
@@ -107,6 +108,7 @@ pub record AreDealtOut (code : Code) (moves : List Move) (placed : List Place) (
   pub free : AllFree code street (λ seat. group_slots placed street (Some seat)) (range_with_len first count) before
   pub dealt : AreDealt code moves placed street (places_of code (with_deals street (λ seat. group_slots placed street (Some seat)) (range_with_len first count) before)) (finals ++ flat_map (λ seat. group_of placed street (Some seat)) (range_with_len first count))
 
+-- the deals to a range of seats make the groups of the script, and no card of theirs is taken
 pub dealt_out : (code : Code) (moves : List Move) (placed : List Place) (street first count : ℕ) (before : Past) (finals : List Place) → AreLawful code moves placed → AreRising placed → ((place : Place) → IsAmong placed place → is_foreign code place.slot ≡ false) → ((owner : Option ℕ) → AreIndexed 0 (group_of placed street owner)) → AreDealt code moves placed street (places_of code before) finals → ((final : Place) (seat : ℕ) → IsAmong finals final → first ≤ seat → IsBefore placed street (Some seat) final) → AreDealtOut code moves placed street first count before finals
 dealt_out code moves placed street first zero before finals law rising deck indexed so_far before_them =
     let P : List Place → Type 0 = λ all. AreDealt code moves placed street (places_of code before) all in

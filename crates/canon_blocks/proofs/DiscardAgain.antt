@@ -164,6 +164,7 @@ pub record IsDiscardedAgain (code : Code) (moves : List Move) (out : Place → B
   pub clean : IsCleanDiscard code street seat (taken_by finals street seat) mines
   pub mirrored : AreMirrored moves (λ p. out p || is_out_of street seat p) (after_discard street seat (map (λ (p : Place). p.slot) (filter (is_out_of street seat) finals)) mines) finals
 
+-- the canonical discard takes what the script's discard of that draw took
 pub discarded_again : (code : Code) (moves : List Move) (out : Place → Bool) (street seat : ℕ) (mines finals : List Place) → AreMirrored moves out mines finals → AreNumbered 0 mines → IsDrawing moves out street seat finals → UnknownsFirst finals → TakenTogether (is_held_by seat) (taken_by finals street seat) mines → IsDiscardedAgain code moves out street seat mines finals
 discarded_again code moves out street seat mines finals mirrored numbered is before together =
     let all = all_taken moves out [] street seat mines finals mirrored numbered is in

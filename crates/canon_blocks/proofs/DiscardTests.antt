@@ -80,6 +80,7 @@ seats_step setup before at _ (moves played no_deal no_draw on) out = by_fold (is
     by_fold true = fold_seats played.seat (length (places_of setup.code before)) (places_of setup.code before) out
     by_fold false = out
 
+-- after legal events no card of the board is discarded
 pub out_seats : (setup : Setup) (rules : Rules) (events : List Said) → AreLegal setup rules events → OutSeats (places_of setup.code (past_of setup events))
 unfolding with_event
 out_seats setup rules [] legal = λ place among some none. among
@@ -92,6 +93,7 @@ pub record OutBy (setup : Setup) (before : Past) (place : Place) : Type 0 where
   pub drew : DrewLive setup before place.discarded seat
   pub draws : has_draw setup.code place.discarded ≡ true
 
+-- a card is discarded on a street that draws, by a seat that has drawn
 pub out_is : (setup : Setup) (rules : Rules) (events : List Said) (place : Place) → AreLegal setup rules events → IsAmong (places_of setup.code (past_of setup events)) place → 0 < place.discarded → OutBy setup (past_of setup events) place
 out_is setup rules events place legal among some = by_owner place.owner refl
   where
@@ -108,6 +110,7 @@ less_is a b = elim (cases_lt b a) [
   | inr less ↦ lt-ltb a (b + 1) (omega (arith, less)) ∙ sym (le-leb a b less)
 ]
 
+-- what is out before a street is out to its first seat
 pub before_first : (setup : Setup) (placed : List Place) (before : ℕ) (place : Place) → AreOwned setup placed → IsAmong placed place → out_by before place ≡ out_to (before + 1) 1 place
 before_first setup placed before place owned among =
     ap (λ b. nat_lt 0 place.discarded && b) (sym (less_is place.discarded before) ∙ sym (none (nat_lt place.discarded (before + 1)) ((place.discarded == (before + 1)) && is_below 1 place.owner) (and_right (place.discarded == (before + 1)) (is_below 1 place.owner) (not_below place.owner (owned place among)))))

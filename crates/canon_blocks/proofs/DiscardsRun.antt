@@ -29,6 +29,7 @@ abbrev pub is_below : ℕ → Option ℕ → Bool
 is_below first (Some seat) = nat_lt seat first
 is_below first None = false
 
+-- out by a street, up to this seat of its draw
 abbrev pub out_to : ℕ → ℕ → Place → Bool
 out_to street first place = nat_lt 0 place.discarded && (nat_lt place.discarded street || ((place.discarded == street) && is_below first place.owner))
 
@@ -42,6 +43,7 @@ mirrored_ext moves out other (mine ∷ mines) (final ∷ finals) same mirrored =
       mirrored_ext moves out other mines finals (λ f among. same f (inr among)) mirrored.1,
     )
 
+-- tests that agree mirror alike
 pub mirrored_as : (moves : List Move) (out other : Place → Bool) (mines finals : List Place) → ((final : Place) → IsAmong finals final → out final ≡ other final) → AreMirrored moves out mines finals → AreMirrored moves other mines finals
 mirrored_as moves out other mines finals same mirrored = mirrored_ext moves out other mines finals same mirrored
 

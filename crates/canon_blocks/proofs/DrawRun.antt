@@ -77,6 +77,7 @@ pub record IsOneDiscard (setup : Setup) (rules : Rules) (before : Past) (street 
   pub placed : with_event setup (said.Discard seat (out_slots finals street seat)) before ≡ past.Discarded street seat (out_slots finals street seat) ∷ before
   pub mirrored : AreMirrored (moves_of before) (out_to street (first + 1)) (after_discard street seat (out_slots finals street seat) (places_of setup.code before)) finals
 
+-- one seat's canonical discard is legal, and takes what it took
 pub one_discard : (setup : Setup) (rules : Rules) (before : Past) (street first : ℕ) (finals : List Place) → IsLed setup rules before → HasCome setup before street → IsDrawStreet setup street → IsDrawn setup.stacks.seats (moves_of before) street finals → AreMirrored (moves_of before) (out_to street first) (places_of setup.code before) finals → 1 ≤ first → first ≤ setup.stacks.seats → is_live (moves_of before) first ≡ true → has_drawn before street first ≡ false → ((seat : ℕ) → 1 ≤ seat → seat < first → is_live (moves_of before) seat ≡ true → has_drawn before street seat ≡ true) → IsOneDiscard setup rules before street first first finals
 one_discard setup rules before street first finals led come is drawn mirrored least most live undrawn done =
     let placed : List Place = places_of setup.code before in
@@ -213,6 +214,7 @@ skipped_first setup rules before street first finals at folded =
       ];
     }
 
+-- the seats that have yet to draw hold what the script's discards took
 pub AllLater : Setup → Rules → ℕ → List Place → ℕ → ℕ → Type 0
 AllLater setup rules street finals first count = (p : Past) → IsAtDraw setup rules p street first finals → 1 ≤ first → first + count ≤ setup.stacks.seats + 1 → AreDiscarded setup rules p (with_discards street (out_slots finals street) (filter (is_live (moves_of p)) (range_with_len first count)) p) street first count (filter (is_live (moves_of p)) (range_with_len first count)) finals
 
@@ -226,6 +228,7 @@ discards_step setup rules street finals is first count before at least most fals
     skip_first setup rules before street first count (filter (is_live (moves_of before)) (range_with_len (first + 1) count)) finals
     (go before (skipped_first setup rules before street first finals at folded) (omega arith) (omega (arith, most)))
 
+-- the canonical discards of a range of seats take place one after another
 pub discards_run : (setup : Setup) (rules : Rules) (street : ℕ) (finals : List Place) → IsDrawStreet setup street → (first count : ℕ) (before : Past) → IsAtDraw setup rules before street first finals → 1 ≤ first → first + count ≤ setup.stacks.seats + 1 → AreDiscarded setup rules before (with_discards street (out_slots finals street) (filter (is_live (moves_of before)) (range_with_len first count)) before) street first count (filter (is_live (moves_of before)) (range_with_len first count)) finals
 unfolding AllLater
 discards_run setup rules street finals is first zero before at least most =

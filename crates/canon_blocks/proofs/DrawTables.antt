@@ -48,6 +48,7 @@ no_cards (first ∷ rest) (suc index) none draws =
     let it = no_cards rest index (or_parts (is_odd first) (list_any is_odd rest) none).1 draws in
     record { hole = it.hole; board = it.board }
 
+-- a street that draws deals no cards of its own, in each game
 pub draw_tables : (setup : Setup) (street : ℕ) → has_draw setup.code street ≡ true → IsDrawStreet setup street
 draw_tables setup street draws =
     let it = no_cards (game_of setup.code).streets (street - 1) (none_odd setup.code) draws in

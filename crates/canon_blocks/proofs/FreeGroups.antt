@@ -79,6 +79,7 @@ none_again code moves placed street owner (first ∷ rest) law rising group =
     on_street : (card : Place) → Passed (is_in_group owner street) placed card → card.street ≡ street
     on_street card in_group = eqb-true card.street street (and_parts (is_same_owner card.owner owner) (card.street == street) in_group.passes).1
 
+-- no card of an owner's group is taken when the group is dealt
 pub group_not_taken : (code : Code) (moves : List Move) (placed mines finals : List Place) (street : ℕ) (owner : Option ℕ) → AreLawful code moves placed → AreRising placed → ((place : Place) → IsAmong placed place → is_foreign code place.slot ≡ false) → IsAsLate code placed mines street → AreMirrored (moves_before street moves) (out_by street) mines finals → ((final : Place) → IsAmong finals final → IsBefore placed street owner final) → has_taken_card code mines street (group_slots placed street owner) ≡ false
 group_not_taken code moves placed mines finals street owner law rising deck as_late mirrored before =
     or_from (list_any (is_taken code mines (is_past_deck code mines street)) (group_slots placed street owner)) (has_repeat (group_slots placed street owner))

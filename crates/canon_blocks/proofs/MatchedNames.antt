@@ -16,6 +16,7 @@ use Rattle.list_laws.proofs.Tests.{false_true}
 abbrev pub slots_taken : (Place → Bool) → List Place → List Slot
 slots_taken taken placed = map (λ place. place.slot) (filter taken placed)
 
+-- the known cards among what is taken
 abbrev pub names_taken : (Place → Bool) → List Place → List Card
 names_taken taken placed = known_cards (slots_taken taken placed)
 
@@ -89,6 +90,7 @@ named_at taken card first rest (slots.Known other) true here is later named = el
   | inr more ↦ bears_later taken card first rest (later more)
 ]
 
+-- a card that is named is borne by a place that is taken
 pub is_named_by : (taken : Place → Bool) (card : Card) (placed : List Place) → is_named card (names_taken taken placed) ≡ true → BearsName taken card placed
 is_named_by taken card [] named = false_true named
 is_named_by taken card (first ∷ rest) named = named_at taken card first rest first.slot (taken first) refl refl (is_named_by taken card rest) named
@@ -108,6 +110,7 @@ named_still taken card first rest slots.Unknown true here is = ap (λ s. is_name
 named_still taken card first rest (slots.Known other) true here is =
     ap (λ s. is_named card (known_cards (s ∷ slots_taken taken rest))) here ∙ or_right (is_same_card card other) (is_named card (names_taken taken rest)) is
 
+-- a known card that is taken is named
 pub taken_is_named : (taken : Place → Bool) (card : Card) (placed : List Place) (place : Place) → IsAmong placed place → place.slot ≡ slots.Known card → taken place ≡ true → is_named card (names_taken taken placed) ≡ true
 taken_is_named taken card [] place among here is = absurd among
 taken_is_named taken card (first ∷ rest) place (inl same) here is = named_first taken card first rest (taken first) (ap (λ (p : Place). p.slot) same ∙ here) (ap taken same ∙ is)
@@ -125,6 +128,7 @@ named_is_taken covers taken card placed place sub together among here covered na
     let it = is_named_by taken card placed named in
     together place it.place among it.among covered (sub it.place it.is_taken) (ap (λ s. is_one_card s it.place.slot) here ∙ it.is_borne_by) ∙ it.is_taken
 
+-- of covered places just those that are taken are named
 pub named_where_taken : (covers taken : Place → Bool) (placed : List Place) → ((other : Place) → taken other ≡ true → covers other ≡ true) → TakenTogether covers taken placed → NamedWhereTaken covers taken (names_taken taken placed) placed
 named_where_taken covers taken placed sub together place card among here covered =
     named_or_not taken card placed place (is_named card (names_taken taken placed)) (taken place) refl refl (named_is_taken covers taken card placed place sub together among here covered) (taken_is_named taken card placed place among here)
@@ -183,6 +187,7 @@ pub record IsMatched (covers taken : Place → Bool) (mark : Place → Place) (p
   pub marked : after_names covers mark (names_taken taken placed) (other_names (filter covers placed) (names_taken taken placed)) (blanks_taken taken placed) placed ≡ map (marked_if taken mark) placed
   pub none_left : other_names (filter covers placed) (names_taken taken placed) ≡ []
 
+-- names of what is taken mark just this
 pub is_matched : (covers taken : Place → Bool) (mark : Place → Place) (placed : List Place) → ((other : Place) → taken other ≡ true → covers other ≡ true) → TakenTogether covers taken placed → BlanksFirst covers taken placed → IsMatched covers taken mark placed
 is_matched covers taken mark placed sub together first =
     let nothing = none_left covers taken placed sub (apart covers taken placed sub together) in

@@ -14,6 +14,7 @@ pub record Mirrors (moves : List Move) (out : Place → Bool) (mine final : Plac
   pub discarded : mine.discarded ≡ (if out final then final.discarded else 0)
   pub gone_after : is_some mine.gone_after ≡ (out final || owner_folded moves final.owner)
 
+-- so do all places, in the same order
 abbrev pub AreMirrored : List Move → (Place → Bool) → List Place → List Place → Type 0
 AreMirrored moves out [] [] = Unit {0}
 AreMirrored moves out [] (final ∷ finals) = ⊥

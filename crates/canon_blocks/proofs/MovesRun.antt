@@ -30,6 +30,7 @@ pub record IsLed (setup : Setup) (rules : Rules) (before : Past) : Type 0 where
   pub legal : AreLegal setup rules events
   pub past : past_of setup events ≡ before
 
+-- what takes place after a past with events that lead to it leads further
 pub led_on : (setup : Setup) (rules : Rules) (before after : Past) (script : List Said) → IsLed setup rules before → Runs setup rules before script after → IsLed setup rules after
 led_on setup rules before after script led run =
     let P : Past → Type 0 = λ start. Runs setup rules start script after in
@@ -48,6 +49,7 @@ abbrev pub with_moves : List Move → Past → Past
 with_moves [] before = before
 with_moves (move ∷ rest) before = Moved move ∷ with_moves rest before
 
+-- the moves of a past with further moves
 pub moves_with : (list : List Move) (before : Past) → moves_of (with_moves list before) ≡ list ++ moves_of before
 moves_with [] before = refl
 moves_with (move ∷ rest) before = ap (λ l. move ∷ l) (moves_with rest before)
@@ -99,6 +101,7 @@ come_with setup (move ∷ rest) before street on come several =
       quiet = λ between least most. absurd (omega (arith, on.0, least, most));
     }
 
+-- its newest street
 pub newest_with : (list : List Move) (before : Past) (street : ℕ) → AreAllOn street list → newest_street before ≤ street → newest_street (with_moves list before) ≤ street
 newest_with [] before street on reach = reach
 newest_with (move ∷ rest) before street on reach = omega (arith, on.0)

@@ -23,9 +23,11 @@ pub record IsAside (street : ℕ) (before after : Past) : Type 0 where
   pub shown : (seat : ℕ) → has_shown after seat ≡ has_shown before seat
   pub mucked : (seat : ℕ) → has_mucked after seat ≡ has_mucked before seat
 
+-- a past is aside from itself
 pub aside_same : (street : ℕ) (before : Past) → IsAside street before before
 aside_same street before = record { moves = refl; newest = λ on. on; holes = λ other seat differ. refl; board = λ other differ. refl; out = λ other seat differ. refl; drawn = λ other seat differ. refl; shown = λ seat. refl; mucked = λ seat. refl }
 
+-- what is aside from what is aside is so
 pub aside_more : (street : ℕ) (one two three : Past) → IsAside street one two → IsAside street two three → IsAside street one three
 aside_more street one two three first second =
     record {
@@ -68,6 +70,7 @@ aside_discard street owner cards before =
       mucked = λ seat. refl;
     }
 
+-- discards leave the counts of other streets
 pub aside_discards : (street : ℕ) (names : ℕ → List Slot) (seats : List ℕ) (before : Past) → IsAside street before (with_discards street names seats before)
 aside_discards street names [] before = aside_same street before
 aside_discards street names (seat ∷ rest) before =
@@ -77,11 +80,13 @@ aside_one : (street seat : ℕ) (cards : List Slot) (before : Past) → IsAside 
 aside_one street seat [] before = aside_same street before
 aside_one street seat (slot ∷ rest) before = aside_deal street seat (slot ∷ rest) before
 
+-- so do deals
 pub aside_deals : (street : ℕ) (cards : ℕ → List Slot) (seats : List ℕ) (before : Past) → IsAside street before (with_deals street cards seats before)
 aside_deals street cards [] before = aside_same street before
 aside_deals street cards (seat ∷ rest) before =
     aside_more street before (with_deal street seat (cards seat) before) (with_deals street cards rest (with_deal street seat (cards seat) before)) (aside_one street seat (cards seat) before) (aside_deals street cards rest (with_deal street seat (cards seat) before))
 
+-- and the deal of the board
 pub aside_board : (street : ℕ) (cards : List Slot) (before : Past) → IsAside street before (with_board street cards before)
 aside_board street [] before = aside_same street before
 aside_board street (slot ∷ rest) before =
@@ -101,6 +106,7 @@ pub discards_holes : (street : ℕ) (names : ℕ → List Slot) (seats : List �
 discards_holes street names [] before on seat = refl
 discards_holes street names (first ∷ rest) before on seat = discards_holes street names rest (past.Discarded street first (names first) ∷ before) on seat
 
+-- discards deal nothing to the board
 pub discards_board : (street : ℕ) (names : ℕ → List Slot) (seats : List ℕ) (before : Past) (on : ℕ) → board_cards_dealt (with_discards street names seats before) on ≡ board_cards_dealt before on
 discards_board street names [] before on = refl
 discards_board street names (first ∷ rest) before on = discards_board street names rest (past.Discarded street first (names first) ∷ before) on
@@ -110,6 +116,7 @@ deal_out : (street first : ℕ) (cards : List Slot) (before : Past) (on seat : �
 deal_out street first [] before on seat = refl
 deal_out street first (slot ∷ rest) before on seat = refl
 
+-- deals discard nothing
 pub deals_out : (street : ℕ) (cards : ℕ → List Slot) (seats : List ℕ) (before : Past) (on seat : ℕ) → cards_discarded (with_deals street cards seats before) on seat ≡ cards_discarded before on seat
 deals_out street cards [] before on seat = refl
 deals_out street cards (first ∷ rest) before on seat = deals_out street cards rest (with_deal street first (cards first) before) on seat ∙ deal_out street first (cards first) before on seat
@@ -118,6 +125,7 @@ deal_drawn : (street first : ℕ) (cards : List Slot) (before : Past) (on seat :
 deal_drawn street first [] before on seat = refl
 deal_drawn street first (slot ∷ rest) before on seat = refl
 
+-- nobody draws by a deal
 pub deals_drawn : (street : ℕ) (cards : ℕ → List Slot) (seats : List ℕ) (before : Past) (on seat : ℕ) → has_drawn (with_deals street cards seats before) on seat ≡ has_drawn before on seat
 deals_drawn street cards [] before on seat = refl
 deals_drawn street cards (first ∷ rest) before on seat = deals_drawn street cards rest (with_deal street first (cards first) before) on seat ∙ deal_drawn street first (cards first) before on seat
@@ -126,6 +134,7 @@ deal_board : (street first : ℕ) (cards : List Slot) (before : Past) (on : ℕ)
 deal_board street first [] before on = refl
 deal_board street first (slot ∷ rest) before on = refl
 
+-- deals to seats deal nothing to the board
 pub deals_board : (street : ℕ) (cards : ℕ → List Slot) (seats : List ℕ) (before : Past) (on : ℕ) → board_cards_dealt (with_deals street cards seats before) on ≡ board_cards_dealt before on
 deals_board street cards [] before on = refl
 deals_board street cards (first ∷ rest) before on = deals_board street cards rest (with_deal street first (cards first) before) on ∙ deal_board street first (cards first) before on
@@ -145,6 +154,7 @@ below_range street cards first (suc count) before seat less =
     below_range street cards (first + 1) count (with_deal street first (cards first) before) seat (omega (arith, less))
     ∙ deal_other street first (cards first) before seat (λ same. omega (arith, same, less))
 
+-- what the deals of a street dealt to a seat
 pub deals_holes : (street : ℕ) (cards : ℕ → List Slot) (first count : ℕ) (before : Past) (seat : ℕ) → first ≤ seat → seat < first + count → hole_cards_dealt (with_deals street cards (range_with_len first count) before) street seat ≡ length (cards seat) + hole_cards_dealt before street seat
 deals_holes street cards first zero before seat least most = absurd (omega (arith, least, most))
 deals_holes street cards first (suc count) before seat least most = elim (cases_eq first seat) [
@@ -164,14 +174,17 @@ pub board_holes : (street : ℕ) (cards : List Slot) (before : Past) (on seat : 
 board_holes street [] before on seat = refl
 board_holes street (slot ∷ rest) before on seat = refl
 
+-- the board discards nothing
 pub board_out : (street : ℕ) (cards : List Slot) (before : Past) (on seat : ℕ) → cards_discarded (with_board street cards before) on seat ≡ cards_discarded before on seat
 board_out street [] before on seat = refl
 board_out street (slot ∷ rest) before on seat = refl
 
+-- nobody draws by the deal of the board
 pub board_drawn : (street : ℕ) (cards : List Slot) (before : Past) (on seat : ℕ) → has_drawn (with_board street cards before) on seat ≡ has_drawn before on seat
 board_drawn street [] before on seat = refl
 board_drawn street (slot ∷ rest) before on seat = refl
 
+-- what the deal of the board dealt
 pub board_own : (street : ℕ) (cards : List Slot) (before : Past) → length (known_cards cards) ≡ length cards → board_cards_dealt (with_board street cards before) street ≡ length cards + board_cards_dealt before street
 board_own street [] before known = omega arith
 board_own street (slot ∷ rest) before known = omega (arith, known, ap (λ b. if b then length (known_cards (slot ∷ rest)) else 0) (eq-eqb street street refl))
@@ -185,6 +198,7 @@ out_below street names p first (suc count) before seat less = by_first (p first)
     by_first true go = go (past.Discarded street first (names first) ∷ before) ∙ (omega (arith, ap (λ b. if b then length (names first) else 0) (and_right (street == street) (first == seat) (ne_eqb first seat (λ same. omega (arith, same, less))))))
     by_first false go = go before
 
+-- what the discards of a street discarded
 pub discards_own : (street : ℕ) (names : ℕ → List Slot) (p : ℕ → Bool) (first count : ℕ) (before : Past) (seat : ℕ) → first ≤ seat → seat < first + count → cards_discarded (with_discards street names (filter p (range_with_len first count)) before) street seat ≡ (if p seat then length (names seat) else 0) + cards_discarded before street seat
 discards_own street names p first zero before seat least most = absurd (omega (arith, least, most))
 discards_own street names p first (suc count) before seat least most = by_first (p first) refl (λ b. out_below street names p (first + 1) count b seat) (λ b above. discards_own street names p (first + 1) count b seat above (omega (arith, most)))

@@ -26,6 +26,7 @@ law_at setup rules placed street first older law reached later true less =
     subst P (sym (all_early first.street street older reached (Rattle.std.proofs.lemmas.Bool.ltb-true first.street street less))) law
 law_at setup rules placed street first older law reached later false less = later
 
+-- moves that fit fit up to a street
 pub law_before : (setup : Setup) (rules : Rules) (placed : List Place) (street : ℕ) (list : List Move) → AreFalling list → MovesLaw setup rules placed list → MovesLaw setup rules placed (moves_before street list)
 law_before setup rules placed street [] falling law = tt
 law_before setup rules placed street (first ∷ older) falling law =
@@ -35,6 +36,7 @@ on_step : (street : ℕ) (first : Move) (rest : List Move) (b : Bool) → (first
 on_step street first rest true is later = (Rattle.std.proofs.lemmas.Bool.eqb-true first.street street is, later)
 on_step street first rest false is later = later
 
+-- a street's own moves are of this street
 pub own_on : (street : ℕ) (list : List Move) → AreAllOn street (own_moves street list)
 own_on street [] = tt
 own_on street (first ∷ rest) = on_step street first (own_moves street rest) (first.street == street) refl (own_on street rest)
@@ -50,6 +52,7 @@ dealt_off : (b c : Bool) (n m : ℕ) → b ≡ false → m ≡ 0 → (if b && c 
 dealt_off true c n m off none = Rattle.list_laws.proofs.Tests.false_true (sym off)
 dealt_off false c n m off none = omega (arith, none)
 
+-- a street without an event has no cards, no draws and no moves
 pub unplayed : (street : ℕ) (before : Past) → list_any (plays_on street) before ≡ false → IsUnplayed street before
 unplayed street [] none = record { own = refl; holes = λ seat. refl; board = refl; drawn = λ seat. refl }
 unplayed street (Dealt on owner cards ∷ before) none =
@@ -75,11 +78,13 @@ unplayed street (Mucked on owner ∷ before) none = let it = unplayed street bef
 abbrev pub IsBlock : ℕ → Past → Past → Type 0
 IsBlock street before after = (after ≡ before) ⊎ (newest_street after ≡ street)
 
+-- one block after another is a block
 pub block_more : (street : ℕ) (one two three : Past) → IsBlock street one two → IsBlock street two three → IsBlock street one three
 block_more street one two three first (inr on) = inr on
 block_more street one two three (inl same) (inl again) = inl (again ∙ same)
 block_more street one two three (inr on) (inl again) = inr (ap newest_street again ∙ on)
 
+-- discards of a street are a block
 pub discards_block : (street : ℕ) (names : ℕ → List Slot) (seats : List ℕ) (before : Past) → IsBlock street before (with_discards street names seats before)
 discards_block street names [] before = inl refl
 discards_block street names (seat ∷ rest) before = inr (on street names rest (past.Discarded street seat (names seat) ∷ before) refl)
@@ -92,15 +97,18 @@ deal_block : (street seat : ℕ) (cards : List Slot) (before : Past) → IsBlock
 deal_block street seat [] before = inl refl
 deal_block street seat (slot ∷ rest) before = inr refl
 
+-- so are its deals
 pub deals_block : (street : ℕ) (cards : ℕ → List Slot) (seats : List ℕ) (before : Past) → IsBlock street before (with_deals street cards seats before)
 deals_block street cards [] before = inl refl
 deals_block street cards (seat ∷ rest) before =
     block_more street before (with_deal street seat (cards seat) before) (with_deals street cards rest (with_deal street seat (cards seat) before)) (deal_block street seat (cards seat) before) (deals_block street cards rest (with_deal street seat (cards seat) before))
 
+-- its board
 pub board_block : (street : ℕ) (cards : List Slot) (before : Past) → IsBlock street before (with_board street cards before)
 board_block street [] before = inl refl
 board_block street (slot ∷ rest) before = inr refl
 
+-- and its moves
 pub moves_block : (street : ℕ) (list : List Move) (before : Past) → AreAllOn street list → IsBlock street before (with_moves list before)
 moves_block street [] before on = inl refl
 moves_block street (move ∷ rest) before on = inr on.0

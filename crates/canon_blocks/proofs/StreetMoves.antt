@@ -39,6 +39,7 @@ falling_step setup before at _ past come (shows who cards may free) falling = fa
 falling_step setup before at _ past come (mucks who may) falling = falling
 falling_step setup before at _ past come (moves played no_deal no_draw on) falling = (reached_on (newest_street before) played.street (moves_of before) (omega (arith, on, come.on)) past.moved, falling)
 
+-- after legal events no move is of a later street than one after it
 pub legal_falling : (setup : Setup) (rules : Rules) (events : List Said) → AreLegal setup rules events → AreFalling (moves_of (past_of setup events))
 unfolding with_event
 legal_falling setup rules [] legal = tt
@@ -56,6 +57,7 @@ none_own newest street [] all less = refl
 none_own newest street (first ∷ rest) all less =
     ap (λ b. if b then (first ∷ own_moves street rest) else own_moves street rest) (ne_eqb first.street street (λ same. omega (arith, same, all.0, less))) ∙ none_own newest street rest all.1 less
 
+-- the moves before the next street are a street's own and those before it
 pub moves_split : (street : ℕ) (list : List Move) → AreFalling list → moves_before (street + 1) list ≡ own_moves street list ++ moves_before street list
 moves_split street [] falling = refl
 moves_split street (first ∷ older) falling = elim (cases_lt first.street street) [
@@ -122,6 +124,7 @@ others_mirrored played list out (mine ∷ mines) (final ∷ finals) other mirror
       others_mirrored played list out mines finals other mirrored.1,
     )
 
+-- moves keep the mirror, but for who has folded
 pub moves_mirrored : (code : Code) (list older : List Move) (out : Place → Bool) (before : Past) (finals : List Place) → AreMirrored older out (places_of code before) finals → AreMirrored (list ++ older) out (places_of code (with_moves list before)) finals
 moves_mirrored code [] older out before finals mirrored = mirrored
 moves_mirrored code (played ∷ rest) older out before finals mirrored = by_fold (is_fold played.act) refl (moves_mirrored code rest older out before finals mirrored)

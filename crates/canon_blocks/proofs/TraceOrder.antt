@@ -68,6 +68,7 @@ drew_now setup before at event street seat come on step earlier has = by_step ev
           record { least = omega (arith, same, it_is.least); most = omega (arith, same, it_is.most); live = live_before (moves_of before) street seat (ap (is_live (moves_of before)) (sym same) ∙ it_is.live) }
     ]
 
+-- who drew on a street was live when it began
 pub drew_live : (setup : Setup) (rules : Rules) (events : List Said) → AreLegal setup rules events → (street seat : ℕ) → has_drawn (past_of setup events) street seat ≡ true → DrewLive setup (past_of setup events) street seat
 unfolding with_event
 drew_live setup rules [] legal street seat has = false_true has
@@ -159,6 +160,7 @@ pub data IsOwner (setup : Setup) : Option ℕ → Type 0 where
   a_seat : (seat : ℕ) → 1 ≤ seat → seat ≤ setup.stacks.seats → IsOwner setup (Some seat)
   the_board : IsOwner setup None
 
+-- an owner's group stands once among all owners'
 pub owners_hit : (setup : Setup) (placed : List Place) (owner : Option ℕ) (street at : ℕ) → IsOwner setup owner → (at == street) ≡ true → flat_map (piece_if placed owner street at) (owners setup) ≡ group_of placed street owner
 owners_hit setup placed _ street at (a_seat seat least most) on =
     flat_append (piece_if placed (Some seat) street at) (map Some (all_seats setup)) (None ∷ [])
@@ -226,6 +228,7 @@ flat_more f start (suc count) =
     next : (a b : ℕ) → (a + 1) + b ≡ a + suc b
     next a b = omega arith
 
+-- one street more
 pub finals_more : (setup : Setup) (placed : List Place) (count : ℕ) → finals_of setup placed (suc count) ≡ finals_of setup placed count ++ places_on setup placed (1 + count)
 finals_more setup placed count = flat_more (places_on setup placed) 1 count
 
@@ -234,6 +237,7 @@ flat_map_map : {K L : Type 0} (f : L → List Place) (g : K → L) (keys : List 
 flat_map_map f g [] = refl
 flat_map_map f g (key ∷ rest) = ap (λ l. f (g key) ++ l) (flat_map_map f g rest)
 
+-- a street's places: those of each seat, and the board's
 pub street_pieces : (setup : Setup) (placed : List Place) (street : ℕ) → places_on setup placed street ≡ flat_map (λ seat. group_of placed street (Some seat)) (all_seats setup) ++ group_of placed street None
 street_pieces setup placed street =
     flat_append (λ owner. group_of placed street owner) (map Some (all_seats setup)) (None ∷ [])
@@ -246,6 +250,7 @@ pub record IsFinal (placed : List Place) (count : ℕ) (place : Place) : Type 0 
   pub least : 1 ≤ place.street
   pub most : place.street ≤ count
 
+-- a place of a street's groups was there, and is of this street
 pub on_street_is : (setup : Setup) (placed : List Place) (street : ℕ) (keys : List (Option ℕ)) (place : Place) → IsAmong (flat_map (λ owner. group_of placed street owner) keys) place → IsAmong placed place × (place.street ≡ street)
 on_street_is setup placed street [] place among = absurd among
 on_street_is setup placed street (key ∷ rest) place among = elim (among_append (group_of placed street key) (flat_map (λ owner. group_of placed street owner) rest) place among) [
@@ -253,6 +258,7 @@ on_street_is setup placed street (key ∷ rest) place among = elim (among_append
   | inr later ↦ on_street_is setup placed street rest place later
 ]
 
+-- a place of some streets was there, and is of one of these
 pub finals_from : (setup : Setup) (placed : List Place) (start count : ℕ) (place : Place) → 1 ≤ start → IsAmong (flat_map (places_on setup placed) (range_with_len start count)) place → (IsAmong placed place) × ((start ≤ place.street) × (place.street < start + count))
 finals_from setup placed start zero place some among = absurd among
 finals_from setup placed start (suc count) place some among = elim (among_append (places_on setup placed start) (flat_map (places_on setup placed) (range_with_len (start + 1) count)) place among) [
@@ -260,6 +266,7 @@ finals_from setup placed start (suc count) place some among = elim (among_append
   | inr later ↦ let it = finals_from setup placed (start + 1) count place (omega arith) later in (it.0, (omega (arith, it.1.0), omega (arith, it.1.1)))
 ]
 
+-- a place of the trace's order was there, and is of a street up to this one
 pub is_final : (setup : Setup) (placed : List Place) (count : ℕ) (place : Place) → IsAmong (finals_of setup placed count) place → IsFinal placed count place
 is_final setup placed count place among =
     let it = finals_from setup placed 1 count place (omega arith) among in record { among = it.0; least = it.1.0; most = omega (arith, it.1.1) }

@@ -61,6 +61,7 @@ owned_step setup before at _ (moves played no_deal no_draw on) owned = by_fold (
     by_fold true = owned_sure setup (places_of setup.code before) (after_fold played.seat (places_of setup.code before)) (fold_sure played.seat (length (places_of setup.code before)) (places_of setup.code before)) owned
     by_fold false = owned
 
+-- after legal events each place is a seat's or the board's
 pub legal_owned : (setup : Setup) (rules : Rules) (events : List Said) → AreLegal setup rules events → AreOwned setup (places_of setup.code (past_of setup events))
 unfolding with_event
 legal_owned setup rules [] legal = λ place among. absurd among
@@ -79,6 +80,7 @@ in_filter p (first ∷ rest) place (inr later) is = by_first (p first) (in_filte
     by_first true it = inr it
     by_first false it = it
 
+-- each place of a street up to this one is in the trace's order
 pub in_finals : (setup : Setup) (placed : List Place) (count : ℕ) (place : Place) → AreOwned setup placed → IsAmong placed place → 1 ≤ place.street → place.street ≤ count → IsAmong (finals_of setup placed count) place
 in_finals setup placed count place owned among least most =
     let P : List Place → Type 0 = λ l. IsAmong l place in
@@ -103,6 +105,7 @@ less_one place (first ∷ rest) (inr later) = by_first (not (first.number == pla
     by_first true it = omega (arith, it)
     by_first false it = omega (arith, it)
 
+-- places with rising numbers that are all among others are no more than these
 pub no_more : (some all : List Place) → AreRising some → ((place : Place) → IsAmong some place → IsAmong all place) → length some ≤ length all
 no_more [] all up sub = omega arith
 no_more (first ∷ rest) all up sub =
@@ -110,6 +113,7 @@ no_more (first ∷ rest) all up sub =
     let fewer = no_more rest left up.1 (λ place among. in_filter (λ (other : Place). not (other.number == first.number)) all place (sub place (inr among)) (not_from_false (place.number == first.number) (ne_eqb place.number first.number (λ same. omega (arith, same, up.0 place among))))) in
     omega (arith, fewer, less_one first all (sub first (inl refl)))
 
+-- a test passes in the trace's order as often as among the places
 pub all_there : (setup : Setup) (placed : List Place) (p : Place → Bool) (count : ℕ) → AreRising placed → AreOwned setup placed → ((place : Place) → IsAmong placed place → p place ≡ true → (1 ≤ place.street) × (place.street ≤ count)) → length (filter p placed) ≤ length (filter p (finals_of setup placed count))
 all_there setup placed p count up owned within =
     no_more (filter p placed) (filter p (finals_of setup placed count)) (rising_filter p placed up) (λ place among.
@@ -123,6 +127,7 @@ first_of xs x y ys up_x up_y (inl same) in_y = sym same
 first_of xs x y ys up_x up_y (inr later) (inl same) = same
 first_of xs x y ys up_x up_y (inr x_later) (inr y_later) = absurd (omega (arith, up_y.0 x x_later, up_x.0 y y_later))
 
+-- lists of rising numbers with the same places are one list
 pub rising_same : (xs ys : List Place) → AreRising xs → AreRising ys → ((place : Place) → IsAmong xs place → IsAmong ys place) → ((place : Place) → IsAmong ys place → IsAmong xs place) → xs ≡ ys
 rising_same [] [] up_x up_y there back = refl
 rising_same [] (y ∷ ys) up_x up_y there back = absurd (back y (inl refl))
@@ -185,6 +190,7 @@ seat_same setup placed q seat count up sorted owned least most mine within =
     (λ place among. let it = passed q (finals_of setup placed count) place among in in_filter q placed place (is_final setup placed count place it.among).among it.passes)
     (λ place among. let it = passed q placed place among in let on = within place it.among it.passes in in_filter q (finals_of setup placed count) place (in_finals setup placed count place owned it.among on.0 on.1) it.passes)
 
+-- up-cards are the same in the trace's order
 pub ups_finals : (setup : Setup) (placed : List Place) (street seat : ℕ) → AreRising placed → AreSorted placed → AreOwned setup placed → ((place : Place) → IsAmong placed place → 1 ≤ place.street) → 1 ≤ seat → seat ≤ setup.stacks.seats → ups_by setup.code (finals_of setup placed street) street seat ≡ ups_by setup.code placed street seat
 ups_finals setup placed street seat up sorted owned since least most =
     ap (map (λ (p : Place). p.slot)) (seat_same setup placed (is_up_by setup.code street seat) seat street up sorted owned least most

@@ -14,8 +14,10 @@ slots_of : (q : TracedPlace → Bool) (placed : List Place) → map (λ (p : Tra
 slots_of q [] = refl
 slots_of q (first ∷ rest) = slots_step q first rest (q (traced_place first)) (slots_of q rest)
 
+-- the cards dealt to an owner on a street
 pub dealt_same : (placed : List Place) (owner : Option ℕ) (street : ℕ) → dealt_slots (map traced_place placed) owner street ≡ group_slots placed street owner
 dealt_same placed owner street = slots_of (is_dealt_to owner street) placed
 
+-- the cards that a seat discarded on a street
 pub discarded_same : (placed : List Place) (seat street : ℕ) → discarded_slots (map traced_place placed) seat street ≡ out_slots placed street seat
 discarded_same placed seat street = slots_of (is_discard_of seat street) placed

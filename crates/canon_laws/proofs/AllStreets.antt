@@ -98,6 +98,7 @@ pub record AtEnd (setup : Setup) (rules : Rules) (script : Past) : Type 0 where
   pub run : Runs setup rules [] (flat_map (street_said setup (traced_places setup script) (moves_of script)) (streets_of setup)) mine
   pub at : AtStreet setup rules script (street_count setup.code) mine
 
+-- after all streets
 pub at_end : (setup : Setup) (rules : Rules) (events : List Said) → AreLegal setup rules events → is_unfinished (turn setup (past_of setup events)).1 ≡ false → AtEnd setup rules (past_of setup events)
 at_end setup rules events legal complete =
     let it = next_streets setup rules events [] 0 (street_count setup.code) legal complete (start setup rules events legal) (omega arith) in

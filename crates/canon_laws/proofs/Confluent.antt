@@ -34,6 +34,7 @@ words_confluent setup rules script words played it =
       same = ap (core_of setup) run.past ∙ same_core setup rules (reverse script) words played.legal it;
     }
 
+-- the canonical script of a script that is played to its end is so, and leaves its trace
 pub confluent : (setup : Setup) (rules : Rules) (script : List Said) → IsPlayed setup rules script → IsConfluent setup rules script
 unfolding canonical_script
 confluent setup rules script played =

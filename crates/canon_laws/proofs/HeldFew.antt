@@ -60,6 +60,7 @@ seven games.N2L1D = refl
 seven games.F2L3D = refl
 seven games.FB = refl
 
+-- no street deals more than seven hole cards
 pub holes_seven : (code : Code) (street : ℕ) → 1 ≤ street → hole_cards_on code street ≤ 7
 holes_seven code street some = omega (arith, one_more (game_of code).streets (street - 1), not_more (game_of code).streets (suc (street - 1)), leb-true (all_holes (game_of code).streets) 7 (seven code))
 
@@ -74,6 +75,7 @@ less_step p q place rest true false less later = Rattle.list_laws.proofs.Tests.f
 less_step p q place rest false true less later = omega (arith, later)
 less_step p q place rest false false less later = later
 
+-- a stronger test keeps no more places
 pub filter_less : (p q : Place → Bool) (placed : List Place) → ((place : Place) → IsAmong placed place → p place ≡ true → q place ≡ true) → length (filter p placed) ≤ length (filter q placed)
 filter_less p q [] less = omega arith
 filter_less p q (place ∷ rest) less = less_step p q place rest (p place) (q place) (less place (inl refl)) (filter_less p q rest (λ other among. less other (inr among)))
@@ -154,6 +156,7 @@ sum_step p q r t place rest a b c d is later = omega (arith, is, later, counted 
     counted p place rest true = omega arith
     counted p place rest false = omega arith
 
+-- what a seat holds after a street and discarded there is what it held and was dealt
 pub balance : (seat street : ℕ) (placed : List Place) → 1 ≤ street → ((place : Place) → IsAmong placed place → 0 < place.discarded → place.street < place.discarded) → length (filter (holds_at seat (street + 1)) placed) + length (filter (is_out_of street seat) placed) ≡ length (filter (holds_at seat street) placed) + length (filter (is_in_group (Some seat) street) placed)
 balance seat street [] some after = refl
 balance seat street (place ∷ rest) some after =
@@ -161,6 +164,7 @@ balance seat street (place ∷ rest) some after =
     (one_place seat street place (is_same_owner place.owner (Some seat)) some (after place (inl refl)))
     (balance seat street rest some (λ other among. after other (inr among)))
 
+-- a seat holds no more than its hole cards
 pub held_most : (setup : Setup) (rules : Rules) (events : List Said) (seat count : ℕ) → AreLegal setup rules events → length (filter (holds_at seat (count + 1)) (places_of setup.code (past_of setup events))) ≤ first_holes (game_of setup.code).streets count
 held_most setup rules events seat zero legal =
     let law = (legal_past setup rules events legal).places in
@@ -189,6 +193,7 @@ held_most setup rules events seat (suc count) legal =
     by_draw true draws before all dealt out step same nth law = omega (arith, before, all, dealt, out, step, same, law.past.drawn_count (count + 1) seat draws)
     by_draw false draws before all dealt out step same nth law = omega (arith, before, all, dealt, out, step, same, nth, (legal_done setup rules events legal).done.dealt_most (count + 1) seat draws)
 
+-- and so no more than seven
 pub held_seven : (setup : Setup) (rules : Rules) (events : List Said) (seat count : ℕ) → AreLegal setup rules events → length (filter (holds_at seat (count + 1)) (places_of setup.code (past_of setup events))) ≤ 7
 held_seven setup rules events seat count legal =
     omega (arith, held_most setup rules events seat count legal, not_more (game_of setup.code).streets count, leb-true (all_holes (game_of setup.code).streets) 7 (seven setup.code))

@@ -39,6 +39,7 @@ slots_step p q mine final mines finals true false same slot later = false_true (
 slots_step p q mine final mines finals false true same slot later = false_true same
 slots_step p q mine final mines finals false false same slot later = later
 
+-- places that mirror show the same cards
 pub slots_mirrored : (list : List Move) (out p q : Place → Bool) (mines finals : List Place) → ((mine final : Place) → IsAmong finals final → Mirrors list out mine final → p mine ≡ q final) → AreMirrored list out mines finals → map (λ (x : Place). x.slot) (filter p mines) ≡ map (λ (x : Place). x.slot) (filter q finals)
 slots_mirrored list out p q [] [] same mirrored = refl
 slots_mirrored list out p q [] (final ∷ finals) same mirrored = absurd mirrored
@@ -71,6 +72,7 @@ held_by seat list owner when discarded out true live own is has =
     or_none true = refl
     or_none false = refl
 
+-- what a live seat holds at the end in the canonical past
 pub held_same : (setup : Setup) (rules : Rules) (events : List Said) (mines : List Place) (seat : ℕ) → AreLegal setup rules events → 1 ≤ seat → seat ≤ setup.stacks.seats → is_live (moves_of (past_of setup events)) seat ≡ true → AreMirrored (moves_of (past_of setup events)) (out_by (street_count setup.code)) mines (finals_of setup (places_of setup.code (past_of setup events)) (street_count setup.code)) → slots_held seat mines ≡ map (λ (x : Place). x.slot) (filter (is_out_of 0 seat) (finals_of setup (places_of setup.code (past_of setup events)) (street_count setup.code)))
 held_same setup rules events mines seat legal least most live mirrored =
     let script : Past = past_of setup events in
@@ -89,6 +91,7 @@ held_same setup rules events mines seat legal least most live mirrored =
     by_within true b is = is
     by_within false b is = refl
 
+-- and in the script's
 pub held_script : (setup : Setup) (rules : Rules) (events : List Said) (seat : ℕ) → AreLegal setup rules events → 1 ≤ seat → seat ≤ setup.stacks.seats → is_live (moves_of (past_of setup events)) seat ≡ true → map (λ (x : Place). x.slot) (filter (is_out_of 0 seat) (finals_of setup (places_of setup.code (past_of setup events)) (street_count setup.code))) ≡ slots_held seat (places_of setup.code (past_of setup events))
 held_script setup rules events seat legal least most live =
     let script : Past = past_of setup events in
@@ -107,13 +110,16 @@ any_step : (seat : ℕ) (place : Place) (rest : List Place) (a : Bool) → is_he
 any_step seat place rest true is later = ap (λ b. is_unknown place.slot || b) later
 any_step seat place rest false is later = later
 
+-- a seat holds an unknown card where one is unknown of what it holds
 pub any_held : (seat : ℕ) (placed : List Place) → list_any (λ place. is_held_by seat place && is_unknown place.slot) placed ≡ list_any is_unknown (slots_held seat placed)
 any_held seat [] = refl
 any_held seat (place ∷ rest) = any_step seat place rest (is_held_by seat place) refl (any_held seat rest)
 
+-- the same cards are unknown alike
 pub unknown_same : (seat : ℕ) (some all : List Place) → slots_held seat some ≡ slots_held seat all → list_any (λ place. is_held_by seat place && is_unknown place.slot) some ≡ list_any (λ place. is_held_by seat place && is_unknown place.slot) all
 unknown_same seat some all same = any_held seat some ∙ (ap (list_any is_unknown) same ∙ sym (any_held seat all))
 
+-- a seat without an unknown card holds known ones
 pub holds_known : (seat : ℕ) (placed : List Place) → list_any (λ place. is_held_by seat place && is_unknown place.slot) placed ≡ false → HoldsKnown seat placed
 holds_known seat placed none place among held =
     false_from_ne_true (is_unknown place.slot) (λ unknown.

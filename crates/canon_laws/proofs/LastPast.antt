@@ -46,6 +46,7 @@ not_in p first (suc count) seat less = by_first (p first) (not_in p (first + 1) 
     by_first true later = ap (λ b. b || list_any (λ other. other == seat) (filter p (range_with_len (first + 1) count))) (ne_eqb first seat (λ same. omega (arith, same, less))) ∙ later
     by_first false later = later
 
+-- a seat is among those that are kept where it passes
 pub is_in : (p : ℕ → Bool) (first count seat : ℕ) → first ≤ seat → seat < first + count → list_any (λ other. other == seat) (filter p (range_with_len first count)) ≡ p seat
 is_in p first zero seat from to = absurd (omega (arith, from, to))
 is_in p first (suc count) seat from to = elim (cases_lt first seat) [
@@ -87,6 +88,7 @@ not_true : (b : Bool) → not b ≡ true → b ≡ false
 not_true true is = false_true is
 not_true false is = refl
 
+-- a shown seat did not muck, and all its cards are known
 pub shown_parts : (setup : Setup) (script : Past) (seat : ℕ) → is_shown setup script seat ≡ true → ShownParts setup script seat
 shown_parts setup script seat is =
     let c = is_contested setup script in
@@ -102,6 +104,7 @@ early_all setup rules events legal =
     let law = legal_past setup rules events legal in
     all_early (newest_street (past_of setup events)) (street_count setup.code + 1) (moves_of (past_of setup events)) law.past.moved (omega (arith, law.past.within))
 
+-- the canonical script takes place as a whole, and ends complete
 pub last_past : (setup : Setup) (rules : Rules) (events : List Said) → AreLegal setup rules events → is_unfinished (turn setup (past_of setup events)).1 ≡ false → IsLast setup rules (past_of setup events) (script_of setup (traced_places setup (past_of setup events)) (moves_of (past_of setup events)) (filter (is_shown setup (past_of setup events)) (all_seats setup)))
 last_past setup rules events legal complete =
     let script : Past = past_of setup events in

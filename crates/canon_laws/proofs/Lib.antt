@@ -13,3 +13,6 @@ pub mod SameCore
 pub mod TidyTraces
 pub mod Confluent
 pub mod OneTrace
+pub mod SuitedMoves
+pub mod SameShares
+pub mod MoveCounts

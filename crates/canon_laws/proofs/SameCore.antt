@@ -66,6 +66,7 @@ core_parts setup places places' list list' shown shown' mucked mucked' one two t
     ap (λ x. core_by setup x list shown mucked) one ∙ (ap (λ x. core_by setup places' x shown mucked) two
     ∙ (ap (λ x. core_by setup places' list' x mucked) three ∙ ap (λ x. core_by setup places' list' shown' x) four))
 
+-- so what the trace keeps is the same
 pub same_core : (setup : Setup) (rules : Rules) (events : List Said) (words : List Said) → AreLegal setup rules events → (it : IsLast setup rules (past_of setup events) words) → core_of setup it.after ≡ core_of setup (past_of setup events)
 unfolding core_by
 same_core setup rules events words legal it =

@@ -49,6 +49,7 @@ pub record AtShow (setup : Setup) (list : List Move) (placed : List Place) (show
 by_found : (setup : Setup) (mine : Past) (over : Bool) (found : Option (ℕ × Due)) → over ≡ false → found ≡ None → turned_by setup mine over found ≡ (street_count setup.code, showdown setup mine)
 by_found setup mine over found going none = ap (λ b. turned_by setup mine b found) going ∙ ap (turned_by setup mine false) none
 
+-- after the last street shows are due
 pub turn_shows : (setup : Setup) (list : List Move) (placed : List Place) (shown : ℕ → Bool) (first : ℕ) (mine : Past) → nat_le (live_count setup list) 1 ≡ false → AtShow setup list placed shown first mine → turn setup mine ≡ (street_count setup.code, showdown setup mine)
 unfolding turn
 turn_shows setup list placed shown first mine several at =
@@ -140,6 +141,7 @@ one_muck setup rules list placed shown first mine several at least most live not
 abbrev pub show_word : List Place → (ℕ → Bool) → ℕ → Said
 show_word placed shown seat = if shown seat then said.Show seat (held_cards seat placed) else said.Muck seat
 
+-- the shows of the seats from one on, and the past after them
 pub record AreShown (setup : Setup) (rules : Rules) (list : List Move) (placed : List Place) (shown : ℕ → Bool) (last : ℕ) (mine : Past) (words : List Said) : Type 0 where
   pub after : Past
   pub run : Runs setup rules mine words after
@@ -165,6 +167,7 @@ passed_by setup list placed shown first mine at folded =
       ];
     }
 
+-- for so many seats
 pub AllShown : Setup → Rules → List Move → List Place → (ℕ → Bool) → ℕ → ℕ → Type 0
 AllShown setup rules list placed shown first count = (p : Past) → AtShow setup list placed shown first p → 1 ≤ first → first + count ≤ setup.stacks.seats + 1 → AreShown setup rules list placed shown (first + count) p (map (show_word placed shown) (filter (is_live list) (range_with_len first count)))
 
@@ -183,6 +186,7 @@ shows_step setup rules list placed shown first count mine several known at least
     let P : ℕ → Type 0 = λ n. AtShow setup list placed shown n rest.after in
     record { after = rest.after; run = rest.run; at = subst P more rest.at }
 
+-- the shows and mucks of a range of seats take place one after another
 pub shows_run : (setup : Setup) (rules : Rules) (list : List Move) (placed : List Place) (shown : ℕ → Bool) (first count : ℕ) → nat_le (live_count setup list) 1 ≡ false → ((seat : ℕ) → 1 ≤ seat → seat ≤ setup.stacks.seats → is_live list seat ≡ true → shown seat ≡ true → HoldsKnown seat placed) → (mine : Past) → AtShow setup list placed shown first mine → 1 ≤ first → first + count ≤ setup.stacks.seats + 1 → AreShown setup rules list placed shown (first + count) mine (map (show_word placed shown) (filter (is_live list) (range_with_len first count)))
 unfolding AllShown
 shows_run setup rules list placed shown first zero several known mine at least most =

@@ -141,6 +141,7 @@ group_is setup events before owner last own =
     dealt_same (finals_of setup (places_of setup.code (past_of setup events)) (street_count setup.code)) owner (before + 1)
     ∙ ap (map (λ (p : Place). p.slot)) (finals_group setup (places_of setup.code (past_of setup events)) owner (before + 1) (street_count setup.code) own (omega arith) last)
 
+-- the deals of a street take place after its discards, and the places mirror the script's
 pub all_dealt : (setup : Setup) (rules : Rules) (events : List Said) (before : ℕ) (start mine : Past) → AreLegal setup rules events → IsDone setup (past_of setup events) (before + 1) → before + 1 ≤ street_count setup.code → AtDeals setup rules (past_of setup events) before start mine → AreDealtAll setup rules (past_of setup events) before mine (with_cards (places_of setup.code (past_of setup events)) (before + 1) (all_seats setup) mine)
 all_dealt setup rules events before start mine legal done last at =
     let script : Past = past_of setup events in

@@ -43,6 +43,7 @@ use Rattle.canon_laws.proofs.StreetDiscards.{AtDeals, undrawn, all_drawn}
 use Rattle.canon_laws.proofs.StreetDeals.{come_block, with_cards, all_dealt}
 use Rattle.canon_laws.proofs.Street.{AtStreet, at_come}
 
+-- a street on which nothing is due
 pub none_due : (setup : Setup) (before : Past) (street : ℕ) → is_deal_due setup before street ≡ false → is_draw_due setup before street ≡ false → is_bring_in_due setup (moves_of before) street ≡ false → is_move_due setup (moves_of before) street ≡ false → due_on setup before street ≡ None
 none_due setup before street no_deal no_draw no_bring no_move =
     ap (λ b. if b then Some (dues.Deal street) else if is_draw_due setup before street then Some (dues.Draw street) else if is_bring_in_due setup (moves_of before) street then Some dues.BringIn else if is_move_due setup (moves_of before) street then Some dues.Move else None) no_deal
@@ -79,6 +80,7 @@ pub record IsNext (setup : Setup) (rules : Rules) (script : Past) (before : ℕ)
   pub run : Runs setup rules mine (street_said setup (traced_places setup script) (moves_of script) (before + 1)) after
   pub at : AtStreet setup rules script (before + 1) after
 
+-- a street that the hand came to takes place, and the next one begins as in the script
 pub played : (setup : Setup) (rules : Rules) (events : List Said) (mine : Past) (before : ℕ) → AreLegal setup rules events → is_unfinished (turn setup (past_of setup events)).1 ≡ false → AtStreet setup rules (past_of setup events) before mine → IsReached setup (moves_of (past_of setup events)) (before + 1) → before + 1 ≤ street_count setup.code → IsNext setup rules (past_of setup events) before mine
 played setup rules events mine before legal complete at reached last =
     let script : Past = past_of setup events in

@@ -36,6 +36,7 @@ use Rattle.play_laws.proofs.SeatRanges.{flat_none}
 use Rattle.canon_laws.proofs.StreetPlay.{IsNext}
 use Rattle.canon_laws.proofs.Street.{AtStreet}
 
+-- a street that the hand did not come to says nothing, and nothing changes
 pub skipped : (setup : Setup) (rules : Rules) (events : List Said) (mine : Past) (before : ℕ) → AreLegal setup rules events → AtStreet setup rules (past_of setup events) before mine → nat_le (live_count setup (moves_before (before + 1) (moves_of (past_of setup events)))) 1 ≡ true → before + 1 ≤ street_count setup.code → IsNext setup rules (past_of setup events) before mine
 skipped setup rules events mine before legal at over last =
     let script : Past = past_of setup events in

@@ -237,6 +237,7 @@ as_many : (setup : Setup) (list : List Move) → length (traced_moves setup list
 as_many setup [] = refl
 as_many setup (move ∷ before) = omega (arith, length-append (traced_moves setup before) (traced_move setup move before ∷ []), as_many setup before)
 
+-- the trace of a script that is played to its end is tidy, if its moves are within the limit
 pub tidy_trace : (setup : Setup) (rules : Rules) (script : List Said) → IsPlayed setup rules script → length (moves_of (past_at_end setup script)) ≤ 4096 → IsTidy (core_after setup script)
 tidy_trace setup rules script played few =
     record {

@@ -1,25 +1,37 @@
 // Laws of traces and of their canonical scripts.
-ghost use Rattle.std.specs.Prelude.{◌≡◌, ◌↔◌, ◌≤◌, List, length};
-ghost use Rattle.play_event.specs.Past.{moves_of};
+ghost use Rattle.std.specs.Prelude.{◌≡◌, ◌↔◌, ◌≤◌, ℕ, List, count_by};
 ghost use Rattle.play_event.specs.Said.{Said};
-ghost use Rattle.play_event.specs.Scripts.{past_at_end};
+ghost use Rattle.play_event.specs.ValidSetup.{IsValid};
 ghost use Rattle.play_event.specs.declared.setup.Rules.{Rules};
 ghost use Rattle.play_event.specs.declared.setup.Setup.{Setup};
 ghost use Rattle.hand_canon.specs.TraceCore.{core_after};
 ghost use Rattle.hand_canon.specs.Tidy.{IsTidy};
+ghost use Rattle.hand_canon.specs.LegalHand.{IsLegalHand, IsPlayed, is_move};
+ghost use Rattle.hand_canon.specs.WholeTrace.{HasShares};
 ghost use Rattle.hand_canon.specs.declared.limits.TheConstants.{MOST_MOVES};
-ghost use Rattle.hand_canon.specs.LegalHand.{IsPlayed};
 ghost use Rattle.canon_laws.specs.Confluence.{IsConfluent, canon_of};
+ghost use Rattle.canon_laws.specs.OtherRules.{SuitsRules};
 
-/// The canonical script of the trace of a script that is played to its end is played to its end, under the same rules,
-/// and leaves this trace. The function does nothing: its contract is a law.
+/// The canonical script of the trace of a script that is played to its end is played to its end, under the same
+/// rules, and leaves this trace. The function does nothing: its contract is a law.
 pub fn law_of_confluence()
     ensures confluent { (setup : Setup) (rules : Rules) (script : List Said)
         → IsPlayed setup rules script → IsConfluent setup rules script }
 {}
 
-/// Two scripts that are played to their ends, each under rules of its own, leave one trace exactly where they have one
-/// canonical script; and a canonical script is its own.
+/// The canonical script of the trace of a legal hand is a legal hand under the same rules, and has the same shares
+/// and finishing stacks.
+pub fn law_of_whole_traces()
+    ensures legal { (setup : Setup) (rules : Rules) (script : List Said)
+        → IsLegalHand setup rules script → IsLegalHand setup rules (canon_of setup script) }
+    ensures same_shares { (setup : Setup) (rules : Rules) (script : List Said)
+        → (shares : List (ℕ → ℕ)) (finish : ℕ → ℕ) → IsPlayed setup rules script
+        → HasShares setup (core_after setup script) shares finish
+        ↔ HasShares setup (core_after setup (canon_of setup script)) shares finish }
+{}
+
+/// Two scripts that are played to their ends, each under rules of its own, leave one trace exactly where they have
+/// one canonical script; and a canonical script is its own.
 pub fn law_of_canonical_scripts()
     ensures one_trace { (setup : Setup) (rules others : Rules) (script other : List Said)
         → IsPlayed setup rules script → IsPlayed setup others other
@@ -33,6 +45,15 @@ pub fn law_of_canonical_scripts()
 /// The trace of a script that is played to its end is tidy, if its moves are within the limit.
 pub fn law_of_tidy_traces()
     ensures tidy { (setup : Setup) (rules : Rules) (script : List Said)
-        → IsPlayed setup rules script → length (moves_of (past_at_end setup script)) ≤ MOST_MOVES
+        → IsPlayed setup rules script → count_by is_move script ≤ MOST_MOVES
         → IsTidy (core_after setup script) }
+{}
+
+/// A play that is legal under the rules of one notation is legal under those of another if it suits them: no raise
+/// is closed where full raises alone reopen the betting, no fold is free where folds are not, and raises are within
+/// the caps.
+pub fn law_of_other_rules()
+    ensures legal { (setup : Setup) (rules others : Rules) (script : List Said)
+        → IsValid setup → IsPlayed setup rules script
+        → SuitsRules others (core_after setup script) → IsPlayed setup others script }
 {}

@@ -1,6 +1,9 @@
-//! The law of confluence: a legal and complete script and the canonical script of its trace have one trace.
+//! The law of confluence: a legal hand and the canonical script of its trace have one trace, with one division of its pots.
 #![tactic(auto)]
 
 mod laws;
 
-pub use laws::{law_of_canonical_scripts, law_of_confluence, law_of_tidy_traces};
+pub use laws::{
+    law_of_canonical_scripts, law_of_confluence, law_of_other_rules, law_of_tidy_traces,
+    law_of_whole_traces,
+};

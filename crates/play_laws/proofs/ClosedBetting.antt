@@ -20,9 +20,11 @@ live_first : (folded before : Bool) → not (folded || before) ≡ true → not 
 live_first true before is = false_true is
 live_first false before is = is
 
+-- who is live after a move was live before it
 pub live_still : (move : Move) (moves : List Move) (seat : ℕ) → is_live (move ∷ moves) seat ≡ true → is_live moves seat ≡ true
 live_still move moves seat is = live_first (is_fold move.act && (move.seat == seat)) (list_any (λ (move : Move). is_fold move.act && (move.seat == seat)) moves) is
 
+-- and who is able was able
 pub able_still : (setup : Setup) (move : Move) (moves : List Move) (seat : ℕ) → is_able setup (move ∷ moves) seat ≡ true → is_able setup moves seat ≡ true
 able_still setup move moves seat is =
     let parts = and_parts (is_live (move ∷ moves) seat) (nat_lt 0 (chips_left setup (move ∷ moves) seat)) is in
@@ -39,9 +41,11 @@ fewer_length : (p q : ℕ → Bool) (seats : List ℕ) → ((seat : ℕ) → p s
 fewer_length p q [] both = omega arith
 fewer_length p q (first ∷ rest) both = fewer_step first (filter p rest) (filter q rest) (p first) (q first) (both first) (fewer_length p q rest both)
 
+-- where one test is stronger fewer seats pass it
 pub fewer : (p q : ℕ → Bool) (seats : List ℕ) → ((seat : ℕ) → p seat ≡ true → q seat ≡ true) → count_by p seats ≤ count_by q seats
 fewer p q seats both = omega (arith, length-filter p seats, length-filter q seats, fewer_length p q seats both)
 
+-- no move makes more seats able
 pub able_fewer : (setup : Setup) (move : Move) (moves : List Move) → able_count setup (move ∷ moves) ≤ able_count setup moves
 able_fewer setup move moves = fewer (is_able setup (move ∷ moves)) (is_able setup moves) (all_seats setup) (able_still setup move moves)
 
@@ -49,6 +53,7 @@ able_fewer setup move moves = fewer (is_able setup (move ∷ moves)) (is_able se
 pub other_moves : (move : Move) (moves : List Move) (street : ℕ) → move.street ≢ street → moves_on street (move ∷ moves) ≡ moves_on street moves
 other_moves move moves street differ = ap (λ b. if b then (move ∷ moves_on street moves) else moves_on street moves) (ne_eqb move.street street differ)
 
+-- what is owed on a street is changed by moves of that street alone
 pub owed_same : (setup : Setup) (move : Move) (moves : List Move) (street seat : ℕ) → move.street ≢ street → owed setup (move ∷ moves) street seat ≡ owed setup moves street seat
 owed_same setup move moves street seat differ =
     ap (λ l. greatest (map (λ other. brought setup street other + chips_added other l) (all_seats setup)) - (brought setup street seat + chips_added seat l)) (other_moves move moves street differ)
@@ -70,12 +75,14 @@ has_to_by true before_able false owes less more both on is =
       | inr two ↦ Rattle.std.proofs.lemmas.Bool.or_right (nat_lt 0 owes) (nat_le 2 more) (two_still less more on two)
     ])
 
+-- who has to move on a street after a move of another one had to before it
 pub has_to_still : (setup : Setup) (move : Move) (moves : List Move) (street seat : ℕ) → move.street ≢ street → has_to_move setup (move ∷ moves) street seat ≡ true → has_to_move setup moves street seat ≡ true
 has_to_still setup move moves street seat differ is =
     has_to_by (is_able setup (move ∷ moves) seat) (is_able setup moves seat) (has_moved_since_rise setup moves street seat) (owed setup moves street seat) (able_count setup (move ∷ moves)) (able_count setup moves) (able_still setup move moves seat) (able_fewer setup move moves)
     (sym (ap (λ b. is_able setup (move ∷ moves) seat && (if b then false else (nat_lt 0 (owed setup (move ∷ moves) street seat) || nat_le 2 (able_count setup (move ∷ moves))))) (moved_same setup move moves street seat differ)
     ∙ ap (λ o. is_able setup (move ∷ moves) seat && (if has_moved_since_rise setup moves street seat then false else (nat_lt 0 o || nat_le 2 (able_count setup (move ∷ moves))))) (owed_same setup move moves street seat differ)) ∙ is)
 
+-- betting that is closed on a street is not opened by a move of another one
 pub move_still : (setup : Setup) (move : Move) (moves : List Move) (street : ℕ) → move.street ≢ street → is_move_due setup moves street ≡ false → is_move_due setup (move ∷ moves) street ≡ false
 move_still setup move moves street differ is =
     none_still (has_to_move setup moves street) (has_to_move setup (move ∷ moves) street) (all_seats setup)
@@ -86,11 +93,13 @@ bring_by false opened less more on is = refl
 bring_by true true less more on is = and_right (nat_le 2 less) false refl
 bring_by true false less more on is = false_from_ne_true (nat_le 2 less && true) (λ now. both_ways (nat_le 2 more && true) is (and_from (nat_le 2 more) true (two_still less more on (and_parts (nat_le 2 less) true now).0) refl))
 
+-- four tests in two pairs
 pub and_group : (a b c d : Bool) → (a && b && c && d) ≡ ((a && b) && (c && d))
 and_group true true c d = refl
 and_group true false c d = refl
 and_group false b c d = refl
 
+-- a bring-in that is not due on a street does not come due by a move of another one
 pub bring_still : (setup : Setup) (move : Move) (moves : List Move) (street : ℕ) → move.street ≢ street → is_bring_in_due setup moves street ≡ false → is_bring_in_due setup (move ∷ moves) street ≡ false
 bring_still setup move moves street differ is =
     ap (λ l. is_stud setup.code && (street == 1) && nat_le 2 (able_count setup (move ∷ moves)) && not (list_any (λ (move : Move). has_opened_betting move.act) l)) (other_moves move moves street differ)
@@ -115,6 +124,7 @@ bets_still setup before (Discarded on owner cards) street differ bring move_none
 bets_still setup before (Shown on owner cards) street differ bring move_none = (bring, move_none)
 bets_still setup before (Mucked on owner) street differ bring move_none = (bring, move_none)
 
+-- what is not due on a street does not come due by an event of another one
 pub not_due_still : (setup : Setup) (before : Past) (event : Resolved) (street : ℕ) → street_of event ≢ street → IsNotDue setup before street → IsNotDue setup (event ∷ before) street
 not_due_still setup before event street differ none =
     let bets = bets_still setup before event street differ none.no_bring none.no_move in

@@ -30,6 +30,7 @@ new_later : (owner : Option ℕ) (street : ℕ) (late : Bool) (least most more :
 new_later owner street late least most more place on is =
     record { owner = is.owner; street = is.street; past_deck = is.past_deck; gone_after = is.gone_after; discarded = is.discarded; above = omega (arith, on, is.above); below = is.below }
 
+-- each place that a deal makes is new
 pub are_new : (owner : Option ℕ) (street : ℕ) (late : Bool) (index least : ℕ) (cards : List Slot) (place : Place) → IsAmong (places_dealt owner street late index least cards) place → IsNew owner street late least (least + length cards) place
 are_new owner street late index least [] place among = absurd among
 are_new owner street late index least (slot ∷ rest) place (inl same) =
@@ -55,6 +56,7 @@ not_folded (move ∷ rest) by owner is = elim (folded_back move rest by owner is
     first_more : (move : Move) (rest : List Move) (owner : Option ℕ) → owner_folded rest owner ≡ true → owner_folded (move ∷ rest) owner ≡ true
     first_more move rest owner was = Rattle.play_laws.proofs.QuietEvents.folded_first move rest owner was
 
+-- a deal keeps the law of places
 pub deal_law : (code : Code) (moves : List Move) (newest street : ℕ) (owner : Option ℕ) (cards : List Slot) (placed : List Place) → PlacesLaw code moves newest placed → newest ≤ street → 1 ≤ street → owner_folded moves owner ≡ false → moves_before street moves ≡ moves → PlacesLaw code moves street (after_deal code owner street cards placed)
 deal_law code moves newest street owner cards placed law on some live early =
     let late : Bool = is_past_deck code placed street in

@@ -160,6 +160,7 @@ out_step setup before at _ past law come (discards who cards no_deal draw next f
           omega (arith, counts street seat some, ap (λ b. if b then length cards else 0) here, discard_count (is_out_of street seat) at who cards placed marking (held_apart who placed apart up) held)
     ]
 
+-- after legal events each seat's places discarded on a street are as many as it discarded there
 pub out_counts : (setup : Setup) (rules : Rules) (events : List Said) → AreLegal setup rules events → OutCounts setup (past_of setup events)
 unfolding with_event
 out_counts setup rules [] legal = λ street seat some. refl

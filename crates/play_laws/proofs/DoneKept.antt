@@ -85,6 +85,7 @@ done_by_past setup before street seat past law some live folded = elim (late_fol
   | inr has ↦ past.moved_done street has
 ]
 
+-- a legal event keeps what is done, or its seat is live
 pub done_or_live : (setup : Setup) (before : Past) (at street seat : ℕ) (event : Resolved) → PastLaw setup before → DoneLaw setup before → Reaches setup before at → Stepped setup before at event → 1 ≤ street → is_live (moves_before street (moves_of (event ∷ before))) seat ≡ true → (is_live (moves_of (event ∷ before)) seat ≡ true) ⊎ ((is_deal_due setup before street ≡ false) × (is_draw_due setup before street ≡ false))
 done_or_live setup before at street seat _ past law come (deals owner cards due is few more free) some live = elim (cases_Bool (is_live (moves_of before) seat)) [ inl so ↦ inl so | inr folded ↦ inr (done_by_past setup before street seat past law some live folded) ]
 done_or_live setup before at street seat _ past law come (boards cards due few more free) some live = elim (cases_Bool (is_live (moves_of before) seat)) [ inl so ↦ inl so | inr folded ↦ inr (done_by_past setup before street seat past law some live folded) ]
@@ -129,16 +130,19 @@ find_first p first count seat false here later least none = elim (cases_lt first
   | inr below ↦ let same : seat ≡ first = omega (arith, below, least) in ap p same ∙ here
 ]
 
+-- what is found nowhere in a range passes nowhere in it
 pub find_none : (p : ℕ → Bool) (first count seat : ℕ) → is_some (find p (range_with_len first count)) ≡ false → first ≤ seat → seat < first + count → p seat ≡ false
 find_none p first zero seat is least most = absurd (omega (arith, least, most))
 find_none p first (suc count) seat is least most = find_first p first count seat (p first) refl (λ none above. find_none p (first + 1) count seat none (omega (arith, above)) (omega (arith, most))) least is
 
+-- where no deal is due each live seat has its cards of the street
 pub live_dealt : (setup : Setup) (before : Past) (street seat : ℕ) → is_deal_due setup before street ≡ false → is_live (moves_of before) seat ≡ true → 1 ≤ seat → seat ≤ setup.stacks.seats → hole_cards_on setup.code street ≤ hole_cards_dealt before street seat
 live_dealt setup before street seat is live least most =
     let parts = or_parts (list_any (λ seat. nat_lt 0 (hole_cards_owed setup before street seat)) (all_seats setup)) (nat_lt 0 (board_cards_owed setup before street)) is in
     let none : hole_cards_owed setup before street seat ≤ 0 = ltb-false 0 (hole_cards_owed setup before street seat) (at_seat (λ seat. nat_lt 0 (hole_cards_owed setup before street seat)) 1 setup.stacks.seats seat parts.0 least (omega (arith, most))) in
     omega (arith, none, ap (λ b. if b then hole_cards_on setup.code street - hole_cards_dealt before street seat else 0) live)
 
+-- where no draw is due each live seat has drawn
 pub live_drawn : (setup : Setup) (before : Past) (street seat : ℕ) → has_draw setup.code street ≡ true → is_draw_due setup before street ≡ false → is_live (moves_of before) seat ≡ true → 1 ≤ seat → seat ≤ setup.stacks.seats → has_drawn before street seat ≡ true
 live_drawn setup before street seat draws_there is live least most =
     let inside : (is_some (next_to_draw setup before street) || list_any (λ seat. nat_lt 0 (replacements_owed before street seat)) (all_seats setup)) ≡ false = sym (ap (λ b. b && (is_some (next_to_draw setup before street) || list_any (λ seat. nat_lt 0 (replacements_owed before street seat)) (all_seats setup))) draws_there) ∙ is in
@@ -154,6 +158,7 @@ dealt_more before (Discarded on owner cards) street seat = omega arith
 dealt_more before (Shown on owner cards) street seat = omega arith
 dealt_more before (Mucked on owner) street seat = omega arith
 
+-- who has drawn has drawn later too
 pub drawn_still : (before : Past) (event : Resolved) (street seat : ℕ) → has_drawn before street seat ≡ true → has_drawn (event ∷ before) street seat ≡ true
 drawn_still before (Discarded on owner cards) street seat is = or_right ((on == street) && (owner == seat)) (has_drawn before street seat) is
 drawn_still before (Dealt on owner cards) street seat is = is
@@ -195,6 +200,7 @@ most_dealt setup before at _ (deals owner cards due is some few free) law street
     at_most true n = omega arith
     at_most false n = omega arith
 
+-- no legal event deals more to the board than the street has
 pub most_board : (setup : Setup) (before : Past) (at : ℕ) (event : Resolved) → Stepped setup before at event → ((street : ℕ) → board_cards_dealt before street ≤ board_cards_on setup.code street) → (street : ℕ) → board_cards_dealt (event ∷ before) street ≤ board_cards_on setup.code street
 most_board setup before at _ (deals owner cards due is some few free) law street = law street
 most_board setup before at _ (moves move no_deal none on) law street = law street

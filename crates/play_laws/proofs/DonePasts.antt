@@ -37,6 +37,7 @@ over_turn setup before one =
 not_over : (setup : Setup) (before : Past) (event : Said) → nat_le (live_count setup (moves_of before)) 1 ≡ true → is_due_kind setup.code (turn setup before).1 event ≡ true → is_due_kind setup.code dues.Over event ≡ true
 not_over setup before event one kind = sym (ap (λ d. is_due_kind setup.code d event) (over_turn setup before one)) ∙ kind
 
+-- an event that is no show or muck is legal only where two or more seats are live
 pub several_now : (setup : Setup) (rules : Rules) (before : Past) (street : ℕ) (event : Said) → why setup rules before event ≡ None → nat_le (live_count setup (moves_of before)) 1 ≡ true → plays_on street (resolved_on setup before (turn setup before).0 event) ≡ true → ⊥
 several_now setup rules before street (said.Hole seat cards) legal one plays = both_ways false refl (not_over setup before (said.Hole seat cards) one (kind_true (is_due_kind setup.code (turn setup before).1 (said.Hole seat cards)) false (no_reason_holds setup rules before (said.Hole seat cards) legal).1.0))
 several_now setup rules before street (said.Board cards) legal one plays = both_ways false refl (not_over setup before (said.Board cards) one (kind_true (is_due_kind setup.code (turn setup before).1 (said.Board cards)) false (no_reason_holds setup rules before (said.Board cards) legal).1.0))
@@ -66,6 +67,7 @@ on_more : (newest street : ℕ) (before : Past) → newest ≤ street → AreOn 
 on_more newest street [] most on = tt
 on_more newest street (event ∷ before) most on = (omega (arith, most, on.0), on_more newest street before most on.1)
 
+-- an event of a street stands no later than the newest street
 pub played_on : (newest street : ℕ) (before : Past) → AreOn newest before → list_any (plays_on street) before ≡ true → street ≤ newest
 played_on newest street [] on is = false_true is
 played_on newest street (event ∷ before) on is = elim (or_cases (plays_on street event) (list_any (plays_on street) before) is) [
@@ -100,6 +102,7 @@ drawn_again setup before at event past law come step street seat some least most
   | inr done ↦ drawn_still before event street seat (law.drawn street seat some least most draws_there done.1 (was_live event before street seat live))
 ]
 
+-- a legal event keeps what is done
 pub done_law : (setup : Setup) (before : Past) (at : ℕ) (event : Resolved) → PastLaw setup before → DoneLaw setup before → AreOn (newest_street before) before → Reaches setup before at → Stepped setup before at event → ((street : ℕ) → nat_le (live_count setup (moves_of before)) 1 ≡ true → plays_on street event ≡ true → ⊥) → DoneLaw setup (event ∷ before)
 done_law setup before at event past law are_on come step never =
     let on = on_street setup before at event step in
@@ -120,10 +123,12 @@ done_law setup before at event past law are_on come step never =
       ];
     }
 
+-- what is kept through legal events
 pub record LegalDone (setup : Setup) (before : Past) : Type 0 where
   pub done : DoneLaw setup before
   pub are_on : AreOn (newest_street before) before
 
+-- legal events leave earlier streets done
 pub legal_done : (setup : Setup) (rules : Rules) (events : List Said) → AreLegal setup rules events → LegalDone setup (past_of setup events)
 unfolding with_event
 legal_done setup rules [] legal =

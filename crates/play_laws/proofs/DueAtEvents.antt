@@ -33,6 +33,7 @@ due_by setup before street due false false true d is_a is_b is_c is_d is = let P
 due_by setup before street due false false false true is_a is_b is_c is_d is = let P : Due → Type 0 = IsDue setup before street in subst P (same_Some dues.Move due is) (move is_a is_b is_c is_d)
 due_by setup before street due false false false false is_a is_b is_c is_d is = absurd (some_is_none (sym is))
 
+-- what is due on a street, as a fact
 pub is_due : (setup : Setup) (before : Past) (street : ℕ) (due : Due) → due_on setup before street ≡ Some due → IsDue setup before street due
 is_due setup before street due is = due_by setup before street due (is_deal_due setup before street) (is_draw_due setup before street) (is_bring_in_due setup (moves_of before) street) (is_move_due setup (moves_of before) street) refl refl refl refl is
 
@@ -50,6 +51,7 @@ not_due_by setup before street false false true d is_a is_b is_c is_d is = absur
 not_due_by setup before street false false false true is_a is_b is_c is_d is = absurd (some_is_none is)
 not_due_by setup before street false false false false is_a is_b is_c is_d is = record { no_deal = is_a; no_draw = is_b; no_bring = is_c; no_move = is_d }
 
+-- where nothing is due on a street, neither deal nor draw, bring-in nor move is
 pub not_due : (setup : Setup) (before : Past) (street : ℕ) → due_on setup before street ≡ None → IsNotDue setup before street
 not_due setup before street is = not_due_by setup before street (is_deal_due setup before street) (is_draw_due setup before street) (is_bring_in_due setup (moves_of before) street) (is_move_due setup (moves_of before) street) refl refl refl refl is
 
@@ -64,6 +66,7 @@ none_step : (on : ℕ → Option Due) (rest street : ℕ) (here : Option Due) �
 none_step on rest street (Some due) here is = absurd (some_is_none is)
 none_step on rest street None here is = (here, is)
 
+-- where no street is found nothing is due on any of them
 pub none_found : (on : ℕ → Option Due) (rest street : ℕ) → first_due on rest street ≡ None → (between : ℕ) → street ≤ between → between < street + rest → on between ≡ None
 none_found on zero street is between least most = absurd (omega (arith, least, most))
 none_found on (suc rest) street is between least most =
@@ -94,6 +97,7 @@ reaches_by setup before false (Some there) most walked =
     let first = street_found (due_on setup before) (street_count setup.code + 1 - newest_street before) (newest_street before) there.0 there.1 (sym walked) in
     record { on = first.reached; within = omega (arith, most, found_within (due_on setup before) (street_count setup.code + 1 - newest_street before) (newest_street before) there.0 there.1 (sym walked)); quiet = first.quiet }
 
+-- the turn reaches its street
 pub turn_reaches : (setup : Setup) (before : Past) → newest_street before ≤ street_count setup.code → Reaches setup before (turn setup before).0
 unfolding turn
 turn_reaches setup before most = reaches_by setup before (nat_le (live_count setup (moves_of before)) 1) (first_due (due_on setup before) (street_count setup.code + 1 - newest_street before) (newest_street before)) most refl

@@ -88,6 +88,7 @@ able_known p q start (suc count) seat is least most passes = by_first (p start) 
       | inr below ↦ let same : seat ≡ start = omega (arith, below, least) in false_true (sym here ∙ (ap p (sym same) ∙ passes))
     ]
 
+-- the seat in turn by the up-cards of able seats is so by the places
 pub is_mover : (setup : Setup) (placed : List Place) (ups : UpCards) (list : List Move) (street seat : ℕ) → SameUps setup list (ups_by setup.code placed street) ups → mover setup ups list street ≡ TheSeat seat → IsMover setup placed list street seat
 is_mover setup placed ups list street seat same is = elim (cases_Bool (has_move street list)) [
   | inl has ↦ free (λ others. moved_free setup ups others list street seat has is)
@@ -123,6 +124,7 @@ ups_or_draws games.N2L1D = inl refl
 ups_or_draws games.F2L3D = inl refl
 ups_or_draws games.FB = inl refl
 
+-- a street with up-cards does not draw
 pub up_no_draw : (code : Code) (place : Place) (street : ℕ) → is_up code place ≡ true → has_draw code street ≡ false
 up_no_draw code place street up = elim (ups_or_draws code) [
   | inl none ↦ absurd (omega (arith, zero_in (game_of code).streets (place.street - 1) none, ltb-true 0 (up_cards_on code place.street) (and_parts (nat_lt 0 (up_cards_on code place.street)) (nat_le (down_cards_on code place.street) place.index) up).0))
@@ -144,6 +146,7 @@ none_some : (gone_after : Option ℕ) → is_some gone_after ≡ false → is_no
 none_some None is = refl
 none_some (Some count) is = false_true (sym is)
 
+-- the up-cards of an able seat are those of its places
 pub ups_now : (setup : Setup) (before : Past) (at seat : ℕ) → PastLaw setup before → PlacesOf setup before → newest_street before ≤ at → ((street other : ℕ) → has_drawn before street other ≡ true → has_draw setup.code street ≡ true) → is_live (moves_of before) seat ≡ true → ups_by setup.code (places_of setup.code before) at seat ≡ up_cards setup.code before seat
 ups_now setup before at seat past law on drew live =
     ap (map (λ (p : Place). p.slot)) (same_filter (is_up_by setup.code at seat) (λ place. is_held_by seat place && is_up setup.code place) (places_of setup.code before) (λ place among.

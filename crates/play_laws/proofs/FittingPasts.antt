@@ -24,7 +24,7 @@ use Rattle.list_laws.proofs.Tests.{false_true}
 use Rattle.play_event.proofs.ReasonLaws.{no_reason_holds}
 use Rattle.play_laws.specs.PastLaws.{has_move}
 use Rattle.play_laws.proofs.ClosedBetting.{able_fewer, other_moves, and_group}
-use Rattle.play_laws.proofs.NamedMoves.{IsMoveSaid, fold_said, call_said, raise_said, bring_said}
+use Rattle.play_laws.proofs.MoveKinds.{IsMoveSaid, fold_said, call_said, raise_said, bring_said}
 use Rattle.play_laws.proofs.MovesLaw.{IsBetDue, bring_first, move_now, FitsMove, MovesLaw}
 use Rattle.play_laws.proofs.LegalEvents.{stepped, kind_true}
 use Rattle.play_laws.proofs.DueAtEvents.{turn_reaches}
@@ -126,6 +126,7 @@ to_bring setup rules placed list street law is =
     ∙ or_right (nat_lt 0 (owed setup list street seat)) (nat_le 2 (able_count setup list)) (le-leb 2 (able_count setup list) bring.two)))
     (some_count (is_able setup list) (all_seats setup) (omega (arith, bring.two, length-filter (is_able setup list) (all_seats setup))))
 
+-- where a bring-in or a move is due some seat is in turn, or it is not known which
 pub has_movers : (setup : Setup) (rules : Rules) → HasMovers setup rules
 has_movers setup rules placed list ups street _ law (bring_first so) = mover_found setup ups list street (to_bring setup rules placed list street law so)
 has_movers setup rules placed list ups street _ law (move_now no_bring so) = mover_found setup ups list street so
@@ -154,6 +155,7 @@ fit_if setup rules events (said.Call named stated) law legal_before legal = fit_
 fit_if setup rules events (said.Raise named amount) law legal_before legal = fit_move setup rules events (said.Raise named amount) (has_movers setup rules) law legal_before legal (raise_said named amount) (some_now setup rules (past_of setup events) (said.Raise named amount) legal (raise_said named amount)) (kind_now setup rules (past_of setup events) (said.Raise named amount) legal (raise_said named amount))
 fit_if setup rules events (said.BringIn named) law legal_before legal = fit_move setup rules events (said.BringIn named) (has_movers setup rules) law legal_before legal (bring_said named) (some_now setup rules (past_of setup events) (said.BringIn named) legal (bring_said named)) (kind_now setup rules (past_of setup events) (said.BringIn named) legal (bring_said named))
 
+-- after legal events all moves fit
 pub legal_moves : (setup : Setup) (rules : Rules) (events : List Said) → AreLegal setup rules events → MovesLaw setup rules (places_of setup.code (past_of setup events)) (moves_of (past_of setup events))
 unfolding with_event
 legal_moves setup rules [] legal = tt

@@ -28,7 +28,9 @@ use Rattle.play_laws.proofs.DueAtEvents.{Reaches, turn_reaches, unfinished_due}
 use Rattle.play_laws.proofs.LegalEvents.{Stepped, deals, boards, moves, discards, shows, mucks, stepped, is_betting_due, unfinished_move, fold_kind, call_kind, raise_kind, bring_kind}
 use Rattle.play_laws.proofs.PastLawKept.{unmoved_deal, drawing}
 use Rattle.play_laws.proofs.MoverUps.{SameUps}
-use Rattle.play_laws.proofs.NamedMoves.{IsMoveSaid, fold_said, call_said, raise_said, bring_said, move_reasons, why_move, none_hold, same_actor}
+use Rattle.play_event.proofs.ReasonLaws.{none_hold}
+use Rattle.play_laws.proofs.MoveKinds.{IsMoveSaid, fold_said, call_said, raise_said, bring_said}
+use Rattle.play_laws.proofs.NamedMoves.{move_reasons, why_move, same_actor}
 use Rattle.play_laws.proofs.MovesLaw.{ups_by, IsMover, IsBetDue, FitsMove, MovesLaw}
 use Rattle.play_laws.proofs.KnownUpCards.{AreBefore, moves_deal, moves_sure, discard_sure, show_sure, fold_sure}
 use Rattle.play_laws.proofs.FittingMoves.{is_mover, ups_now}
@@ -50,6 +52,7 @@ drew_step setup before at _ street other (discards seat cards no_deal draw next 
   | inr earlier ↦ law earlier
 ]
 
+-- a street on which a seat drew is one that draws
 pub drew : (setup : Setup) (rules : Rules) (events : List Said) → AreLegal setup rules events → (street other : ℕ) → has_drawn (past_of setup events) street other ≡ true → has_draw setup.code street ≡ true
 unfolding with_event
 drew setup rules [] legal street other has = false_true has
@@ -98,6 +101,7 @@ fits_seat setup rules placed older street due _ seat several (bring_said named) 
 able_live : (setup : Setup) (list : List Move) (seat : ℕ) → is_able setup list seat ≡ true → is_live list seat ≡ true
 able_live setup list seat is = (and_parts (is_live list seat) (nat_lt 0 (chips_left setup list seat)) is).0
 
+-- a legal move fits
 pub fit_move : (setup : Setup) (rules : Rules) (events : List Said) (event : Said) → HasMovers setup rules → MovesLaw setup rules (places_of setup.code (past_of setup events)) (moves_of (past_of setup events)) → AreLegal setup rules events → why setup rules (past_of setup events) event ≡ None → IsMoveSaid event → ((street : ℕ) → nat_le (live_count setup (moves_of (past_of setup events))) 1 ≡ false) → is_due_kind setup.code (turn setup (past_of setup events)).1 event ≡ true → FitsIf setup rules (places_of setup.code (past_of setup events)) (moves_of (past_of setup events)) (resolved_on setup (past_of setup events) (turn setup (past_of setup events)).0 event)
 fit_move setup rules events event movers law legal_before legal is several kind = by_turn (mover setup (up_cards setup.code (past_of setup events)) (moves_of (past_of setup events)) (turn setup (past_of setup events)).0) refl
   where
@@ -141,6 +145,7 @@ are_before newest street (move ∷ rest) reached on none =
       are_before newest street rest reached.1 on parts.1,
     )
 
+-- a legal event keeps the moves fitting
 pub moves_step : (setup : Setup) (rules : Rules) (before : Past) (at : ℕ) (event : Resolved) → PastLaw setup before → Reaches setup before at → Stepped setup before at event → MovesLaw setup rules (places_of setup.code before) (moves_of before) → FitsIf setup rules (places_of setup.code before) (moves_of before) event → MovesLaw setup rules (places_of setup.code (event ∷ before)) (moves_of (event ∷ before))
 moves_step setup rules before at _ past come (deals seat cards due is some few free) law fits =
     moves_deal setup rules (Some seat) at cards (places_of setup.code before) (moves_of before) (are_before (newest_street before) at (moves_of before) past.moved come.on (unmoved_deal setup before at past due)) law

@@ -49,6 +49,7 @@ deal_deck code owner street cards placed free deck place among =
       | inr new ↦ dealt_deck code placed late owner street late (count_by (is_in_group owner street) placed) (length placed) cards (or_parts (list_any (is_taken code placed late) cards) (has_repeat cards) free).0 place new
     ]
 
+-- what passes nowhere does not pass at a place
 pub not_at : (p : Place → Bool) (placed : List Place) (place : Place) → list_any p placed ≡ false → IsAmong placed place → p place ≡ false
 not_at p [] place none among = absurd among
 not_at p (first ∷ rest) place none (inl is) = ap p (sym is) ∙ (or_parts (p first) (list_any p rest) none).0
@@ -78,6 +79,7 @@ discard_mark street count = record { slot = λ place. refl; number = λ place. r
 show_mark : (count : ℕ) → IsMark count (λ (place : Place). place)
 show_mark count = record { slot = λ place. refl; number = λ place. refl; past_deck = λ place. refl; gone_after = λ place. inl refl }
 
+-- a legal event keeps known cards in the deck
 pub deck_law : (setup : Setup) (before : Past) (at : ℕ) (event : Resolved) → Stepped setup before at event → AreInDeck setup.code (places_of setup.code before) → AreInDeck setup.code (places_of setup.code (event ∷ before))
 deck_law setup before at _ (deals seat cards due is some few free) deck = deal_deck setup.code (Some seat) at cards (places_of setup.code before) free deck
 deck_law setup before at _ (boards cards due some few free) deck = deal_deck setup.code None at (map (λ card. slots.Known card) cards) (places_of setup.code before) free deck
@@ -103,6 +105,7 @@ pub record LegalCards (setup : Setup) (before : Past) : Type 0 where
   pub list : ListLaw setup.code (places_of setup.code before)
   pub deck : AreInDeck setup.code (places_of setup.code before)
 
+-- after legal events known cards are in the deck, and the list of places is in order
 pub legal_cards : (setup : Setup) (rules : Rules) (events : List Said) → AreLegal setup rules events → LegalCards setup (past_of setup events)
 unfolding with_event
 legal_cards setup rules [] legal = record { legal = legal_past setup rules [] legal; list = record { numbered = tt; indexed = λ owner street. tt; unknowns = tt }; deck = λ place among. absurd among }
@@ -125,6 +128,7 @@ gone_later code list newest placed place street law among gone = elim (or_cases 
   | inr folded ↦ law.folded_after place street among folded
 ]
 
+-- after legal events the places are lawful
 pub lawful : (setup : Setup) (rules : Rules) (events : List Said) → AreLegal setup rules events → AreLawful setup.code (moves_of (past_of setup events)) (places_of setup.code (past_of setup events))
 lawful setup rules events legal =
     let past = past_of setup events in

@@ -19,6 +19,7 @@ pub record ChangedFrom (count street seat : ℕ) (olds : List Place) (new : Plac
   pub among : IsAmong olds old
   pub change : IsChange count street seat old new
 
+-- a place after a change comes from one before it
 pub changed_from : (count street seat : ℕ) (olds news : List Place) (new : Place) → AreChanged count street seat olds news → IsAmong news new → ChangedFrom count street seat olds new
 changed_from count street seat [] [] new changed among = absurd among
 changed_from count street seat [] (first ∷ news) new changed among = absurd changed
@@ -71,6 +72,7 @@ out_still old new count street seat change none some = by_how change.how
     by_how (folds there now same mine) = same
     by_how (out there now on mine) = absurd (omega (arith, some, none there))
 
+-- a card that is there was not discarded
 pub none_out : (code : Code) (moves : List Move) (newest : ℕ) (placed : List Place) (place : Place) → PlacesLaw code moves newest placed → IsAmong placed place → place.gone_after ≡ None → place.discarded ≡ 0
 none_out code moves newest placed place law among there =
     let is : (nat_lt 0 place.discarded || owner_folded moves place.owner) ≡ false = sym (law.gone_is place among) ∙ ap is_some there in
@@ -103,6 +105,7 @@ changed_out count street seat newest old new (stays gone_after same) before on =
 changed_out count street seat newest old new (out there now here mine) before on = omega (arith, here)
 changed_out count street seat newest old new (folds there now same mine) before on = omega (arith, same, before, on)
 
+-- an event that deals nothing keeps the law of places
 pub change_law : (code : Code) (moves after : List Move) (newest street seat : ℕ) (olds news : List Place) → PlacesLaw code moves newest olds → IsQuietEvent code moves after newest street seat olds news → PlacesLaw code after street news
 change_law code moves after newest street seat olds news law event =
     let count : ℕ = length olds in

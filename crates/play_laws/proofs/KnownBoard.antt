@@ -20,6 +20,7 @@ use Rattle.play_laws.proofs.DealtPlaces.{are_new}
 use Rattle.play_laws.proofs.KnownUpCards.{AreSureOf, discard_sure, show_sure, fold_sure}
 use Rattle.play_laws.proofs.UnknownOrder.{sure_from}
 
+-- the cards of the board are known
 pub IsBoardKnown : List Place → Type 0
 IsBoardKnown placed = (place : Place) → IsAmong placed place → place.owner ≡ None → is_unknown place.slot ≡ false
 
@@ -58,6 +59,7 @@ known_step setup before at _ (moves move no_deal no_draw on) known = by_fold (is
     by_fold true = known_sure (places_of setup.code before) (after_fold move.seat (places_of setup.code before)) (fold_sure move.seat (length (places_of setup.code before)) (places_of setup.code before)) known
     by_fold false = known
 
+-- after legal events they are
 pub board_known : (setup : Setup) (rules : Rules) (events : List Said) → AreLegal setup rules events → (place : Place) → IsAmong (places_of setup.code (past_of setup events)) place → place.owner ≡ None → is_unknown place.slot ≡ false
 unfolding with_event IsBoardKnown
 board_known setup rules [] legal = λ place among none. absurd among

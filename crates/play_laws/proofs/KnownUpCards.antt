@@ -27,6 +27,7 @@ pub record IsSureOf (old new : Place) : Type 0 where
   pub index : new.index ≡ old.index
   pub slot : is_unknown old.slot ≡ false → new.slot ≡ old.slot
 
+-- places stand as they stood, and what was known of them is known
 abbrev pub AreSureOf : List Place → List Place → Type 0
 AreSureOf [] [] = Unit {0}
 AreSureOf [] (new ∷ news) = ⊥
@@ -66,16 +67,20 @@ names_sure : (covers : Place → Bool) (mark : Place → Place) → IsPlain mark
 names_sure covers mark plain names others blanks [] = tt
 names_sure covers mark plain names others blanks (place ∷ rest) = sure_step covers mark names others blanks place rest (covers place) plain (λ os n. names_sure covers mark plain names os n rest)
 
+-- a discard keeps what was known
 pub discard_sure : (street seat : ℕ) (cards : List Slot) (placed : List Place) → AreSureOf placed (after_discard street seat cards placed)
 discard_sure street seat cards placed = names_sure (is_held_by seat) (discarded_now street (length placed)) (record { owner = λ place. refl; street = λ place. refl; index = λ place. refl; slot = λ place. refl }) (known_cards cards) (other_names (filter (is_held_by seat) placed) (known_cards cards)) (blanks_in cards) placed
 
+-- so does a show
 pub show_sure : (code : Code) (seat : ℕ) (cards : List Card) (placed : List Place) → AreSureOf placed (after_show code seat cards placed)
 show_sure code seat cards placed = names_sure (is_covered code seat (is_show_of_all placed seat cards)) (λ place. place) (record { owner = λ place. refl; street = λ place. refl; index = λ place. refl; slot = λ place. refl }) cards (other_names (filter (is_covered code seat (is_show_of_all placed seat cards)) placed) cards) 0 placed
 
+-- and a fold
 pub fold_sure : (seat count : ℕ) (placed : List Place) → AreSureOf placed (map (folded_place seat count) placed)
 fold_sure seat count [] = tt
 fold_sure seat count (place ∷ rest) = (sure_maybe place (gone_now count place) (is_held_by seat place) (record { owner = refl; street = refl; index = refl; slot = λ known. refl }), fold_sure seat count rest)
 
+-- places are sure of themselves
 pub all_sure : (placed : List Place) → AreSureOf placed placed
 all_sure [] = tt
 all_sure (place ∷ rest) = (sure_same place, all_sure rest)
@@ -95,6 +100,7 @@ ups_step old new olds news true false same sure later known = false_true (sym sa
 ups_step old new olds news false true same sure later known = false_true same
 ups_step old new olds news false false same sure later known = later known
 
+-- up-cards of a seat that were known stay as they are
 pub ups_sure : (code : Code) (street seat : ℕ) (olds news : List Place) → AreSureOf olds news → list_any is_unknown (ups_by code olds street seat) ≡ false → ups_by code news street seat ≡ ups_by code olds street seat
 ups_sure code street seat [] [] sure known = refl
 ups_sure code street seat [] (new ∷ news) sure known = absurd sure
@@ -110,6 +116,7 @@ none_up code street seat (first ∷ rest) later =
     (and_right (is_same_owner first.owner (Some seat)) (is_up code first && nat_le first.street street) (and_right (is_up code first) (nat_le first.street street) (lt-leb first.street street (later first (inl refl)))))
     ∙ none_up code street seat rest (λ place among. later place (inr among))
 
+-- a deal of a later street adds no up-card to a street
 pub ups_deal : (code : Code) (street seat : ℕ) (owner : Option ℕ) (on : ℕ) (cards : List Slot) (placed : List Place) → street < on → ups_by code (after_deal code owner on cards placed) street seat ≡ ups_by code placed street seat
 ups_deal code street seat owner on cards placed later =
     let late : Bool = is_past_deck code placed on in
@@ -125,6 +132,7 @@ mover_still setup olds news older street seat same (shown known by) =
     shown (λ other least most able. ap (list_any is_unknown) (same other (known other least most able)) ∙ known other least most able)
     (mover_same setup older street (ups_by setup.code news street) (ups_by setup.code olds street) (λ other least most able. same other (known other least most able)) ∙ by)
 
+-- a move that fits goes on fitting where known up-cards stay
 pub fits_still : (setup : Setup) (rules : Rules) (olds news : List Place) (older : List Move) (move : Move) → ((other : ℕ) → list_any is_unknown (ups_by setup.code olds move.street other) ≡ false → ups_by setup.code news move.street other ≡ ups_by setup.code olds move.street other) → FitsMove setup rules olds older move → FitsMove setup rules news older move
 fits_still setup rules olds news older move same fits =
     record { several = fits.several; due = fits.due; is_due = fits.is_due; event = fits.event; is_move = fits.is_move; in_turn = mover_still setup olds news older move.street move.seat same fits.in_turn; none = fits.none; place = fits.place }
@@ -134,11 +142,13 @@ abbrev pub AreBefore : ℕ → List Move → Type 0
 AreBefore street [] = Unit {0}
 AreBefore street (move ∷ rest) = (move.street < street) × AreBefore street rest
 
+-- so do all moves
 pub moves_sure : (setup : Setup) (rules : Rules) (olds news : List Place) (list : List Move) → AreSureOf olds news → MovesLaw setup rules olds list → MovesLaw setup rules news list
 moves_sure setup rules olds news [] sure law = tt
 moves_sure setup rules olds news (move ∷ older) sure law =
     (fits_still setup rules olds news older move (λ other known. ups_sure setup.code move.street other olds news sure known) law.0, moves_sure setup rules olds news older sure law.1)
 
+-- and a deal of a later street leaves them fitting
 pub moves_deal : (setup : Setup) (rules : Rules) (owner : Option ℕ) (on : ℕ) (cards : List Slot) (placed : List Place) (list : List Move) → AreBefore on list → MovesLaw setup rules placed list → MovesLaw setup rules (after_deal setup.code owner on cards placed) list
 moves_deal setup rules owner on cards placed [] early law = tt
 moves_deal setup rules owner on cards placed (move ∷ older) early law = (

@@ -103,6 +103,7 @@ bet_by setup before _ (draw no_deal so) is = false_true is
 bet_by setup before _ (bring no_deal no_draw so) is = (no_deal, no_draw)
 bet_by setup before _ (move no_deal no_draw no_bring so) is = (no_deal, no_draw)
 
+-- where a bring-in or a move is due the hand goes on
 pub unfinished_move : (due : Due) → is_betting_due due ≡ true → is_unfinished due ≡ true
 unfinished_move dues.BringIn is = refl
 unfinished_move dues.Move is = refl
@@ -114,6 +115,7 @@ unfinished_move dues.Over is = false_true is
 move_by : (setup : Setup) (before : Past) → is_betting_due (turn setup before).1 ≡ true → (is_deal_due setup before (turn setup before).0 ≡ false) × (is_draw_due setup before (turn setup before).0 ≡ false)
 move_by setup before is = bet_by setup before (turn setup before).1 (unfinished_due setup before (turn setup before).1 refl (unfinished_move (turn setup before).1 is)) is
 
+-- a fold may come only where a bring-in or a move is due
 pub fold_kind : (setup : Setup) (named : Option ℕ) (due : Due) → is_due_kind setup.code due (said.Fold named) ≡ true → is_betting_due due ≡ true
 fold_kind setup named dues.Move is = refl
 fold_kind setup named dues.BringIn is = false_true is
@@ -122,6 +124,7 @@ fold_kind setup named (dues.Draw street) is = false_true is
 fold_kind setup named dues.Show is = false_true is
 fold_kind setup named dues.Over is = false_true is
 
+-- so may a call
 pub call_kind : (setup : Setup) (named stated : Option ℕ) (due : Due) → is_due_kind setup.code due (said.Call named stated) ≡ true → is_betting_due due ≡ true
 call_kind setup named stated dues.Move is = refl
 call_kind setup named stated dues.BringIn is = false_true is
@@ -130,6 +133,7 @@ call_kind setup named stated (dues.Draw street) is = false_true is
 call_kind setup named stated dues.Show is = false_true is
 call_kind setup named stated dues.Over is = false_true is
 
+-- a raise
 pub raise_kind : (setup : Setup) (named : Option ℕ) (amount : Spelled) (due : Due) → is_due_kind setup.code due (said.Raise named amount) ≡ true → is_betting_due due ≡ true
 raise_kind setup named amount dues.Move is = refl
 raise_kind setup named amount dues.BringIn is = refl
@@ -138,6 +142,7 @@ raise_kind setup named amount (dues.Draw street) is = false_true is
 raise_kind setup named amount dues.Show is = false_true is
 raise_kind setup named amount dues.Over is = false_true is
 
+-- and a bring-in
 pub bring_kind : (setup : Setup) (named : Option ℕ) (due : Due) → is_due_kind setup.code due (said.BringIn named) ≡ true → is_betting_due due ≡ true
 bring_kind setup named dues.Move is = false_true is
 bring_kind setup named dues.BringIn is = refl
@@ -165,6 +170,7 @@ seat_by : (is_one owed : Bool) → (not is_one || owed) ≡ false → is_one ≡
 seat_by true owed is = refl
 seat_by false owed is = sym is
 
+-- a legal event tells the facts of its kind
 pub stepped : (setup : Setup) (rules : Rules) (before : Past) (event : Said) → why setup rules before event ≡ None → Stepped setup before (turn setup before).0 (resolved_on setup before (turn setup before).0 event)
 stepped setup rules before (said.Hole seat cards) legal =
     let none = no_reason_holds setup rules before (said.Hole seat cards) legal in

@@ -43,6 +43,7 @@ group_step old new olds news true false same later = false_true (sym same)
 group_step old new olds news false true same later = false_true same
 group_step old new olds news false false same later = later
 
+-- a change keeps how many cards an owner has of a street
 pub changed_group : (owner : Option ℕ) (street count draw seat : ℕ) (olds news : List Place) → AreChanged count draw seat olds news → length (filter (is_in_group owner street) news) ≡ length (filter (is_in_group owner street) olds)
 changed_group owner street count draw seat [] [] changed = refl
 changed_group owner street count draw seat [] (new ∷ news) changed = absurd changed
@@ -50,6 +51,7 @@ changed_group owner street count draw seat (old ∷ olds) [] changed = absurd ch
 changed_group owner street count draw seat (old ∷ olds) (new ∷ news) changed =
     group_step old new (filter (is_in_group owner street) olds) (filter (is_in_group owner street) news) (is_in_group owner street new) (is_in_group owner street old) (same_group owner street count draw seat old new changed.0) (changed_group owner street count draw seat olds news changed.1)
 
+-- a filter takes two lists one after the other
 pub filter_append : (p : Place → Bool) (xs ys : List Place) → filter p (xs ++ ys) ≡ filter p xs ++ filter p ys
 filter_append p [] ys = refl
 filter_append p (first ∷ rest) ys = ap (λ l. if p first then (first ∷ l) else l) (filter_append p rest ys) ∙ by_pass (p first)
@@ -73,6 +75,7 @@ dealt_group owner to street on late index number (slot ∷ rest) = by_pass (is_s
     by_pass true later = ap suc later
     by_pass false later = later
 
+-- a deal adds its cards to its owner's of the street
 pub deal_group : (code : Code) (owner to : Option ℕ) (street on : ℕ) (cards : List Slot) (placed : List Place) → length (filter (is_in_group owner street) (after_deal code to on cards placed)) ≡ (if is_same_owner to owner && (on == street) then length cards else 0) + length (filter (is_in_group owner street) placed)
 deal_group code owner to street on cards placed =
     let news : List Place = places_dealt to on (is_past_deck code placed on) (count_by (is_in_group to on) placed) (length placed) cards in
@@ -84,6 +87,7 @@ and_swap true false n = refl
 and_swap false true n = refl
 and_swap false false n = refl
 
+-- a seat has as many places of a street as cards were dealt to it there
 pub group_count : (code : Code) (before : Past) (street seat : ℕ) → length (filter (is_in_group (Some seat) street) (places_of code before)) ≡ hole_cards_dealt before street seat
 group_count code [] street seat = refl
 group_count code (Dealt on owner cards ∷ before) street seat =
@@ -128,6 +132,7 @@ some_at p first place rest true here is in_it = omega arith
 some_at p first place rest false here is (inl same) = false_true (sym here ∙ (ap p same ∙ is))
 some_at p first place rest false here is (inr more) = more
 
+-- where a place passes one or more do
 pub some_passes : (p : Place → Bool) (placed : List Place) (place : Place) → IsAmong placed place → p place ≡ true → 1 ≤ length (filter p placed)
 some_passes p [] place among is = absurd among
 some_passes p (first ∷ rest) place (inl same) is = some_at p first place rest (p first) refl is (inl same)
@@ -184,6 +189,7 @@ later_law code list newest street placed law on =
 abbrev pub PlacesOf : Setup → Past → Type 0
 PlacesOf setup before = PlacesLaw setup.code (moves_of before) (newest_street before) (places_of setup.code before)
 
+-- a legal event keeps the law of places
 pub places_law : (setup : Setup) (before : Past) (at : ℕ) (event : Resolved) → PastLaw setup before → PlacesOf setup before → Reaches setup before at → Stepped setup before at event → PlacesOf setup (event ∷ before)
 places_law setup before at _ past law come (deals seat cards due is some few free) =
     deal_law setup.code (moves_of before) (newest_street before) at (Some seat) cards (places_of setup.code before) law come.on (omega (arith, past.since, come.on))
@@ -262,10 +268,12 @@ no_places setup =
       late = λ place among is. absurd among;
     }
 
+-- what a legal past guarantees of its streets and of its places
 pub record LegalPast (setup : Setup) (before : Past) : Type 0 where
   pub past : PastLaw setup before
   pub places : PlacesOf setup before
 
+-- after legal events both hold
 pub legal_past : (setup : Setup) (rules : Rules) (events : List Said) → AreLegal setup rules events → LegalPast setup (past_of setup events)
 unfolding with_event
 legal_past setup rules [] legal = record { past = at_start setup; places = no_places setup }

@@ -1,5 +1,6 @@
 -- Laws of legal pasts: what is due, whose turn it is, and how cards lie.
 pub mod DueAtEvents
+pub mod MoveKinds
 pub mod MoverUps
 pub mod NamedCounts
 pub mod NamedMoves
@@ -31,3 +32,5 @@ pub mod KnownBoard
 pub mod DiscardCounts
 pub mod FittingPasts
 pub mod PlayedStreets
+pub mod OneSpelling
+pub mod OtherRules

@@ -16,6 +16,7 @@ any_step : (f g : ℕ → Bool) (first : ℕ) (rest : List ℕ) (b : Bool) → (
 any_step f g first rest true same later = ap (λ b. b || list_any f rest) (same refl) ∙ ap (λ r. g first || r) later
 any_step f g first rest false same later = later
 
+-- tests that agree where another passes pass alike at what it keeps
 pub any_same : (p f g : ℕ → Bool) (start count : ℕ) → ((seat : ℕ) → start ≤ seat → seat < start + count → p seat ≡ true → f seat ≡ g seat) → list_any f (filter p (range_with_len start count)) ≡ list_any g (filter p (range_with_len start count))
 any_same p f g start zero same = refl
 any_same p f g start (suc count) same =
@@ -26,6 +27,7 @@ find_step : (f g : ℕ → Bool) (first : ℕ) (rest : List ℕ) (b : Bool) → 
 find_step f g first rest true same later = ap (λ b. if b then Some first else find f rest) (same refl) ∙ ap (λ r. if g first then Some first else r) later
 find_step f g first rest false same later = later
 
+-- and find the same
 pub find_same : (p f g : ℕ → Bool) (start count : ℕ) → ((seat : ℕ) → start ≤ seat → seat < start + count → p seat ≡ true → f seat ≡ g seat) → find f (filter p (range_with_len start count)) ≡ find g (filter p (range_with_len start count))
 find_same p f g start zero same = refl
 find_same p f g start (suc count) same =
@@ -62,6 +64,7 @@ opener_same openers.HighUp setup moves street ups others same =
     ap (λ b. if b then Undecided else in_turn (up_cards_opener setup ups moves street)) (unknown_same setup moves ups others same)
     ∙ ap (λ o. if has_unknown_up_card setup others moves then Undecided else in_turn o) (found_same setup moves street ups others same)
 
+-- whose turn it is depends on the up-cards of able seats alone
 pub mover_same : (setup : Setup) (moves : List Move) (street : ℕ) (ups others : UpCards) → SameUps setup moves ups others → mover setup ups moves street ≡ mover setup others moves street
 mover_same setup moves street ups others same =
     ap (λ o. first_in_turn setup (has_to_move setup moves street) (next_in_turn setup o (moves_on street moves))) (opener_same (opener_of setup.code) setup moves street ups others same)

@@ -240,6 +240,7 @@ able_some setup list street some =
     Rattle.play_laws.proofs.SeatRanges.any_seat setup (is_able setup list) seat.0 seat.1.0 (omega (arith, seat.1.1.0))
     (and_parts (is_able setup list seat.0) (if has_moved_since_rise setup list street seat.0 then false else (nat_lt 0 (owed setup list street seat.0) || nat_le 2 (able_count setup list))) seat.1.1.1).0
 
+-- where some seat has to move some seat is in turn, or it is not known which
 pub mover_found : (setup : Setup) (ups : UpCards) (list : List Move) (street : ℕ) → list_any (has_to_move setup list street) (all_seats setup) ≡ true → mover setup ups list street ≡ NoSeat → ⊥
 mover_found setup ups list street some is =
     turn_found setup (has_to_move setup list street) (next_in_turn setup (opener_by (opener_of setup.code) setup ups list street) (moves_on street list))

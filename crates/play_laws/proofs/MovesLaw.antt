@@ -17,12 +17,14 @@ use Rattle.play_event.specs.Mover.{mover}
 use Rattle.play_event.specs.Places.{Place, is_same_owner, is_up}
 use Rattle.play_event.specs.Scripts.{resolved_by}
 use Rattle.play_event.specs.Laws.{NoneHold}
-use Rattle.play_laws.proofs.NamedMoves.{IsMoveSaid, move_reasons}
+use Rattle.play_laws.proofs.MoveKinds.{IsMoveSaid}
+use Rattle.play_laws.proofs.NamedMoves.{move_reasons}
 
 -- the up-cards of a seat that were dealt by a street
 abbrev pub is_up_by : Code → ℕ → ℕ → Place → Bool
 is_up_by code street seat place = is_same_owner place.owner (Some seat) && (is_up code place && nat_le place.street street)
 
+-- the up-cards of a street by the places
 abbrev pub ups_by : Code → List Place → ℕ → UpCards
 ups_by code placed street seat = map (λ place. place.slot) (filter (is_up_by code street seat) placed)
 
@@ -36,6 +38,7 @@ pub data IsBetDue (setup : Setup) (older : List Move) (street : ℕ) : Due → T
   bring_first : is_bring_in_due setup older street ≡ true → IsBetDue setup older street dues.BringIn
   move_now : is_bring_in_due setup older street ≡ false → is_move_due setup older street ≡ true → IsBetDue setup older street dues.Move
 
+-- a move fits the moves before it: it is what a legal event came to, by the seat in turn
 pub record FitsMove (setup : Setup) (rules : Rules) (placed : List Place) (older : List Move) (move : Move) : Type 0 where
   pub several : nat_le (live_count setup older) 1 ≡ false
   pub due : Due
@@ -46,6 +49,7 @@ pub record FitsMove (setup : Setup) (rules : Rules) (placed : List Place) (older
   pub none : NoneHold (move_reasons setup rules older (move.street, due) (TheSeat move.seat) event)
   pub place : resolved_by setup older move.street (TheSeat move.seat) event ≡ Moved move
 
+-- each move fits the moves before it
 abbrev pub MovesLaw : Setup → Rules → List Place → List Move → Type 0
 MovesLaw setup rules placed [] = Unit {0}
 MovesLaw setup rules placed (move ∷ older) = FitsMove setup rules placed older move × MovesLaw setup rules placed older

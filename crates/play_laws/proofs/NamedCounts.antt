@@ -24,6 +24,7 @@ abbrev pub named_count : List Card → List Place → ℕ
 named_count names [] = 0
 named_count names (place ∷ rest) = (if (not (is_unknown place.slot)) && names_slot names place.slot then 1 else 0) + named_count names rest
 
+-- how many of some places are unknown
 abbrev pub unknown_count : List Place → ℕ
 unknown_count [] = 0
 unknown_count (place ∷ rest) = (if is_unknown place.slot then 1 else 0) + unknown_count rest
@@ -166,6 +167,7 @@ count_step covers out mark names place rest (slots.Known card) others blanks tru
     by_named false named =
         omega (arith, same_more out place rest (after_names covers mark names others blanks rest) (named_count names (filter covers rest) + (length others + blanks)) (later others blanks (omega (arith, few, ap unknown_one here))), ap (named_one names) here, ap {B = ℕ} (λ b. if b then 1 else 0) named)
 
+-- names and blanks mark as many places as they are
 pub names_marked : (covers out : Place → Bool) (mark : Place → Place) (names others : List Card) (blanks : ℕ) (placed : List Place) → IsMarking covers out mark placed → length others + blanks ≤ unknown_count (filter covers placed) → length (filter out (after_names covers mark names others blanks placed)) ≡ length (filter out placed) + (named_count names (filter covers placed) + (length others + blanks))
 names_marked covers out mark names others blanks [] is few = omega (arith, few)
 names_marked covers out mark names others blanks (place ∷ rest) is few =
@@ -185,6 +187,7 @@ unknown_length : (placed : List Place) → length (filter (λ (place : Place). i
 unknown_length [] = refl
 unknown_length (place ∷ rest) = unknown_step place rest (is_unknown place.slot) (unknown_length rest)
 
+-- a discard takes as many places as it names
 pub discard_count : (out : Place → Bool) (street seat : ℕ) (cards : List Slot) (placed : List Place) → IsMarking (is_held_by seat) out (discarded_now street (length placed)) placed → AllApart (filter (is_held_by seat) placed) → has_no_place (filter (is_held_by seat) placed) (known_cards cards) (blanks_in cards) ≡ false → length (filter out (after_discard street seat cards placed)) ≡ length (filter out placed) + length cards
 discard_count out street seat cards placed is apart held =
     let covered : List Place = filter (is_held_by seat) placed in

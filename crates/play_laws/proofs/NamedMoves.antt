@@ -1,11 +1,9 @@
 -- A move that is legal is legal as the canonical script says it, after each past with the same moves, turn and mover.
-use Rattle.std.proofs.Common.{◌≡◌, ℕ, Bool, true, false, ◌&&◌, ◌||◌, not, Option, Some, None, List, [], ◌∷◌, refl, sym, ◌∙◌, ap, ◌==◌, if◌then◌else◌}
+use Rattle.std.proofs.Common.{◌≡◌, ℕ, Bool, true, false, ◌&&◌, ◌||◌, not, Option, Some, None, List, [], ◌∷◌, refl, sym, ◌∙◌, ap, ◌==◌}
 use Rattle.std.proofs.lemmas.Bool.{eq-eqb, eqb-true, not-false, not_from_true}
 use Rattle.play_event.specs.declared.code.Code.{Code}
-use Rattle.play_event.specs.declared.event.Spelled.{Spelled}
 use Rattle.play_event.specs.declared.event.Spelled.TheVariants as spelled
 use Rattle.play_event.specs.declared.reason.Due.{Due}
-use Rattle.play_event.specs.declared.reason.Due.TheVariants as dues
 use Rattle.play_event.specs.declared.reason.Illegal.{Illegal}
 use Rattle.play_event.specs.declared.reason.Illegal.TheVariants as reasons
 use Rattle.play_event.specs.declared.setup.Setup.{Setup}
@@ -24,14 +22,7 @@ use Rattle.play_event.specs.MoveReasons.{actor_of, is_other_seat, is_undecided, 
 use Rattle.play_event.specs.Reasons.{why, first_reason, is_over, is_due_kind}
 use Rattle.play_event.specs.Scripts.{resolved_by}
 use Rattle.play_event.specs.Laws.{NoneHold}
-use Rattle.list_laws.proofs.Options.{some_is_none}
-
--- an event is a move
-pub data IsMoveSaid : Said → Type 0 where
-  fold_said : (named : Option ℕ) → IsMoveSaid (said.Fold named)
-  call_said : (named stated : Option ℕ) → IsMoveSaid (said.Call named stated)
-  raise_said : (named : Option ℕ) (amount : Spelled) → IsMoveSaid (said.Raise named amount)
-  bring_said : (named : Option ℕ) → IsMoveSaid (said.BringIn named)
+use Rattle.play_laws.proofs.MoveKinds.{IsMoveSaid, alike_kind, bring_said, brings, call_said, calls, fold_said, folds, raise_said, raises}
 
 -- the seat that a move names
 abbrev pub named_in : Said → Option ℕ
@@ -74,55 +65,26 @@ named_move setup moves street seat (said.Raise named amount) = said.Raise (Some 
 named_move setup moves street seat (said.BringIn named) = said.BringIn (Some seat)
 named_move setup moves street seat event = event
 
+-- what may come is told by the kind of the move
 same_kind : (code : Code) (due : Due) (setup : Setup) (moves : List Move) (street seat : ℕ) (event : Said) → IsMoveSaid event → is_due_kind code due (named_move setup moves street seat event) ≡ is_due_kind code due event
-same_kind code (dues.Deal street) setup moves on seat _ (fold_said named) = refl
-same_kind code (dues.Draw street) setup moves on seat _ (fold_said named) = refl
-same_kind code dues.BringIn setup moves on seat _ (fold_said named) = refl
-same_kind code dues.Move setup moves on seat _ (fold_said named) = refl
-same_kind code dues.Show setup moves on seat _ (fold_said named) = refl
-same_kind code dues.Over setup moves on seat _ (fold_said named) = refl
-same_kind code (dues.Deal street) setup moves on seat _ (call_said named stated) = refl
-same_kind code (dues.Draw street) setup moves on seat _ (call_said named stated) = refl
-same_kind code dues.BringIn setup moves on seat _ (call_said named stated) = refl
-same_kind code dues.Move setup moves on seat _ (call_said named stated) = refl
-same_kind code dues.Show setup moves on seat _ (call_said named stated) = refl
-same_kind code dues.Over setup moves on seat _ (call_said named stated) = refl
-same_kind code (dues.Deal street) setup moves on seat _ (raise_said named amount) = refl
-same_kind code (dues.Draw street) setup moves on seat _ (raise_said named amount) = refl
-same_kind code dues.BringIn setup moves on seat _ (raise_said named amount) = refl
-same_kind code dues.Move setup moves on seat _ (raise_said named amount) = refl
-same_kind code dues.Show setup moves on seat _ (raise_said named amount) = refl
-same_kind code dues.Over setup moves on seat _ (raise_said named amount) = refl
-same_kind code (dues.Deal street) setup moves on seat _ (bring_said named) = refl
-same_kind code (dues.Draw street) setup moves on seat _ (bring_said named) = refl
-same_kind code dues.BringIn setup moves on seat _ (bring_said named) = refl
-same_kind code dues.Move setup moves on seat _ (bring_said named) = refl
-same_kind code dues.Show setup moves on seat _ (bring_said named) = refl
-same_kind code dues.Over setup moves on seat _ (bring_said named) = refl
+same_kind code due setup moves street seat _ (fold_said named) = alike_kind code due _ _ (folds (Some seat) named)
+same_kind code due setup moves street seat _ (call_said named stated) = alike_kind code due _ _ (calls (Some seat) named None stated)
+same_kind code due setup moves street seat _ (raise_said named amount) = alike_kind code due _ _ (raises (Some seat) named (spelled.To (raise_target setup moves street seat amount)) amount)
+same_kind code due setup moves street seat _ (bring_said named) = alike_kind code due _ _ (brings (Some seat) named)
 
 -- who is named is in turn
 pub same_actor : (setup : Setup) (moves : List Move) (named : Option ℕ) (seat : ℕ) → is_other_seat setup moves named (TheSeat seat) ≡ false → actor_of named (TheSeat seat) ≡ seat
 same_actor setup moves None seat is = refl
 same_actor setup moves (Some other) seat is = eqb-true other seat (not-false (other == seat) is)
 
-not_other : (seat : ℕ) → not (seat == seat) ≡ false
+-- a seat is no other one
+pub not_other : (seat : ℕ) → not (seat == seat) ≡ false
 not_other seat = not_from_true (seat == seat) (eq-eqb seat seat refl)
-
-pub none_hold : (reasons : List (Bool × Illegal)) → first_reason reasons ≡ None → NoneHold reasons
-none_hold [] is = tt
-none_hold (reason ∷ rest) is = none_at reason.1 reason.0 rest (none_hold rest) is
-  where
-    none_at : (why : Illegal) (b : Bool) (rest : List (Bool × Illegal)) → (first_reason rest ≡ None → NoneHold rest) → (if b then Some why else first_reason rest) ≡ None → (b ≡ false) × NoneHold rest
-    none_at why true rest later is = absurd (some_is_none is)
-    none_at why false rest later is = (refl, later is)
-
-pub none_found : (reasons : List (Bool × Illegal)) → NoneHold reasons → first_reason reasons ≡ None
-none_found [] none = refl
-none_found (reason ∷ rest) none = ap (λ b. if b then Some reason.1 else first_reason rest) none.0 ∙ none_found rest none.1
 
 named_kind : (setup : Setup) (moves : List Move) (now : ℕ × Due) (seat : ℕ) (event : Said) → IsMoveSaid event → not (is_due_kind setup.code now.1 event || false) ≡ false → not (is_due_kind setup.code now.1 (named_move setup moves now.0 seat event) || false) ≡ false
 named_kind setup moves now seat event is kind = ap (λ b. not (b || false)) (same_kind setup.code now.1 setup moves now.0 seat event is) ∙ kind
 
+-- a move without a reason has none as the canonical script says it
 pub named_none : (setup : Setup) (rules : Rules) (moves : List Move) (now : ℕ × Due) (seat : ℕ) (event : Said) → IsMoveSaid event → NoneHold (move_reasons setup rules moves now (TheSeat seat) event) → NoneHold (move_reasons setup rules moves now (TheSeat seat) (named_move setup moves now.0 seat event))
 named_none setup rules moves now seat _ (fold_said named) none =
     let actor = same_actor setup moves named seat none.1.1.0 in (

@@ -43,6 +43,7 @@ pub record DrawsNext (setup : Setup) (before : Past) (street seat : ℕ) : Type 
   pub least : 1 ≤ seat
   pub most : seat ≤ setup.stacks.seats
 
+-- who is next to draw is live and has not drawn
 pub is_next_to_draw : (setup : Setup) (before : Past) (street seat : ℕ) → next_to_draw setup before street ≡ Some seat → DrawsNext setup before street seat
 is_next_to_draw setup before street seat is =
     let it = found_in_range (λ seat. is_live (moves_of before) seat && not (has_drawn before street seat)) 1 setup.stacks.seats seat is in
@@ -64,6 +65,7 @@ pub record IsUnmoved (setup : Setup) (before : Past) (street : ℕ) : Type 0 whe
 unmoved_by : (setup : Setup) (before : Past) (street : ℕ) → PastLaw setup before → (is_deal_due setup before street ≡ false → is_draw_due setup before street ≡ false → ⊥) → has_move street (moves_of before) ≡ false
 unmoved_by setup before street law never = Rattle.std.proofs.lemmas.Bool.false_from_ne_true (has_move street (moves_of before)) (λ is. let done = law.moved_done street is in never done.0 done.1)
 
+-- a street with a deal or a draw due has no move yet
 pub unmoved_deal : (setup : Setup) (before : Past) (street : ℕ) → PastLaw setup before → (is_deal_due setup before street ≡ true) ⊎ ((is_deal_due setup before street ≡ false) × (is_draw_due setup before street ≡ true)) → has_move street (moves_of before) ≡ false
 unmoved_deal setup before street law (inl is) = unmoved_by setup before street law (λ no_deal no_draw. both_ways (is_deal_due setup before street) no_deal is)
 unmoved_deal setup before street law (inr is) = unmoved_by setup before street law (λ no_deal no_draw. both_ways (is_draw_due setup before street) no_draw is.1)
@@ -89,6 +91,7 @@ deal_counts setup before at seat cards law some few street other draws_there = e
       omega (arith, ap (λ b. if b then length cards else 0) here, some, few, owed, moved)
 ]
 
+-- a legal event keeps the law of pasts
 pub past_law : (setup : Setup) (before : Past) (at : ℕ) (event : Resolved) → PastLaw setup before → Reaches setup before at → Stepped setup before at event → PastLaw setup (event ∷ before)
 past_law setup before at _ law come (deals seat cards due is some few free) =
     record {

@@ -8,6 +8,7 @@ pub data HowGone (count street seat : ℕ) (old new : Place) : Type 0 where
   out : old.gone_after ≡ None → new.gone_after ≡ Some count → new.discarded ≡ street → old.owner ≡ Some seat → HowGone count street seat old new
   folds : old.gone_after ≡ None → new.gone_after ≡ Some count → new.discarded ≡ old.discarded → old.owner ≡ Some seat → HowGone count street seat old new
 
+-- a place stays what it was but for how it is gone
 pub record IsChange (count draw seat : ℕ) (old new : Place) : Type 0 where
   pub owner : new.owner ≡ old.owner
   pub street : new.street ≡ old.street
@@ -15,6 +16,7 @@ pub record IsChange (count draw seat : ℕ) (old new : Place) : Type 0 where
   pub past_deck : new.past_deck ≡ old.past_deck
   pub how : HowGone count draw seat old new
 
+-- so do all places of a list
 abbrev pub AreChanged : (count street seat : ℕ) → List Place → List Place → Type 0
 AreChanged count street seat [] [] = Unit {0}
 AreChanged count street seat [] (new ∷ news) = ⊥

@@ -28,6 +28,7 @@ passed_at p first rest place true here later (inl is) = record { among = inl is;
 passed_at p first rest place true here later (inr more) = let it = later more in record { among = inr it.among; passes = it.passes }
 passed_at p first rest place false here later more = let it = later more in record { among = inr it.among; passes = it.passes }
 
+-- a place that a filter kept passes and was there
 pub passed : (p : Place → Bool) (placed : List Place) (place : Place) → IsAmong (filter p placed) place → Passed p placed place
 passed p [] place among = absurd among
 passed p (first ∷ rest) place among = passed_at p first rest place (p first) refl (passed p rest place) among
@@ -36,6 +37,7 @@ rising_at : (p : Place → Bool) (first : Place) (rest : List Place) (b : Bool) 
 rising_at p first rest true rising later = (λ other among. rising.0 other (passed p rest other among).among, later)
 rising_at p first rest false rising later = later
 
+-- a filter keeps numbers rising
 pub rising_filter : (p : Place → Bool) (placed : List Place) → AreRising placed → AreRising (filter p placed)
 rising_filter p [] rising = tt
 rising_filter p (first ∷ rest) rising = rising_at p first rest (p first) rising (rising_filter p rest rising.1)
@@ -44,6 +46,7 @@ rising_filter p (first ∷ rest) rising = rising_at p first rest (p first) risin
 abbrev pub group_of : List Place → ℕ → Option ℕ → List Place
 group_of placed street owner = filter (is_in_group owner street) placed
 
+-- and what is known of them
 abbrev pub group_slots : List Place → ℕ → Option ℕ → List Slot
 group_slots placed street owner = map (λ place. place.slot) (group_of placed street owner)
 
@@ -61,5 +64,6 @@ more_length : (p : Place → Bool) (places more : List Place) → length (filter
 more_length p [] more = omega arith
 more_length p (first ∷ rest) more = more_step p first rest more (p first) (more_length p rest more)
 
+-- more places pass in a longer list
 pub more_count : (p : Place → Bool) (places more : List Place) → count_by p places ≤ count_by p (places ++ more)
 more_count p places more = omega (arith, length-filter p places, length-filter p (places ++ more), more_length p places more)

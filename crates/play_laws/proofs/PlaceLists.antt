@@ -38,6 +38,7 @@ numbered_above number [] place numbered among = absurd among
 numbered_above number (first ∷ rest) place numbered (inl same) = omega (arith, numbered.0, ap (λ (p : Place). p.number) same)
 numbered_above number (first ∷ rest) place numbered (inr later) = omega (arith, numbered_above (number + 1) rest place numbered.1 later)
 
+-- numbers that count up rise
 pub rising : (number : ℕ) (placed : List Place) → AreNumbered number placed → AreRising placed
 rising number [] numbered = tt
 rising number (first ∷ rest) numbered = (λ later among. omega (arith, numbered.0, numbered_above (number + 1) rest later numbered.1 among), rising (number + 1) rest numbered.1)
@@ -140,6 +141,7 @@ other_indexed owner to street on late index other number cards false here same =
         let P : Bool → Type 0 = λ c. AreIndexed other (if c then (first ∷ filter (is_in_group owner street) rest) else filter (is_in_group owner street) rest) in
         subst P (sym (none first (inl refl))) (none_indexed rest (λ place among. none place (inr among)))
 
+-- a deal keeps the indices of each group counting up
 pub deal_indexed : (code : Code) (owner to : Option ℕ) (street on : ℕ) (cards : List Slot) (placed : List Place) → AreIndexed 0 (group_of placed street owner) → AreIndexed 0 (group_of (after_deal code to on cards placed) street owner)
 deal_indexed code owner to street on cards placed indexed =
     let late : Bool = is_past_deck code placed on in
@@ -243,6 +245,7 @@ pub record ListLaw (code : Code) (placed : List Place) : Type 0 where
   pub indexed : (owner : Option ℕ) (street : ℕ) → AreIndexed 0 (group_of placed street owner)
   pub unknowns : UnknownsFirst placed
 
+-- a legal event keeps the list of places in order
 pub list_law : (setup : Setup) (before : Past) (at : ℕ) (event : Resolved) → PastLaw setup before → PlacesOf setup before → Reaches setup before at → Stepped setup before at event → ListLaw setup.code (places_of setup.code before) → ListLaw setup.code (places_of setup.code (event ∷ before))
 list_law setup before at _ past law come (deals seat cards due is some few free) list = deal_list setup.code (Some seat) at cards (places_of setup.code before) list
   where

@@ -81,6 +81,7 @@ pub record IsDone (setup : Setup) (before : Past) (street : ℕ) : Type 0 where
   pub no_deal : is_deal_due setup before street ≡ false
   pub no_draw : is_draw_due setup before street ≡ false
 
+-- a street that a complete hand came to is done
 pub reached_done : (setup : Setup) (before : Past) (street : ℕ) → PastLaw setup before → DoneLaw setup before → is_unfinished (turn setup before).1 ≡ false → 1 ≤ street → street ≤ street_count setup.code → IsReached setup (moves_of before) street → IsDone setup before street
 reached_done setup before street past done finished some most reached = elim (cases_Bool (nat_le (live_count setup (moves_of before)) 1)) [
   | inl one ↦ elim (reached_or_move setup before street past one reached) [
@@ -145,6 +146,7 @@ pub hole_group : (setup : Setup) (before : Past) (street seat : ℕ) → DoneLaw
 hole_group setup before street seat done is no_draw some least most live =
     omega (arith, group_count setup.code before street seat, done.dealt_most street seat no_draw, done.dealt street seat some least most is.no_deal live)
 
+-- a seat that folded before a street has no cards of it
 pub folded_group : (setup : Setup) (before : Past) (street seat : ℕ) → PlacesOf setup before → is_live (moves_before street (moves_of before)) seat ≡ false → length (group_of (places_of setup.code before) street (Some seat)) ≡ 0
 folded_group setup before street seat law folded = none_of (group_of (places_of setup.code before) street (Some seat)) (λ place among. in_it place (passed (is_in_group (Some seat) street) (places_of setup.code before) place among))
   where
@@ -163,10 +165,12 @@ folded_group setup before street seat law folded = none_of (group_of (places_of 
     none_of [] never = refl
     none_of (first ∷ rest) never = absurd (never first (inl refl))
 
+-- on a street that draws each seat has as many new cards as it discarded
 pub draw_group : (setup : Setup) (before : Past) (street seat : ℕ) → PastLaw setup before → IsDone setup before street → ((street seat : ℕ) → 1 ≤ street → length (filter (is_out_of street seat) (places_of setup.code before)) ≡ cards_discarded before street seat) → has_draw setup.code street ≡ true → 1 ≤ street → 1 ≤ seat → seat ≤ setup.stacks.seats → length (group_of (places_of setup.code before) street (Some seat)) ≡ length (filter (is_out_of street seat) (places_of setup.code before))
 draw_group setup before street seat past is counts draws_there some least most =
     omega (arith, group_count setup.code before street seat, counts street seat some, past.drawn_count street seat draws_there, none_owed setup before street seat draws_there is.no_draw least most)
 
+-- a street that is done has its board in full
 pub board_group : (setup : Setup) (before : Past) (street : ℕ) → DoneLaw setup before → IsDone setup before street → length (group_of (places_of setup.code before) street None) ≡ board_cards_on setup.code street
 board_group setup before street done is =
     let parts = or_parts (list_any (λ seat. nat_lt 0 (hole_cards_owed setup before street seat)) (all_seats setup)) (nat_lt 0 (board_cards_owed setup before street)) is.no_deal in

@@ -28,6 +28,7 @@ folded_first move moves None is = is
 folded_first move moves (Some seat) is =
     ap not (not_from_true (folds_seat seat move || list_any (folds_seat seat) moves) (or_right (folds_seat seat move) (list_any (folds_seat seat) moves) (not-false (list_any (folds_seat seat) moves) (not-true (is_live moves seat) is))))
 
+-- who has folded has folded after a further move
 pub folded_more : (move : Move) (moves : List Move) (by : ℕ) (owner : Option ℕ) → owner_folded (moves_before by moves) owner ≡ true → owner_folded (moves_before by (move ∷ moves)) owner ≡ true
 folded_more move moves by owner is = by_street (nat_lt move.street by)
   where
@@ -43,6 +44,7 @@ folded_either move moves (Some seat) is = elim (or_cases (folds_seat seat move) 
   | inr before ↦ inl (ap not (not_from_true (list_any (folds_seat seat) moves) before))
 ]
 
+-- who has folded with a further move folded before, or by it
 pub folded_back : (move : Move) (moves : List Move) (by : ℕ) (owner : Option ℕ) → owner_folded (moves_before by (move ∷ moves)) owner ≡ true → (owner_folded (moves_before by moves) owner ≡ true) ⊎ ((is_fold move.act ≡ true) × ((owner ≡ Some move.seat) × (move.street < by)))
 folded_back move moves by owner = by_street (nat_lt move.street by) refl
   where
@@ -63,6 +65,7 @@ pub data HowMarked (covers : Place → Bool) (count draw : ℕ) (old new : Place
   kept : new.gone_after ≡ old.gone_after → new.discarded ≡ old.discarded → HowMarked covers count draw old new
   marked : covers old ≡ true → new.gone_after ≡ Some count → new.discarded ≡ draw → HowMarked covers count draw old new
 
+-- a place as a discard or a show leaves it: as it was, or discarded now
 pub record IsMarked (covers : Place → Bool) (count draw : ℕ) (old new : Place) : Type 0 where
   pub owner : new.owner ≡ old.owner
   pub street : new.street ≡ old.street
@@ -71,6 +74,7 @@ pub record IsMarked (covers : Place → Bool) (count draw : ℕ) (old new : Plac
   pub past_deck : new.past_deck ≡ old.past_deck
   pub how : HowMarked covers count draw old new
 
+-- so are all places of a list
 abbrev pub AreMarked : (covers : Place → Bool) (count draw : ℕ) → List Place → List Place → Type 0
 AreMarked covers count draw [] [] = Unit {0}
 AreMarked covers count draw [] (new ∷ news) = ⊥
@@ -99,6 +103,7 @@ out_step covers count draw names others blanks place rest true covered later =
     (out_found covers count draw names place.slot others blanks place covered, later (found_by (discarded_now draw count) names place.slot others blanks place).others (found_by (discarded_now draw count) names place.slot others blanks place).blanks)
 out_step covers count draw names others blanks place rest false covered later = (marked_same covers count draw place, later others blanks)
 
+-- a discard marks places of its hand
 pub discard_marks : (covers : Place → Bool) (count draw : ℕ) (names others : List Card) (blanks : ℕ) (placed : List Place) → AreMarked covers count draw placed (after_names covers (discarded_now draw count) names others blanks placed)
 discard_marks covers count draw names others blanks [] = tt
 discard_marks covers count draw names others blanks (place ∷ rest) =
@@ -124,6 +129,7 @@ show_step covers other count draw names others blanks place rest false later = (
 abbrev pub nothing : Place → Bool
 nothing place = false
 
+-- a show discards nothing
 pub show_marks : (covers : Place → Bool) (count draw : ℕ) (names others : List Card) (blanks : ℕ) (placed : List Place) → AreMarked nothing count draw placed (after_names covers (λ (p : Place). p) names others blanks placed)
 show_marks covers count draw names others blanks [] = tt
 show_marks covers count draw names others blanks (place ∷ rest) =
@@ -137,6 +143,7 @@ marked_how covers count draw seat old new there (marked covered now on) = out (t
 marked_change : (covers : Place → Bool) (count draw seat : ℕ) (old new : Place) → (covers old ≡ true → (old.gone_after ≡ None) × (old.owner ≡ Some seat)) → IsMarked covers count draw old new → IsChange count draw seat old new
 marked_change covers count draw seat old new there is = record { owner = is.owner; street = is.street; number = is.number; past_deck = is.past_deck; how = marked_how covers count draw seat old new there is.how }
 
+-- places that are marked are changed by no deal
 pub marked_changed : (covers : Place → Bool) (count draw seat : ℕ) (olds news : List Place) → ((old : Place) → covers old ≡ true → (old.gone_after ≡ None) × (old.owner ≡ Some seat)) → AreMarked covers count draw olds news → AreChanged count draw seat olds news
 marked_changed covers count draw seat [] [] there is = tt
 marked_changed covers count draw seat [] (new ∷ news) there is = absurd is
@@ -200,9 +207,11 @@ same_owner_is None None is = refl
 same_owner_is (Some a) None is = false_true is
 same_owner_is None (Some b) is = false_true is
 
+-- a card that a seat holds is there, and is its own
 pub held_parts : (seat : ℕ) (place : Place) → is_held_by seat place ≡ true → (place.gone_after ≡ None) × (place.owner ≡ Some seat)
 held_parts seat place held = (held_is_there seat place held, same_owner_is place.owner (Some seat) (and_parts (is_same_owner place.owner (Some seat)) (is_none place.gone_after) held).0)
 
+-- a fold changes places by no deal
 pub fold_changed : (seat count draw : ℕ) (placed : List Place) → AreChanged count draw seat placed (map (folded_place seat count) placed)
 fold_changed seat count draw [] = tt
 fold_changed seat count draw (place ∷ rest) = (fold_change seat count draw place (is_held_by seat place) (held_parts seat place), fold_changed seat count draw rest)
@@ -212,11 +221,13 @@ pub some_or_none : (gone_after : Option ℕ) → is_none gone_after ≡ not (is_
 some_or_none None = refl
 some_or_none (Some count) = refl
 
+-- who folds has folded
 pub folded_own : (move : Move) (moves : List Move) (owner : Option ℕ) → is_fold move.act ≡ true → owner ≡ Some move.seat → owner_folded (move ∷ moves) owner ≡ true
 folded_own move moves owner is mine =
     let P : Option ℕ → Type 0 = λ o. owner_folded (move ∷ moves) o ≡ true in
     subst P (sym mine) (ap not (not_from_true (folds_seat move.seat move || list_any (folds_seat move.seat) moves) (or_left (folds_seat move.seat move) (list_any (folds_seat move.seat) moves) (and_from (is_fold move.act) (move.seat == move.seat) is (eq-eqb move.seat move.seat refl)))))
 
+-- no other owner has
 pub folded_other : (move : Move) (moves : List Move) (owner : Option ℕ) (b : Bool) → is_same_owner owner (Some move.seat) ≡ b → b ≡ false → owner_folded (move ∷ moves) owner ≡ owner_folded moves owner
 folded_other move moves None b same is = refl
 folded_other move moves (Some seat) b same is =
@@ -261,6 +272,7 @@ out_folds code moves newest count seat placed (old ∷ olds) law sub new (inl sa
     by_held false some = law.out_after old (sub old (inl refl)) some
 out_folds code moves newest count seat placed (old ∷ olds) law sub new (inr later) = out_folds code moves newest count seat placed olds law (λ other among. sub other (inr among)) new later
 
+-- a fold keeps the law of places
 pub fold_law : (code : Code) (move : Move) (moves : List Move) (newest : ℕ) (placed : List Place) → PlacesLaw code moves newest placed → is_fold move.act ≡ true → newest ≤ move.street → 1 ≤ move.street → PlacesLaw code (move ∷ moves) move.street (after_fold move.seat placed)
 fold_law code move moves newest placed law fold on some =
     change_law code moves (move ∷ moves) newest move.street move.seat placed (after_fold move.seat placed) law
@@ -281,6 +293,7 @@ fold_law code move moves newest placed law fold on some =
 abbrev stays_before : Move → List Move → ℕ → Type 0
 stays_before move moves by = (owner : Option ℕ) → owner_folded (moves_before by (move ∷ moves)) owner ≡ owner_folded (moves_before by moves) owner
 
+-- a move that is no fold changes who has folded nowhere
 pub other_before : (move : Move) (moves : List Move) (by : ℕ) (owner : Option ℕ) → is_fold move.act ≡ false → owner_folded (moves_before by (move ∷ moves)) owner ≡ owner_folded (moves_before by moves) owner
 other_before move moves by owner is = by_street (nat_lt move.street by)
   where
@@ -292,6 +305,7 @@ stays_all : (count draw seat : ℕ) (placed : List Place) → AreChanged count d
 stays_all count draw seat [] = tt
 stays_all count draw seat (place ∷ rest) = (record { owner = refl; street = refl; number = refl; past_deck = refl; how = stays refl refl }, stays_all count draw seat rest)
 
+-- and keeps the law of places
 pub move_law : (code : Code) (move : Move) (moves : List Move) (newest : ℕ) (placed : List Place) → PlacesLaw code moves newest placed → is_fold move.act ≡ false → newest ≤ move.street → 1 ≤ move.street → PlacesLaw code (move ∷ moves) move.street placed
 move_law code move moves newest placed law no_fold on some =
     change_law code moves (move ∷ moves) newest move.street move.seat placed placed law

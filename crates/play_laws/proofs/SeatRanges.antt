@@ -5,6 +5,7 @@ use Rattle.play_event.specs.declared.setup.Setup.{Setup}
 use Rattle.play_event.specs.Seats.{all_seats}
 use Rattle.std.specs.List.{flat_map, list_any, range_with_len}
 
+-- lists that agree for each seat, one after another
 pub flat_same : {B : Type 0} (f g : ℕ → List B) (first count : ℕ) → ((seat : ℕ) → first ≤ seat → seat < first + count → f seat ≡ g seat) → flat_map f (range_with_len first count) ≡ flat_map g (range_with_len first count)
 flat_same f g first zero same = refl
 flat_same f g first (suc count) same =
@@ -15,27 +16,32 @@ map_step : {B : Type 0} (f g : ℕ → B) (first : ℕ) (rest : List ℕ) (b : B
 map_step f g first rest true same later = ap (λ x. x ∷ map f rest) same ∙ ap (λ l. g first ∷ l) later
 map_step f g first rest false same later = later
 
+-- values that agree for each seat
 pub map_same : {B : Type 0} (f g : ℕ → B) (p : ℕ → Bool) (first count : ℕ) → ((seat : ℕ) → first ≤ seat → seat < first + count → f seat ≡ g seat) → map f (filter p (range_with_len first count)) ≡ map g (filter p (range_with_len first count))
 map_same f g p first zero same = refl
 map_same f g p first (suc count) same =
     map_step f g first (filter p (range_with_len (first + 1) count)) (p first) (same first (omega arith) (omega arith)) (map_same f g p (first + 1) count (λ seat from to. same seat (omega (arith, from)) (omega (arith, to))))
 
+-- tests that agree for each seat keep the same seats
 pub filter_range : (p q : ℕ → Bool) (first count : ℕ) → ((seat : ℕ) → first ≤ seat → seat < first + count → p seat ≡ q seat) → filter p (range_with_len first count) ≡ filter q (range_with_len first count)
 filter_range p q first zero same = refl
 filter_range p q first (suc count) same =
     ap (λ b. if b then (first ∷ filter p (range_with_len (first + 1) count)) else filter p (range_with_len (first + 1) count)) (same first (omega arith) (omega arith))
     ∙ ap (λ l. if q first then (first ∷ l) else l) (filter_range p q (first + 1) count (λ seat from to. same seat (omega (arith, from)) (omega (arith, to))))
 
+-- a test that passes for no seat
 pub any_none : (p : ℕ → Bool) (first count : ℕ) → ((seat : ℕ) → first ≤ seat → seat < first + count → p seat ≡ false) → list_any p (range_with_len first count) ≡ false
 any_none p first zero never = refl
 any_none p first (suc count) never =
     ap (λ b. b || list_any p (range_with_len (first + 1) count)) (never first (omega arith) (omega arith)) ∙ any_none p (first + 1) count (λ seat from to. never seat (omega (arith, from)) (omega (arith, to)))
 
+-- such a test finds none
 pub find_no : (p : ℕ → Bool) (first count : ℕ) → ((seat : ℕ) → first ≤ seat → seat < first + count → p seat ≡ false) → is_some (find p (range_with_len first count)) ≡ false
 find_no p first zero never = refl
 find_no p first (suc count) never =
     ap (λ b. is_some (if b then Some first else find p (range_with_len (first + 1) count))) (never first (omega arith) (omega arith)) ∙ find_no p (first + 1) count (λ seat from to. never seat (omega (arith, from)) (omega (arith, to)))
 
+-- lists that are empty for each seat
 pub flat_none : {B : Type 0} (f : ℕ → List B) (first count : ℕ) → ((seat : ℕ) → first ≤ seat → seat < first + count → f seat ≡ []) → flat_map f (range_with_len first count) ≡ []
 flat_none f first zero never = refl
 flat_none f first (suc count) never =
@@ -52,5 +58,6 @@ any_in_range p first (suc count) seat least most is = elim (cases_eq seat first)
     above : first ≤ seat → (seat ≡ first → ⊥) → first + 1 ≤ seat
     above least differ = elim (Rattle.std.proofs.lemmas.Bool.cases_lt first seat) [ inl more ↦ omega (arith, more) | inr less ↦ absurd (differ (omega (arith, less, least))) ]
 
+-- a test that passes for a seat of the hand passes somewhere
 pub any_seat : (setup : Setup) (p : ℕ → Bool) (seat : ℕ) → 1 ≤ seat → seat ≤ setup.stacks.seats → p seat ≡ true → list_any p (all_seats setup) ≡ true
 any_seat setup p seat least most is = any_in_range p 1 setup.stacks.seats seat least (omega (arith, most)) is

@@ -23,6 +23,7 @@ found_less p q first rest true b less later is = false_true (sym is)
 found_less p q first rest false true less later is = false_true (less refl)
 found_less p q first rest false false less later is = later is
 
+-- a stronger test finds nothing where a weaker one does not
 pub none_found_still : (p q : ℕ → Bool) (seats : List ℕ) → ((seat : ℕ) → q seat ≡ true → p seat ≡ true) → is_some (find p seats) ≡ false → is_some (find q seats) ≡ false
 none_found_still p q [] less is = refl
 none_found_still p q (seat ∷ rest) less is = found_less p q seat rest (p seat) (q seat) (less seat) (none_found_still p q rest less) is
@@ -38,6 +39,7 @@ less_dealt : (live : Bool) (on more dealt : ℕ) → (if live then on - (more + 
 less_dealt true on more dealt = omega arith
 less_dealt false on more dealt = omega arith
 
+-- no event makes a seat be owed more hole cards of a street
 pub hole_owed_still : (setup : Setup) (before : Past) (event : Resolved) (street seat : ℕ) → hole_cards_owed setup (event ∷ before) street seat ≤ hole_cards_owed setup before street seat
 hole_owed_still setup before (Dealt on owner cards) street seat = less_dealt (is_live (moves_of before) seat) (hole_cards_on setup.code street) (if (on == street) && (owner == seat) then length cards else 0) (hole_cards_dealt before street seat)
 hole_owed_still setup before (Boarded on cards) street seat = omega arith
@@ -46,6 +48,7 @@ hole_owed_still setup before (Discarded on owner cards) street seat = omega arit
 hole_owed_still setup before (Shown on owner cards) street seat = omega arith
 hole_owed_still setup before (Mucked on owner) street seat = omega arith
 
+-- nor the board more of its cards
 pub board_owed_still : (setup : Setup) (before : Past) (event : Resolved) (street : ℕ) → board_cards_owed setup (event ∷ before) street ≤ board_cards_owed setup before street
 board_owed_still setup before (Boarded on cards) street = omega arith
 board_owed_still setup before (Dealt on owner cards) street = omega arith
@@ -57,6 +60,7 @@ board_owed_still setup before (Mucked on owner) street = omega arith
 less_than : (a b : ℕ) → b ≤ a → nat_lt 0 a ≡ false → nat_lt 0 b ≡ false
 less_than a b less is = le-ltb 0 b (omega (arith, less, ltb-false 0 a is))
 
+-- a deal that is not due does not come due
 pub deal_still : (setup : Setup) (before : Past) (event : Resolved) (street : ℕ) → is_deal_due setup before street ≡ false → is_deal_due setup (event ∷ before) street ≡ false
 deal_still setup before event street is =
     let parts = or_parts (list_any (λ seat. nat_lt 0 (hole_cards_owed setup before street seat)) (all_seats setup)) (nat_lt 0 (board_cards_owed setup before street)) is in
@@ -76,6 +80,7 @@ is_discard_on street (Mucked on owner) = false
 not_here : (b c : Bool) (n : ℕ) → b ≡ false → (if b && c then n else 0) ≡ 0
 not_here b c n is = ap (λ x. if x && c then n else 0) is
 
+-- without a discard no seat is owed more replacements
 pub replaced_still : (before : Past) (event : Resolved) (street seat : ℕ) → is_discard_on street event ≡ false → replacements_owed (event ∷ before) street seat ≤ replacements_owed before street seat
 replaced_still before (Dealt on owner cards) street seat no_discard = omega arith
 replaced_still before (Boarded on cards) street seat no_discard = omega arith
@@ -94,6 +99,7 @@ drawn_before false drew before is = false_true is
 drawn_before true true before is = false_true is
 drawn_before true false before is = is
 
+-- who has yet to draw had yet to draw before
 pub to_draw_still : (before : Past) (event : Resolved) (street seat : ℕ) → (is_live (moves_of (event ∷ before)) seat && not (has_drawn (event ∷ before) street seat)) ≡ true → (is_live (moves_of before) seat && not (has_drawn before street seat)) ≡ true
 to_draw_still before (Dealt on owner cards) street seat is = is
 to_draw_still before (Boarded on cards) street seat is = is
@@ -106,6 +112,7 @@ draw_by : (draws a b c d : Bool) → (a ≡ false → c ≡ false) → (b ≡ fa
 draw_by false a b c d first second is = refl
 draw_by true a b c d first second is = let parts = or_parts a b is in or_from c d (first parts.0) (second parts.1)
 
+-- a draw that is not due does not come due without a discard
 pub draw_still : (setup : Setup) (before : Past) (event : Resolved) (street : ℕ) → is_discard_on street event ≡ false → is_draw_due setup before street ≡ false → is_draw_due setup (event ∷ before) street ≡ false
 draw_still setup before event street no_discard is =
     draw_by (has_draw setup.code street) (is_some (next_to_draw setup before street)) (list_any (λ seat. nat_lt 0 (replacements_owed before street seat)) (all_seats setup)) (is_some (next_to_draw setup (event ∷ before) street)) (list_any (λ seat. nat_lt 0 (replacements_owed (event ∷ before) street seat)) (all_seats setup))
@@ -122,6 +129,7 @@ at_range p first (suc count) seat is least most =
       | inr below ↦ let same : seat ≡ first = omega (arith, below, least) in ap p same ∙ parts.0
     ]
 
+-- where no draw is due no replacement is owed
 pub none_owed : (setup : Setup) (before : Past) (street seat : ℕ) → has_draw setup.code street ≡ true → is_draw_due setup before street ≡ false → 1 ≤ seat → seat ≤ setup.stacks.seats → replacements_owed before street seat ≡ 0
 none_owed setup before street seat draws is least most =
     let inside : (is_some (next_to_draw setup before street) || list_any (λ seat. nat_lt 0 (replacements_owed before street seat)) (all_seats setup)) ≡ false = sym (ap (λ b. b && (is_some (next_to_draw setup before street) || list_any (λ seat. nat_lt 0 (replacements_owed before street seat)) (all_seats setup))) draws) ∙ is in
@@ -134,6 +142,7 @@ found_here p first count seat true here later is =
     let same : first ≡ seat = same_Some first seat is in (ap p (sym same) ∙ here, (omega (arith, same), omega (arith, same)))
 found_here p first count seat false here later is = let it = later is in (it.0, (omega (arith, it.1.0), omega (arith, it.1.1)))
 
+-- what is found in a range passes, and is of the range
 pub found_in_range : (p : ℕ → Bool) (first count seat : ℕ) → find p (range_with_len first count) ≡ Some seat → (p seat ≡ true) × ((first ≤ seat) × (seat < first + count))
 found_in_range p first zero seat is = absurd (some_is_none (sym is))
 found_in_range p first (suc count) seat is = found_here p first count seat (p first) refl (found_in_range p (first + 1) count seat) is

@@ -121,6 +121,7 @@ unknowns_step covers seat street count names slots.Unknown [] zero first rest tr
 unknowns_step covers seat street count names slots.Unknown [] (suc blanks) first rest true here covered hand before later =
     (λ second among. first_out covers seat street count first rest (hand.held first (inl refl) covered).1 before second (came_from covers street count names [] blanks rest second among), later [] blanks)
 
+-- a discard keeps the unknown cards of a seat going in the order of dealing
 pub discard_unknowns : (covers : Place → Bool) (seat street count : ℕ) (names others : List Card) (blanks : ℕ) (placed : List Place) → CoversHand covers seat street placed → UnknownsFirst placed → UnknownsFirst (after_names covers (discarded_now street count) names others blanks placed)
 discard_unknowns covers seat street count names others blanks [] hand before = tt
 discard_unknowns covers seat street count names others blanks (first ∷ rest) hand before =

@@ -29,11 +29,13 @@ abbrev pub AreSorted : List Place → Type 0
 AreSorted [] = Unit {0}
 AreSorted (first ∷ rest) = ((later : Place) → IsAmong rest later → first.street ≤ later.street) × AreSorted rest
 
+-- a place with the same card, owner and street stood there before
 pub record SureFrom (olds : List Place) (new : Place) : Type 0 where
   pub old : Place
   pub among : IsAmong olds old
   pub sure : IsSureOf old new
 
+-- each place of later ones comes from such a one
 pub sure_from : (olds news : List Place) (new : Place) → AreSureOf olds news → IsAmong news new → SureFrom olds new
 sure_from [] [] new sure among = absurd among
 sure_from [] (first ∷ news) new sure among = absurd sure
@@ -80,6 +82,7 @@ sorted_step setup before at _ law come (moves move no_deal no_draw on) sorted = 
     by_fold true = sorted_sure (places_of setup.code before) (after_fold move.seat (places_of setup.code before)) (fold_sure move.seat (length (places_of setup.code before)) (places_of setup.code before)) sorted
     by_fold false = sorted
 
+-- after legal events places stand in the order of their streets
 pub legal_sorted : (setup : Setup) (rules : Rules) (events : List Said) → AreLegal setup rules events → AreSorted (places_of setup.code (past_of setup events))
 unfolding with_event
 legal_sorted setup rules [] legal = tt
@@ -96,6 +99,7 @@ street_number (first ∷ rest) a b up sorted (inl is_a) (inr in_b) less = omega 
 street_number (first ∷ rest) a b up sorted (inr in_a) (inl is_b) less = absurd (omega (arith, less, sorted.0 a in_a, ap (λ (p : Place). p.street) is_b))
 street_number (first ∷ rest) a b up sorted (inr in_a) (inr in_b) less = street_number rest a b up.1 sorted.1 in_a in_b less
 
+-- of two unknown cards of a seat the one with the lower number goes first
 pub number_out : (placed : List Place) (a b : Place) → AreRising placed → UnknownsFirst placed → IsAmong placed a → IsAmong placed b → a.number < b.number → OutFirst a b
 number_out [] a b up before in_a in_b less = absurd in_a
 number_out (first ∷ rest) a b up before (inl is_a) (inl is_b) less = absurd (omega (arith, less, ap (λ (p : Place). p.number) is_a, ap (λ (p : Place). p.number) is_b))
@@ -118,6 +122,7 @@ out_at : (p : Place → Bool) (first : Place) (rest : List Place) (b : Bool) →
 out_at p first rest true before later = (λ second among. before second (passed p rest second among).among, later)
 out_at p first rest false before later = later
 
+-- a filter keeps that order
 pub out_filter : (p : Place → Bool) (placed : List Place) → UnknownsFirst placed → UnknownsFirst (filter p placed)
 out_filter p [] before = tt
 out_filter p (first ∷ rest) before = out_at p first rest (p first) before.0 (out_filter p rest before.1)
@@ -130,6 +135,7 @@ among_flat piece (key ∷ rest) place among = elim (among_append (piece key) (fl
   | inr later ↦ among_flat piece rest place later
 ]
 
+-- and so do the streets one after another
 pub street_out : (placed : List Place) (piece : ℕ → List Place) (start count : ℕ) → AreRising placed → AreSorted placed → UnknownsFirst placed → ((street : ℕ) (place : Place) → IsAmong (piece street) place → IsAmong placed place × (place.street ≡ street)) → ((street : ℕ) → UnknownsFirst (piece street)) → UnknownsFirst (flat_map piece (range_with_len start count)) × ((place : Place) → IsAmong (flat_map piece (range_with_len start count)) place → start ≤ place.street)
 street_out placed piece start zero up sorted before is each = (tt, λ place among. absurd among)
 street_out placed piece start (suc count) up sorted before is each =

@@ -41,6 +41,7 @@ OutFirst first second =
     first.owner ≡ second.owner → is_unknown first.slot ≡ true → is_unknown second.slot ≡ true → 0 < second.discarded → first.street < second.discarded
     → (first.discarded ≡ 0) ⊎ (second.discarded ≤ first.discarded) → first.discarded ≡ second.discarded
 
+-- so it is for all places of a list
 abbrev pub UnknownsFirst : List Place → Type 0
 UnknownsFirst [] = Unit {0}
 UnknownsFirst (first ∷ rest) = ((second : Place) → IsAmong rest second → OutFirst first second) × UnknownsFirst rest

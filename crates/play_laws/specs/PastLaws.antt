@@ -19,6 +19,8 @@ AreReached newest (move ∷ rest) = (move.street ≤ newest) × AreReached newes
 abbrev pub has_move : ℕ → List Move → Bool
 has_move street moves = list_any (λ move. move.street == street) moves
 
+-- What holds of a legal past: its newest street is one of the game and no move is of a later one; a street with a
+-- move has its cards; and what was discarded was replaced, but on the newest street.
 pub record PastLaw (setup : Setup) (before : Past) : Type 0 where
   pub within : newest_street before ≤ street_count setup.code
   pub since : 1 ≤ newest_street before

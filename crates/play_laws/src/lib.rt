@@ -1,6 +1,8 @@
-//! Laws of legal pasts: what is due, whose turn it is, and how cards lie, after any events that were legal one by one.
+//! Laws of legal pasts: what is due, whose turn it is, and how cards lie, after events that were legal one by one.
 #![tactic(auto)]
 
 mod laws;
+mod spellings;
 
 pub use laws::{law_of_legal_pasts, law_of_legal_places};
+pub use spellings::{law_of_actors, law_of_equal_targets};

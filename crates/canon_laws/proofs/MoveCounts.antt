@@ -1,0 +1,41 @@
+-- A past has as many moves as its script says.
+use Rattle.std.proofs.Common.{◌≡◌, ℕ, ◌+◌, ◌≤◌, Bool, cond, List, [], ◌∷◌, ◌++◌, length, count_by, reverse, refl, sym, ◌∙◌, ap, arith}
+use Rattle.std.proofs.lemmas.List.{reverse-append}
+use Rattle.list_laws.proofs.Counting.{count_by-cons, count_by-push}
+use Rattle.play_event.specs.Past.{moves_of}
+use Rattle.play_event.specs.Said as said
+use Rattle.play_event.specs.Said.{Said}
+use Rattle.play_event.specs.Scripts.{past_at_end, past_of, with_event}
+use Rattle.play_event.specs.declared.setup.Rules.{Rules}
+use Rattle.play_event.specs.declared.setup.Setup.{Setup}
+use Rattle.hand_canon.specs.LegalHand.{IsPlayed, is_move}
+use Rattle.hand_canon.specs.Tidy.{IsTidy}
+use Rattle.hand_canon.specs.TraceCore.{core_after}
+use Rattle.hand_canon.specs.declared.limits.TheConstants.{MOST_MOVES}
+use Rattle.canon_laws.proofs.TidyTraces.{tidy_trace}
+
+-- the moves of events, the newest first
+move_count : (setup : Setup) (events : List Said) → length (moves_of (past_of setup events)) ≡ count_by is_move events
+unfolding with_event
+move_count setup [] = refl
+move_count setup (said.Fold named ∷ events) = omega (arith, move_count setup events, count_by-cons is_move (said.Fold named) events)
+move_count setup (said.Call named stated ∷ events) = omega (arith, move_count setup events, count_by-cons is_move (said.Call named stated) events)
+move_count setup (said.Raise named amount ∷ events) = omega (arith, move_count setup events, count_by-cons is_move (said.Raise named amount) events)
+move_count setup (said.BringIn named ∷ events) = omega (arith, move_count setup events, count_by-cons is_move (said.BringIn named) events)
+move_count setup (said.Hole seat cards ∷ events) = omega (arith, move_count setup events, count_by-cons is_move (said.Hole seat cards) events)
+move_count setup (said.Board cards ∷ events) = omega (arith, move_count setup events, count_by-cons is_move (said.Board cards) events)
+move_count setup (said.Discard seat cards ∷ events) = omega (arith, move_count setup events, count_by-cons is_move (said.Discard seat cards) events)
+move_count setup (said.Show seat cards ∷ events) = omega (arith, move_count setup events, count_by-cons is_move (said.Show seat cards) events)
+move_count setup (said.Muck seat ∷ events) = omega (arith, move_count setup events, count_by-cons is_move (said.Muck seat) events)
+
+-- as many from the end as from the beginning
+count_reversed : (p : Said → Bool) (script : List Said) → count_by p (reverse script) ≡ count_by p script
+count_reversed p [] = refl
+count_reversed p (event ∷ rest) =
+    let turned = ap (count_by p) (reverse-append (event ∷ []) rest) in
+    omega (arith, turned, count_by-push p (reverse rest) event, count_reversed p rest, count_by-cons p event rest)
+
+-- a trace is tidy if the moves of its script are within the limit
+pub tidy_within : (setup : Setup) (rules : Rules) (script : List Said) → IsPlayed setup rules script → count_by is_move script ≤ MOST_MOVES → IsTidy (core_after setup script)
+tidy_within setup rules script played few =
+    tidy_trace setup rules script played (omega (arith, few, move_count setup (reverse script), count_reversed is_move script))

@@ -1,2 +1,0 @@
--- The canonical script leaves the shares of the script.
-pub mod SameShares

@@ -1,1 +1,0 @@
--- Nothing is defined here: the laws speak of what `hand_canon` defines.

@@ -1,0 +1,29 @@
+-- An event with its actor named, and the target that a raise comes to after a past.
+use Rattle.std.specs.Prelude.{ℕ, Option, Some, unwrap_or}
+use Rattle.play_event.specs.Amounts.{raise_target}
+use Rattle.play_event.specs.Due.{turn}
+use Rattle.play_event.specs.MoveReasons.{actor_of}
+use Rattle.play_event.specs.Mover.{mover}
+use Rattle.play_event.specs.Openers.{InTurn}
+use Rattle.play_event.specs.Past.{Past, moves_of}
+use Rattle.play_event.specs.Said.{BringIn, Call, Fold, Raise, Said}
+use Rattle.play_event.specs.Table.{up_cards}
+use Rattle.play_event.specs.declared.event.Spelled.{Spelled}
+use Rattle.play_event.specs.declared.setup.Setup.{Setup}
+
+-- an event with this seat as its actor, where it is a move that names none
+abbrev pub with_actor : ℕ → Said → Said
+with_actor seat (Fold named) = Fold (Some (unwrap_or named seat))
+with_actor seat (Call named stated) = Call (Some (unwrap_or named seat)) stated
+with_actor seat (Raise named amount) = Raise (Some (unwrap_or named seat)) amount
+with_actor seat (BringIn named) = BringIn (Some (unwrap_or named seat))
+with_actor seat event = event
+
+-- whose turn it is after a past
+abbrev pub in_turn_after : Setup → Past → InTurn
+in_turn_after setup past = mover setup (up_cards setup.code past) (moves_of past) (turn setup past).0
+
+-- the target of a raise after a past, by the seat that it names or else by the seat in turn
+abbrev pub target_after : Setup → Past → Option ℕ → Spelled → ℕ
+target_after setup past named amount =
+    raise_target setup (moves_of past) (turn setup past).0 (actor_of named (in_turn_after setup past)) amount

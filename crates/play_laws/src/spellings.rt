@@ -1,0 +1,35 @@
+// One play, however it is spelled.
+ghost use Rattle.std.specs.Prelude.{◌≡◌, ℕ, Option};
+ghost use Rattle.play_event.specs.Laws.{IsInTurn};
+ghost use Rattle.play_event.specs.Past.{Past};
+ghost use Rattle.play_event.specs.Reasons.{why};
+ghost use Rattle.play_event.specs.Said.{Raise, Said};
+ghost use Rattle.play_event.specs.Scripts.{with_event};
+ghost use Rattle.play_event.specs.declared.event.Spelled.{Spelled};
+ghost use Rattle.play_event.specs.declared.setup.Rules.{Rules};
+ghost use Rattle.play_event.specs.declared.setup.Setup.{Setup};
+ghost use Rattle.play_laws.specs.Spellings.{target_after, with_actor};
+
+/// A move without actor is that of the seat in turn: to name this seat changes neither why the move is illegal nor what
+/// takes place. The function does nothing: its contract is a law.
+pub fn law_of_actors()
+    ensures same_reason { (setup : Setup) (rules : Rules) (past : Past) (seat : ℕ) (event : Said)
+        → IsInTurn setup past seat
+        → why setup rules past (with_actor seat event) ≡ why setup rules past event }
+    ensures same_past { (setup : Setup) (past : Past) (seat : ℕ) (event : Said)
+        → IsInTurn setup past seat
+        → with_event setup (with_actor seat event) past ≡ with_event setup event past }
+{}
+
+/// However a raise is spelled, and whether it names its seat or not, its target alone tells why it is illegal and what takes
+/// place.
+pub fn law_of_equal_targets()
+    ensures same_reason { (setup : Setup) (rules : Rules) (past : Past) (named : Option ℕ)
+        → (amount other : Spelled)
+        → target_after setup past named amount ≡ target_after setup past named other
+        → why setup rules past (Raise named amount) ≡ why setup rules past (Raise named other) }
+    ensures same_past { (setup : Setup) (past : Past) (named : Option ℕ)
+        → (amount other : Spelled)
+        → target_after setup past named amount ≡ target_after setup past named other
+        → with_event setup (Raise named amount) past ≡ with_event setup (Raise named other) past }
+{}
