@@ -243,7 +243,7 @@ eight_none has cards different tells few = by_says (greatest points (choices 5 c
         let long = (eight_most has cards says.choice most tells says.among (held_chosen 5 cards says.choice different says.among) says.pointed).0 in
         absurd (omega arith)
 
-digits_within : (bound : ℕ) (hs : List ℕ) → bound ≤ 16 → FallingFrom bound hs → AreDigits hs
+pub digits_within : (bound : ℕ) (hs : List ℕ) → bound ≤ 16 → FallingFrom bound hs → AreDigits hs
 digits_within bound [] below falling = tt
 digits_within bound (h ∷ hs) below falling = (omega (arith, falling.0), digits_within h hs (omega (arith, falling.0)) falling.1)
 

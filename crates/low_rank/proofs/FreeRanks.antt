@@ -9,7 +9,7 @@ use Rattle.hand_order.proofs.FallingRanks.{FallingFrom}
 use Rattle.list_laws.proofs.Tests.{and_false, and_true}
 use Rattle.low_rank.specs.Lowest.{lowest}
 use Rattle.low_rank.specs.RazzBest.{both_ranks, class_ranks, first_ranks, is_free, is_height_of, lowest_ranks, often, often_ranks, seldom, seldom_ranks}
-use Rattle.low_rank.proofs.EightBest.{few_lowest}
+use Rattle.low_rank.proofs.EightBest.{digits_within, few_lowest}
 use Rattle.low_rank.proofs.LowestLaws.{IsLeast, Pass, lowest_least, lowest_passes, lowest_some}
 
 -- how many heights pass a test, among as many from one on
@@ -141,10 +141,6 @@ pub digits_both : (xs ys : List ℕ) → AreDigits xs → AreDigits ys → AreDi
 digits_both [] ys digits others = others
 digits_both (x ∷ xs) ys digits others = (digits.0, digits_both xs ys digits.1 others)
 
-pub digits_of : (bound : ℕ) (hs : List ℕ) → bound ≤ 16 → FallingFrom bound hs → AreDigits hs
-digits_of bound [] below falling = tt
-digits_of bound (h ∷ hs) below falling = (omega (arith, falling.0), digits_of h hs (omega (arith, falling.0)) falling.1)
-
 -- what passes one test passes another that is as easy
 pub pass_easier : (has easier : ℕ → Bool) (from : ℕ) (hs : List ℕ) → ((h : ℕ) → has h ≡ true → easier h ≡ true) → Pass has from hs → Pass easier from hs
 pass_easier has easier from [] turn pass = tt
@@ -195,10 +191,10 @@ both_least T m n o k a b less long_a long_b falls_a falls_b pass_a pass_b =
     let left = all_spared (is_free T o a) b falls_b pass_b in
     let full = ranks_full (is_free T o first) k (omega (arith, mine, theirs, left, least.long)) in
     let rest_shape = ranks_shape (is_free T o first) k in
-    let digits_first = digits_of 14 first (omega arith) shape.0 in
-    let digits_a = digits_of 14 a (omega arith) falls_a in
-    let digits_rest = digits_of 14 rest (omega arith) rest_shape.0 in
-    let digits_b = digits_of 14 b (omega arith) falls_b in
+    let digits_first = digits_within 14 first (omega arith) shape.0 in
+    let digits_a = digits_within 14 a (omega arith) falls_a in
+    let digits_rest = digits_within 14 rest (omega arith) rest_shape.0 in
+    let digits_b = digits_within 14 b (omega arith) falls_b in
     let before = at_most first a (least.long ∙ sym long_a) digits_first digits_a least.least in
     let most = both_at_most first a rest b before (λ same.
     let again = ranks_least (is_free T o first) k b long_b falls_b (subst (λ (l : List ℕ). Pass (is_free T o l) 1 b) (sym same) pass_b) in

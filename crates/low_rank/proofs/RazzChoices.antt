@@ -32,8 +32,8 @@ use Rattle.list_laws.proofs.Tests.{passes_or_not}
 use Rattle.low_rank.specs.Low.{low_points, low_table}
 use Rattle.low_rank.specs.Razz.{points}
 use Rattle.low_rank.specs.RazzBest.{HasClass, class_ranks, first_ranks, is_free, is_height_of, lowest_ranks, often, often_ranks, seldom, seldom_ranks}
-use Rattle.low_rank.proofs.EightBest.{all_down, empty_of, falls_within, filter_falls, filter_passes}
-use Rattle.low_rank.proofs.FreeRanks.{both_least, digits_both, digits_of, few_ranks, ranks_shape}
+use Rattle.low_rank.proofs.EightBest.{all_down, digits_within, empty_of, falls_within, filter_falls, filter_passes}
+use Rattle.low_rank.proofs.FreeRanks.{both_least, digits_both, few_ranks, ranks_shape}
 use Rattle.low_rank.proofs.LowestLaws.{Pass}
 
 -- the lists of ranks by how often they occur have the shape of a class
@@ -304,8 +304,25 @@ record HasRanks (cards : List Card) (class : ℕ) (ranks : List ℕ) : Type 0 wh
   pub class_is : low_class choice ≡ class
   pub ranks_are : ranks_of low_ace choice ≡ ranks
 
-class_reached : (T : ℕ → ℕ) (cards : List Card) (class : ℕ) → Counts T cards → class ≤ 5 → HasClass T class → HasRanks cards class (class_ranks T class)
+-- a hand with exactly the ranks of two groups is of their class
+class_made : (choice : List Card) (class : ℕ) (a b : List ℕ) → AreApart a b → class ≤ 5 → length a ≡ often_ranks class → length b ≡ seldom_ranks class → ((h : ℕ) → times low_ace choice h ≡ wanted (often class) a (seldom class) b h) → (low_class choice ≡ class) × (ranks_of low_ace choice ≡ a ++ b)
 unfolding ranks_of low_class
+class_made choice class a b apart few long_a long_b has =
+    let facts = of_class class few in
+    let at = λ (n : ℕ) (some : 0 < n). occurring_group choice (often class) (seldom class) a b n apart some facts.positive facts.less has in
+    let made = makes class few a b long_a long_b in (
+      ap (λ (l : List ℕ). place (low_table (length l) (ranks_occurring low_ace choice 3) (ranks_occurring low_ace choice 2))) (at 4 (omega arith))
+          ∙ ap (λ (l : List ℕ). place (low_table (length (grouped class a b 4)) (length l) (ranks_occurring low_ace choice 2))) (at 3 (omega arith))
+          ∙ ap (λ (l : List ℕ). place (low_table (length (grouped class a b 4)) (length (grouped class a b 3)) (length l))) (at 2 (omega arith))
+          ∙ made.class_is,
+      ap (λ (l : List ℕ). l ++ (occurring low_ace choice 3 ++ (occurring low_ace choice 2 ++ occurring low_ace choice 1))) (at 4 (omega arith))
+          ∙ ap (λ (l : List ℕ). grouped class a b 4 ++ (l ++ (occurring low_ace choice 2 ++ occurring low_ace choice 1))) (at 3 (omega arith))
+          ∙ ap (λ (l : List ℕ). grouped class a b 4 ++ (grouped class a b 3 ++ (l ++ occurring low_ace choice 1))) (at 2 (omega arith))
+          ∙ ap (λ (l : List ℕ). grouped class a b 4 ++ (grouped class a b 3 ++ (grouped class a b 2 ++ l))) (at 1 (omega arith))
+          ∙ made.list,
+    )
+
+class_reached : (T : ℕ → ℕ) (cards : List Card) (class : ℕ) → Counts T cards → class ≤ 5 → HasClass T class → HasRanks cards class (class_ranks T class)
 class_reached T cards class counts few has =
     let m = often class in
     let o = seldom class in
@@ -331,23 +348,8 @@ class_reached T cards class counts few has =
     (λ is. let one = one_passes (is_free T o a) 14 h b shape_b.0 shape_b.1 is in omega (arith, (free_once o (T h) (is_height_of a h) one.0).0, counts h one.1 (omega (arith, one.2)))) in
     let sum = sum_wanted m o a b apart ∙ ap (λ (n : ℕ). m * n + o * length b) long_a ∙ ap (λ (n : ℕ). m * often_ranks class + o * n) long_b ∙ facts.five in
     let found = wanted_chosen low_ace IsHeight-low_ace cards (wanted m a o b) 5 within sum in
-    let at = λ (n : ℕ) (some : 0 < n). occurring_group found.choice m o a b n apart some facts.positive facts.less found.has in
-    let made = makes class few a b long_a long_b in
-    record {
-      choice = found.choice;
-      among = found.among;
-      class_is =
-          ap (λ (l : List ℕ). place (low_table (length l) (ranks_occurring low_ace found.choice 3) (ranks_occurring low_ace found.choice 2))) (at 4 (omega arith))
-          ∙ ap (λ (l : List ℕ). place (low_table (length (grouped class a b 4)) (length l) (ranks_occurring low_ace found.choice 2))) (at 3 (omega arith))
-          ∙ ap (λ (l : List ℕ). place (low_table (length (grouped class a b 4)) (length (grouped class a b 3)) (length l))) (at 2 (omega arith))
-          ∙ made.class_is;
-      ranks_are =
-          ap (λ (l : List ℕ). l ++ (occurring low_ace found.choice 3 ++ (occurring low_ace found.choice 2 ++ occurring low_ace found.choice 1))) (at 4 (omega arith))
-          ∙ ap (λ (l : List ℕ). grouped class a b 4 ++ (l ++ (occurring low_ace found.choice 2 ++ occurring low_ace found.choice 1))) (at 3 (omega arith))
-          ∙ ap (λ (l : List ℕ). grouped class a b 4 ++ (grouped class a b 3 ++ (l ++ occurring low_ace found.choice 1))) (at 2 (omega arith))
-          ∙ ap (λ (l : List ℕ). grouped class a b 4 ++ (grouped class a b 3 ++ (grouped class a b 2 ++ l))) (at 1 (omega arith))
-          ∙ made.list;
-    }
+    let made = class_made found.choice class a b apart few long_a long_b found.has in
+    record { choice = found.choice; among = found.among; class_is = made.0; ranks_are = made.1 }
   where
     enough : (h m o : ℕ) (a b : List ℕ) (s : Bool) → is_height_of a h ≡ s → (t : Bool) → is_height_of b h ≡ t → (is_height_of a h ≡ true → m ≤ times low_ace cards h) → (is_height_of b h ≡ true → o ≤ times low_ace cards h) → cond s m (cond t o 0) ≤ times low_ace cards h
     enough h m o a b true here t there first second = first here
@@ -368,7 +370,7 @@ class_number T class few =
     let few_a = few_ranks (is_free T (often class) []) (often_ranks class) in
     let few_b = few_ranks (is_free T (seldom class) a) (seldom_ranks class) in
     number_below (a ++ b) (omega (arith, length-append a b, few_a, few_b, (of_class class few).few))
-    (digits_both a b (digits_of 14 a (omega arith) (ranks_shape (is_free T (often class) []) (often_ranks class)).0) (digits_of 14 b (omega arith) (ranks_shape (is_free T (seldom class) a) (seldom_ranks class)).0))
+    (digits_both a b (digits_within 14 a (omega arith) (ranks_shape (is_free T (often class) []) (often_ranks class)).0) (digits_within 14 b (omega arith) (ranks_shape (is_free T (seldom class) a) (seldom_ranks class)).0))
 
 -- the points of the best class are the greatest
 pub razz_best : (T : ℕ → ℕ) (cards : List Card) (class : ℕ) → AllDifferent cards → 5 ≤ length cards → Counts T cards → class ≤ 5 → ((better : ℕ) → 0 ≤ better → better < class → HasClass T better → ⊥) → ((class ≡ 5) ⊎ HasClass T class) → Some (16 ^ 6 - class_above class (class_ranks T class)) ≡ greatest points (choices 5 cards)
