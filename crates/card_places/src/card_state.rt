@@ -1,4 +1,4 @@
-// The state of the cards of a hand: the dealt cards, who drew, and who showed or mucked.
+//! A state of the cards never has more of them than a legal hand can have.
 ghost use Rattle.std.specs.Prelude.{◌≡◌, ◌≤◌};
 ghost use Rattle.play_event.specs.Games.{game_of};
 ghost use Rattle.card_places.specs.Placed.{placed};

@@ -1,4 +1,4 @@
-// A deal, a draw or a show is complete.
+//! A deal, a draw or a show is complete exactly where nobody lacks anything of it.
 ghost use Rattle.std.specs.Prelude.{◌≡◌, ◌≤◌};
 ghost use Rattle.std.specs.List.{list_any};
 ghost use Rattle.chip_ledger.specs.Seat.{seats_of};

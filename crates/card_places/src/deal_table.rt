@@ -1,4 +1,4 @@
-// What the streets of a game deal and draw, and its deck.
+//! A street of the game has what its table says, and past the last one nothing.
 ghost use Rattle.std.specs.Prelude.{◌≡◌, ◌≤◌};
 ghost use Rattle.play_event.specs.Games.{game_of, street_count};
 ghost use Rattle.play_event.specs.Places as places;

@@ -1,4 +1,4 @@
-// A dealt card: whose it is, when it was dealt, what is known of it, and whether it is gone.
+//! A dealt card says whose it is, when it was dealt, what is known of it, and whether it is gone.
 ghost use Rattle.std.specs.Prelude.{◌≡◌};
 ghost use Rattle.play_event.specs.Places as places;
 ghost use Rattle.play_event.specs.Places.{is_in_group};

@@ -1,4 +1,4 @@
-// The dealt cards of a hand, in the order of dealing.
+//! The dealt cards of a hand stand in the order of dealing, and there is room for all of them.
 ghost use Rattle.std.specs.Prelude.{◌≡◌, ◌≤◌, length};
 
 use crate::dealt_card::DealtCard;

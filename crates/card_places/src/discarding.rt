@@ -1,4 +1,4 @@
-// Why a discard is illegal, by the state, and the places after it.
+//! A discard is refused exactly by the rules, and else takes the cards that its names find.
 ghost use Rattle.std.specs.Prelude.{◌≡◌, ℕ, ◌≤◌, ◌+◌, true, filter, find, map, length, count_by, None, Some, IfOk, IfErr, OnOk, OnErr};
 ghost use Rattle.std.specs.List.{range_with_len};
 ghost use Rattle.card_set.specs.Row.{slots_of};

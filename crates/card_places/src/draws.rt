@@ -1,4 +1,4 @@
-// Who drew on which street, and how many cards it named.
+//! Who drew on which street, and how many cards it named, is kept for the whole hand.
 ghost use Rattle.std.specs.Prelude.{◌≡◌, ◌≢◌, ◌≤◌, ◌⊎◌, ℕ, length, slice_index, slice_index_or, true, false};
 
 use chip_ledger::Seat;

@@ -1,4 +1,4 @@
-// Before the first card.
+//! Before the first card nothing is dealt, drawn, shown or mucked.
 ghost use Rattle.std.specs.Prelude.{◌≡◌, ◌≤◌, ℕ, [], false};
 ghost use Rattle.chip_ledger.specs.LiveRow.{flag_of};
 ghost use Rattle.play_event.specs.Games.{game_of};

@@ -1,4 +1,4 @@
-// What a place becomes where a discard or a show covers it.
+//! A covered place becomes what the names make of it.
 ghost use Rattle.std.specs.Prelude.{◌≡◌, ◌≤◌, ◌∷◌, ℕ, Bool, List, if◌then◌else◌, drop, length};
 ghost use Rattle.card_set.specs.declared.card.Card.{Card};
 ghost use Rattle.card_set.specs.Row.{cards_of};

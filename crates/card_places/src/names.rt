@@ -1,4 +1,4 @@
-// Cards that are named, and the places that bear them.
+//! Names and slots are compared card by card, as the rules do.
 ghost use Rattle.std.specs.Prelude.{◌≡◌, ◌≤◌, length, map, count_by, filter, ◌&&◌, not};
 ghost use Rattle.std.specs.List.{list_any};
 ghost use Rattle.card_set.specs.Deck as decks;

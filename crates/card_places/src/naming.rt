@@ -1,4 +1,4 @@
-// The names of a discard or a show are tried on the places.
+//! The names of a discard or a show are tried on the places that it covers.
 ghost use Rattle.std.specs.Prelude.{◌≡◌, ◌≤◌, ◌<◌, filter, map, length, count_by, ◌&&◌};
 ghost use Rattle.std.specs.List.{list_any};
 ghost use Rattle.card_set.specs.Row.{cards_of};

@@ -1,4 +1,4 @@
-// The places in the order of the trace: by street, then by owner, then in the order of dealing.
+//! The places are told by street, then by owner, then in the order of dealing, as a trace has them.
 ghost use Rattle.std.specs.Prelude.{◌≡◌, ℕ, ◌+◌, ◌<◌, ◌≤◌, Some, None, List, length, map, filter, flat_map, slice_get, IfOk, IfErr};
 ghost use Rattle.std.specs.List.{range_with_len};
 ghost use Rattle.play_event.specs.Games.{street_count};

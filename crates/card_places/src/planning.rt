@@ -1,4 +1,4 @@
-// Why a deal is illegal, by the state.
+//! A deal is refused exactly by the rules.
 ghost use Rattle.std.specs.Prelude.{◌≡◌, ◌≤◌, ◌&&◌, ◌||◌, ◌==◌, not, length, map, Some};
 ghost use Rattle.card_set.specs.declared.card.Slot as slots;
 ghost use Rattle.play_event.specs.CardReasons as reasons;

@@ -1,4 +1,4 @@
-// Why a show is illegal, by the state, and the places after it.
+//! A show or a muck is refused exactly by the rules, and a show makes its cards known.
 ghost use Rattle.std.specs.Prelude.{◌≡◌, ◌≤◌, ◌&&◌, not, filter, map, length, count_by, Some, IfOk, IfErr, OnOk, OnErr, IsTrue, List, IfNone, IfSome, None};
 ghost use Rattle.card_set.specs.declared.card.Card.{Card};
 ghost use Rattle.std.specs.List.{list_any};

@@ -1,4 +1,4 @@
-// Which card may not lie where it is dealt or named.
+//! A card is taken exactly where the deck lacks it, or where it clashes with another.
 ghost use Rattle.std.specs.Prelude.{◌≡◌, ◌≤◌, ◌&&◌, ◌==◌, length, map, not, count_by, nat_lt, is_some};
 ghost use Rattle.std.specs.List.{list_any};
 ghost use Rattle.card_set.specs.Known as known;

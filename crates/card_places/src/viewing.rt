@@ -1,4 +1,4 @@
-// What is read from the state: hands, up-cards and the board.
+//! Hands, up-cards and the board are read from the places.
 ghost use Rattle.std.specs.Prelude.{◌≡◌, ℕ, ◌≤◌, ◌&&◌, true, None, Some, map, filter};
 ghost use Rattle.std.specs.List.{list_any};
 ghost use Rattle.card_set.specs.Known as known;

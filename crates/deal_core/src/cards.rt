@@ -1,4 +1,4 @@
-// The cards of a hand of one game, and each call on them.
+//! Each call on the cards of a hand answers as the rules do, for every past for which the state stands.
 ghost use Rattle.std.specs.Prelude.{◌≡◌, ◌≤◌, ◌<◌, ◌∷◌, [], ℕ, length, slice_get, true, OnOk, OnErr, IfErr, IsSomeAnd, None, Some};
 ghost use Rattle.card_set.specs.Row.{cards_of, slots_of};
 ghost use Rattle.chip_ledger.specs.LiveRow.{flag_of};

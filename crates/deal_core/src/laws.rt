@@ -1,4 +1,4 @@
-// A move leaves the cards as they are, unless it is a fold.
+//! A move leaves the cards as they are, unless it is a fold.
 ghost use Rattle.std.specs.Prelude.{◌≡◌, false, ◌∷◌};
 ghost use Rattle.card_places.specs.declared.card_state.CardState.{CardState};
 ghost use Rattle.play_event.specs.Past.{Past, Move, Moved, is_fold};
