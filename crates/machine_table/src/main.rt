@@ -3,6 +3,7 @@
 #![tactic(auto)]
 
 mod betting;
+mod cards;
 mod setups;
 mod valid;
 mod words;
@@ -36,6 +37,7 @@ fn answer_to(alloc: Global, row: &str) -> Result<Option<String>, AllocError> {
     let (machine, rest) = words::first_and_rest(row);
     match machine.as_bytes() {
         b"betting" => betting::answer_to(alloc, rest),
+        b"cards" => cards::answer_to(alloc, rest),
         _ => Ok(None),
     }
 }

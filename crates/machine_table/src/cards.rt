@@ -1,0 +1,392 @@
+//! The card machine: `cards GAME SEATS: EVENT; EVENT..`. An event is `hole 1 2c??`, `board 2c3d4h`, `discard 1 2c??`,
+//! `show 1 2c3d`, `muck 1` or `fold 1`; what is due from then on, as `due Deal 1`, `due Draw 2`, `due Show` or `due Over`;
+//! `settled`, from when on the hand is; or a question: `done`, `up`, `hands`, `table`, `mucked`, `unknown`, `places`.
+ghost use Rattle.std.specs.Prelude.{◌≡◌, ◌≤◌, true, IsTrue};
+ghost use Rattle.card_places.specs.CardEvents.{is_deal, is_discard};
+ghost use Rattle.play_event.specs.Said.{kind_said};
+ghost use Rattle.street_laws.specs.CardEvents.{is_showing};
+ghost use Rattle.street_laws.specs.Dues.{IsDueWithin};
+
+use crate::words;
+use card_set::{CardRow, Slot, SlotRow, read_slots, slot_text};
+use chip_ledger::{LiveRow, Seat};
+use deal_core::Cards;
+use play_event::{Code, Due, Event, Illegal, Kind};
+use std::alloc::{AllocError, Global};
+use variant_table::{F2L3D, F7S, F7S8, FB, FO8, FR, FT, N2L1D, NS, NT, PO, Variant};
+
+/// The answers to the events of a row.
+pub fn answer_to(alloc: Global, row: &str) -> Result<Option<String>, AllocError> {
+    let Some((game, events)) = row.split_once(": ") else {
+        return Ok(None);
+    };
+    let (code, seats) = words::first_and_rest(game);
+    let (Some(code), Ok(seats)) = (Code::read(code), seats.parse::<u8>()) else {
+        return Ok(None);
+    };
+    let answer = match code {
+        Code::FT => played::<FT>(alloc, seats, events)?,
+        Code::NT => played::<NT>(alloc, seats, events)?,
+        Code::NS => played::<NS>(alloc, seats, events)?,
+        Code::PO => played::<PO>(alloc, seats, events)?,
+        Code::FO8 => played::<FO8>(alloc, seats, events)?,
+        Code::F7S => played::<F7S>(alloc, seats, events)?,
+        Code::F7S8 => played::<F7S8>(alloc, seats, events)?,
+        Code::FR => played::<FR>(alloc, seats, events)?,
+        Code::N2L1D => played::<N2L1D>(alloc, seats, events)?,
+        Code::F2L3D => played::<F2L3D>(alloc, seats, events)?,
+        Code::FB => played::<FB>(alloc, seats, events)?,
+    };
+    Ok(Some(answer))
+}
+
+// What the row says besides the cards: who is live, what is due, and whether the hand is settled.
+#[derive(Clone, Copy)]
+struct Told {
+    live: LiveRow,
+    due: Due,
+    settled: bool,
+}
+
+// The answers of the machine of one game, one after the other.
+fn played<V: Variant>(alloc: Global, seats: u8, events: &str) -> Result<String, AllocError> {
+    if seats < 2 || V::SEATS < seats || 10 < seats {
+        return String::from_str(alloc, "no such seats");
+    }
+    let mut cards = Cards::<V>::start(seats);
+    let mut told = Told {
+        live: all_live(seats),
+        due: Due::Deal(1),
+        settled: false,
+    };
+    let mut text = String::new(alloc);
+    for event in events.split("; ") {
+        if !text.is_empty() {
+            text.push_str("; ")?;
+        }
+        let answer = answered(alloc, &mut cards, &mut told, event)?;
+        text.push_str(answer.as_str())?;
+    }
+    Ok(text)
+}
+
+fn all_live(seats: u8) -> LiveRow
+    requires least { 2 ≤ seats }
+    requires most { seats ≤ 10 }
+{
+    let mut live = LiveRow::new(seats);
+    for index in 0..seats {
+        live.set(Seat { number: index + 1 }, true);
+    }
+    live
+}
+
+// The answer to one event.
+fn answered<V: Variant>(
+    alloc: Global,
+    cards: &mut Cards<V>,
+    told: &mut Told,
+    event: &str,
+) -> Result<String, AllocError> {
+    let (word, rest) = words::first_and_rest(event);
+    match word.as_bytes() {
+        b"due" => {
+            let Some(due) = due_of(rest) else {
+                return String::from_str(alloc, "no such due");
+            };
+            told.due = due;
+            String::from_str(alloc, "due")
+        }
+        b"settled" => {
+            told.settled = true;
+            String::from_str(alloc, "settled")
+        }
+        b"fold" => folded(alloc, cards, told, rest),
+        b"done" => done(alloc, cards, told),
+        b"up" => up(alloc, cards),
+        b"hands" => hands(alloc, cards),
+        b"table" => cards_text(alloc, &cards.board()),
+        b"mucked" => flags(alloc, &cards.mucked()),
+        b"unknown" => flags(alloc, &cards.unknown()),
+        b"places" => places(alloc, cards),
+        _ => told_event(alloc, cards, told, word, rest),
+    }
+}
+
+// What is due by its words.
+fn due_of(text: &str) -> Option<Due> {
+    let (word, street) = words::first_and_rest(text);
+    match word.as_bytes() {
+        b"Deal" => Some(Due::Deal(street.parse::<u8>().ok()?)),
+        b"Draw" => Some(Due::Draw(street.parse::<u8>().ok()?)),
+        b"Move" => Some(Due::Move),
+        b"Show" => Some(Due::Show),
+        b"Over" => Some(Due::Over),
+        _ => None,
+    }
+}
+
+// The street of a deal or a draw is one of the game.
+fn is_within<V: Variant>(due: Due) -> bool
+    ensures { IsTrue result → IsDueWithin V.STREETS due }
+{
+    match due {
+        Due::Deal(on) => 1 <= on && on <= V::STREETS,
+        Due::Draw(on) => 1 <= on && on <= V::STREETS,
+        Due::BringIn | Due::Move | Due::Show | Due::Over => true,
+    }
+}
+
+// An event of cards.
+fn told_event<V: Variant>(
+    alloc: Global,
+    cards: &mut Cards<V>,
+    told: &Told,
+    word: &str,
+    rest: &str,
+) -> Result<String, AllocError> {
+    match word.as_bytes() {
+        b"hole" => match seat_and_slots(rest) {
+            Some((seat, cards_named)) => dealt(
+                alloc,
+                cards,
+                told,
+                Kind::Hole {
+                    seat,
+                    cards: cards_named,
+                },
+            ),
+            None => no_event(alloc),
+        },
+        b"board" => match read_slots(rest.as_bytes()) {
+            Ok(slots) => dealt(
+                alloc,
+                cards,
+                told,
+                Kind::Board {
+                    cards: known(&slots),
+                },
+            ),
+            Err(_) => no_event(alloc),
+        },
+        b"discard" => match seat_and_slots(rest) {
+            Some((seat, cards_named)) => discarded(
+                alloc,
+                cards,
+                told,
+                Kind::Discard {
+                    seat,
+                    cards: cards_named,
+                },
+            ),
+            None => no_event(alloc),
+        },
+        b"show" => match seat_and_slots(rest) {
+            Some((seat, slots)) => shown(
+                alloc,
+                cards,
+                told,
+                Kind::Show {
+                    seat,
+                    cards: known(&slots),
+                },
+            ),
+            None => no_event(alloc),
+        },
+        b"muck" => match words::seat_of(rest) {
+            Some(seat) => shown(alloc, cards, told, Kind::Muck { seat }),
+            None => no_event(alloc),
+        },
+        _ => no_event(alloc),
+    }
+}
+
+fn no_event(alloc: Global) -> Result<String, AllocError> {
+    String::from_str(alloc, "no event")
+}
+
+fn seat_and_slots(text: &str) -> Option<(Seat, SlotRow)> {
+    let (seat, slots) = words::first_and_rest(text);
+    Some((words::seat_of(seat)?, read_slots(slots.as_bytes()).ok()?))
+}
+
+// The known cards of a row.
+fn known(slots: &SlotRow) -> CardRow {
+    let mut cards = CardRow::new();
+    for slot in slots.as_slice() {
+        if let Slot::Known(card) = slot {
+            if cards.len < 7 {
+                cards.push(*card);
+            }
+        }
+    }
+    cards
+}
+
+fn dealt<V: Variant>(
+    alloc: Global,
+    cards: &mut Cards<V>,
+    told: &Told,
+    kind: Kind,
+) -> Result<String, AllocError>
+    requires { is_deal (kind_said kind) ≡ true }
+{
+    if told.live.seats != cards.state.seats || !is_within::<V>(told.due) {
+        return String::from_str(alloc, "no such street");
+    }
+    outcome(
+        alloc,
+        cards.deal(told.due, &told.live, &Event { at: 0, kind }),
+    )
+}
+
+fn discarded<V: Variant>(
+    alloc: Global,
+    cards: &mut Cards<V>,
+    told: &Told,
+    kind: Kind,
+) -> Result<String, AllocError>
+    requires { is_discard (kind_said kind) ≡ true }
+{
+    if told.live.seats != cards.state.seats || !is_within::<V>(told.due) {
+        return String::from_str(alloc, "no such street");
+    }
+    outcome(
+        alloc,
+        cards.discard(told.due, &told.live, &Event { at: 0, kind }),
+    )
+}
+
+fn shown<V: Variant>(
+    alloc: Global,
+    cards: &mut Cards<V>,
+    told: &Told,
+    kind: Kind,
+) -> Result<String, AllocError>
+    requires { is_showing (kind_said kind) ≡ true }
+{
+    if told.live.seats != cards.state.seats {
+        return String::from_str(alloc, "no such seats");
+    }
+    outcome(
+        alloc,
+        cards.show(told.due, &told.live, told.settled, &Event { at: 0, kind }),
+    )
+}
+
+fn folded<V: Variant>(
+    alloc: Global,
+    cards: &mut Cards<V>,
+    told: &mut Told,
+    seat: &str,
+) -> Result<String, AllocError> {
+    match words::seat_of(seat) {
+        Some(seat) if seat.number <= told.live.seats => {
+            told.live.set(seat, false);
+            cards.folded(seat);
+            String::from_str(alloc, "ok")
+        }
+        _ => no_event(alloc),
+    }
+}
+
+fn outcome(alloc: Global, taken: Result<(), Illegal>) -> Result<String, AllocError> {
+    match taken {
+        Ok(()) => String::from_str(alloc, "ok"),
+        Err(reason) => format!(in alloc; "{reason:?}"),
+    }
+}
+
+fn done<V: Variant>(alloc: Global, cards: &Cards<V>, told: &Told) -> Result<String, AllocError> {
+    if told.live.seats != cards.state.seats || !is_within::<V>(told.due) {
+        return String::from_str(alloc, "no such street");
+    }
+    let done = cards.done(told.due, &told.live);
+    format!(in alloc; "{done}")
+}
+
+// The slots of a row, as `2c??`, and `-` for none.
+fn push_slots(text: &mut String, slots: &[Slot]) -> Result<(), AllocError> {
+    if slots.is_empty() {
+        text.push_str("-")?;
+    }
+    for slot in slots {
+        let [rank, suit] = slot_text(*slot);
+        text.push(char::from(rank))?;
+        text.push(char::from(suit))?;
+    }
+    Ok(())
+}
+
+fn up<V: Variant>(alloc: Global, cards: &Cards<V>) -> Result<String, AllocError> {
+    let row = cards.up();
+    let mut text = String::new(alloc);
+    for index in 0..row.seats {
+        if index > 0 {
+            text.push_str(" ")?;
+        }
+        push_slots(&mut text, row.get(Seat { number: index + 1 }).as_slice())?;
+    }
+    Ok(text)
+}
+
+fn hands<V: Variant>(alloc: Global, cards: &Cards<V>) -> Result<String, AllocError> {
+    let row = cards.hands();
+    let mut text = String::new(alloc);
+    for index in 0..row.seats {
+        if index > 0 {
+            text.push_str(" ")?;
+        }
+        push_slots(&mut text, row.get(Seat { number: index + 1 }).as_slice())?;
+    }
+    Ok(text)
+}
+
+fn cards_text(alloc: Global, row: &CardRow) -> Result<String, AllocError> {
+    let mut text = String::new(alloc);
+    for card in row.as_slice() {
+        push_slots(&mut text, &[Slot::Known(*card)])?;
+    }
+    Ok(text)
+}
+
+// The seats of a row whose flag is set, and `-` for none.
+fn flags(alloc: Global, row: &LiveRow) -> Result<String, AllocError> {
+    let mut text = String::new(alloc);
+    for index in 0..row.seats {
+        let seat = Seat { number: index + 1 };
+        if row.get(seat) {
+            let number = seat.number;
+            write!(text, "{number}")?;
+        }
+    }
+    if text.is_empty() {
+        text.push_str("-")?;
+    }
+    Ok(text)
+}
+
+// All places in the order of the trace: owner, street, card, and the street of the draw that discarded it.
+fn places<V: Variant>(alloc: Global, cards: &Cards<V>) -> Result<String, AllocError> {
+    let mut text = String::new(alloc);
+    for index in 0..cards.place_count() {
+        if index > 0 {
+            text.push_str(" ")?;
+        }
+        let place = cards.place(index);
+        match place.owner {
+            Some(seat) => {
+                let number = seat.number;
+                write!(text, "{number}")?;
+            }
+            None => text.push_str("board")?,
+        }
+        let (street, gone) = (place.street, place.gone);
+        write!(text, "/{street}/")?;
+        push_slots(&mut text, &[place.slot])?;
+        if gone > 0 {
+            write!(text, "/{gone}")?;
+        }
+    }
+    Ok(text)
+}
