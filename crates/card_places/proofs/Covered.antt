@@ -3,6 +3,7 @@ use Rattle.std.proofs.Common.{◌≡◌, ℕ, ◌+◌, Bool, true, false, ◌&&�
 use Rattle.std.proofs.lemmas.List.Elements.{filter-append}
 use Rattle.std.proofs.lemmas.List.{append-nil}
 use Rattle.list_laws.proofs.Counting.{count_by-push}
+use Rattle.list_laws.proofs.Lists.{filter-agree}
 use Rattle.play_event.specs.Places.{Place, is_held_by}
 use Rattle.play_event.specs.declared.code.Code.{Code}
 use Rattle.card_set.specs.declared.card.Card.{Card}
@@ -23,11 +24,6 @@ all_covered code seat place = by_held (is_held_by seat place)
     by_held true = refl
     by_held false = refl
 
-pub filter_agree : (p q : Place → Bool) → ((place : Place) → p place ≡ q place) → (placed : List Place) → filter p placed ≡ filter q placed
-filter_agree p q same [] = refl
-filter_agree p q same (place ∷ rest) =
-    ap (λ b. if b then (place ∷ filter p rest) else filter p rest) (same place) ∙ ap (λ (l : List Place). if q place then (place ∷ l) else l) (filter_agree p q same rest)
-
 pub names_agree : (p q : Place → Bool) → ((place : Place) → p place ≡ q place) → (mark : Place → Place) (names others : List Card) (blanks : ℕ) (placed : List Place) → after_names p mark names others blanks placed ≡ after_names q mark names others blanks placed
 names_agree p q same mark names others blanks [] = refl
 names_agree p q same mark names others blanks (place ∷ rest) =
@@ -39,7 +35,7 @@ names_agree p q same mark names others blanks (place ∷ rest) =
     by_cover_of false later = ap (λ (l : List Place). place ∷ l) (later others blanks)
 
 pub held_covered : (code : Code) (seat : ℕ) (placed : List Place) → filter (is_covered code seat true) placed ≡ filter (is_held_by seat) placed
-held_covered code seat placed = filter_agree (is_covered code seat true) (is_held_by seat) (all_covered code seat) placed
+held_covered code seat placed = filter-agree (is_covered code seat true) (is_held_by seat) placed (all_covered code seat)
 
 pub held_named : (code : Code) (seat : ℕ) (mark : Place → Place) (names others : List Card) (blanks : ℕ) (placed : List Place) → after_names (is_covered code seat true) mark names others blanks placed ≡ after_names (is_held_by seat) mark names others blanks placed
 held_named code seat mark names others blanks placed = names_agree (is_covered code seat true) (is_held_by seat) (all_covered code seat) mark names others blanks placed

@@ -71,10 +71,6 @@ streets_long seats placed first (suc n) =
 pub all_ordered : (code : Code) (seats : ℕ) (placed : List Place) → IsWithin code seats placed → length placed ≤ length (ordered code seats placed)
 all_ordered code seats placed within = omega (arith, all_counted code seats placed within, streets_long seats placed 1 (street_count code))
 
-pub some_from : (n : ℕ) → (n ≡ 0 → ⊥) → 0 < n
-some_from zero none = absurd (none refl)
-some_from (suc n) none = omega arith
-
 -- the cards of a street and an owner, read from rows
 pub split_rows : (all behind rows placed : List Place) (street : ℕ) (owner : Option ℕ) → rows ≡ placed → Splits all (group placed street owner) behind → Splits all (group rows street owner) behind
 split_rows all behind rows placed street owner same splits = subst (λ (ps : List Place). Splits all (group ps street owner) behind) (sym same) splits

@@ -1,9 +1,5 @@
 -- What is said of a result says what follows from it.
-use Rattle.std.proofs.Common.{Result, Ok, Err, OnOk, IfOk, IfErr}
-
-pub if_ok : {A E : Type 0} {P Q : A → Type 0} (result : Result A E) → ((a : A) → P a → Q a) → IfOk result P → IfOk result Q
-if_ok (Ok a) step is = step a is
-if_ok (Err e) step is = tt
+use Rattle.std.proofs.Common.{Result, Ok, Err, OnOk, IfErr}
 
 pub if_err : {A E : Type 0} {P Q : E → Type 0} (result : Result A E) → ((e : E) → P e → Q e) → IfErr result P → IfErr result Q
 if_err (Ok a) step is = tt

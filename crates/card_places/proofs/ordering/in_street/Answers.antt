@@ -5,7 +5,8 @@ use Rattle.card_places.specs.Ordered.{group, on_seats, on_street}
 use Rattle.card_places.specs.Placed.{placed}
 use Rattle.card_places.specs.Plain.{place_of}
 use Rattle.card_places.proofs.InOrder.{in_front, is_behind, past_both, split_board, Splits}
-use Rattle.card_places.proofs.Outcomes.{if_ok, if_err}
+use Rattle.list_laws.proofs.Options.{along}
+use Rattle.card_places.proofs.Outcomes.{if_err}
 use Rattle.card_places.proofs.ordering.in_street.Goals as goal
 
 pub returns-in-Ok-clause-found : goal.returns-in-Ok-clause-found
@@ -21,7 +22,7 @@ returns-in-Err-clause-found c =
     let ps : List Place = placed c.args.state.now.places in
     let rows : List Place = map place_of c.as_slice.result.now in
     let splits : Splits (on_street seats ps c.args.street) (on_seats ps c.args.street 1 seats) (group rows c.args.street None) = subst (λ (l : List Place). Splits (on_street seats ps c.args.street) (on_seats ps c.args.street 1 seats) (group l c.args.street None)) (sym c.as_slice.ensures.placed) (split_board seats ps c.args.street) in
-    if_ok c.in_group.result
+    along c.in_group.result
     (λ card got.
     is_behind (on_street seats ps c.args.street) (on_seats ps c.args.street 1 seats) (group rows c.args.street None) c.args.index c.in-Err.left (place_of card) splits c.in-Err.ensures.past got) c.in_group.ensures.found
 
