@@ -33,10 +33,11 @@ owed_seen b seat = price_seen b - amount_of b.bets seat
 abbrev pub all_in_seen : Table → ℕ → ℕ
 all_in_seen b seat = amount_of b.bets seat + left_seen b seat
 
--- how many seats are live, and how many able
+-- how many seats are live
 abbrev pub live_count_seen : Table → ℕ
 live_count_seen b = count_by (flag_of b.live) (all_seats b.setup)
 
+-- how many seats are able
 abbrev pub able_count_seen : Table → ℕ
 able_count_seen b = count_by (able_seen b) (all_seats b.setup)
 

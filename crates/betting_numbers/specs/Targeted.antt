@@ -16,6 +16,7 @@ least_by limits.No floor least all_in fulls = min all_in floor
 least_by limits.Pot floor least all_in fulls = min all_in least
 least_by limits.Fixed floor least all_in fulls = min all_in (smallest fulls)
 
+-- and that of a seat, where the floor is this
 abbrev pub least_seen : Limit → Table → (floor seat : ℕ) → ℕ
 least_seen limit b floor seat = least_by limit floor (price_seen b + b.full_raise) (all_in_seen b seat) (fulls_seen b)
 

@@ -25,6 +25,7 @@ unit_seen limits.Fixed b seat = target_seen b seat spelled.Unit
 unit_seen limits.Pot b seat = 0
 unit_seen limits.No b seat = 0
 
+-- the move as the trace keeps it
 abbrev pub traced_seen : Limit → Table → (seat : ℕ) → Act → (target : ℕ) → TracedMove
 traced_seen limit b seat act target =
     record {

@@ -21,6 +21,7 @@ HoldsUps setup up past = (seat : ℕ) → 1 ≤ seat → seat ≤ setup.stacks.s
 abbrev pub unknown_seen : Table → UpRow → ℕ → Bool
 unknown_seen b up seat = able_seen b seat && list_any is_unknown (ups_of up seat)
 
+-- such a seat is there
 abbrev pub some_unknown_seen : Table → UpRow → Bool
 some_unknown_seen b up = list_any (unknown_seen b up) (all_seats b.setup)
 
@@ -29,6 +30,7 @@ abbrev pub before_seen : Opener → Table → UpRow → (seat other : ℕ) → B
 before_seen opener b up seat other =
     able_seen b other && is_opener_before opener (b.street == 1) (known_cards (ups_of up other)) (known_cards (ups_of up seat))
 
+-- a seat is able, and no able seat opens before it
 abbrev pub opens_seen : Opener → Table → UpRow → ℕ → Bool
 opens_seen opener b up seat = able_seen b seat && not (list_any (before_seen opener b up seat) (all_seats b.setup))
 

@@ -33,10 +33,11 @@ fold_why b named mover =
     else if not b.rules.free_fold && (owed_seen b mover == 0) then Some reasons.NothingToCall
     else None
 
--- where a call goes, and the chips that it adds
+-- where a call goes
 abbrev pub call_seen : Table → ℕ → ℕ
 call_seen b seat = min (price_seen b) (all_in_seen b seat)
 
+-- a call states other chips than it adds
 abbrev pub stated_why : Option ℕ → ℕ → Option Illegal
 stated_why None due = None
 stated_why (Some stated) due = if not (stated == due) then Some (reasons.AmountDiffers stated due) else None
@@ -92,6 +93,7 @@ ceiling_seen b seat = max (price_seen b + b.full_raise) (price_seen b + total_of
 abbrev pub fulls_by : (price size full_bet : ℕ) → List ℕ
 fulls_by price size full_bet = if nat_lt price size then (size ∷ []) else ((price + size) ∷ above_price price (full_bet + size))
 
+-- those of the street
 abbrev pub fulls_seen : Table → List ℕ
 fulls_seen b = fulls_by (price_seen b) (unit b.setup b.street) b.full_bet
 
@@ -107,9 +109,11 @@ greatest_by limits.No all_in ceiling fulls = all_in
 greatest_by limits.Pot all_in ceiling fulls = min all_in ceiling
 greatest_by limits.Fixed all_in ceiling fulls = min all_in (greatest fulls)
 
+-- a target of a seat is legal, where the floor is this
 abbrev pub legal_seen : Limit → Table → (floor seat target : ℕ) → Bool
 legal_seen limit b floor seat target = target_by limit floor (price_seen b + b.full_raise) (all_in_seen b seat) (ceiling_seen b seat) (fulls_seen b) target
 
+-- the greatest legal target of a seat
 abbrev pub greatest_seen : Limit → Table → ℕ → ℕ
 greatest_seen limit b seat = greatest_by limit (all_in_seen b seat) (ceiling_seen b seat) (fulls_seen b)
 
@@ -121,6 +125,7 @@ raise_to_why limit b floor mover target =
     else if nat_lt (greatest_seen limit b mover) target then Some reasons.RaiseTooBig
     else None
 
+-- why a raise is refused, however it is spelled
 abbrev pub raise_why : Limit → Table → (floor : ℕ) → Option ℕ → Spelled → ℕ → Option Illegal
 raise_why limit b floor named amount mover =
     if is_another named mover then Some reasons.WrongSeat else raise_to_why limit b floor mover (target_seen b mover amount)
