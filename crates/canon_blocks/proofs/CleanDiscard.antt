@@ -11,7 +11,7 @@ use Rattle.play_event.specs.declared.code.Code.{Code}
 use Rattle.card_set.specs.Known.{is_unknown}
 use Rattle.play_event.specs.Places.{Place, is_held_by}
 use Rattle.play_event.specs.Naming.{other_names, blanks_in, after_names, after_discard, discarded_now, held_count}
-use Rattle.play_event.specs.Taken.{newly_known, has_misplaced_card}
+use Rattle.play_event.specs.Taken.{newly_known, has_misplaced_card, is_misplaced}
 use Rattle.play_event.specs.CardReasons.{has_no_place}
 use Rattle.list_laws.proofs.Tests.{false_true}
 use Rattle.canon_blocks.proofs.MatchedNames.{slots_taken, names_taken, blanks_taken, marked_if, BlanksFirst, TakenTogether, IsMatched, is_matched}
@@ -93,7 +93,7 @@ clean_discard code street seat taken placed sub together first =
     record {
       after = after;
       count = le-ltb (held_count placed seat) (length (slots_taken taken placed)) (omega (arith, fewer_taken covers taken placed sub, length-filter covers placed));
-      free = ap (has_misplaced_card code placed) after ∙ ap (list_any (λ (place : Place). Rattle.play_event.specs.Taken.is_misplaced code (map (marked_if taken mark) placed) place)) (none_known taken mark placed (λ place. refl));
+      free = ap (has_misplaced_card code placed) after ∙ ap (list_any (λ (place : Place). is_misplaced code (map (marked_if taken mark) placed) place)) (none_known taken mark placed (λ place. refl));
       held = le-ltb (count_by (λ (place : Place). is_unknown place.slot) (filter covers placed)) (length (other_names (filter covers placed) (names_taken taken placed)) + blanks_in (slots_taken taken placed))
           (omega (arith, ap (λ (l : List Card). length l) matched.none_left, blanks_same taken placed, fewer_blanks covers taken placed sub, length-filter (λ (place : Place). is_unknown place.slot) (filter covers placed)));
     }

@@ -20,6 +20,7 @@ use Rattle.canon_blocks.proofs.MatchedNames.{slots_taken, names_taken, blanks_ta
 use Rattle.canon_blocks.proofs.CleanDiscard.{none_known}
 use Rattle.play_laws.proofs.FittingMoves.{same_filter}
 use Rattle.play_laws.proofs.PlaceGroups.{passed}
+use Rattle.play_event.proofs.ClashLaws.{IsOneOf}
 
 -- the cards that a seat holds are known
 abbrev pub HoldsKnown : ℕ → List Place → Type 0
@@ -30,13 +31,13 @@ abbrev pub held_cards : ℕ → List Place → List Card
 held_cards seat placed = names_taken (is_held_by seat) placed
 
 -- where all slots are known there are as many cards
-pub known_length : (list : List Slot) → ((slot : Slot) → Rattle.play_event.proofs.ClashLaws.IsOneOf list slot → is_unknown slot ≡ false) → length (known_cards list) ≡ length list
+pub known_length : (list : List Slot) → ((slot : Slot) → IsOneOf list slot → is_unknown slot ≡ false) → length (known_cards list) ≡ length list
 known_length [] known = refl
 known_length (slots.Known card ∷ rest) known = ap suc (known_length rest (λ slot among. known slot (inr among)))
 known_length (slots.Unknown ∷ rest) known = false_true (sym (known slots.Unknown (inl refl)))
 
 -- a slot of places is that of one of them
-pub one_of_map : (placed : List Place) (slot : Slot) → Rattle.play_event.proofs.ClashLaws.IsOneOf (map (λ (p : Place). p.slot) placed) slot → (place : Place) × (IsAmong placed place × (place.slot ≡ slot))
+pub one_of_map : (placed : List Place) (slot : Slot) → IsOneOf (map (λ (p : Place). p.slot) placed) slot → (place : Place) × (IsAmong placed place × (place.slot ≡ slot))
 one_of_map [] slot among = absurd among
 one_of_map (first ∷ rest) slot (inl same) = (first, (inl refl, same))
 one_of_map (first ∷ rest) slot (inr later) = let it = one_of_map rest slot later in (it.0, (inr it.1.0, it.1.1))

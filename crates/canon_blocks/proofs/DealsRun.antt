@@ -2,7 +2,7 @@
 use Rattle.play_laws.proofs.SeatRanges.{any_seat}
 use Rattle.std.proofs.Common.{◌≡◌, ℕ, zero, suc, ◌+◌, ◌-◌, ◌≤◌, ◌<◌, Bool, true, false, ◌&&◌, ◌||◌, ◌==◌, not, nat_lt, nat_le, Some, None, is_some, List, [], ◌∷◌, ◌++◌, length, refl, sym, ◌∙◌, ap, subst, arith, if◌then◌else◌}
 use Rattle.std.specs.List.{list_any, flat_map, range_with_len}
-use Rattle.std.proofs.lemmas.Bool.{and_parts, and_from, or_from, or_left, or_right, lt-ltb, le-ltb, le-leb, ne_eqb, eq-eqb, cases_eq, ltb-true}
+use Rattle.std.proofs.lemmas.Bool.{and_from, or_from, or_left, or_right, lt-ltb, le-ltb, le-leb, ne_eqb, and_right}
 use Rattle.card_set.specs.declared.card.Slot.{Slot}
 use Rattle.play_event.specs.declared.code.Code.{Code}
 use Rattle.play_event.specs.declared.reason.Due.{Due}
@@ -95,7 +95,7 @@ draw_street setup street draws no_hole no_board =
 -- a deal to one seat leaves what others are owed
 owed_still : (setup : Setup) (before : Past) (street seat other : ℕ) (cards : List Slot) → (seat ≡ other → ⊥) → cards_owed setup (past.Dealt street seat cards ∷ before) street other ≡ cards_owed setup before street other
 owed_still setup before street seat other cards differ =
-    let added : (if (street == street) && (seat == other) then length cards else 0) ≡ 0 = ap (λ b. if b then length cards else 0) (Rattle.std.proofs.lemmas.Bool.and_right (street == street) (seat == other) (ne_eqb seat other differ)) in
+    let added : (if (street == street) && (seat == other) then length cards else 0) ≡ 0 = ap (λ b. if b then length cards else 0) (and_right (street == street) (seat == other) (ne_eqb seat other differ)) in
     ap (λ n. if has_draw setup.code street then cards_discarded before street other - n else (if is_live (moves_of before) other then hole_cards_on setup.code street - n else 0)) (omega (arith, added))
 
 -- none of the cards is taken where it is dealt

@@ -1,6 +1,6 @@
 -- The canonical deals of a street mirror the groups of the script's places, and none of their cards is taken.
 use Rattle.play_laws.proofs.PlaceGroups.{AreIndexed, more_count, AreRising, Passed, passed, group_of, group_slots}
-use Rattle.std.proofs.Common.{◌≡◌, ℕ, zero, suc, ◌+◌, ◌≤◌, Bool, true, false, ◌==◌, nat_lt, inl, inr, Option, Some, None, List, [], ◌∷◌, ◌++◌, map, filter, length, count_by, refl, sym, ◌∙◌, ap, subst, arith, if◌then◌else◌}
+use Rattle.std.proofs.Common.{◌≡◌, ℕ, zero, suc, ◌+◌, ◌≤◌, Bool, false, ◌==◌, nat_lt, inl, inr, Option, Some, None, List, [], ◌∷◌, ◌++◌, map, filter, length, count_by, refl, sym, ◌∙◌, ap, subst, arith, if◌then◌else◌}
 use Rattle.std.specs.List.{range_with_len, flat_map}
 use Rattle.std.proofs.lemmas.Bool.{and_parts, or_parts, eqb-true, false_from_ne_true}
 use Rattle.std.proofs.lemmas.List.{append-nil, append_assoc}
@@ -12,24 +12,18 @@ use Rattle.play_event.specs.Places.{Place, is_same_owner, is_in_group, is_past_d
 use Rattle.play_event.specs.Table.{places_of}
 use Rattle.play_event.specs.Taken.{is_foreign}
 use Rattle.play_event.specs.Laws.{IsAmong}
-use Rattle.list_laws.proofs.Tests.{false_true}
 use Rattle.play_event.proofs.ClashLaws.{among_append}
 use Rattle.hand_canon.specs.CanonScript.{moves_before}
 use Rattle.play_laws.specs.LegalPlaces.{owner_folded, gone_by, AreLawful}
 use Rattle.canon_blocks.proofs.Mirrors.{Mirrors, AreMirrored}
 use Rattle.canon_blocks.proofs.FreeGroups.{IsBefore, IsAsLate, out_by, group_not_taken}
 use Rattle.canon_blocks.proofs.DealsRun.{AllFree, with_deal, with_deals}
-
-same_owner_is : (a b : Option ℕ) → is_same_owner a b ≡ true → a ≡ b
-same_owner_is (Some a) (Some b) is = ap Some (eqb-true a b is)
-same_owner_is None None is = refl
-same_owner_is (Some a) None is = false_true is
-same_owner_is None (Some b) is = false_true is
+use Rattle.play_event.proofs.OwnerLaws.{is_same_owner-true}
 
 -- places that are not yet gone at the deals of their street
 still_here : (code : Code) (moves : List Move) (placed : List Place) (street : ℕ) (place : Place) → AreLawful code moves placed → IsAmong placed place → place.street ≡ street → gone_by moves street place ≡ false
 still_here code moves placed street place law among here =
-    false_from_ne_true (gone_by moves street place) (λ gone_after. omega (arith, here, law.gone_after place street among gone_after))
+    false_from_ne_true (gone_by moves street place) (λ gone. omega (arith, here, law.gone_after place street among gone))
 
 mirror_dealt : (moves : List Move) (owner : Option ℕ) (street : ℕ) (late : Bool) (index number : ℕ) (card : Place) → card.owner ≡ owner → card.street ≡ street → card.index ≡ index → gone_by moves street card ≡ false → Mirrors (moves_before street moves) (out_by street) (record { owner = owner; street = street; index = index; number = number; slot = card.slot; past_deck = late; gone_after = None; discarded = 0 }) card
 mirror_dealt moves owner street late index number card mine here indexed still =
@@ -48,7 +42,7 @@ mirrors_dealt code moves placed owner street late index number (card ∷ rest) l
     let mine = group card (inl refl) in
     let parts = and_parts (is_same_owner card.owner owner) (card.street == street) mine.passes in
     let here : card.street ≡ street = eqb-true card.street street parts.1 in (
-      mirror_dealt moves owner street late index number card (same_owner_is card.owner owner parts.0) here indexed.0 (still_here code moves placed street card law mine.among here),
+      mirror_dealt moves owner street late index number card (is_same_owner-true card.owner owner parts.0) here indexed.0 (still_here code moves placed street card law mine.among here),
       mirrors_dealt code moves placed owner street late (index + 1) (number + 1) rest law (λ other among. group other (inr among)) indexed.1,
     )
 
@@ -132,7 +126,7 @@ dealt_out code moves placed street first (suc count) before finals law rising de
         record {
           among = it.among;
           reached = omega (arith, eqb-true final.street street parts.1);
-          apart = λ here mine. omega (arith, least, eqb-true first seat (sym (ap (λ o. is_same_owner o (Some seat)) (same_owner_is final.owner (Some first) parts.0)) ∙ mine));
+          apart = λ here mine. omega (arith, least, eqb-true first seat (sym (ap (λ o. is_same_owner o (Some seat)) (is_same_owner-true final.owner (Some first) parts.0)) ∙ mine));
         }
 
     still_before : (n : ℕ) → ((final : Place) (seat : ℕ) → IsAmong finals final → first ≤ seat → IsBefore placed street (Some seat) final) → (final : Place) (seat : ℕ) → IsAmong (finals ++ group_of placed street (Some first)) final → first + 1 ≤ seat → IsBefore placed street (Some seat) final

@@ -1,7 +1,7 @@
 -- The canonical discard of a seat takes the places that its discard of that draw took in the script.
-use Rattle.std.proofs.Common.{◌≡◌, ℕ, suc, ◌+◌, ◌≤◌, ◌<◌, Bool, true, false, ◌&&◌, ◌||◌, ◌==◌, inl, inr, ◌⊎◌, Option, Some, None, is_some, is_none, List, [], ◌∷◌, ◌++◌, map, filter, length, slice_get, refl, sym, ◌∙◌, ap, subst, arith, if◌then◌else◌}
+use Rattle.std.proofs.Common.{◌≡◌, ℕ, suc, ◌+◌, ◌≤◌, ◌<◌, Bool, true, false, ◌&&◌, ◌||◌, ◌==◌, inl, inr, ◌⊎◌, Some, is_some, is_none, List, [], ◌∷◌, ◌++◌, map, filter, length, slice_get, refl, sym, ◌∙◌, ap, subst, arith, if◌then◌else◌}
 use Rattle.std.specs.Option.{option_map_or}
-use Rattle.std.proofs.lemmas.Bool.{or_parts, or_cases, or_from, or_left, or_right, and_parts, and_from, and_left, and_right, eqb-true, eq-eqb, cases_Bool, cases_eq, both_ways, cases_lt}
+use Rattle.std.proofs.lemmas.Bool.{or_parts, or_from, or_left, or_right, and_parts, and_from, eqb-true, eq-eqb, both_ways, false_from_ne_true}
 use Rattle.play_event.specs.declared.code.Code.{Code}
 use Rattle.play_event.specs.Past.{Move}
 use Rattle.card_set.specs.Known.{is_unknown}
@@ -16,6 +16,9 @@ use Rattle.canon_blocks.proofs.CleanDiscard.{IsCleanDiscard, clean_discard}
 use Rattle.play_laws.proofs.PlaceLists.{AreNumbered}
 use Rattle.play_laws.proofs.QuietEvents.{held_parts}
 use Rattle.play_laws.proofs.DiscardCounts.{is_out_of}
+use Rattle.play_event.proofs.OwnerLaws.{is_same_owner-true}
+use Rattle.play_laws.proofs.FittingMoves.{none_some}
+use Rattle.std.proofs.lemmas.List.{append_assoc, length-append}
 
 -- A place of the canonical script is taken where the final place at its number is one that the seat discarded in this draw.
 abbrev pub taken_by : List Place → ℕ → ℕ → Place → Bool
@@ -43,22 +46,12 @@ pub record IsDrawing (moves : List Move) (out : Place → Bool) (street seat : �
 drawing_rest : (moves : List Move) (out : Place → Bool) (street seat : ℕ) (final : Place) (finals : List Place) → IsDrawing moves out street seat (final ∷ finals) → IsDrawing moves out street seat finals
 drawing_rest moves out street seat final finals is = record { live = is.live; still = λ other among. is.still other (inr among); early = λ other among. is.early other (inr among); before = λ other among. is.before other (inr among); some = is.some }
 
-owner_is : (a b : Option ℕ) → is_same_owner a b ≡ true → a ≡ b
-owner_is (Some a) (Some b) is = ap Some (eqb-true a b is)
-owner_is None None is = refl
-owner_is (Some a) None is = false_true is
-owner_is None (Some b) is = false_true is
-
-none_some : (gone_after : Option ℕ) → is_some gone_after ≡ false → is_none gone_after ≡ true
-none_some None is = refl
-none_some (Some count) is = false_true (sym is)
-
 -- a place that the seat discards now is held
 held_now : (moves : List Move) (out : Place → Bool) (street seat : ℕ) (mine final : Place) → owner_folded moves (Some seat) ≡ false → Mirrors moves out mine final → (is_out_of street seat final ≡ true → out final ≡ false) → is_out_of street seat final ≡ true → is_held_by seat mine ≡ true
 held_now moves out street seat mine final live mirror still is =
     let parts = and_parts (is_same_owner final.owner (Some seat)) (final.discarded == street) is in
     and_from (is_same_owner mine.owner (Some seat)) (is_none mine.gone_after) (ap (λ o. is_same_owner o (Some seat)) mirror.owner ∙ parts.0)
-    (none_some mine.gone_after (mirror.gone_after ∙ or_from (out final) (owner_folded moves final.owner) (still is) (ap (owner_folded moves) (owner_is final.owner (Some seat) parts.0) ∙ live)))
+    (none_some mine.gone_after (mirror.gone_after ∙ or_from (out final) (owner_folded moves final.owner) (still is) (ap (owner_folded moves) (is_same_owner-true final.owner (Some seat) parts.0) ∙ live)))
 
 taken_one : (moves : List Move) (out : Place → Bool) (all : List Place) (street seat : ℕ) (mine final : Place) → owner_folded moves (Some seat) ≡ false → Mirrors moves out mine final → (is_out_of street seat final ≡ true → out final ≡ false) → slice_get all mine.number ≡ Some final → taken_by all street seat mine ≡ is_out_of street seat final
 taken_one moves out all street seat mine final live mirror still at =
@@ -77,9 +70,9 @@ all_taken moves out front street seat (mine ∷ mines) [] mirrored numbered is =
 all_taken moves out front street seat (mine ∷ mines) (final ∷ finals) mirrored numbered is =
     let P : List Place → Type 0 = λ all. AllTaken (taken_by all street seat) street seat mines finals in
     let Q : ℕ → Type 0 = λ n. AreNumbered n mines in
-    let longer : length front + 1 ≡ length (front ++ (final ∷ [])) = sym (Rattle.std.proofs.lemmas.List.length-append front (final ∷ [])) in (
+    let longer : length front + 1 ≡ length (front ++ (final ∷ [])) = sym (length-append front (final ∷ [])) in (
       taken_one moves out (front ++ (final ∷ finals)) street seat mine final is.live mirrored.0 (is.still final (inl refl)) (ap (slice_get (front ++ (final ∷ finals))) numbered.0 ∙ get_behind front final finals),
-      subst P (Rattle.std.proofs.lemmas.List.append_assoc front (final ∷ []) finals) (all_taken moves out (front ++ (final ∷ [])) street seat mines finals mirrored.1 (subst Q longer numbered.1) (drawing_rest moves out street seat final finals is)),
+      subst P (append_assoc front (final ∷ []) finals) (all_taken moves out (front ++ (final ∷ [])) street seat mines finals mirrored.1 (subst Q longer numbered.1) (drawing_rest moves out street seat final finals is)),
     )
 
 -- the names are those of the final places
@@ -102,7 +95,7 @@ no_blanks moves out taken street seat first [] [] mirrored all never = refl
 no_blanks moves out taken street seat first [] (final ∷ finals) mirrored all never = absurd mirrored
 no_blanks moves out taken street seat first (mine ∷ mines) [] mirrored all never = absurd mirrored
 no_blanks moves out taken street seat first (mine ∷ mines) (final ∷ finals) mirrored all never =
-    let none : (taken mine && is_unknown mine.slot) ≡ false = Rattle.std.proofs.lemmas.Bool.false_from_ne_true (taken mine && is_unknown mine.slot) (λ both.
+    let none : (taken mine && is_unknown mine.slot) ≡ false = false_from_ne_true (taken mine && is_unknown mine.slot) (λ both.
     let parts = and_parts (taken mine) (is_unknown mine.slot) both in never final (inl refl) (sym all.0 ∙ parts.0) (sym (ap is_unknown mirrored.0.slot) ∙ parts.1)) in
     ap (λ b. if b then suc (blanks_taken taken mines) else blanks_taken taken mines) none
     ∙ no_blanks moves out taken street seat first mines finals mirrored.1 all.1 (λ second among. never second (inr among))
@@ -117,7 +110,7 @@ blanks_first moves out taken street seat (mine ∷ mines) (final ∷ finals) mir
       let on : second.discarded ≡ street = eqb-true second.discarded street parts.1 in
       let mine_is : final.owner ≡ Some seat = sym mirrored.0.owner ∙ (held_parts seat mine held).1 in
       let not_out : out final ≡ false = (or_parts (out final) (owner_folded moves final.owner) (sym mirrored.0.gone_after ∙ ap is_some (held_parts seat mine held).0)).0 in
-      let same : final.discarded ≡ second.discarded = before.0 second among (mine_is ∙ sym (owner_is second.owner (Some seat) parts.0)) (sym (ap is_unknown mirrored.0.slot) ∙ unknown) unknown_second
+      let same : final.discarded ≡ second.discarded = before.0 second among (mine_is ∙ sym (is_same_owner-true second.owner (Some seat) parts.0)) (sym (ap is_unknown mirrored.0.slot) ∙ unknown) unknown_second
       (omega (arith, on, is.some)) (omega (arith, on, is.early final (inl refl))) (elim (is.before final (inl refl) mine_is not_out) [ inl none ↦ inl none | inr late ↦ inr (omega (arith, late, on)) ]) in
       both_ways (taken mine) not_taken (all.0 ∙ and_from (is_same_owner final.owner (Some seat)) (final.discarded == street) (ap (λ o. is_same_owner o (Some seat)) mine_is ∙ eq-eqb seat seat refl) (eq-eqb final.discarded street (same ∙ on)))),
   blanks_first moves out taken street seat mines finals mirrored.1 all.1 (drawing_rest moves out street seat final finals is) before.1,

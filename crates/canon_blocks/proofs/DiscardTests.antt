@@ -1,6 +1,6 @@
 -- Cards of the board are never discarded, and a card is discarded on streets that draw; so the tests of what is out agree.
 use Rattle.std.proofs.Common.{◌≡◌, ℕ, ◌+◌, ◌≤◌, ◌<◌, Bool, true, false, ◌&&◌, ◌||◌, ◌==◌, nat_lt, nat_le, inl, inr, Option, Some, None, List, [], ◌∷◌, map, filter, length, count_by, refl, sym, ◌∙◌, ap, subst, arith, if◌then◌else◌}
-use Rattle.std.proofs.lemmas.Bool.{and_parts, and_from, and_right, or_from, eq-eqb, eqb-true, ne_eqb, cases_lt, cases_eq, both_ways, lt-ltb, le-ltb, le-leb, lt-leb, false_from_ne_true}
+use Rattle.std.proofs.lemmas.Bool.{and_right, eq-eqb, ne_eqb, cases_lt, cases_eq, both_ways, lt-ltb, le-ltb, le-leb, lt-leb, ltb-true, or_right}
 use Rattle.card_set.specs.declared.card.Slot.{Slot}
 use Rattle.card_set.specs.declared.card.Slot.TheVariants as slots
 use Rattle.play_event.specs.declared.code.Code.{Code}
@@ -26,6 +26,7 @@ use Rattle.canon_blocks.proofs.FreeGroups.{out_by}
 use Rattle.canon_blocks.proofs.TraceOrder.{IsOwner, a_seat, the_board, DrewLive, drew_live}
 use Rattle.canon_blocks.proofs.DiscardsRun.{out_to, is_below}
 use Rattle.canon_blocks.proofs.TraceOrderCounts.{AreOwned}
+use Rattle.list_laws.proofs.Options.{some_is_none}
 
 -- what is discarded is a seat's
 abbrev pub OutSeats : List Place → Type 0
@@ -40,7 +41,7 @@ marked_seats covers count draw (old ∷ olds) (first ∷ news) seat out is place
     subst P same (by_how is.0.how)
   where
     by_how : HowMarked covers count draw old first → 0 < first.discarded → first.owner ≡ None → ⊥
-    by_how (kept gone_after still) some none = out old (inl refl) (omega (arith, some, still)) (sym is.0.owner ∙ none)
+    by_how (kept gone still) some none = out old (inl refl) (omega (arith, some, still)) (sym is.0.owner ∙ none)
     by_how (marked covered now on) some none = seat old covered (sym is.0.owner ∙ none)
 marked_seats covers count draw (old ∷ olds) (first ∷ news) seat out is place (inr later) = marked_seats covers count draw olds news seat (λ other among. out other (inr among)) is.1 place later
 
@@ -61,7 +62,7 @@ deal_seats code owner at cards placed out place among some none = elim (among_ap
 ]
 
 no_board : (who : ℕ) (old : Place) → is_held_by who old ≡ true → old.owner ≡ None → ⊥
-no_board who old held none = Rattle.list_laws.proofs.Options.some_is_none (sym (held_parts who old held).1 ∙ none)
+no_board who old held none = some_is_none (sym (held_parts who old held).1 ∙ none)
 
 seats_step : (setup : Setup) (before : Past) (at : ℕ) (event : Resolved) → Stepped setup before at event → OutSeats (places_of setup.code before) → OutSeats (places_of setup.code (event ∷ before))
 seats_step setup before at _ (deals who cards due is some few free) out = deal_seats setup.code (Some who) at cards (places_of setup.code before) out
@@ -134,7 +135,7 @@ after_last setup rules events street place legal among some = by_some (nat_lt 0 
     by_order = elim (cases_lt place.discarded street) [
       | inl less ↦ ap (λ b. b || ((place.discarded == street) && true)) (lt-ltb place.discarded street less) ∙ sym (le-leb place.discarded street (omega (arith, less)))
       | inr more ↦ elim (cases_eq place.discarded street) [
-        | inl same ↦ ap (λ b. nat_lt place.discarded street || (b && true)) (eq-eqb place.discarded street same) ∙ (Rattle.std.proofs.lemmas.Bool.or_right (nat_lt place.discarded street) true refl ∙ sym (le-leb place.discarded street (omega (arith, same))))
+        | inl same ↦ ap (λ b. nat_lt place.discarded street || (b && true)) (eq-eqb place.discarded street same) ∙ (or_right (nat_lt place.discarded street) true refl ∙ sym (le-leb place.discarded street (omega (arith, same))))
         | inr differ ↦ ap (λ b. b || ((place.discarded == street) && true)) (le-ltb place.discarded street more) ∙ (ap (λ b. b && true) (ne_eqb place.discarded street differ) ∙ sym (lt-leb place.discarded street (above more differ)))
       ]
     ]
@@ -142,7 +143,7 @@ after_last setup rules events street place legal among some = by_some (nat_lt 0 
     by_some : (b : Bool) → nat_lt 0 place.discarded ≡ b → (b && (nat_lt place.discarded street || ((place.discarded == street) && is_below (1 + setup.stacks.seats) place.owner))) ≡ (b && nat_le place.discarded street)
     by_some false none = refl
     by_some true pos =
-        let it = out_is setup rules events place legal among (Rattle.std.proofs.lemmas.Bool.ltb-true 0 place.discarded pos) in
+        let it = out_is setup rules events place legal among (ltb-true 0 place.discarded pos) in
         let below : is_below (1 + setup.stacks.seats) place.owner ≡ true = ap (is_below (1 + setup.stacks.seats)) it.owner ∙ lt-ltb it.seat (1 + setup.stacks.seats) (omega (arith, it.drew.most)) in
         ap (λ b. nat_lt place.discarded street || ((place.discarded == street) && b)) below ∙ by_order
 
@@ -153,7 +154,7 @@ no_draw_out setup rules events before place legal among no_draw = by_some (nat_l
     by_some : (b : Bool) → nat_lt 0 place.discarded ≡ b → (b && nat_le place.discarded before) ≡ (b && nat_le place.discarded (before + 1))
     by_some false none = refl
     by_some true pos =
-        let it = out_is setup rules events place legal among (Rattle.std.proofs.lemmas.Bool.ltb-true 0 place.discarded pos) in
+        let it = out_is setup rules events place legal among (ltb-true 0 place.discarded pos) in
         elim (cases_lt before place.discarded) [
           | inr less ↦ le-leb place.discarded before less ∙ sym (le-leb place.discarded (before + 1) (omega (arith, less)))
           | inl more ↦ elim (cases_lt (before + 1) place.discarded) [

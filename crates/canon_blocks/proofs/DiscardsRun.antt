@@ -33,19 +33,16 @@ is_below first None = false
 abbrev pub out_to : ℕ → ℕ → Place → Bool
 out_to street first place = nat_lt 0 place.discarded && (nat_lt place.discarded street || ((place.discarded == street) && is_below first place.owner))
 
-mirrored_ext : (moves : List Move) (out other : Place → Bool) (mines finals : List Place) → ((final : Place) → IsAmong finals final → out final ≡ other final) → AreMirrored moves out mines finals → AreMirrored moves other mines finals
-mirrored_ext moves out other [] [] same mirrored = tt
-mirrored_ext moves out other [] (final ∷ finals) same mirrored = absurd mirrored
-mirrored_ext moves out other (mine ∷ mines) [] same mirrored = absurd mirrored
-mirrored_ext moves out other (mine ∷ mines) (final ∷ finals) same mirrored =
-    let it = mirrored.0 in (
-      record { owner = it.owner; street = it.street; index = it.index; slot = it.slot; discarded = it.discarded ∙ ap (λ b. if b then final.discarded else 0) (same final (inl refl)); gone_after = it.gone_after ∙ ap (λ b. b || owner_folded moves final.owner) (same final (inl refl)) },
-      mirrored_ext moves out other mines finals (λ f among. same f (inr among)) mirrored.1,
-    )
-
 -- tests that agree mirror alike
 pub mirrored_as : (moves : List Move) (out other : Place → Bool) (mines finals : List Place) → ((final : Place) → IsAmong finals final → out final ≡ other final) → AreMirrored moves out mines finals → AreMirrored moves other mines finals
-mirrored_as moves out other mines finals same mirrored = mirrored_ext moves out other mines finals same mirrored
+mirrored_as moves out other [] [] same mirrored = tt
+mirrored_as moves out other [] (final ∷ finals) same mirrored = absurd mirrored
+mirrored_as moves out other (mine ∷ mines) [] same mirrored = absurd mirrored
+mirrored_as moves out other (mine ∷ mines) (final ∷ finals) same mirrored =
+    let it = mirrored.0 in (
+      record { owner = it.owner; street = it.street; index = it.index; slot = it.slot; discarded = it.discarded ∙ ap (λ b. if b then final.discarded else 0) (same final (inl refl)); gone_after = it.gone_after ∙ ap (λ b. b || owner_folded moves final.owner) (same final (inl refl)) },
+      mirrored_as moves out other mines finals (λ f among. same f (inr among)) mirrored.1,
+    )
 
 -- what the discards of a draw need of the final places
 pub record IsDrawn (seats : ℕ) (moves : List Move) (street : ℕ) (finals : List Place) : Type 0 where

@@ -2,7 +2,7 @@
 use Rattle.std.proofs.Common.{◌≡◌, ℕ, zero, suc, ◌+◌, ◌≤◌, ◌<◌, Bool, true, false, ◌&&◌, ◌||◌, ◌==◌, not, nat_lt, inl, inr, ◌⊎◌, Option, Some, None, is_some, List, [], ◌∷◌, map, filter, find, length, refl, sym, ◌∙◌, ap, subst, arith, if◌then◌else◌}
 use Rattle.std.specs.List.{list_any, range_with_len}
 use Rattle.std.specs.Option.{option_map_or}
-use Rattle.std.proofs.lemmas.Bool.{or_parts, or_left, or_right, or_from, and_parts, and_from, and_left, and_right, eqb-true, eq-eqb, ne_eqb, cases_Bool, cases_lt, both_ways, false_from_ne_true, not_from_false, not_from_true}
+use Rattle.std.proofs.lemmas.Bool.{or_left, or_right, or_from, and_parts, and_from, and_left, and_right, eqb-true, eq-eqb, ne_eqb, cases_lt, both_ways, false_from_ne_true, not_from_false, not_from_true, lt-ltb, le-ltb}
 use Rattle.card_set.specs.declared.card.Slot.{Slot}
 use Rattle.play_event.specs.declared.reason.Due.TheVariants as dues
 use Rattle.play_event.specs.declared.setup.Setup.{Setup}
@@ -17,14 +17,14 @@ use Rattle.play_event.specs.Seats.{is_live, all_seats}
 use Rattle.play_event.specs.Dealing.{is_draw_due, next_to_draw, has_drawn, replacements_owed}
 use Rattle.play_event.specs.Due.{turn, due_on, is_bring_in_due, is_move_due}
 use Rattle.card_set.specs.Known.{known_cards}
-use Rattle.play_event.specs.Places.{Place, is_held_by}
+use Rattle.play_event.specs.Places.{Place, is_held_by, is_same_owner}
 use Rattle.play_event.specs.Naming.{after_discard, held_count, blanks_in}
 use Rattle.play_event.specs.Table.{places_of}
 use Rattle.play_event.specs.Taken.{has_misplaced_card}
 use Rattle.play_event.specs.CardReasons.{has_no_place}
 use Rattle.play_event.specs.Reasons.{why}
 use Rattle.play_event.specs.Scripts.{with_event}
-use Rattle.play_event.specs.Laws.{IsAmong}
+use Rattle.play_event.specs.Laws.{IsAmong, NoneClash}
 use Rattle.list_laws.proofs.Tests.{false_true}
 use Rattle.play_event.proofs.SafePlaces.{none_clash}
 use Rattle.canon_blocks.proofs.Mirrors.{AreMirrored}
@@ -35,7 +35,7 @@ use Rattle.play_laws.proofs.PlaceLists.{AreNumbered, rising}
 use Rattle.play_laws.proofs.InDeck.{legal_cards}
 use Rattle.play_laws.proofs.DiscardCounts.{is_out_of}
 use Rattle.canon_blocks.proofs.DiscardAgain.{taken_by, IsDrawing, discarded_again}
-use Rattle.canon_blocks.proofs.DiscardsRun.{together, out_to, mirrored_as, IsDrawn, out_next}
+use Rattle.canon_blocks.proofs.DiscardsRun.{together, out_to, mirrored_as, IsDrawn, out_next, is_below}
 use Rattle.canon_blocks.proofs.MovesRun.{IsLed, led_on}
 
 -- the first seat for which it is so
@@ -82,7 +82,7 @@ pub one_discard : (setup : Setup) (rules : Rules) (before : Past) (street first 
 one_discard setup rules before street first finals led come is drawn mirrored least most live undrawn done =
     let placed : List Place = places_of setup.code before in
     let N : Past → Type 0 = λ p. AreNumbered 0 (places_of setup.code p) in
-    let C : Past → Type 0 = λ p. Rattle.play_event.specs.Laws.NoneClash (places_of setup.code p) in
+    let C : Past → Type 0 = λ p. NoneClash (places_of setup.code p) in
     let numbered : AreNumbered 0 placed = subst N led.past (legal_cards setup rules led.events led.legal).list.numbered in
     let clean_places = subst C led.past (none_clash setup rules led.events led.legal) in
     let next : next_to_draw setup before street ≡ Some first =
@@ -92,7 +92,7 @@ one_discard setup rules before street first finals led come is drawn mirrored le
     let turned : turn setup before ≡ (street, dues.Draw street) = due_there setup before street (dues.Draw street) come (draw_is_due setup before street first is next) in
     let drawing : IsDrawing (moves_of before) (out_to street first) street first finals = record {
       live = not_from_true (is_live (moves_of before) first) live;
-      still = λ final among out. still_in final (and_parts (Rattle.play_event.specs.Places.is_same_owner final.owner (Some first)) (final.discarded == street) out);
+      still = λ final among out. still_in final (and_parts (is_same_owner final.owner (Some first)) (final.discarded == street) out);
       early = drawn.early;
       before = λ final among mine not_out. was_in final mine not_out;
       some = drawn.some;
@@ -114,28 +114,28 @@ one_discard setup rules before street first finals led come is drawn mirrored le
     by_live other from to true alive = and_right (is_live (moves_of before) other) (not (has_drawn before street other)) (not_from_true (has_drawn before street other) (done other from to alive))
     by_live other from to false folded = and_left (is_live (moves_of before) other) (not (has_drawn before street other)) folded
 
-    owner_is : (a b : Option ℕ) → Rattle.play_event.specs.Places.is_same_owner a b ≡ true → a ≡ b
+    owner_is : (a b : Option ℕ) → is_same_owner a b ≡ true → a ≡ b
     owner_is (Some a) (Some b) same = ap Some (eqb-true a b same)
     owner_is None None same = refl
     owner_is (Some a) None same = false_true same
     owner_is None (Some b) same = false_true same
 
-    still_in : (final : Place) → (Rattle.play_event.specs.Places.is_same_owner final.owner (Some first) ≡ true) × ((final.discarded == street) ≡ true) → out_to street first final ≡ false
+    still_in : (final : Place) → (is_same_owner final.owner (Some first) ≡ true) × ((final.discarded == street) ≡ true) → out_to street first final ≡ false
     still_in final parts =
         let mine : final.owner ≡ Some first = owner_is final.owner (Some first) parts.0 in
         let here : final.discarded ≡ street = eqb-true final.discarded street parts.1 in
-        and_right (nat_lt 0 final.discarded) (nat_lt final.discarded street || ((final.discarded == street) && Rattle.canon_blocks.proofs.DiscardsRun.is_below first final.owner))
-        (or_from (nat_lt final.discarded street) ((final.discarded == street) && Rattle.canon_blocks.proofs.DiscardsRun.is_below first final.owner)
-        (Rattle.std.proofs.lemmas.Bool.le-ltb final.discarded street (omega (arith, here)))
-        (and_right (final.discarded == street) (Rattle.canon_blocks.proofs.DiscardsRun.is_below first final.owner) (ap (Rattle.canon_blocks.proofs.DiscardsRun.is_below first) mine ∙ Rattle.std.proofs.lemmas.Bool.le-ltb first first (omega arith))))
+        and_right (nat_lt 0 final.discarded) (nat_lt final.discarded street || ((final.discarded == street) && is_below first final.owner))
+        (or_from (nat_lt final.discarded street) ((final.discarded == street) && is_below first final.owner)
+        (le-ltb final.discarded street (omega (arith, here)))
+        (and_right (final.discarded == street) (is_below first final.owner) (ap (is_below first) mine ∙ le-ltb first first (omega arith))))
 
     was_in : (final : Place) → final.owner ≡ Some first → out_to street first final ≡ false → (final.discarded ≡ 0) ⊎ (street ≤ final.discarded)
     was_in final mine not_out = elim (cases_lt final.discarded street) [
       | inr late ↦ inr late
       | inl early ↦ elim (cases_lt 0 final.discarded) [
         | inr none ↦ inl (omega (arith, none))
-        | inl some ↦ absurd (both_ways (out_to street first final) not_out (and_from (nat_lt 0 final.discarded) (nat_lt final.discarded street || ((final.discarded == street) && Rattle.canon_blocks.proofs.DiscardsRun.is_below first final.owner)) (Rattle.std.proofs.lemmas.Bool.lt-ltb 0 final.discarded some)
-            (or_left (nat_lt final.discarded street) ((final.discarded == street) && Rattle.canon_blocks.proofs.DiscardsRun.is_below first final.owner) (Rattle.std.proofs.lemmas.Bool.lt-ltb final.discarded street early))))
+        | inl some ↦ absurd (both_ways (out_to street first final) not_out (and_from (nat_lt 0 final.discarded) (nat_lt final.discarded street || ((final.discarded == street) && is_below first final.owner)) (lt-ltb 0 final.discarded some)
+            (or_left (nat_lt final.discarded street) ((final.discarded == street) && is_below first final.owner) (lt-ltb final.discarded street early))))
       ]
     ]
 

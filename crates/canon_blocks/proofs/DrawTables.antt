@@ -1,5 +1,5 @@
 -- Streets that draw deal no cards of their own.
-use Rattle.std.proofs.Common.{◌≡◌, ℕ, zero, suc, ◌+◌, ◌-◌, Bool, true, false, ◌&&◌, not, ◌||◌, ◌==◌, List, [], ◌∷◌, refl, ap, arith, slice_get}
+use Rattle.std.proofs.Common.{◌≡◌, ℕ, zero, suc, ◌+◌, ◌-◌, Bool, true, false, ◌&&◌, not, ◌==◌, List, [], ◌∷◌, refl, slice_get, sym}
 use Rattle.std.specs.List.{list_any}
 use Rattle.std.specs.Option.{option_map_or}
 use Rattle.std.proofs.lemmas.Bool.{or_parts, and_parts, eqb-true}
@@ -34,7 +34,7 @@ record NoCards (streets : List Street) (index : ℕ) : Type 0 where
 
 not_odd : (draws none : Bool) → draws ≡ true → (draws && not none) ≡ false → none ≡ true
 not_odd true true is odd = refl
-not_odd true false is odd = false_true (Rattle.std.proofs.Common.sym odd)
+not_odd true false is odd = false_true (sym odd)
 not_odd false none is odd = false_true is
 
 no_cards : (streets : List Street) (index : ℕ) → list_any is_odd streets ≡ false → option_map_or (λ s. s.draws) (slice_get streets index) false ≡ true → NoCards streets index

@@ -42,9 +42,9 @@ street_apart code moves placed a b law in_a in_b same differ = not_one (is_one_c
 pub record IsFreeOver (out : Place → Bool) (moves : List Move) (late : Bool) (slot : Slot) (final : Place) : Type 0 where
   pub when : is_one_card slot final.slot ≡ true → (late ≡ true) × ((out final || owner_folded moves final.owner) ≡ true)
 
-free_here : (late gone_after one : Bool) → (one ≡ true → (late ≡ true) × (gone_after ≡ true)) → (not (late && gone_after) && one) ≡ false
-free_here late gone_after false when = and_right (not (late && gone_after)) false refl
-free_here late gone_after true when = let both = when refl in ap (λ b. not b && true) (and_from late gone_after both.0 both.1)
+free_here : (late gone one : Bool) → (one ≡ true → (late ≡ true) × (gone ≡ true)) → (not (late && gone) && one) ≡ false
+free_here late gone false when = and_right (not (late && gone)) false refl
+free_here late gone true when = let both = when refl in ap (λ b. not b && true) (and_from late gone both.0 both.1)
 
 free_mirror : (moves : List Move) (out : Place → Bool) (late : Bool) (card : Card) (mine final : Place) → Mirrors moves out mine final → IsFreeOver out moves late (slots.Known card) final → (not (late && is_some mine.gone_after) && is_borne_by card mine.slot) ≡ false
 free_mirror moves out late card mine final mirror free =

@@ -1,16 +1,18 @@
 -- Names that are those of some of the covered places mark just these places.
 use Rattle.std.proofs.Common.{◌≡◌, ℕ, zero, suc, Bool, true, false, ◌&&◌, ◌||◌, inl, inr, ◌⊎◌, List, [], ◌∷◌, map, filter, refl, sym, ◌∙◌, ap, arith, if◌then◌else◌}
-use Rattle.std.proofs.lemmas.Bool.{or_cases, or_parts, or_right, eq-eqb}
+use Rattle.std.proofs.lemmas.Bool.{or_cases, or_right}
 use Rattle.card_set.specs.declared.card.Card.{Card}
 use Rattle.card_set.specs.declared.card.Slot.{Slot}
 use Rattle.card_set.specs.declared.card.Slot.TheVariants as slots
-use Rattle.card_set.specs.Deck.{is_same_card, deck_place}
+use Rattle.card_set.specs.Deck.{is_same_card}
 use Rattle.card_set.specs.Known.{is_unknown, known_cards}
 use Rattle.play_event.specs.Places.{Place}
 use Rattle.play_event.specs.Naming.{without, other_names, is_named, found_by, after_names}
 use Rattle.play_event.specs.Taken.{is_one_card}
 use Rattle.play_event.specs.Laws.{IsAmong}
 use Rattle.list_laws.proofs.Tests.{false_true}
+use Rattle.play_laws.proofs.NamedCounts.{keep_length}
+use Rattle.card_set.proofs.DeckLaws.{is_same_card-self}
 
 -- the cards of the places that are taken
 abbrev pub slots_taken : (Place → Bool) → List Place → List Slot
@@ -96,13 +98,10 @@ is_named_by taken card [] named = false_true named
 is_named_by taken card (first ∷ rest) named = named_at taken card first rest first.slot (taken first) refl refl (is_named_by taken card rest) named
 
 -- and the card of a taken place is named
-same_self : (card : Card) → is_same_card card card ≡ true
-same_self card = eq-eqb (deck_place card) (deck_place card) refl
-
 named_first : (taken : Place → Bool) (card : Card) (first : Place) (rest : List Place) (t : Bool) → first.slot ≡ slots.Known card → t ≡ true → is_named card (known_cards (map (λ (place : Place). place.slot) (if t then (first ∷ filter taken rest) else filter taken rest))) ≡ true
 named_first taken card first rest false here is = false_true is
 named_first taken card first rest true here is =
-    ap (λ s. is_named card (known_cards (s ∷ slots_taken taken rest))) here ∙ ap (λ b. b || is_named card (names_taken taken rest)) (same_self card)
+    ap (λ s. is_named card (known_cards (s ∷ slots_taken taken rest))) here ∙ ap (λ b. b || is_named card (names_taken taken rest)) (is_same_card-self card)
 
 named_still : (taken : Place → Bool) (card : Card) (first : Place) (rest : List Place) (slot : Slot) (t : Bool) → first.slot ≡ slot → is_named card (names_taken taken rest) ≡ true → is_named card (known_cards (map (λ (place : Place). place.slot) (if t then (first ∷ filter taken rest) else filter taken rest))) ≡ true
 named_still taken card first rest slot false here is = is
@@ -140,11 +139,6 @@ without_at card name rest true none (inr is) = false_true (sym none)
 without_at card name rest false none (inl same) = ap (λ l. name ∷ l) same
 without_at card name rest false none (inr is) = false_true is
 
-without_none : (card : Card) (names : List Card) → is_named card names ≡ false → without (slots.Known card) names ≡ names
-without_none card [] none = refl
-without_none card (name ∷ rest) none =
-    without_at card name rest (is_same_card card name) none (inl (without_none card rest (or_parts (is_same_card card name) (is_named card rest) none).1))
-
 -- behind a covered known place that is not taken its card is not named
 abbrev pub Apart : (covers taken : Place → Bool) → List Place → Type 0
 Apart covers taken [] = Unit {0}
@@ -172,10 +166,10 @@ left_at covers taken place rest slots.Unknown true true here sub free later =
 left_at covers taken place rest slots.Unknown true false here sub free later = ap (λ s. other_names (filter covers rest) (without s (names_taken taken rest))) here ∙ later
 left_at covers taken place rest (slots.Known card) true true here sub free later =
     ap (λ s. other_names (filter covers rest) (without s (known_cards (s ∷ slots_taken taken rest)))) here
-    ∙ ap (λ b. other_names (filter covers rest) (if b then names_taken taken rest else (card ∷ without (slots.Known card) (names_taken taken rest)))) (same_self card) ∙ later
+    ∙ ap (λ b. other_names (filter covers rest) (if b then names_taken taken rest else (card ∷ without (slots.Known card) (names_taken taken rest)))) (is_same_card-self card) ∙ later
 left_at covers taken place rest (slots.Known card) true false here sub free later =
     ap (λ s. other_names (filter covers rest) (without s (names_taken taken rest))) here
-    ∙ ap (other_names (filter covers rest)) (without_none card (names_taken taken rest) (free card refl refl refl)) ∙ later
+    ∙ ap (other_names (filter covers rest)) (keep_length card (names_taken taken rest) (free card refl refl refl)) ∙ later
 
 none_left : (covers taken : Place → Bool) (placed : List Place) → ((other : Place) → taken other ≡ true → covers other ≡ true) → Apart covers taken placed → other_names (filter covers placed) (names_taken taken placed) ≡ []
 none_left covers taken [] sub free = refl

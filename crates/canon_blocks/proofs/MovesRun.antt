@@ -7,7 +7,7 @@ use Rattle.play_event.specs.declared.setup.Setup.{Setup}
 use Rattle.play_event.specs.declared.setup.Rules.{Rules}
 use Rattle.play_event.specs.Said.{Said}
 use Rattle.play_event.specs.Past.{Past, Move, Moved, moves_of, newest_street, is_fold}
-use Rattle.play_event.specs.Seats.{is_live, is_able}
+use Rattle.play_event.specs.Seats.{is_live, live_count}
 use Rattle.play_event.specs.Chips.{chips_left}
 use Rattle.play_event.specs.Dealing.{is_deal_due, is_draw_due}
 use Rattle.play_event.specs.Places.{Place, is_held_by, folded_place, after_fold, gone_now}
@@ -91,11 +91,11 @@ still_ups code (move ∷ rest) before street seat = by_fold (is_fold move.act) �
     by_fold false = refl
 
 -- the past has still come to the street
-come_with : (setup : Setup) (list : List Move) (before : Past) (street : ℕ) → AreAllOn street list → HasCome setup before street → nat_le (Rattle.play_event.specs.Seats.live_count setup (list ++ moves_of before)) 1 ≡ false → HasCome setup (with_moves list before) street
+come_with : (setup : Setup) (list : List Move) (before : Past) (street : ℕ) → AreAllOn street list → HasCome setup before street → nat_le (live_count setup (list ++ moves_of before)) 1 ≡ false → HasCome setup (with_moves list before) street
 come_with setup [] before street on come several = come
 come_with setup (move ∷ rest) before street on come several =
     record {
-      several = ap (λ l. nat_le (Rattle.play_event.specs.Seats.live_count setup (move ∷ l)) 1) (moves_with rest before) ∙ several;
+      several = ap (λ l. nat_le (live_count setup (move ∷ l)) 1) (moves_with rest before) ∙ several;
       reached = omega (arith, on.0);
       last = come.last;
       quiet = λ between least most. absurd (omega (arith, on.0, least, most));

@@ -1,7 +1,7 @@
 -- Places that mirror those of a script give the same places of the trace.
 use Rattle.std.proofs.Common.{◌≡◌, ℕ, zero, suc, ◌+◌, ◌≤◌, Bool, true, false, ◌&&◌, ◌==◌, nat_lt, nat_le, inl, inr, Option, Some, None, List, [], ◌∷◌, ◌++◌, map, filter, refl, sym, ◌∙◌, ap, subst, arith, if◌then◌else◌}
 use Rattle.std.specs.List.{flat_map, range_with_len}
-use Rattle.std.proofs.lemmas.Bool.{and_parts, and_from, lt-ltb, le-leb, cases_lt, cases_Bool, ltb-true}
+use Rattle.std.proofs.lemmas.Bool.{le-leb, ltb-false}
 use Rattle.std.proofs.lemmas.List.{map-append}
 use Rattle.play_event.specs.declared.setup.Setup.{Setup}
 use Rattle.play_event.specs.Games.{street_count}
@@ -28,7 +28,7 @@ same_place list last mine final mirror most =
       where
         by_out : (b : Bool) → nat_lt 0 final.discarded ≡ b → (if b && nat_le final.discarded last then final.discarded else 0) ≡ final.discarded
         by_out true some = ap (λ c. if c then final.discarded else 0) (le-leb final.discarded last most)
-        by_out false none = omega (arith, Rattle.std.proofs.lemmas.Bool.ltb-false 0 final.discarded none)
+        by_out false none = omega (arith, ltb-false 0 final.discarded none)
 
     by_street : mine.street ≡ final.street → traced_place mine ≡ (record { owner = mine.owner; street = final.street; slot = final.slot; discarded = final.discarded })
     by_street same =

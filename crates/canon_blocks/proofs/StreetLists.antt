@@ -1,7 +1,7 @@
 -- The moves of a street, and streets that no event came to.
 use Rattle.std.proofs.Common.{◌≡◌, ℕ, ◌+◌, Bool, true, false, ◌&&◌, ◌||◌, ◌==◌, nat_lt, inl, inr, ◌⊎◌, List, [], ◌∷◌, length, refl, sym, ◌∙◌, ap, subst, arith, if◌then◌else◌}
 use Rattle.std.specs.List.{list_any}
-use Rattle.std.proofs.lemmas.Bool.{or_parts, or_left, or_right, cases_lt, cases_eq, cases_Bool, lt-ltb, le-ltb, eq-eqb, ne_eqb, both_ways, false_from_ne_true}
+use Rattle.std.proofs.lemmas.Bool.{or_parts, ltb-true, eqb-true}
 use Rattle.card_set.specs.declared.card.Slot.{Slot}
 use Rattle.play_event.specs.declared.setup.Setup.{Setup}
 use Rattle.play_event.specs.declared.setup.Rules.{Rules}
@@ -18,12 +18,13 @@ use Rattle.canon_blocks.proofs.StreetMoves.{AreFalling, own_moves}
 use Rattle.canon_blocks.proofs.DealsRun.{with_deal, with_deals}
 use Rattle.canon_blocks.proofs.DrawRun.{with_discards}
 use Rattle.canon_blocks.proofs.BoardRun.{with_board}
+use Rattle.list_laws.proofs.Tests.{false_true}
 
 -- moves before a street keep their law
 law_at : (setup : Setup) (rules : Rules) (placed : List Place) (street : ℕ) (first : Move) (older : List Move) → MovesLaw setup rules placed (first ∷ older) → AreReached first.street older → MovesLaw setup rules placed (moves_before street older) → (b : Bool) → nat_lt first.street street ≡ b → MovesLaw setup rules placed (if b then (first ∷ moves_before street older) else moves_before street older)
 law_at setup rules placed street first older law reached later true less =
     let P : List Move → Type 0 = λ l. MovesLaw setup rules placed (first ∷ l) in
-    subst P (sym (all_early first.street street older reached (Rattle.std.proofs.lemmas.Bool.ltb-true first.street street less))) law
+    subst P (sym (all_early first.street street older reached (ltb-true first.street street less))) law
 law_at setup rules placed street first older law reached later false less = later
 
 -- moves that fit fit up to a street
@@ -33,7 +34,7 @@ law_before setup rules placed street (first ∷ older) falling law =
     law_at setup rules placed street first older law falling.0 (law_before setup rules placed street older falling.1 law.1) (nat_lt first.street street) refl
 
 on_step : (street : ℕ) (first : Move) (rest : List Move) (b : Bool) → (first.street == street) ≡ b → AreAllOn street rest → AreAllOn street (if b then (first ∷ rest) else rest)
-on_step street first rest true is later = (Rattle.std.proofs.lemmas.Bool.eqb-true first.street street is, later)
+on_step street first rest true is later = (eqb-true first.street street is, later)
 on_step street first rest false is later = later
 
 -- a street's own moves are of this street
@@ -49,7 +50,7 @@ pub record IsUnplayed (street : ℕ) (before : Past) : Type 0 where
   pub drawn : (seat : ℕ) → has_drawn before street seat ≡ false
 
 dealt_off : (b c : Bool) (n m : ℕ) → b ≡ false → m ≡ 0 → (if b && c then n else 0) + m ≡ 0
-dealt_off true c n m off none = Rattle.list_laws.proofs.Tests.false_true (sym off)
+dealt_off true c n m off none = false_true (sym off)
 dealt_off false c n m off none = omega (arith, none)
 
 -- a street without an event has no cards, no draws and no moves

@@ -21,15 +21,12 @@ use Rattle.play_laws.proofs.LegalEvents.{Stepped, deals, boards, moves, discards
 use Rattle.play_laws.proofs.LegalPlaces.{legal_past}
 use Rattle.play_laws.proofs.QuietEvents.{folded_own, folded_other, some_or_none, unfolded_first}
 use Rattle.canon_blocks.proofs.MovesRun.{with_moves}
+use Rattle.play_laws.proofs.PastLawKept.{reached_more}
 
 -- streets do not grow from a move to an older one
 abbrev pub AreFalling : List Move → Type 0
 AreFalling [] = Unit {0}
 AreFalling (first ∷ older) = AreReached first.street older × AreFalling older
-
-reached_on : (newest street : ℕ) (list : List Move) → newest ≤ street → AreReached newest list → AreReached street list
-reached_on newest street [] on all = tt
-reached_on newest street (first ∷ rest) on all = (omega (arith, on, all.0), reached_on newest street rest on all.1)
 
 falling_step : (setup : Setup) (before : Past) (at : ℕ) (event : Resolved) → PastLaw setup before → Reaches setup before at → Stepped setup before at event → AreFalling (moves_of before) → AreFalling (moves_of (event ∷ before))
 falling_step setup before at _ past come (deals who cards due is some few free) falling = falling
@@ -37,7 +34,7 @@ falling_step setup before at _ past come (boards cards due some few free) fallin
 falling_step setup before at _ past come (discards who cards no_deal draw next few free held) falling = falling
 falling_step setup before at _ past come (shows who cards may free) falling = falling
 falling_step setup before at _ past come (mucks who may) falling = falling
-falling_step setup before at _ past come (moves played no_deal no_draw on) falling = (reached_on (newest_street before) played.street (moves_of before) (omega (arith, on, come.on)) past.moved, falling)
+falling_step setup before at _ past come (moves played no_deal no_draw on) falling = (reached_more (newest_street before) played.street (moves_of before) (omega (arith, on, come.on)) past.moved, falling)
 
 -- after legal events no move is of a later street than one after it
 pub legal_falling : (setup : Setup) (rules : Rules) (events : List Said) → AreLegal setup rules events → AreFalling (moves_of (past_of setup events))
@@ -86,27 +83,27 @@ moves_split street (first ∷ older) falling = elim (cases_lt first.street stree
 
 -- a move keeps the mirror
 fold_gone : (played : Move) (list : List Move) (count : ℕ) (place : Place) (x o g : Bool) → is_fold played.act ≡ true → is_same_owner place.owner (Some played.seat) ≡ o → is_none place.gone_after ≡ g → is_some place.gone_after ≡ (x || owner_folded list place.owner) → is_some (if o && g then gone_now count place else place).gone_after ≡ (x || owner_folded (played ∷ list) place.owner)
-fold_gone played list count place x true true fold owner gone_after was = sym (or_right x (owner_folded (played ∷ list) place.owner) (own place.owner owner))
+fold_gone played list count place x true true fold owner gone was = sym (or_right x (owner_folded (played ∷ list) place.owner) (own place.owner owner))
   where
     own : (who : Option ℕ) → is_same_owner who (Some played.seat) ≡ true → owner_folded (played ∷ list) who ≡ true
     own (Some seat) same = folded_own played list (Some seat) fold (ap Some (eqb-true seat played.seat same))
     own None same = false_true same
-fold_gone played list count place x true false fold owner gone_after was =
-    not-false (is_some place.gone_after) (sym (some_or_none place.gone_after) ∙ gone_after) ∙ sym (or_right x (owner_folded (played ∷ list) place.owner) (own place.owner owner))
+fold_gone played list count place x true false fold owner gone was =
+    not-false (is_some place.gone_after) (sym (some_or_none place.gone_after) ∙ gone) ∙ sym (or_right x (owner_folded (played ∷ list) place.owner) (own place.owner owner))
   where
     own : (who : Option ℕ) → is_same_owner who (Some played.seat) ≡ true → owner_folded (played ∷ list) who ≡ true
     own (Some seat) same = folded_own played list (Some seat) fold (ap Some (eqb-true seat played.seat same))
     own None same = false_true same
-fold_gone played list count place x false g fold owner gone_after was = was ∙ ap (λ f. x || f) (sym (folded_other played list place.owner false owner refl))
+fold_gone played list count place x false g fold owner gone was = was ∙ ap (λ f. x || f) (sym (folded_other played list place.owner false owner refl))
 
 fold_mirror : (played : Move) (list : List Move) (out : Place → Bool) (count : ℕ) (mine final : Place) → is_fold played.act ≡ true → Mirrors list out mine final → Mirrors (played ∷ list) out (folded_place played.seat count mine) final
 fold_mirror played list out count mine final fold mirror =
-    let gone_after = fold_gone played list count mine (out final) (is_same_owner mine.owner (Some played.seat)) (is_none mine.gone_after) fold refl refl (mirror.gone_after ∙ ap (λ o. out final || owner_folded list o) (sym mirror.owner)) in
-    by_held (is_held_by played.seat mine) (gone_after ∙ ap (λ o. out final || owner_folded (played ∷ list) o) mirror.owner)
+    let gone = fold_gone played list count mine (out final) (is_same_owner mine.owner (Some played.seat)) (is_none mine.gone_after) fold refl refl (mirror.gone_after ∙ ap (λ o. out final || owner_folded list o) (sym mirror.owner)) in
+    by_held (is_held_by played.seat mine) (gone ∙ ap (λ o. out final || owner_folded (played ∷ list) o) mirror.owner)
   where
     by_held : (b : Bool) → is_some (if b then gone_now count mine else mine).gone_after ≡ (out final || owner_folded (played ∷ list) final.owner) → Mirrors (played ∷ list) out (if b then gone_now count mine else mine) final
-    by_held true gone_after = record { owner = mirror.owner; street = mirror.street; index = mirror.index; slot = mirror.slot; discarded = mirror.discarded; gone_after = gone_after }
-    by_held false gone_after = record { owner = mirror.owner; street = mirror.street; index = mirror.index; slot = mirror.slot; discarded = mirror.discarded; gone_after = gone_after }
+    by_held true gone = record { owner = mirror.owner; street = mirror.street; index = mirror.index; slot = mirror.slot; discarded = mirror.discarded; gone_after = gone }
+    by_held false gone = record { owner = mirror.owner; street = mirror.street; index = mirror.index; slot = mirror.slot; discarded = mirror.discarded; gone_after = gone }
 
 folds_mirrored : (played : Move) (list : List Move) (out : Place → Bool) (count : ℕ) (mines finals : List Place) → is_fold played.act ≡ true → AreMirrored list out mines finals → AreMirrored (played ∷ list) out (map (folded_place played.seat count) mines) finals
 folds_mirrored played list out count [] [] fold mirrored = tt

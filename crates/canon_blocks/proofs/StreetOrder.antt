@@ -1,13 +1,12 @@
 -- The places of a street, owner by owner, keep the order of each owner's unknown cards.
-use Rattle.std.proofs.Common.{◌≡◌, ℕ, zero, suc, ◌+◌, ◌≤◌, true, ◌==◌, inl, inr, Option, Some, None, List, refl, sym, ◌∙◌, ap, subst, arith}
+use Rattle.std.proofs.Common.{◌≡◌, ℕ, zero, suc, ◌+◌, ◌≤◌, ◌==◌, inl, inr, Option, Some, None, List, sym, ◌∙◌, subst, arith}
 use Rattle.std.specs.List.{flat_map, range_with_len}
-use Rattle.std.proofs.lemmas.Bool.{and_parts, eqb-true}
+use Rattle.std.proofs.lemmas.Bool.{and_parts}
 use Rattle.play_event.specs.declared.setup.Setup.{Setup}
 use Rattle.play_event.specs.Seats.{all_seats}
 use Rattle.play_event.specs.Places.{Place, is_same_owner, is_in_group}
 use Rattle.play_event.specs.Trace.{places_on}
 use Rattle.play_event.specs.Laws.{IsAmong}
-use Rattle.list_laws.proofs.Tests.{false_true}
 use Rattle.std.proofs.lemmas.Option.{same_Some}
 use Rattle.list_laws.proofs.Options.{some_is_none}
 use Rattle.play_event.proofs.ClashLaws.{among_append}
@@ -15,16 +14,11 @@ use Rattle.play_laws.specs.LegalPlaces.{UnknownsFirst}
 use Rattle.play_laws.proofs.PlaceGroups.{group_of, passed}
 use Rattle.play_laws.proofs.UnknownOrder.{out_append, out_filter}
 use Rattle.canon_blocks.proofs.TraceOrder.{street_pieces}
-
-pub owner_is : (a b : Option ℕ) → is_same_owner a b ≡ true → a ≡ b
-owner_is (Some a) (Some b) is = ap Some (eqb-true a b is)
-owner_is None None is = refl
-owner_is (Some a) None is = false_true is
-owner_is None (Some b) is = false_true is
+use Rattle.play_event.proofs.OwnerLaws.{is_same_owner-true}
 
 owned_by : (placed : List Place) (street : ℕ) (owner : Option ℕ) (place : Place) → IsAmong (group_of placed street owner) place → place.owner ≡ owner
 owned_by placed street owner place among =
-    owner_is place.owner owner (and_parts (is_same_owner place.owner owner) (place.street == street) (passed (is_in_group owner street) placed place among).passes).0
+    is_same_owner-true place.owner owner (and_parts (is_same_owner place.owner owner) (place.street == street) (passed (is_in_group owner street) placed place among).passes).0
 
 -- the owner of a card of these groups is a seat from the first on
 record IsFrom (start : ℕ) (place : Place) : Type 0 where

@@ -6,7 +6,7 @@ use Rattle.std.proofs.lemmas.List.{append-nil, append_assoc}
 use Rattle.play_event.specs.declared.setup.Setup.{Setup}
 use Rattle.play_event.specs.declared.setup.Rules.{Rules}
 use Rattle.play_event.specs.Said.{Said}
-use Rattle.play_event.specs.Past.{Past, Resolved, Move, Moved, moves_of, newest_street, street_of}
+use Rattle.play_event.specs.Past.{Past, Resolved, Moved, moves_of, newest_street, street_of, Discarded, Shown, Dealt, Mucked, Boarded}
 use Rattle.play_event.specs.Seats.{is_live, all_seats}
 use Rattle.play_event.specs.Dealing.{has_drawn}
 use Rattle.play_event.specs.Due.{turn}
@@ -25,6 +25,7 @@ use Rattle.play_laws.proofs.DoneKept.{before_same, live_before}
 use Rattle.play_laws.proofs.DonePasts.{AreOn, played_on, legal_done}
 use Rattle.play_laws.proofs.LegalPlaces.{legal_past, filter_append}
 use Rattle.play_laws.proofs.PlaceGroups.{group_of, Passed, passed}
+use Rattle.play_event.proofs.OwnerLaws.{is_same_owner-true}
 
 -- who drew on a street was live when it began
 pub record DrewLive (setup : Setup) (before : Past) (street seat : ℕ) : Type 0 where
@@ -34,12 +35,12 @@ pub record DrewLive (setup : Setup) (before : Past) (street seat : ℕ) : Type 0
 
 drawn_plays : (before : Past) (street seat : ℕ) → has_drawn before street seat ≡ true → list_any (plays_on street) before ≡ true
 drawn_plays [] street seat has = false_true has
-drawn_plays (Rattle.play_event.specs.Past.Dealt on owner cards ∷ before) street seat has = or_right (on == street) (list_any (plays_on street) before) (drawn_plays before street seat has)
-drawn_plays (Rattle.play_event.specs.Past.Boarded on cards ∷ before) street seat has = or_right (on == street) (list_any (plays_on street) before) (drawn_plays before street seat has)
-drawn_plays (Rattle.play_event.specs.Past.Moved played ∷ before) street seat has = or_right (played.street == street) (list_any (plays_on street) before) (drawn_plays before street seat has)
-drawn_plays (Rattle.play_event.specs.Past.Shown on owner cards ∷ before) street seat has = drawn_plays before street seat has
-drawn_plays (Rattle.play_event.specs.Past.Mucked on owner ∷ before) street seat has = drawn_plays before street seat has
-drawn_plays (Rattle.play_event.specs.Past.Discarded on owner cards ∷ before) street seat has = elim (or_cases ((on == street) && (owner == seat)) (has_drawn before street seat) has) [
+drawn_plays (Dealt on owner cards ∷ before) street seat has = or_right (on == street) (list_any (plays_on street) before) (drawn_plays before street seat has)
+drawn_plays (Boarded on cards ∷ before) street seat has = or_right (on == street) (list_any (plays_on street) before) (drawn_plays before street seat has)
+drawn_plays (Moved played ∷ before) street seat has = or_right (played.street == street) (list_any (plays_on street) before) (drawn_plays before street seat has)
+drawn_plays (Shown on owner cards ∷ before) street seat has = drawn_plays before street seat has
+drawn_plays (Mucked on owner ∷ before) street seat has = drawn_plays before street seat has
+drawn_plays (Discarded on owner cards ∷ before) street seat has = elim (or_cases ((on == street) && (owner == seat)) (has_drawn before street seat) has) [
   | inl here ↦ or_left (on == street) (list_any (plays_on street) before) (and_parts (on == street) (owner == seat) here).0
   | inr earlier ↦ or_right (on == street) (list_any (plays_on street) before) (drawn_plays before street seat earlier)
 ]
@@ -54,13 +55,13 @@ drew_now setup before at event street seat come on step earlier has = by_step ev
     reach it = omega (arith, played_on (newest_street before) street before on (drawn_plays before street seat it), come.on)
 
     by_step : (e : Resolved) → Stepped setup before at e → has_drawn (e ∷ before) street seat ≡ true → DrewLive setup (e ∷ before) street seat
-    by_step _ (deals who cards due is some few free) it = drew_still setup before (Rattle.play_event.specs.Past.Dealt at who cards) street seat (reach it) (earlier it)
-    by_step _ (boards cards due some few free) it = drew_still setup before (Rattle.play_event.specs.Past.Boarded at cards) street seat (reach it) (earlier it)
-    by_step _ (shows who cards may free) it = drew_still setup before (Rattle.play_event.specs.Past.Shown at who cards) street seat (reach it) (earlier it)
-    by_step _ (mucks who may) it = drew_still setup before (Rattle.play_event.specs.Past.Mucked at who) street seat (reach it) (earlier it)
+    by_step _ (deals who cards due is some few free) it = drew_still setup before (Dealt at who cards) street seat (reach it) (earlier it)
+    by_step _ (boards cards due some few free) it = drew_still setup before (Boarded at cards) street seat (reach it) (earlier it)
+    by_step _ (shows who cards may free) it = drew_still setup before (Shown at who cards) street seat (reach it) (earlier it)
+    by_step _ (mucks who may) it = drew_still setup before (Mucked at who) street seat (reach it) (earlier it)
     by_step _ (moves played no_deal no_draw same) it = drew_still setup before (Moved played) street seat (omega (arith, reach it, same)) (earlier it)
     by_step _ (discards who cards no_deal draw next few free held) it = elim (or_cases ((at == street) && (who == seat)) (has_drawn before street seat) it) [
-      | inr before_it ↦ drew_still setup before (Rattle.play_event.specs.Past.Discarded at who cards) street seat (reach before_it) (earlier before_it)
+      | inr before_it ↦ drew_still setup before (Discarded at who cards) street seat (reach before_it) (earlier before_it)
       | inl here ↦
           let parts = and_parts (at == street) (who == seat) here in
           let same : who ≡ seat = eqb-true who seat parts.1 in
@@ -93,13 +94,6 @@ flat_none : {K : Type 0} (f : K → List Place) (keys : List K) → ((key : K) �
 flat_none f [] none = refl
 flat_none f (key ∷ rest) none = ap (λ l. l ++ flat_map f rest) (none key) ∙ flat_none f rest none
 
--- of groups one alone passes
-owner_is : (a b : Option ℕ) → is_same_owner a b ≡ true → a ≡ b
-owner_is (Some a) (Some b) is = ap Some (eqb-true a b is)
-owner_is None None is = refl
-owner_is (Some a) None is = false_true is
-owner_is None (Some b) is = false_true is
-
 all_pass : (p : Place → Bool) (places : List Place) → ((place : Place) → IsAmong places place → p place ≡ true) → filter p places ≡ places
 all_pass p [] pass = refl
 all_pass p (first ∷ rest) pass = ap (λ b. if b then (first ∷ filter p rest) else filter p rest) (pass first (inl refl)) ∙ ap (λ l. first ∷ l) (all_pass p rest (λ place among. pass place (inr among)))
@@ -114,14 +108,14 @@ group_group placed owner other street at = by_same (is_same_owner other owner &&
     in_it : (place : Place) → Passed (is_in_group other at) placed place → is_in_group owner street place ≡ (is_same_owner other owner && (at == street))
     in_it place it =
         let parts = and_parts (is_same_owner place.owner other) (place.street == at) it.passes in
-        ap (λ o. is_same_owner o owner && (place.street == street)) (owner_is place.owner other parts.0) ∙ ap (λ s. is_same_owner other owner && (s == street)) (eqb-true place.street at parts.1)
+        ap (λ o. is_same_owner o owner && (place.street == street)) (is_same_owner-true place.owner other parts.0) ∙ ap (λ s. is_same_owner other owner && (s == street)) (eqb-true place.street at parts.1)
 
     by_same : (b : Bool) → (is_same_owner other owner && (at == street)) ≡ b → filter (is_in_group owner street) (group_of placed at other) ≡ (if b then group_of placed street owner else [])
     by_same false differ = none_pass (is_in_group owner street) (group_of placed at other) (λ place among. in_it place (passed (is_in_group other at) placed place among) ∙ differ)
     by_same true same =
         let parts = and_parts (is_same_owner other owner) (at == street) same in
         all_pass (is_in_group owner street) (group_of placed at other) (λ place among. in_it place (passed (is_in_group other at) placed place among) ∙ same)
-        ∙ (ap (λ o. group_of placed at o) (owner_is other owner parts.0) ∙ ap (λ s. group_of placed s owner) (eqb-true at street parts.1))
+        ∙ (ap (λ o. group_of placed at o) (is_same_owner-true other owner parts.0) ∙ ap (λ s. group_of placed s owner) (eqb-true at street parts.1))
 
 -- among the owners of a street
 abbrev piece_if : List Place → Option ℕ → ℕ → ℕ → Option ℕ → List Place

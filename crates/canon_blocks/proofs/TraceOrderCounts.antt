@@ -2,7 +2,7 @@
 use Rattle.std.proofs.Common.{◌≡◌, ℕ, zero, suc, ◌+◌, ◌≤◌, ◌<◌, Bool, true, false, ◌&&◌, ◌==◌, not, nat_lt, nat_le, inl, inr, Option, Some, None, List, [], ◌∷◌, ◌++◌, map, filter, length, count_by, refl, sym, ◌∙◌, ap, subst, arith, if◌then◌else◌}
 use Rattle.std.specs.List.{flat_map, range_with_len}
 use Rattle.std.proofs.lemmas.Bool.{and_parts, and_from, eqb-true, eq-eqb, ne_eqb, both_ways, lt-ltb, ltb-true, le-leb, leb-true, not_from_false, not_from_true}
-use Rattle.std.proofs.lemmas.List.Sums.{length-filter}
+use Rattle.std.proofs.lemmas.List.Sums.{length-filter, count_by-le-length}
 use Rattle.card_set.specs.declared.card.Slot.{Slot}
 use Rattle.card_set.specs.declared.card.Slot.TheVariants as slots
 use Rattle.play_event.specs.declared.setup.Setup.{Setup}
@@ -98,7 +98,7 @@ less_one place (first ∷ rest) (inl same) =
     omega (arith, ap (λ b. length (if b then (first ∷ filter (λ (other : Place). not (other.number == place.number)) rest) else filter (λ (other : Place). not (other.number == place.number)) rest)) (not_from_true (first.number == place.number) (eq-eqb first.number place.number (ap (λ (p : Place). p.number) same))), at_most rest)
   where
     at_most : (places : List Place) → length (filter (λ (other : Place). not (other.number == place.number)) places) ≤ length places
-    at_most places = omega (arith, length-filter (λ (other : Place). not (other.number == place.number)) places, Rattle.std.proofs.lemmas.List.Sums.count_by-le-length (λ (other : Place). not (other.number == place.number)) places)
+    at_most places = omega (arith, length-filter (λ (other : Place). not (other.number == place.number)) places, count_by-le-length (λ (other : Place). not (other.number == place.number)) places)
 less_one place (first ∷ rest) (inr later) = by_first (not (first.number == place.number)) (less_one place rest later)
   where
     by_first : (b : Bool) → length (filter (λ (other : Place). not (other.number == place.number)) rest) + 1 ≤ length rest → length (if b then (first ∷ filter (λ (other : Place). not (other.number == place.number)) rest) else filter (λ (other : Place). not (other.number == place.number)) rest) + 1 ≤ length (first ∷ rest)

@@ -1,7 +1,7 @@
 -- A seat never holds more than seven cards, and never discards more at once.
 use Rattle.std.proofs.Common.{◌≡◌, ℕ, zero, suc, ◌+◌, ◌-◌, ◌≤◌, ◌<◌, Bool, true, false, ◌&&◌, ◌==◌, not, nat_lt, nat_le, inl, inr, ◌⊎◌, Some, List, [], ◌∷◌, filter, length, slice_get, refl, ◌∙◌, ap, arith, if◌then◌else◌}
 use Rattle.std.specs.Option.{option_map_or}
-use Rattle.std.proofs.lemmas.Bool.{and_parts, and_from, and_left, and_right, cases_Bool, cases_lt, cases_eq, lt-ltb, le-ltb, leb-true, eqb-true, eq-eqb, ne_eqb, not_from_true, not_from_false}
+use Rattle.std.proofs.lemmas.Bool.{and_parts, and_from, and_left, and_right, cases_Bool, cases_lt, lt-ltb, le-ltb, leb-true, eqb-true, eq-eqb, ne_eqb, not_from_false, ltb-true}
 use Rattle.play_event.specs.declared.code.Code.{Code}
 use Rattle.play_event.specs.declared.code.Code.TheVariants as games
 use Rattle.play_event.specs.declared.setup.Setup.{Setup}
@@ -15,9 +15,10 @@ use Rattle.play_event.specs.Places.{Place, is_same_owner, is_in_group}
 use Rattle.play_event.specs.Table.{places_of}
 use Rattle.play_event.specs.Scripts.{past_of}
 use Rattle.play_event.specs.Laws.{AreLegal, IsAmong}
-use Rattle.play_laws.proofs.LegalPlaces.{legal_past, group_count}
+use Rattle.play_laws.proofs.LegalPlaces.{legal_past, group_count, LegalPast}
 use Rattle.play_laws.proofs.DonePasts.{legal_done}
 use Rattle.play_laws.proofs.DiscardCounts.{is_out_of, out_counts}
+use Rattle.list_laws.proofs.Tests.{false_true}
 
 -- the hole cards of the first streets
 pub first_holes : List Street → ℕ → ℕ
@@ -71,7 +72,7 @@ holds_at seat street place = is_same_owner place.owner (Some seat) && (nat_lt pl
 -- tests that pass no more
 pub less_step : (p q : Place → Bool) (place : Place) (rest : List Place) (a b : Bool) → (a ≡ true → b ≡ true) → length (filter p rest) ≤ length (filter q rest) → length (if a then (place ∷ filter p rest) else filter p rest) ≤ length (if b then (place ∷ filter q rest) else filter q rest)
 less_step p q place rest true true less later = omega (arith, later)
-less_step p q place rest true false less later = Rattle.list_laws.proofs.Tests.false_true (less refl)
+less_step p q place rest true false less later = false_true (less refl)
 less_step p q place rest false true less later = omega (arith, later)
 less_step p q place rest false false less later = later
 
@@ -147,7 +148,7 @@ one_place seat street place true some after = elim (cases_lt place.street street
 
     new_in : place.street ≡ street → (nat_lt 0 place.discarded ≡ true) ⊎ (nat_lt 0 place.discarded ≡ false) → (nat_lt 0 place.discarded && nat_lt place.discarded (street + 1)) ≡ false
     new_in here (inr none) = and_left (nat_lt 0 place.discarded) (nat_lt place.discarded (street + 1)) none
-    new_in here (inl out) = and_right (nat_lt 0 place.discarded) (nat_lt place.discarded (street + 1)) (le-ltb place.discarded (street + 1) (omega (arith, here, after (Rattle.std.proofs.lemmas.Bool.ltb-true 0 place.discarded out))))
+    new_in here (inl out) = and_right (nat_lt 0 place.discarded) (nat_lt place.discarded (street + 1)) (le-ltb place.discarded (street + 1) (omega (arith, here, after (ltb-true 0 place.discarded out))))
 
 sum_step : (p q r t : Place → Bool) (place : Place) (rest : List Place) (a b c d : Bool) → one a + one b ≡ one c + one d → length (filter p rest) + length (filter q rest) ≡ length (filter r rest) + length (filter t rest) → length (if a then (place ∷ filter p rest) else filter p rest) + length (if b then (place ∷ filter q rest) else filter q rest) ≡ length (if c then (place ∷ filter r rest) else filter r rest) + length (if d then (place ∷ filter t rest) else filter t rest)
 sum_step p q r t place rest a b c d is later = omega (arith, is, later, counted p place rest a, counted q place rest b, counted r place rest c, counted t place rest d)
@@ -189,7 +190,7 @@ held_most setup rules events seat (suc count) legal =
     let nth = ap (λ k. option_map_or (λ (s : Street). s.down + s.up) (slice_get (game_of setup.code).streets k) 0) index in
     by_draw (has_draw setup.code (count + 1)) refl before all dealt out step same nth law
   where
-    by_draw : (b : Bool) → has_draw setup.code (count + 1) ≡ b → length (filter (holds_at seat (count + 1)) (places_of setup.code (past_of setup events))) ≤ first_holes (game_of setup.code).streets count → length (filter (holds_at seat ((count + 1) + 1)) (places_of setup.code (past_of setup events))) + length (filter (is_out_of (count + 1) seat) (places_of setup.code (past_of setup events))) ≡ length (filter (holds_at seat (count + 1)) (places_of setup.code (past_of setup events))) + length (filter (is_in_group (Some seat) (count + 1)) (places_of setup.code (past_of setup events))) → length (filter (is_in_group (Some seat) (count + 1)) (places_of setup.code (past_of setup events))) ≡ hole_cards_dealt (past_of setup events) (count + 1) seat → length (filter (is_out_of (count + 1) seat) (places_of setup.code (past_of setup events))) ≡ cards_discarded (past_of setup events) (count + 1) seat → first_holes (game_of setup.code).streets (suc count) ≡ first_holes (game_of setup.code).streets count + option_map_or (λ s. s.down + s.up) (slice_get (game_of setup.code).streets count) 0 → length (filter (holds_at seat (suc count + 1)) (places_of setup.code (past_of setup events))) ≡ length (filter (holds_at seat ((count + 1) + 1)) (places_of setup.code (past_of setup events))) → hole_cards_on setup.code (count + 1) ≡ option_map_or (λ s. s.down + s.up) (slice_get (game_of setup.code).streets count) 0 → Rattle.play_laws.proofs.LegalPlaces.LegalPast setup (past_of setup events) → length (filter (holds_at seat (suc count + 1)) (places_of setup.code (past_of setup events))) ≤ first_holes (game_of setup.code).streets (suc count)
+    by_draw : (b : Bool) → has_draw setup.code (count + 1) ≡ b → length (filter (holds_at seat (count + 1)) (places_of setup.code (past_of setup events))) ≤ first_holes (game_of setup.code).streets count → length (filter (holds_at seat ((count + 1) + 1)) (places_of setup.code (past_of setup events))) + length (filter (is_out_of (count + 1) seat) (places_of setup.code (past_of setup events))) ≡ length (filter (holds_at seat (count + 1)) (places_of setup.code (past_of setup events))) + length (filter (is_in_group (Some seat) (count + 1)) (places_of setup.code (past_of setup events))) → length (filter (is_in_group (Some seat) (count + 1)) (places_of setup.code (past_of setup events))) ≡ hole_cards_dealt (past_of setup events) (count + 1) seat → length (filter (is_out_of (count + 1) seat) (places_of setup.code (past_of setup events))) ≡ cards_discarded (past_of setup events) (count + 1) seat → first_holes (game_of setup.code).streets (suc count) ≡ first_holes (game_of setup.code).streets count + option_map_or (λ s. s.down + s.up) (slice_get (game_of setup.code).streets count) 0 → length (filter (holds_at seat (suc count + 1)) (places_of setup.code (past_of setup events))) ≡ length (filter (holds_at seat ((count + 1) + 1)) (places_of setup.code (past_of setup events))) → hole_cards_on setup.code (count + 1) ≡ option_map_or (λ s. s.down + s.up) (slice_get (game_of setup.code).streets count) 0 → LegalPast setup (past_of setup events) → length (filter (holds_at seat (suc count + 1)) (places_of setup.code (past_of setup events))) ≤ first_holes (game_of setup.code).streets (suc count)
     by_draw true draws before all dealt out step same nth law = omega (arith, before, all, dealt, out, step, same, law.past.drawn_count (count + 1) seat draws)
     by_draw false draws before all dealt out step same nth law = omega (arith, before, all, dealt, out, step, same, nth, (legal_done setup rules events legal).done.dealt_most (count + 1) seat draws)
 

@@ -17,7 +17,6 @@ use Rattle.play_event.specs.Laws.{AreLegal, IsAmong}
 use Rattle.list_laws.proofs.Tests.{false_true}
 use Rattle.canon_blocks.proofs.Mirrors.{Mirrors, AreMirrored}
 use Rattle.play_laws.specs.LegalPlaces.{owner_folded}
-use Rattle.canon_blocks.proofs.StreetOrder.{owner_is}
 use Rattle.play_laws.proofs.LegalPlaces.{legal_past}
 use Rattle.play_laws.proofs.FittingMoves.{same_filter}
 use Rattle.play_laws.proofs.DiscardCounts.{is_out_of}
@@ -25,9 +24,11 @@ use Rattle.canon_blocks.proofs.FreeGroups.{out_by}
 use Rattle.canon_blocks.proofs.TraceOrder.{finals_of, is_final}
 use Rattle.canon_blocks.proofs.TraceOrderCounts.{legal_owned, seat_same}
 use Rattle.play_laws.proofs.UnknownOrder.{legal_sorted}
-use Rattle.play_laws.proofs.InDeck.{legal_cards, not_at}
+use Rattle.play_laws.proofs.InDeck.{legal_cards}
 use Rattle.play_laws.proofs.PlaceLists.{rising}
 use Rattle.canon_blocks.proofs.CleanShow.{HoldsKnown}
+use Rattle.play_event.proofs.OwnerLaws.{is_same_owner-true}
+use Rattle.play_event.proofs.ClashLaws.{not_at}
 
 -- the slots of what a seat holds
 abbrev pub slots_held : ℕ → List Place → List Slot
@@ -48,7 +49,7 @@ slots_mirrored list out p q (mine ∷ mines) (final ∷ finals) same mirrored =
     slots_step p q mine final mines finals (p mine) (q final) (same mine final (inl refl) mirrored.0) mirrored.0.slot (slots_mirrored list out p q mines finals (λ a b among. same a b (inr among)) mirrored.1)
 
 -- a card is held where it is not gone
-none_is : (gone_after : Option ℕ) (b : Bool) → is_some gone_after ≡ b → is_none gone_after ≡ not b
+none_is : (gone : Option ℕ) (b : Bool) → is_some gone ≡ b → is_none gone ≡ not b
 none_is None true is = false_true is
 none_is None false is = refl
 none_is (Some count) true is = refl
@@ -64,7 +65,7 @@ zero_is n = elim (cases_lt 0 n) [
 held_by : (seat : ℕ) (list : List Move) (owner : Option ℕ) (when : Option ℕ) (discarded : ℕ) (out b : Bool) → is_live list seat ≡ true → is_same_owner owner (Some seat) ≡ b → out ≡ nat_lt 0 discarded → is_some when ≡ (out || owner_folded list owner) → (b && is_none when) ≡ (b && (discarded == 0))
 held_by seat list owner when discarded out false live own is has = refl
 held_by seat list owner when discarded out true live own is has =
-    let mine : owner ≡ Some seat = owner_is owner (Some seat) own in
+    let mine : owner ≡ Some seat = is_same_owner-true owner (Some seat) own in
     let stays : owner_folded list owner ≡ false = ap (owner_folded list) mine ∙ not_from_true (is_live list seat) live in
     none_is when (nat_lt 0 discarded) (has ∙ (ap (λ b. out || b) stays ∙ (or_none out ∙ is))) ∙ zero_is discarded
   where

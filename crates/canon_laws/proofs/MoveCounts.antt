@@ -1,11 +1,11 @@
 -- A past has as many moves as its script says.
-use Rattle.std.proofs.Common.{◌≡◌, ℕ, ◌+◌, ◌≤◌, Bool, cond, List, [], ◌∷◌, ◌++◌, length, count_by, reverse, refl, sym, ◌∙◌, ap, arith}
+use Rattle.std.proofs.Common.{◌≡◌, ◌≤◌, Bool, List, [], ◌∷◌, length, count_by, reverse, refl, ap, arith}
 use Rattle.std.proofs.lemmas.List.{reverse-append}
 use Rattle.list_laws.proofs.Counting.{count_by-cons, count_by-push}
 use Rattle.play_event.specs.Past.{moves_of}
 use Rattle.play_event.specs.Said as said
 use Rattle.play_event.specs.Said.{Said}
-use Rattle.play_event.specs.Scripts.{past_at_end, past_of, with_event}
+use Rattle.play_event.specs.Scripts.{past_of, with_event}
 use Rattle.play_event.specs.declared.setup.Rules.{Rules}
 use Rattle.play_event.specs.declared.setup.Setup.{Setup}
 use Rattle.hand_canon.specs.LegalHand.{IsPlayed, is_move}

@@ -18,9 +18,9 @@ use Rattle.play_event.specs.Showing.{has_shown, has_mucked, has_to_show}
 use Rattle.play_event.specs.Due.{turn, due_on, first_due, found_or, showdown}
 use Rattle.card_set.specs.Known.{is_unknown}
 use Rattle.play_event.specs.Places.{Place}
-use Rattle.play_event.specs.Naming.{held_count, after_show}
+use Rattle.play_event.specs.Naming.{held_count, after_show, held_down_count}
 use Rattle.play_event.specs.Table.{places_of, up_cards}
-use Rattle.play_event.specs.CardReasons.{is_seat, may_show, may_show_so_many}
+use Rattle.play_event.specs.CardReasons.{is_seat, may_show, may_show_so_many, is_not_held}
 use Rattle.play_event.specs.Reasons.{why}
 use Rattle.play_event.specs.Scripts.{with_event}
 use Rattle.canon_blocks.proofs.Runs.{Runs}
@@ -28,6 +28,7 @@ use Rattle.play_laws.proofs.DueAtEvents.{turned_by}
 use Rattle.canon_blocks.proofs.CardEvents.{show_legal, muck_legal}
 use Rattle.play_laws.proofs.SeatRanges.{any_seat}
 use Rattle.canon_blocks.proofs.CleanShow.{HoldsKnown, held_cards, clean_show}
+use Rattle.play_event.specs.Taken.{has_misplaced_card}
 
 -- where nothing is due on any street, nothing is found
 nothing_found : (on : ℕ → Option Due) (rest street : ℕ) → ((between : ℕ) → street ≤ between → between < street + rest → on between ≡ None) → first_due on rest street ≡ None
@@ -93,12 +94,12 @@ one_show setup rules list placed shown first mine several at least most live is 
     let clean = clean_show setup.code first placed known in
     let after : Past = past.Shown (street_count setup.code) first cards ∷ mine in
     let C : List Place → Type 0 = λ l. may_show_so_many setup mine l first (length cards) ≡ true in
-    let F : List Place → Type 0 = λ l. Rattle.play_event.specs.Taken.has_misplaced_card setup.code l (after_show setup.code first cards l) ≡ false in
-    let H : List Place → Type 0 = λ l. Rattle.play_event.specs.CardReasons.is_not_held setup.code l (said.Show first cards) ≡ false in
+    let F : List Place → Type 0 = λ l. has_misplaced_card setup.code l (after_show setup.code first cards l) ≡ false in
+    let H : List Place → Type 0 = λ l. is_not_held setup.code l (said.Show first cards) ≡ false in
     record {
       after = after;
       legal = show_legal setup rules mine (street_count setup.code) first cards turned (may_now setup list placed shown first mine at least most live)
-          (subst C (sym at.places) (or_left (length cards == held_count placed first) ((length cards == Rattle.play_event.specs.Naming.held_down_count setup.code placed first) && not (list_any is_unknown (up_cards setup.code mine first))) (eq-eqb (length cards) (held_count placed first) clean.count)))
+          (subst C (sym at.places) (or_left (length cards == held_count placed first) ((length cards == held_down_count setup.code placed first) && not (list_any is_unknown (up_cards setup.code mine first))) (eq-eqb (length cards) (held_count placed first) clean.count)))
           (subst F (sym at.places) clean.free) (subst H (sym at.places) clean.held);
       placed_so = show_placed setup mine (street_count setup.code) dues.Show first cards turned;
       at = record {

@@ -6,7 +6,7 @@ use Rattle.play_event.specs.declared.setup.Rules.{Rules}
 use Rattle.play_event.specs.Games.{street_count}
 use Rattle.play_event.specs.Said.{Said}
 use Rattle.play_event.specs.Past.{Past, Move, moves_of, newest_street}
-use Rattle.play_event.specs.Seats.{is_live, all_seats}
+use Rattle.play_event.specs.Seats.{is_live, all_seats, live_count}
 use Rattle.play_event.specs.Dealing.{hole_cards_dealt, board_cards_dealt, cards_discarded, has_drawn}
 use Rattle.play_event.specs.Due.{due_on}
 use Rattle.play_event.specs.Places.{Place, is_same_owner}
@@ -26,10 +26,11 @@ use Rattle.play_laws.proofs.PlayedStreets.{IsReached}
 use Rattle.canon_blocks.proofs.StreetOrder.{street_pieces_out}
 use Rattle.canon_blocks.proofs.DiscardTests.{out_is, before_first}
 use Rattle.canon_blocks.proofs.TraceOrderCounts.{legal_owned}
-use Rattle.canon_blocks.proofs.TraceOrder.{finals_of, is_final, IsFinal, drew_live}
+use Rattle.canon_blocks.proofs.TraceOrder.{finals_of, is_final, on_street_is}
 use Rattle.canon_blocks.proofs.FreeGroups.{out_by}
 use Rattle.canon_blocks.proofs.DiscardsRun.{out_to, mirrored_as, IsDrawn}
 use Rattle.canon_blocks.proofs.DrawRun.{IsDrawStreet, AreDiscarded, discards_run, with_discards, out_slots}
+use Rattle.play_event.specs.Trace.{places_on, owners}
 
 -- the canonical past where a street begins; the street before it has this number
 pub record AtStreet (setup : Setup) (rules : Rules) (script : Past) (before : ℕ) (mine : Past) : Type 0 where
@@ -51,7 +52,7 @@ at_come setup rules script mine before at reached most =
     let P : Past → Type 0 = λ p. 1 ≤ newest_street p in
     let since : 1 ≤ newest_street mine = subst P at.led.past (legal_past setup rules at.led.events at.led.legal).past.since in
     record {
-      several = ap (λ l. nat_le (Rattle.play_event.specs.Seats.live_count setup l) 1) at.same_moves ∙ reached;
+      several = ap (λ l. nat_le (live_count setup l) 1) at.same_moves ∙ reached;
       reached = at.newest;
       last = most;
       quiet = λ between least less. at.quiet reached between (omega (arith, since, least)) less;
@@ -77,8 +78,8 @@ drawn_of setup rules events before legal =
               ap (λ s. is_live (moves_before (before + 1) (moves_of (past_of setup events))) s) (sym same) ∙ (ap (λ k. is_live (moves_before k (moves_of (past_of setup events))) it.seat) (sym here) ∙ it.drew.live),
             ),
           );
-      unknowns = (street_out placed (Rattle.play_event.specs.Trace.places_on setup placed) 1 before up (legal_sorted setup rules events legal) cards.list.unknowns
-          (λ street place among. Rattle.canon_blocks.proofs.TraceOrder.on_street_is setup placed street (Rattle.play_event.specs.Trace.owners setup) place among)
+      unknowns = (street_out placed (places_on setup placed) 1 before up (legal_sorted setup rules events legal) cards.list.unknowns
+          (λ street place among. on_street_is setup placed street (owners setup) place among)
           (λ street. street_pieces_out setup placed street cards.list.unknowns)).0;
     }
 

@@ -1,8 +1,8 @@
 -- The deals of a street in the canonical script, and what stands after them.
 use Rattle.std.proofs.Common.{◌≡◌, ℕ, zero, suc, ◌+◌, ◌-◌, ◌≤◌, ◌<◌, Bool, true, false, ◌&&◌, ◌||◌, ◌==◌, not, nat_lt, nat_le, inl, inr, Option, Some, None, is_some, List, [], ◌∷◌, ◌++◌, map, length, refl, sym, ◌∙◌, ap, subst, arith, if◌then◌else◌}
 use Rattle.std.specs.List.{flat_map, list_any, range_with_len}
-use Rattle.std.proofs.lemmas.Bool.{and_parts, and_left, and_right, or_from, cases_Bool, cases_lt, eqb-true, le-ltb, not_from_true, false_from_ne_true}
-use Rattle.std.proofs.lemmas.List.{length-map, append_assoc}
+use Rattle.std.proofs.lemmas.Bool.{and_parts, and_left, and_right, or_from, cases_lt, eqb-true, le-ltb, not_from_true, both_ways}
+use Rattle.std.proofs.lemmas.List.{length-map, append_assoc, append-nil}
 use Rattle.card_set.specs.declared.card.Slot.{Slot}
 use Rattle.play_event.specs.declared.code.Code.{Code}
 use Rattle.play_event.specs.declared.reason.Due.TheVariants as dues
@@ -34,11 +34,10 @@ use Rattle.play_laws.proofs.PlayedStreets.{IsDone, folded_group, hole_group, boa
 use Rattle.canon_blocks.proofs.TraceOrderCounts.{legal_owned, as_late}
 use Rattle.canon_blocks.proofs.TraceOrder.{finals_of, is_final, finals_group, finals_more, street_pieces, IsOwner, a_seat, the_board}
 use Rattle.play_laws.proofs.UnknownOrder.{among_flat}
-use Rattle.canon_blocks.proofs.StreetOrder.{owner_is}
 use Rattle.canon_blocks.proofs.FreeGroups.{out_by, IsBefore, group_not_taken}
 use Rattle.play_laws.proofs.PlaceGroups.{group_of, group_slots, passed}
-use Rattle.canon_blocks.proofs.CleanShow.{one_of_map}
-use Rattle.canon_blocks.proofs.DealsRun.{with_deal, with_deals, street_deals, hole_street, draw_street, no_deal}
+use Rattle.canon_blocks.proofs.CleanShow.{one_of_map, known_length}
+use Rattle.canon_blocks.proofs.DealsRun.{with_deal, with_deals, street_deals, hole_street, draw_street, AllFree}
 use Rattle.canon_blocks.proofs.DealtGroups.{AreDealt, dealt_out, deal_more, no_cards}
 use Rattle.canon_blocks.proofs.BoardRun.{with_board, board_run, known_again}
 use Rattle.play_laws.proofs.KnownBoard.{board_known}
@@ -48,6 +47,7 @@ use Rattle.canon_blocks.proofs.StreetLists.{IsBlock, block_more, deals_block, bo
 use Rattle.canon_blocks.proofs.TracedSlots.{dealt_same}
 use Rattle.play_laws.proofs.SeatRanges.{flat_same, any_none, find_no}
 use Rattle.canon_laws.proofs.StreetDiscards.{AtDeals}
+use Rattle.play_event.proofs.OwnerLaws.{is_same_owner-true}
 
 -- events of a street leave the past on it
 pub come_block : (setup : Setup) (street : ℕ) (before after : Past) → IsBlock street before after → moves_of after ≡ moves_of before → HasCome setup before street → HasCome setup after street
@@ -87,7 +87,7 @@ owed_cards setup rules events start mine before seat false false legal done at l
 maybe_board : (code : Code) (moves : List Move) (placed : List Place) (street : ℕ) (before : Past) (finals : List Place) (cards : List Slot) (group : List Place) → AreDealt code moves placed street (places_of code before) finals → AreDealt code moves placed street (after_deal code None street cards (places_of code before)) (finals ++ group) → (cards ≡ [] → group ≡ []) → ((slot : Slot) → IsOneOf cards slot → is_unknown slot ≡ false) → AreDealt code moves placed street (places_of code (with_board street cards before)) (finals ++ group)
 maybe_board code moves placed street before finals [] group so_far more none known =
     let P : List Place → Type 0 = λ all. AreDealt code moves placed street (places_of code before) all in
-    subst P (sym (Rattle.std.proofs.lemmas.List.append-nil finals) ∙ ap (λ g. finals ++ g) (sym (none refl))) so_far
+    subst P (sym (append-nil finals) ∙ ap (λ g. finals ++ g) (sym (none refl))) so_far
 maybe_board code moves placed street before finals (slot ∷ rest) group so_far more none known =
     let P : List Slot → Type 0 = λ l. AreDealt code moves placed street (after_deal code None street l (places_of code before)) (finals ++ group) in
     subst P (sym (known_again (slot ∷ rest) known)) more
@@ -116,11 +116,11 @@ board_before setup placed before final among = elim (among_append (finals_of set
       record {
         among = it.among;
         reached = omega (arith, eqb-true final.street (before + 1) parts.1);
-        apart = λ here mine. Rattle.std.proofs.lemmas.Bool.both_ways (is_same_owner final.owner None) (ap (λ o. is_same_owner o None) (owner_is final.owner (Some key.0) parts.0)) mine;
+        apart = λ here mine. both_ways (is_same_owner final.owner None) (ap (λ o. is_same_owner o None) (is_same_owner-true final.owner (Some key.0) parts.0)) mine;
       }
 ]
 
-deals_part : (setup : Setup) (rules : Rules) (events : List Said) (before : ℕ) (start mine : Past) (draws : Bool) → AreLegal setup rules events → IsDone setup (past_of setup events) (before + 1) → AtDeals setup rules (past_of setup events) before start mine → has_draw setup.code (before + 1) ≡ draws → Rattle.canon_blocks.proofs.DealsRun.AllFree setup.code (before + 1) (λ seat. group_slots (places_of setup.code (past_of setup events)) (before + 1) (Some seat)) (all_seats setup) mine → ((seat : ℕ) → 1 ≤ seat → seat ≤ setup.stacks.seats → cards_owed setup mine (before + 1) seat ≡ length (group_slots (places_of setup.code (past_of setup events)) (before + 1) (Some seat))) → Runs setup rules mine (flat_map (λ seat. deal_said seat (group_slots (places_of setup.code (past_of setup events)) (before + 1) (Some seat))) (all_seats setup)) (with_deals (before + 1) (λ seat. group_slots (places_of setup.code (past_of setup events)) (before + 1) (Some seat)) (all_seats setup) mine)
+deals_part : (setup : Setup) (rules : Rules) (events : List Said) (before : ℕ) (start mine : Past) (draws : Bool) → AreLegal setup rules events → IsDone setup (past_of setup events) (before + 1) → AtDeals setup rules (past_of setup events) before start mine → has_draw setup.code (before + 1) ≡ draws → AllFree setup.code (before + 1) (λ seat. group_slots (places_of setup.code (past_of setup events)) (before + 1) (Some seat)) (all_seats setup) mine → ((seat : ℕ) → 1 ≤ seat → seat ≤ setup.stacks.seats → cards_owed setup mine (before + 1) seat ≡ length (group_slots (places_of setup.code (past_of setup events)) (before + 1) (Some seat))) → Runs setup rules mine (flat_map (λ seat. deal_said seat (group_slots (places_of setup.code (past_of setup events)) (before + 1) (Some seat))) (all_seats setup)) (with_deals (before + 1) (λ seat. group_slots (places_of setup.code (past_of setup events)) (before + 1) (Some seat)) (all_seats setup) mine)
 deals_part setup rules events before start mine true legal done at draws free owed =
     let table = draw_tables setup (before + 1) draws in
     street_deals setup rules mine (before + 1) (dues.Draw (before + 1)) (λ seat. group_slots (places_of setup.code (past_of setup events)) (before + 1) (Some seat)) at.come (draw_street setup (before + 1) draws table.no_hole table.no_board) owed free
@@ -172,7 +172,7 @@ all_dealt setup rules events before start mine legal done last at =
     let known : (slot : Slot) → IsOneOf board slot → is_unknown slot ≡ false = λ slot among.
     let it = one_of_map (group_of placed street None) slot among in
     let place = passed (is_in_group None street) placed it.0 it.1.0 in
-    ap is_unknown (sym it.1.1) ∙ board_known setup rules events legal it.0 place.among (owner_is it.0.owner None (and_parts (is_same_owner it.0.owner None) (it.0.street == street) place.passes).0) in
+    ap is_unknown (sym it.1.1) ∙ board_known setup rules events legal it.0 place.among (is_same_owner-true it.0.owner None (and_parts (is_same_owner it.0.owner None) (it.0.street == street) place.passes).0) in
     let come = come_block setup street mine middle (deals_block street cards (all_seats setup) mine) (aside_deals street cards (all_seats setup) mine).moves at.come in
     let board_length : length board ≡ board_cards_on setup.code street = length-map (group_of placed street None) (λ (p : Place). p.slot) ∙ board_group setup script street (legal_done setup rules events legal).done done in
     let no_board_yet : board_cards_dealt middle street ≡ 0 = deals_board street cards (all_seats setup) mine street ∙ at.board in
@@ -203,7 +203,7 @@ all_dealt setup rules events before start mine legal done last at =
       no_deal = or_from (list_any (λ seat. nat_lt 0 (hole_cards_owed setup after street seat)) (all_seats setup)) (nat_lt 0 (board_cards_owed setup after street))
           (any_none (λ seat. nat_lt 0 (hole_cards_owed setup after street seat)) 1 n (λ seat from to.
           le-ltb 0 (hole_cards_owed setup after street seat) (enough after (has_draw setup.code street) (is_live (moves_of after) seat) seat refl (sym (ap (λ l. is_live l seat) moves)) from (omega (arith, to)) (holes seat from to))))
-          (le-ltb 0 (board_cards_owed setup after street) (omega (arith, board_own street board middle (Rattle.canon_blocks.proofs.CleanShow.known_length board known), board_length, no_board_yet)));
+          (le-ltb 0 (board_cards_owed setup after street) (omega (arith, board_own street board middle (known_length board known), board_length, no_board_yet)));
       no_draw = drawn_all after (has_draw setup.code street) refl holes moves (λ seat. board_drawn street board middle street seat ∙ deals_drawn street cards (all_seats setup) mine street seat) (λ seat. board_out street board middle street seat ∙ deals_out street cards (all_seats setup) mine street seat);
     }
   where

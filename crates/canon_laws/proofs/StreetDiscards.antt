@@ -41,6 +41,7 @@ use Rattle.canon_blocks.proofs.StreetLists.{IsBlock, discards_block}
 use Rattle.canon_blocks.proofs.TracedSlots.{discarded_same}
 use Rattle.play_laws.proofs.SeatRanges.{map_same}
 use Rattle.canon_laws.proofs.Street.{AtStreet, draw_run}
+use Rattle.list_laws.proofs.Tests.{false_true}
 
 -- the discards of a seat, in the trace's order and in the script's
 pub out_finals : (setup : Setup) (rules : Rules) (events : List Said) (street seat count : ℕ) → AreLegal setup rules events → 1 ≤ street → street ≤ count + 1 → 1 ≤ seat → seat ≤ setup.stacks.seats → filter (is_out_of street seat) (finals_of setup (places_of setup.code (past_of setup events)) count) ≡ filter (is_out_of street seat) (places_of setup.code (past_of setup events))
@@ -82,8 +83,8 @@ undrawn setup rules events mine before legal at come no_draw =
       mirrored = mirrored_as (moves_before (before + 1) (moves_of script)) (out_by before) (out_by (before + 1)) (places_of setup.code mine) (finals_of setup placed before) (λ final among. no_draw_out setup rules events before final legal (is_final setup placed before final among).among no_draw) at.mirrored;
       holes = λ seat. at.no_holes (before + 1) seat (omega arith);
       board = at.no_board (before + 1) (omega arith);
-      out = λ draws. Rattle.list_laws.proofs.Tests.false_true (sym no_draw ∙ draws);
-      drawn = λ draws. Rattle.list_laws.proofs.Tests.false_true (sym no_draw ∙ draws);
+      out = λ draws. false_true (sym no_draw ∙ draws);
+      drawn = λ draws. false_true (sym no_draw ∙ draws);
       aside = aside_same (before + 1) mine;
       block = inl refl;
       run = subst R (sym none) refl;

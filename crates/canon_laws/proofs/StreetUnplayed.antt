@@ -2,7 +2,7 @@
 use Rattle.std.proofs.Common.{◌≡◌, ℕ, suc, ◌+◌, ◌≤◌, true, false, ◌&&◌, nat_lt, nat_le, inl, inr, Option, Some, None, List, [], ◌++◌, map, reverse, length, refl, sym, ◌∙◌, ap, subst, arith, if◌then◌else◌}
 use Rattle.std.specs.List.{list_any}
 use Rattle.std.proofs.lemmas.Bool.{and_right, both_ways, false_from_ne_true, cases_lt, lt-leb, le-leb, leb-true}
-use Rattle.std.proofs.lemmas.List.{length-map}
+use Rattle.std.proofs.lemmas.List.{append-nil}
 use Rattle.play_event.specs.declared.setup.Setup.{Setup}
 use Rattle.play_event.specs.declared.setup.Rules.{Rules}
 use Rattle.play_event.specs.Games.{street_count}
@@ -13,7 +13,7 @@ use Rattle.play_event.specs.Past.{Past, Move, moves_of}
 use Rattle.play_event.specs.Seats.{live_count}
 use Rattle.play_event.specs.Places.{Place}
 use Rattle.play_event.specs.Table.{places_of}
-use Rattle.play_event.specs.Trace.{traced_places, traced_place}
+use Rattle.play_event.specs.Trace.{traced_places, places_on}
 use Rattle.play_event.specs.Scripts.{past_of}
 use Rattle.play_event.specs.Laws.{AreLegal, IsAmong}
 use Rattle.hand_canon.specs.CanonScript.{moves_before, street_said, discards_said, deals_said, deal_said, board_said, dealt_slots, moves_named, move_named, is_reached, drawing_seats, discarded_slots}
@@ -35,6 +35,7 @@ use Rattle.canon_laws.proofs.StreetDeals.{length_none, group_is}
 use Rattle.play_laws.proofs.SeatRanges.{flat_none}
 use Rattle.canon_laws.proofs.StreetPlay.{IsNext}
 use Rattle.canon_laws.proofs.Street.{AtStreet}
+use Rattle.play_event.specs.Dealing.{has_drawn}
 
 -- a street that the hand did not come to says nothing, and nothing changes
 pub skipped : (setup : Setup) (rules : Rules) (events : List Said) (mine : Past) (before : ℕ) → AreLegal setup rules events → AtStreet setup rules (past_of setup events) before mine → nat_le (live_count setup (moves_before (before + 1) (moves_of (past_of setup events)))) 1 ≡ true → before + 1 ≤ street_count setup.code → IsNext setup rules (past_of setup events) before mine
@@ -64,10 +65,10 @@ skipped setup rules events mine before legal at over last =
     let next : suc before ≡ before + 1 = omega arith in
     let no_more : finals_of setup placed street ≡ finals_of setup placed before =
     ap (finals_of setup placed) (sym next) ∙ (finals_more setup placed before
-    ∙ (ap (λ l. finals_of setup placed before ++ l) (ap (Rattle.play_event.specs.Trace.places_on setup placed) one ∙ (street_pieces setup placed street
+    ∙ (ap (λ l. finals_of setup placed before ++ l) (ap (places_on setup placed) one ∙ (street_pieces setup placed street
     ∙ (ap (λ l. l ++ group_of placed street None) (flat_none (λ seat. group_of placed street (Some seat)) 1 setup.stacks.seats (λ seat from to. no_group (Some seat) (a_seat seat from (omega (arith, to)))))
     ∙ no_group None the_board)))
-    ∙ Rattle.std.proofs.lemmas.List.append-nil (finals_of setup placed before))) in
+    ∙ append-nil (finals_of setup placed before))) in
     let M : List Move → Type 0 = λ l. AreMirrored l (out_by street) (places_of setup.code mine) (finals_of setup placed street) in
     let N : List Place → Type 0 = λ l. AreMirrored (moves_before street list) (out_by street) (places_of setup.code mine) l in
     record {
@@ -95,7 +96,7 @@ skipped setup rules events mine before legal at over last =
     not_here : IsUnplayed (before + 1) (past_of setup events) → (final : Place) → IsAmong (places_of setup.code (past_of setup events)) final → final.discarded ≡ before + 1 → ⊥
     not_here it final among here =
         let out = out_is setup rules events final legal among (omega (arith, here)) in
-        both_ways (Rattle.play_event.specs.Dealing.has_drawn (past_of setup events) (before + 1) out.seat) (it.drawn out.seat)
+        both_ways (has_drawn (past_of setup events) (before + 1) out.seat) (it.drawn out.seat)
         (out_drawn setup.code (past_of setup events) (before + 1) out.seat final among (out.owner, (here, omega arith)))
 
     same_out : IsUnplayed (before + 1) (past_of setup events) → (final : Place) → IsAmong (places_of setup.code (past_of setup events)) final → out_by before final ≡ out_by (before + 1) final

@@ -1,24 +1,21 @@
 -- A play that suits rules has moves that suit them, and so it is legal under them.
-use Rattle.std.proofs.Common.{◌≡◌, ℕ, ◌+◌, ◌-◌, ◌≤◌, ◌<◌, Bool, true, false, ◌&&◌, ◌||◌, ◌==◌, inl, inr, Option, Some, None, IfSome, List, [], ◌∷◌, ◌++◌, nat_le, nat_lt, cond, count_by, reverse, slice_index, refl, sym, ◌∙◌, ap, subst, arith, if◌then◌else◌}
+use Rattle.std.proofs.Common.{◌≡◌, ℕ, ◌+◌, ◌-◌, ◌≤◌, Bool, true, false, ◌&&◌, ◌==◌, inl, inr, Option, Some, None, IfSome, List, [], ◌∷◌, nat_le, nat_lt, cond, count_by, reverse, slice_index, refl, sym, ◌∙◌, ap, subst, arith, if◌then◌else◌}
 use Rattle.std.specs.List.{list_any}
-use Rattle.std.proofs.lemmas.Bool.{and_parts, cases_lt, eq-eqb, lt-ltb, or_left, or_parts, or_right}
+use Rattle.std.proofs.lemmas.Bool.{cases_lt, eq-eqb, lt-ltb, or_left, or_parts, or_right}
 use Rattle.list_laws.proofs.Counting.{count_by-cons}
 use Rattle.list_laws.proofs.Finding.{list_any-push}
-use Rattle.list_laws.proofs.Tests.{false_true}
-use Rattle.play_event.specs.Laws.{AreLegal}
-use Rattle.play_event.specs.Past.{Move, is_fold, is_raise, moves_of, moves_on}
+use Rattle.play_event.specs.Past.{Move, is_raise, moves_of, moves_on}
 use Rattle.play_event.specs.Price.{price}
 use Rattle.play_event.specs.Raising.{is_closed, is_within_cap, raises_on}
 use Rattle.play_event.specs.Said.{Said}
-use Rattle.play_event.specs.Scripts.{past_at_end, past_of}
+use Rattle.play_event.specs.Scripts.{past_at_end}
 use Rattle.play_event.specs.Trace.{TracedMove, traced_move, traced_moves}
 use Rattle.play_event.specs.ValidSetup.{IsValid}
 use Rattle.play_event.specs.declared.setup.Reopen.TheVariants as reopens
 use Rattle.play_event.specs.declared.setup.Rules.{Rules}
 use Rattle.play_event.specs.declared.setup.Setup.{Setup}
-use Rattle.hand_canon.specs.CanonScript.{plain_moves}
 use Rattle.hand_canon.specs.TraceCore.{core_after}
-use Rattle.play_laws.proofs.OtherRules.{AreSuited, IsSuited, legal_by}
+use Rattle.play_laws.proofs.OtherRules.{AreSuited, legal_by}
 use Rattle.hand_canon.specs.LegalHand.{IsPlayed}
 use Rattle.canon_laws.specs.OtherRules.{SuitsRules, is_free_fold}
 use Rattle.canon_laws.proofs.SameCore.{plain_again}

@@ -1,8 +1,8 @@
 -- The trace of a legal script has tidy cards.
-use Rattle.std.proofs.Common.{◌≡◌, ℕ, zero, suc, ◌+◌, ◌-◌, ◌≤◌, ◌<◌, Bool, true, false, ◌&&◌, ◌||◌, ◌==◌, not, nat_lt, nat_le, inl, inr, Option, Some, None, List, [], ◌∷◌, ◌++◌, map, filter, reverse, length, refl, sym, ◌∙◌, ap, arith, if◌then◌else◌, subst}
+use Rattle.std.proofs.Common.{◌≡◌, ℕ, zero, suc, ◌+◌, ◌-◌, ◌≤◌, Bool, true, false, ◌&&◌, ◌==◌, not, nat_lt, inl, inr, Option, Some, None, List, [], ◌∷◌, map, filter, reverse, length, refl, sym, ◌∙◌, ap, arith, if◌then◌else◌, subst, slice_get}
 use Rattle.std.specs.List.{list_any, range_with_len}
 use Rattle.std.specs.Option.{option_map_or}
-use Rattle.std.proofs.lemmas.Bool.{and_parts, and_from, and_left, cases_Bool, eqb-true, lt-ltb, le-ltb, leb-true, or_parts, or_from, not_from_false, false_from_ne_true, both_ways, cases_lt, ne_eqb}
+use Rattle.std.proofs.lemmas.Bool.{and_parts, and_from, and_left, eqb-true, lt-ltb, le-ltb, or_parts, or_from, not_from_false, false_from_ne_true, both_ways, cases_lt, ne_eqb, ltb-false}
 use Rattle.std.proofs.lemmas.List.{length-map, length-append}
 use Rattle.play_event.specs.declared.code.Code.{Code}
 use Rattle.play_event.specs.declared.code.Code.TheVariants as games
@@ -30,7 +30,6 @@ use Rattle.play_laws.proofs.LegalPlaces.{legal_past, group_count}
 use Rattle.play_laws.proofs.DonePasts.{legal_done}
 use Rattle.play_laws.proofs.PlayedStreets.{board_count}
 use Rattle.play_laws.proofs.DiscardCounts.{is_out_of, out_counts}
-use Rattle.canon_blocks.proofs.StreetOrder.{owner_is}
 use Rattle.canon_blocks.proofs.TraceOrder.{IsOwner, finals_of, is_final, finals_group, a_seat, the_board}
 use Rattle.canon_blocks.proofs.TraceOrderCounts.{legal_owned, seat_same}
 use Rattle.play_laws.proofs.UnknownOrder.{legal_sorted}
@@ -43,10 +42,11 @@ use Rattle.canon_laws.proofs.StreetDiscards.{out_finals}
 use Rattle.canon_laws.proofs.HeldSame.{held_script, any_held}
 use Rattle.canon_laws.proofs.LastPast.{is_in, not_in, shown_parts}
 use Rattle.canon_laws.proofs.HeldFew.{holds_at, filter_less, held_seven, out_seven, holes_seven}
+use Rattle.play_event.proofs.OwnerLaws.{is_same_owner-true}
 
-few_board : (streets : List Street) (index : ℕ) → list_any (λ s. nat_lt 7 s.board) streets ≡ false → option_map_or (λ s. s.board) (Rattle.std.proofs.Common.slice_get streets index) 0 ≤ 7
+few_board : (streets : List Street) (index : ℕ) → list_any (λ s. nat_lt 7 s.board) streets ≡ false → option_map_or (λ s. s.board) (slice_get streets index) 0 ≤ 7
 few_board [] index none = omega arith
-few_board (first ∷ rest) zero none = omega (arith, Rattle.std.proofs.lemmas.Bool.ltb-false 7 first.board (or_parts (nat_lt 7 first.board) (list_any (λ s. nat_lt 7 s.board) rest) none).0)
+few_board (first ∷ rest) zero none = omega (arith, ltb-false 7 first.board (or_parts (nat_lt 7 first.board) (list_any (λ s. nat_lt 7 s.board) rest) none).0)
 few_board (first ∷ rest) (suc index) none = few_board rest index (or_parts (nat_lt 7 first.board) (list_any (λ s. nat_lt 7 s.board) rest) none).1
 
 few_boards : (code : Code) → list_any (λ s. nat_lt 7 s.board) (game_of code).streets ≡ false
@@ -87,7 +87,7 @@ few_cards setup rules events legal =
       board_known = none_traced (λ place. is_same_owner place.owner None && is_unknown place.slot) finals (λ place among.
           false_from_ne_true (is_same_owner place.owner None && is_unknown place.slot) (λ both.
           let parts = and_parts (is_same_owner place.owner None) (is_unknown place.slot) both in
-          both_ways (is_unknown place.slot) (board_known setup rules events legal place (is_final setup placed count place among).among (owner_is place.owner None parts.0)) parts.1));
+          both_ways (is_unknown place.slot) (board_known setup rules events legal place (is_final setup placed count place among).among (is_same_owner-true place.owner None parts.0)) parts.1));
       shown_known = λ seat least most shown.
           let is : is_shown setup script seat ≡ true = sym (is_in (is_shown setup script) 1 setup.stacks.seats seat least (omega (arith, most))) ∙ shown in
           let parts = shown_parts setup script seat is in
@@ -174,7 +174,7 @@ tidy_cards setup rules events legal =
     let few = few_cards setup rules events legal in
     let seats : (seat : ℕ) (place : Place) → IsAmong finals place → is_same_owner place.owner (Some seat) ≡ true → (1 ≤ seat) × (seat ≤ setup.stacks.seats) = λ seat place among own.
     let O : Option ℕ → Type 0 = IsOwner setup in
-    in_range seat (Some seat) refl (subst O (owner_is place.owner (Some seat) own) (legal_owned setup rules events legal place (is_final setup placed count place among).among)) in
+    in_range seat (Some seat) refl (subst O (is_same_owner-true place.owner (Some seat) own) (legal_owned setup rules events legal place (is_final setup placed count place among).among)) in
     record {
       board_known = few.board_known;
       shown_known = λ seat shown. elim (cases_lt 0 seat) [
@@ -196,7 +196,7 @@ tidy_cards setup rules events legal =
                 let here : place.street ≡ street = eqb-true place.street street parts.1 in
                 let final = is_final setup placed count place it.among in
                 let O : Option ℕ → Type 0 = IsOwner setup in
-                omega (arith, slots_are, places_are, by_owner owner street few (subst O (owner_is place.owner owner parts.0) (legal_owned setup rules events legal place final.among)) (omega (arith, here, final.least)) (omega (arith, here, final.most)))),
+                omega (arith, slots_are, places_are, by_owner owner street few (subst O (is_same_owner-true place.owner owner parts.0) (legal_owned setup rules events legal place final.among)) (omega (arith, here, final.least)) (omega (arith, here, final.most)))),
           );
       discards_few = λ seat street some.
           let slots_are = ap (λ l. length l) (discarded_same finals seat street) in

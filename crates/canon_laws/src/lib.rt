@@ -1,4 +1,5 @@
-//! The law of confluence: a legal hand and the canonical script of its trace have one trace, with one division of its pots.
+//! The law of confluence: a legal hand and the canonical script of its trace have one trace, and its pots are
+//! shared alike.
 #![tactic(auto)]
 
 mod laws;

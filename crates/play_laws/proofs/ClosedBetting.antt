@@ -1,7 +1,7 @@
 -- Betting that is closed on a street stays closed there under moves of other streets.
 use Rattle.std.proofs.Common.{◌≡◌, ◌≢◌, ℕ, ◌+◌, ◌-◌, ◌≤◌, Bool, true, false, ◌&&◌, ◌||◌, ◌==◌, not, nat_lt, nat_le, inl, inr, List, [], ◌∷◌, map, filter, length, count_by, refl, sym, ◌∙◌, ap, arith, if◌then◌else◌}
 use Rattle.std.specs.List.{list_any}
-use Rattle.std.proofs.lemmas.Bool.{or_parts, or_from, and_parts, and_from, and_left, and_right, and_cases, ne_eqb, lt-ltb, ltb-true, le-leb, leb-true, false_from_ne_true, not-true, cases_Bool, both_ways}
+use Rattle.std.proofs.lemmas.Bool.{and_parts, and_from, and_right, ne_eqb, lt-ltb, ltb-true, le-leb, leb-true, false_from_ne_true, both_ways, or_left, or_cases, or_right}
 use Rattle.std.proofs.lemmas.List.Sums.{length-filter}
 use Rattle.play_event.specs.declared.setup.Setup.{Setup}
 use Rattle.play_event.specs.Streets.{is_stud}
@@ -70,9 +70,9 @@ has_to_by : (able before_able moved : Bool) (owes : ℕ) (less more : ℕ) → (
 has_to_by false before_able moved owes less more both on is = false_true is
 has_to_by true before_able true owes less more both on is = false_true is
 has_to_by true before_able false owes less more both on is =
-    and_from before_able (nat_lt 0 owes || nat_le 2 more) (both refl) (elim (Rattle.std.proofs.lemmas.Bool.or_cases (nat_lt 0 owes) (nat_le 2 less) is) [
-      | inl some ↦ Rattle.std.proofs.lemmas.Bool.or_left (nat_lt 0 owes) (nat_le 2 more) some
-      | inr two ↦ Rattle.std.proofs.lemmas.Bool.or_right (nat_lt 0 owes) (nat_le 2 more) (two_still less more on two)
+    and_from before_able (nat_lt 0 owes || nat_le 2 more) (both refl) (elim (or_cases (nat_lt 0 owes) (nat_le 2 less) is) [
+      | inl some ↦ or_left (nat_lt 0 owes) (nat_le 2 more) some
+      | inr two ↦ or_right (nat_lt 0 owes) (nat_le 2 more) (two_still less more on two)
     ])
 
 -- who has to move on a street after a move of another one had to before it

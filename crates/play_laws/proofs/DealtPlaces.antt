@@ -13,8 +13,9 @@ use Rattle.list_laws.proofs.Tests.{false_true}
 use Rattle.play_event.proofs.ClashLaws.{among_append}
 use Rattle.hand_canon.specs.CanonScript.{moves_before}
 use Rattle.play_laws.specs.LegalPlaces.{owner_folded, gone_by, PlacesLaw}
-use Rattle.play_laws.proofs.QuietEvents.{folded_more, folded_back}
+use Rattle.play_laws.proofs.QuietEvents.{folded_back, folded_own, folded_first}
 use Rattle.play_laws.proofs.PlaceGroups.{more_count}
+use Rattle.list_laws.proofs.Options.{some_is_none}
 
 -- a card that was dealt now
 pub record IsNew (dealt_to : Option ℕ) (on : ℕ) (is_late : Bool) (least most : ℕ) (place : Place) : Type 0 where
@@ -50,11 +51,11 @@ not_folded : (moves : List Move) (by : ℕ) (owner : Option ℕ) → owner_folde
 not_folded [] by owner is = is
 not_folded (move ∷ rest) by owner is = elim (folded_back move rest by owner is) [
   | inl before ↦ first_more move rest owner (not_folded rest by owner before)
-  | inr now ↦ Rattle.play_laws.proofs.QuietEvents.folded_own move rest owner now.0 now.1.0
+  | inr now ↦ folded_own move rest owner now.0 now.1.0
 ]
   where
     first_more : (move : Move) (rest : List Move) (owner : Option ℕ) → owner_folded rest owner ≡ true → owner_folded (move ∷ rest) owner ≡ true
-    first_more move rest owner was = Rattle.play_laws.proofs.QuietEvents.folded_first move rest owner was
+    first_more move rest owner was = folded_first move rest owner was
 
 -- a deal keeps the law of places
 pub deal_law : (code : Code) (moves : List Move) (newest street : ℕ) (owner : Option ℕ) (cards : List Slot) (placed : List Place) → PlacesLaw code moves newest placed → newest ≤ street → 1 ≤ street → owner_folded moves owner ≡ false → moves_before street moves ≡ moves → PlacesLaw code moves street (after_deal code owner street cards placed)
@@ -70,7 +71,7 @@ deal_law code moves newest street owner cards placed law on some live early =
       ];
       gone_within = λ place count among is. elim (among_append placed news place among) [
         | inl old ↦ omega (arith, law.gone_within place count old is, long)
-        | inr here ↦ absurd (Rattle.list_laws.proofs.Options.some_is_none (sym is ∙ (new place here).gone_after))
+        | inr here ↦ absurd (some_is_none (sym is ∙ (new place here).gone_after))
       ];
       since = λ place among. elim (among_append placed news place among) [
         | inl old ↦ law.since place old
@@ -115,7 +116,7 @@ deal_law code moves newest street owner cards placed law on some live early =
       ];
     }
   where
-    some_gone : (gone_after : Option ℕ) (number : ℕ) → is_gone_before gone_after number ≡ true → is_some gone_after ≡ true
+    some_gone : (gone : Option ℕ) (number : ℕ) → is_gone_before gone number ≡ true → is_some gone ≡ true
     some_gone (Some count) number is = refl
     some_gone None number is = is
 

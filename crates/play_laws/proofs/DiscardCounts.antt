@@ -1,5 +1,5 @@
 -- The cards of a seat that the draw of a street took are as many as the seat discarded there.
-use Rattle.std.proofs.Common.{◌≡◌, ℕ, suc, ◌≤◌, ◌<◌, Bool, true, false, ◌&&◌, ◌||◌, ◌==◌, not, inl, inr, Option, Some, None, List, [], ◌∷◌, ◌++◌, map, filter, length, count_by, refl, sym, ◌∙◌, ap, arith, if◌then◌else◌}
+use Rattle.std.proofs.Common.{◌≡◌, ℕ, ◌≤◌, ◌<◌, Bool, true, false, ◌&&◌, ◌||◌, ◌==◌, not, inl, inr, Option, Some, None, List, [], ◌∷◌, ◌++◌, map, filter, length, count_by, refl, sym, ◌∙◌, ap, arith, if◌then◌else◌}
 use Rattle.std.proofs.lemmas.Bool.{and_parts, and_from, and_right, eqb-true, ne_eqb, cases_Bool}
 use Rattle.std.proofs.lemmas.List.{append-nil}
 use Rattle.card_set.specs.declared.card.Slot.{Slot}
@@ -24,7 +24,7 @@ use Rattle.play_laws.specs.PastLaws.{PastLaw}
 use Rattle.play_laws.proofs.DueAtEvents.{Reaches, turn_reaches}
 use Rattle.play_laws.proofs.LegalEvents.{Stepped, deals, boards, moves, discards, shows, mucks, stepped}
 use Rattle.play_laws.proofs.PastLawKept.{is_next_to_draw}
-use Rattle.play_laws.proofs.LegalPlaces.{PlacesOf, legal_past, filter_append}
+use Rattle.play_laws.proofs.LegalPlaces.{PlacesOf, legal_past, filter_append, group_step}
 use Rattle.play_laws.proofs.PlaceLists.{rising}
 use Rattle.play_laws.proofs.InDeck.{legal_cards}
 use Rattle.play_laws.proofs.PlaceGroups.{AreRising, Passed, passed, rising_filter}
@@ -54,19 +54,12 @@ held_apart seat placed none up = all_apart (filter (is_held_by seat) placed) (ri
 abbrev pub is_out_of : ℕ → ℕ → Place → Bool
 is_out_of street seat place = is_same_owner place.owner (Some seat) && (place.discarded == street)
 
--- filters that pass alike
-alike_step : (old new : Place) (olds news : List Place) (a b : Bool) → a ≡ b → length news ≡ length olds → length (if a then (new ∷ news) else news) ≡ length (if b then (old ∷ olds) else olds)
-alike_step old new olds news true true same later = ap suc later
-alike_step old new olds news true false same later = false_true (sym same)
-alike_step old new olds news false true same later = false_true same
-alike_step old new olds news false false same later = later
-
 marked_alike : (p : Place → Bool) (covers : Place → Bool) (count draw : ℕ) (olds news : List Place) → ((old new : Place) → IsAmong olds old → IsMarked covers count draw old new → p new ≡ p old) → AreMarked covers count draw olds news → length (filter p news) ≡ length (filter p olds)
 marked_alike p covers count draw [] [] same is = refl
 marked_alike p covers count draw [] (new ∷ news) same is = absurd is
 marked_alike p covers count draw (old ∷ olds) [] same is = absurd is
 marked_alike p covers count draw (old ∷ olds) (new ∷ news) same is =
-    alike_step old new (filter p olds) (filter p news) (p new) (p old) (same old new (inl refl) is.0) (marked_alike p covers count draw olds news (λ o n among. same o n (inr among)) is.1)
+    group_step old new (filter p olds) (filter p news) (p new) (p old) (same old new (inl refl) is.0) (marked_alike p covers count draw olds news (λ o n among. same o n (inr among)) is.1)
 
 out_same : (street seat : ℕ) (old new : Place) → new.owner ≡ old.owner → new.discarded ≡ old.discarded → is_out_of street seat new ≡ is_out_of street seat old
 out_same street seat old new owner same = ap (λ o. is_same_owner o (Some seat) && (new.discarded == street)) owner ∙ ap (λ d. is_same_owner old.owner (Some seat) && (d == street)) same
@@ -76,7 +69,7 @@ shown_out : (count draw street seat : ℕ) (old new : Place) → IsMarked nothin
 shown_out count draw street seat old new is = by_how is.how
   where
     by_how : HowMarked nothing count draw old new → is_out_of street seat new ≡ is_out_of street seat old
-    by_how (kept gone_after same) = out_same street seat old new is.owner same
+    by_how (kept gone same) = out_same street seat old new is.owner same
     by_how (marked covered now on) = false_true covered
 
 -- a discard takes nothing of another draw
@@ -90,7 +83,7 @@ other_out : (at who street seat count : ℕ) (old new : Place) → 1 ≤ street 
 other_out at who street seat count old new some other held is = by_how is.how
   where
     by_how : HowMarked (is_held_by who) count at old new → is_out_of street seat new ≡ is_out_of street seat old
-    by_how (kept gone_after same) = out_same street seat old new is.owner same
+    by_how (kept gone same) = out_same street seat old new is.owner same
     by_how (marked covered now on) =
         let it = held covered in
         let was : is_out_of street seat old ≡ false = and_right (is_same_owner old.owner (Some seat)) (old.discarded == street) (ne_eqb old.discarded street (λ same. omega (arith, same, it.1, some))) in
@@ -100,7 +93,7 @@ other_out at who street seat count old new some other held is = by_how is.how
 fold_out : (street seat who count : ℕ) (placed : List Place) → length (filter (is_out_of street seat) (map (folded_place who count) placed)) ≡ length (filter (is_out_of street seat) placed)
 fold_out street seat who count [] = refl
 fold_out street seat who count (place ∷ rest) =
-    alike_step place (folded_place who count place) (filter (is_out_of street seat) rest) (filter (is_out_of street seat) (map (folded_place who count) rest)) (is_out_of street seat (folded_place who count place)) (is_out_of street seat place) (one (is_held_by who place)) (fold_out street seat who count rest)
+    group_step place (folded_place who count place) (filter (is_out_of street seat) rest) (filter (is_out_of street seat) (map (folded_place who count) rest)) (is_out_of street seat (folded_place who count place)) (is_out_of street seat place) (one (is_held_by who place)) (fold_out street seat who count rest)
   where
     one : (b : Bool) → is_out_of street seat (if b then gone_now count place else place) ≡ is_out_of street seat place
     one true = refl

@@ -14,6 +14,7 @@ use Rattle.play_laws.specs.PastLaws.{AreReached, has_move, PastLaw, DoneLaw, pla
 use Rattle.play_laws.proofs.DueAtEvents.{Reaches, IsNotDue, not_due}
 use Rattle.play_laws.proofs.LegalEvents.{Stepped, deals, boards, moves, discards, shows, mucks}
 use Rattle.play_laws.proofs.ClosedBetting.{live_still, fewer}
+use Rattle.play_laws.proofs.SettledStreets.{at_range}
 
 -- an event takes place on the street of the turn
 pub on_street : (setup : Setup) (before : Past) (at : ℕ) (event : Resolved) → Stepped setup before at event → street_of event ≡ at
@@ -113,16 +114,6 @@ done_or_live setup before at street seat _ past law come (moves move no_deal no_
     reached [] all = tt
     reached (first ∷ rest) all = (omega (arith, all.0, come.on, on), reached rest all.1)
 
--- where no deal is due, a live seat has its cards; where no draw is due, it has drawn
-at_seat : (p : ℕ → Bool) (first count seat : ℕ) → list_any p (range_with_len first count) ≡ false → first ≤ seat → seat < first + count → p seat ≡ false
-at_seat p first zero seat is least most = absurd (omega (arith, least, most))
-at_seat p first (suc count) seat is least most =
-    let parts = or_parts (p first) (list_any p (range_with_len (first + 1) count)) is in
-    elim (cases_lt first seat) [
-      | inl above ↦ at_seat p (first + 1) count seat parts.1 (omega (arith, above)) (omega (arith, most))
-      | inr below ↦ let same : seat ≡ first = omega (arith, below, least) in ap p same ∙ parts.0
-    ]
-
 find_first : (p : ℕ → Bool) (first count seat : ℕ) (b : Bool) → p first ≡ b → (is_some (find p (range_with_len (first + 1) count)) ≡ false → first < seat → p seat ≡ false) → first ≤ seat → is_some (if b then Some first else find p (range_with_len (first + 1) count)) ≡ false → p seat ≡ false
 find_first p first count seat true here later least none = false_true (sym none)
 find_first p first count seat false here later least none = elim (cases_lt first seat) [
@@ -139,7 +130,7 @@ find_none p first (suc count) seat is least most = find_first p first count seat
 pub live_dealt : (setup : Setup) (before : Past) (street seat : ℕ) → is_deal_due setup before street ≡ false → is_live (moves_of before) seat ≡ true → 1 ≤ seat → seat ≤ setup.stacks.seats → hole_cards_on setup.code street ≤ hole_cards_dealt before street seat
 live_dealt setup before street seat is live least most =
     let parts = or_parts (list_any (λ seat. nat_lt 0 (hole_cards_owed setup before street seat)) (all_seats setup)) (nat_lt 0 (board_cards_owed setup before street)) is in
-    let none : hole_cards_owed setup before street seat ≤ 0 = ltb-false 0 (hole_cards_owed setup before street seat) (at_seat (λ seat. nat_lt 0 (hole_cards_owed setup before street seat)) 1 setup.stacks.seats seat parts.0 least (omega (arith, most))) in
+    let none : hole_cards_owed setup before street seat ≤ 0 = ltb-false 0 (hole_cards_owed setup before street seat) (at_range (λ seat. nat_lt 0 (hole_cards_owed setup before street seat)) 1 setup.stacks.seats seat parts.0 least (omega (arith, most))) in
     omega (arith, none, ap (λ b. if b then hole_cards_on setup.code street - hole_cards_dealt before street seat else 0) live)
 
 -- where no draw is due each live seat has drawn

@@ -1,6 +1,6 @@
 -- What a seat discarded on a street, it discarded by drawing there.
 use Rattle.std.proofs.Common.{◌≡◌, ℕ, ◌≤◌, ◌<◌, Bool, true, false, ◌&&◌, ◌||◌, ◌==◌, nat_lt, inl, inr, Option, Some, None, is_some, is_none, List, [], ◌∷◌, map, filter, length, count_by, refl, sym, ◌∙◌, ap, subst, arith, if◌then◌else◌}
-use Rattle.std.proofs.lemmas.Bool.{or_parts, or_cases, or_left, or_right, and_from, eq-eqb, both_ways, ltb-true, cases_lt, not_from_true}
+use Rattle.std.proofs.lemmas.Bool.{or_cases, or_left, or_right, and_from, eq-eqb, both_ways, ltb-true, cases_lt, not_from_true, and_parts, eqb-true}
 use Rattle.card_set.specs.declared.card.Slot.{Slot}
 use Rattle.card_set.specs.declared.card.Slot.TheVariants as slots
 use Rattle.play_event.specs.declared.code.Code.{Code}
@@ -9,7 +9,7 @@ use Rattle.play_event.specs.Past.{Past, Dealt, Boarded, Moved, Discarded, Shown,
 use Rattle.play_event.specs.Seats.{is_live}
 use Rattle.card_set.specs.Known.{known_cards}
 use Rattle.play_event.specs.Dealing.{has_drawn}
-use Rattle.play_event.specs.Places.{Place, is_same_owner, is_in_group, is_past_deck, places_dealt, after_deal, is_held_by, after_fold}
+use Rattle.play_event.specs.Places.{Place, is_same_owner, is_in_group, is_past_deck, places_dealt, after_deal, is_held_by, after_fold, folded_place, gone_now}
 use Rattle.play_event.specs.Naming.{after_discard, after_show, other_names, blanks_in, is_covered, is_show_of_all}
 use Rattle.play_event.specs.Table.{places_of}
 use Rattle.play_event.specs.Laws.{IsAmong}
@@ -41,7 +41,7 @@ old_out count draw who street seat olds news place drew changed among is before 
         still same = or_right ((draw == street) && (who == seat)) drew (before from.old from.among (sym from.change.owner ∙ is.0, (sym same ∙ is.1.0, is.1.1)))
 
         here : HowGone count draw who from.old place → (((draw == street) && (who == seat)) || drew) ≡ true
-        here (stays gone_after same) = still same
+        here (stays gone same) = still same
         here (folds there now same mine) = still same
         here (out there now on mine) =
             or_left ((draw == street) && (who == seat)) drew (and_from (draw == street) (who == seat) (eq-eqb draw street (sym on ∙ is.1.0)) (eq-eqb who seat (same_Some who seat (sym mine ∙ (sym from.change.owner ∙ is.0)))))
@@ -57,11 +57,11 @@ new_not_out code owner on cards placed street seat place among is = elim (among_
 ]
 
 -- a fold discards nothing
-fold_not_out : (seat_folding count street seat : ℕ) (placed : List Place) (place : Place) → IsAmong (map (Rattle.play_event.specs.Places.folded_place seat_folding count) placed) place → IsOut street seat place → (old : Place) × (IsAmong placed old × IsOut street seat old)
+fold_not_out : (seat_folding count street seat : ℕ) (placed : List Place) (place : Place) → IsAmong (map (folded_place seat_folding count) placed) place → IsOut street seat place → (old : Place) × (IsAmong placed old × IsOut street seat old)
 fold_not_out seat_folding count street seat [] place among is = absurd among
 fold_not_out seat_folding count street seat (first ∷ rest) place (inl same) is = (first, (inl refl, subst (λ (p : Place). IsOut street seat p → IsOut street seat first) same (one (is_held_by seat_folding first)) is))
   where
-    one : (b : Bool) → IsOut street seat (if b then Rattle.play_event.specs.Places.gone_now count first else first) → IsOut street seat first
+    one : (b : Bool) → IsOut street seat (if b then gone_now count first else first) → IsOut street seat first
     one true it = it
     one false it = it
 fold_not_out seat_folding count street seat (first ∷ rest) place (inr later) is =
@@ -89,7 +89,7 @@ out_drawn code (Shown on owner cards ∷ before) street seat place among is =
     let marks = show_marks covers (length placed) 0 cards (other_names (filter covers placed) cards) 0 placed in
     elim (or_cases ((0 == street) && (owner == seat)) (has_drawn before street seat) (old_out (length placed) 0 owner street seat placed (after_show code owner cards placed) place (has_drawn before street seat)
     (marked_changed nothing (length placed) 0 owner placed (after_show code owner cards placed) (λ old it. false_true it) marks) among is (λ old in_it was. out_drawn code before street seat old in_it was))) [
-      | inl zero_street ↦ absurd (omega (arith, is.1.1, Rattle.std.proofs.lemmas.Bool.eqb-true 0 street (Rattle.std.proofs.lemmas.Bool.and_parts (0 == street) (owner == seat) zero_street).0))
+      | inl zero_street ↦ absurd (omega (arith, is.1.1, eqb-true 0 street (and_parts (0 == street) (owner == seat) zero_street).0))
       | inr drew ↦ drew
     ]
 
@@ -101,7 +101,7 @@ covers_hand setup before at seat past law come who =
       gone_after = λ place among not_covered mine. is_gone_before place among mine (is_gone place.gone_after (is_same_owner place.owner (Some seat)) (ap (λ o. is_same_owner o (Some seat)) mine ∙ eq-eqb seat seat refl) not_covered);
     }
   where
-    is_gone : (gone_after : Option ℕ) (b : Bool) → b ≡ true → (b && is_none gone_after) ≡ false → is_some gone_after ≡ true
+    is_gone : (gone : Option ℕ) (b : Bool) → b ≡ true → (b && is_none gone) ≡ false → is_some gone ≡ true
     is_gone (Some count) b is not_covered = refl
     is_gone None b is not_covered = false_true (sym not_covered ∙ ap (λ c. c && true) is)
 

@@ -12,11 +12,11 @@ use Rattle.play_event.specs.Said.{Said}
 use Rattle.play_event.specs.Past.{Past, moves_of, newest_street}
 use Rattle.play_event.specs.Seats.{live_count}
 use Rattle.play_event.specs.Dealing.{is_deal_due, is_draw_due}
-use Rattle.play_event.specs.Due.{turn, due_on, first_due, found_or, showdown, is_bring_in_due, is_move_due}
+use Rattle.play_event.specs.Due.{turn, due_on, first_due, found_or, showdown, is_bring_in_due, is_move_due, is_unfinished}
 use Rattle.play_event.specs.Reasons.{is_due_kind}
 use Rattle.list_laws.proofs.Options.{some_is_none}
 use Rattle.std.proofs.lemmas.Option.{same_Some}
-use Rattle.play_event.proofs.StreetLaws.{street_found}
+use Rattle.play_event.proofs.StreetLaws.{street_found, due_is_first}
 use Rattle.list_laws.proofs.Tests.{false_true}
 
 -- what is due on a street
@@ -103,13 +103,13 @@ unfolding turn
 turn_reaches setup before most = reaches_by setup before (nat_le (live_count setup (moves_of before)) 1) (first_due (due_on setup before) (street_count setup.code + 1 - newest_street before) (newest_street before)) most refl
 
 -- what is due, where the turn is that of a deal, a draw, a bring-in or a move
-pub unfinished_due : (setup : Setup) (before : Past) (due : Due) → (turn setup before).1 ≡ due → Rattle.play_event.specs.Due.is_unfinished due ≡ true → IsDue setup before (turn setup before).0 due
+pub unfinished_due : (setup : Setup) (before : Past) (due : Due) → (turn setup before).1 ≡ due → is_unfinished due ≡ true → IsDue setup before (turn setup before).0 due
 unfinished_due setup before due is unfinished =
-    let first = Rattle.play_event.proofs.StreetLaws.due_is_first setup before (turn setup before).0 due (ap (λ d. ((turn setup before).0, d)) is) unfinished in
+    let first = due_is_first setup before (turn setup before).0 due (ap (λ d. ((turn setup before).0, d)) is) unfinished in
     is_due setup before (turn setup before).0 due first.is_due
 
 -- the kinds that may come
-hole_kind : (setup : Setup) (seat : ℕ) (cards : List Slot) (due : Due) → is_due_kind setup.code due (said.Hole seat cards) ≡ true → (Rattle.play_event.specs.Due.is_unfinished due ≡ true) × (((street : ℕ) × (due ≡ dues.Deal street)) ⊎ ((street : ℕ) × (due ≡ dues.Draw street)))
+hole_kind : (setup : Setup) (seat : ℕ) (cards : List Slot) (due : Due) → is_due_kind setup.code due (said.Hole seat cards) ≡ true → (is_unfinished due ≡ true) × (((street : ℕ) × (due ≡ dues.Deal street)) ⊎ ((street : ℕ) × (due ≡ dues.Draw street)))
 hole_kind setup seat cards (dues.Deal street) is = (refl, inl (street, refl))
 hole_kind setup seat cards (dues.Draw street) is = (refl, inr (street, refl))
 hole_kind setup seat cards dues.BringIn is = false_true is

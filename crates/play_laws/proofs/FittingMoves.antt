@@ -2,7 +2,7 @@
 use Rattle.std.proofs.Common.{◌≡◌, ℕ, zero, suc, ◌+◌, ◌-◌, ◌≤◌, ◌<◌, Bool, true, false, ◌&&◌, ◌||◌, ◌==◌, nat_lt, nat_le, inl, inr, ◌⊎◌, Option, Some, None, is_some, is_none, List, [], ◌∷◌, map, filter, slice_get, refl, sym, ◌∙◌, ap, arith, if◌then◌else◌}
 use Rattle.std.specs.List.{list_any, range_with_len}
 use Rattle.std.specs.Option.{option_map_or}
-use Rattle.std.proofs.lemmas.Bool.{or_parts, or_from, and_parts, and_right, cases_Bool, cases_lt, both_ways, ltb-true, ltb-false, le-leb, eqb-true, false_from_ne_true, not_from_true}
+use Rattle.std.proofs.lemmas.Bool.{or_parts, or_from, and_parts, and_right, cases_Bool, cases_lt, both_ways, ltb-true, ltb-false, le-leb, false_from_ne_true, not_from_true}
 use Rattle.play_event.specs.declared.code.Code.{Code}
 use Rattle.play_event.specs.declared.code.Code.TheVariants as games
 use Rattle.play_event.specs.declared.setup.Setup.{Setup}
@@ -27,6 +27,7 @@ use Rattle.play_laws.proofs.LegalPlaces.{PlacesOf}
 use Rattle.play_laws.proofs.MoverUps.{SameUps, mover_same}
 use Rattle.play_laws.proofs.MovesLaw.{is_up_by, ups_by, IsMover, free, shown}
 use Rattle.play_laws.proofs.DrawnDiscards.{out_drawn}
+use Rattle.play_event.proofs.OwnerLaws.{is_same_owner-true}
 
 -- where somebody has moved on the street, who moves is told by the moves alone
 some_on : (street : ℕ) (list : List Move) → has_move street list ≡ true → (first : Move) × ((rest : List Move) × (moves_on street list ≡ first ∷ rest))
@@ -142,7 +143,8 @@ up_by false none up early there is = refl
 up_by true none false early there is = sym (and_right none false refl)
 up_by true none true early there is = is ∙ sym (ap (λ b. b && true) (there refl refl))
 
-none_some : (gone_after : Option ℕ) → is_some gone_after ≡ false → is_none gone_after ≡ true
+-- what is not some is none
+pub none_some : (gone : Option ℕ) → is_some gone ≡ false → is_none gone ≡ true
 none_some None is = refl
 none_some (Some count) is = false_true (sym is)
 
@@ -152,15 +154,9 @@ ups_now setup before at seat past law on drew live =
     ap (map (λ (p : Place). p.slot)) (same_filter (is_up_by setup.code at seat) (λ place. is_held_by seat place && is_up setup.code place) (places_of setup.code before) (λ place among.
     up_by (is_same_owner place.owner (Some seat)) (is_none place.gone_after) (is_up setup.code place) (nat_le place.street at) (still place among) (le-leb place.street at (omega (arith, law.reached place among, on)))))
   where
-    owner_is : (a b : Option ℕ) → is_same_owner a b ≡ true → a ≡ b
-    owner_is (Some a) (Some b) is = ap Some (eqb-true a b is)
-    owner_is None None is = refl
-    owner_is (Some a) None is = false_true is
-    owner_is None (Some b) is = false_true is
-
     still : (place : Place) → IsAmong (places_of setup.code before) place → is_same_owner place.owner (Some seat) ≡ true → is_up setup.code place ≡ true → is_none place.gone_after ≡ true
     still place among mine up =
-        let owner = owner_is place.owner (Some seat) mine in
+        let owner = is_same_owner-true place.owner (Some seat) mine in
         none_some place.gone_after (law.gone_is place among ∙ or_from (nat_lt 0 place.discarded) (owner_folded (moves_of before) place.owner)
         (false_from_ne_true (nat_lt 0 place.discarded) (λ out. both_ways (has_draw setup.code place.discarded) (up_no_draw setup.code place place.discarded up)
         (drew place.discarded seat (out_drawn setup.code before place.discarded seat place among (owner, (refl, omega (arith, ltb-true 0 place.discarded out)))))))

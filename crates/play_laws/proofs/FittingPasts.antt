@@ -10,7 +10,7 @@ use Rattle.play_event.specs.declared.setup.Rules.{Rules}
 use Rattle.play_event.specs.Streets.{is_stud}
 use Rattle.play_event.specs.Said as said
 use Rattle.play_event.specs.Said.{Said}
-use Rattle.play_event.specs.Past.{Past, Resolved, Move, Moved, moves_of, moves_on, newest_street}
+use Rattle.play_event.specs.Past.{Past, Resolved, Move, Moved, moves_of, moves_on, Discarded, Shown, Dealt, Mucked, Boarded}
 use Rattle.play_event.specs.Seats.{is_able, all_seats, able_count, live_count}
 use Rattle.play_event.specs.Price.{owed, price}
 use Rattle.play_event.specs.Due.{turn, has_to_move, has_moved_since_rise, is_bring_in_due, has_opened_betting}
@@ -62,11 +62,11 @@ made_act setup older street turn_is _ move (call_said named stated) kind is = fa
 made_act setup older street turn_is _ move (raise_said named amount) kind is = sym (ap acts is)
   where
     acts : Resolved → Bool
-    acts event = elim event [ Rattle.play_event.specs.Past.Moved m ↦ has_opened_betting m.act | Rattle.play_event.specs.Past.Dealt s o c ↦ true | Rattle.play_event.specs.Past.Boarded s c ↦ true | Rattle.play_event.specs.Past.Discarded s o c ↦ true | Rattle.play_event.specs.Past.Shown s o c ↦ true | Rattle.play_event.specs.Past.Mucked s o ↦ true ]
+    acts event = elim event [ Moved m ↦ has_opened_betting m.act | Dealt s o c ↦ true | Boarded s c ↦ true | Discarded s o c ↦ true | Shown s o c ↦ true | Mucked s o ↦ true ]
 made_act setup older street turn_is _ move (bring_said named) kind is = sym (ap acts is)
   where
     acts : Resolved → Bool
-    acts event = elim event [ Rattle.play_event.specs.Past.Moved m ↦ has_opened_betting m.act | Rattle.play_event.specs.Past.Dealt s o c ↦ true | Rattle.play_event.specs.Past.Boarded s c ↦ true | Rattle.play_event.specs.Past.Discarded s o c ↦ true | Rattle.play_event.specs.Past.Shown s o c ↦ true | Rattle.play_event.specs.Past.Mucked s o ↦ true ]
+    acts event = elim event [ Moved m ↦ has_opened_betting m.act | Dealt s o c ↦ true | Boarded s c ↦ true | Discarded s o c ↦ true | Shown s o c ↦ true | Mucked s o ↦ true ]
 
 -- a move on the first street of a hand in which a bring-in was due brings chips in
 opened_by : (setup : Setup) (rules : Rules) (placed : List Place) (older : List Move) (move : Move) (due : Due) (fits : FitsMove setup rules placed older move) → fits.due ≡ due → IsBetDue setup older move.street due → is_bring_in_due setup older move.street ≡ true → has_opened_betting move.act ≡ true

@@ -1,6 +1,5 @@
 -- The moves of every legal past fit.
 use Rattle.std.proofs.Common.{◌≡◌, ℕ, ◌≤◌, Bool, true, false, ◌&&◌, ◌==◌, nat_lt, nat_le, inl, inr, Some, None, List, [], ◌∷◌, map, refl, sym, ◌∙◌, ap, subst, arith, if◌then◌else◌}
-use Rattle.std.specs.List.{list_any}
 use Rattle.std.proofs.lemmas.Bool.{or_parts, or_cases, and_parts, both_ways, cases_lt, eq-eqb, eqb-true}
 use Rattle.card_set.specs.declared.card.Slot.TheVariants as slots
 use Rattle.play_event.specs.declared.reason.Due.{Due}
@@ -35,6 +34,7 @@ use Rattle.play_laws.proofs.MovesLaw.{ups_by, IsMover, IsBetDue, FitsMove, Moves
 use Rattle.play_laws.proofs.KnownUpCards.{AreBefore, moves_deal, moves_sure, discard_sure, show_sure, fold_sure}
 use Rattle.play_laws.proofs.FittingMoves.{is_mover, ups_now}
 use Rattle.play_laws.proofs.BettingDue.{bet_of}
+use Rattle.std.specs.Prelude.{length}
 
 -- where a bring-in or a move is due, some seat is in turn, or it is not known which
 abbrev pub HasMovers : Setup → Rules → Type 0
@@ -160,4 +160,4 @@ moves_step setup rules before at _ past come (moves move no_deal no_draw on) law
   where
     by_fold : (b : Bool) → MovesLaw setup rules (if b then after_fold move.seat (places_of setup.code before) else places_of setup.code before) (move ∷ moves_of before)
     by_fold false = (fits, law)
-    by_fold true = moves_sure setup rules (places_of setup.code before) (after_fold move.seat (places_of setup.code before)) (move ∷ moves_of before) (fold_sure move.seat (Rattle.std.specs.Prelude.length (places_of setup.code before)) (places_of setup.code before)) (fits, law)
+    by_fold true = moves_sure setup rules (places_of setup.code before) (after_fold move.seat (places_of setup.code before)) (move ∷ moves_of before) (fold_sure move.seat (length (places_of setup.code before)) (places_of setup.code before)) (fits, law)

@@ -17,21 +17,23 @@ use Rattle.play_event.specs.Table.{places_of}
 use Rattle.play_event.specs.Taken.{is_foreign, is_in_deck, has_taken_card, is_taken, has_misplaced_card, is_misplaced, newly_known, has_repeat, is_clash, is_borne_by}
 use Rattle.play_event.specs.Scripts.{with_event, past_of}
 use Rattle.play_event.specs.Laws.{IsAmong, AreLegal}
-use Rattle.play_event.proofs.Kept.{AreKept, IsMark, ComesFrom, comes_from, names_keep, held_is_there}
-use Rattle.play_event.proofs.ClashLaws.{among_append}
-use Rattle.play_event.proofs.SafePlaces.{none_clash}
+use Rattle.play_event.proofs.Kept.{AreKept, ComesFrom, comes_from, names_keep, held_is_there}
+use Rattle.play_event.proofs.ClashLaws.{among_append, not_at}
+use Rattle.play_event.proofs.SafePlaces.{none_clash, discard_mark, show_mark}
 use Rattle.play_laws.specs.LegalPlaces.{owner_folded, gone_by, PlacesLaw, AreLawful}
 use Rattle.play_laws.proofs.DueAtEvents.{turn_reaches}
 use Rattle.play_laws.proofs.LegalEvents.{Stepped, deals, boards, moves, discards, shows, mucks, stepped}
 use Rattle.play_laws.proofs.LegalPlaces.{LegalPast, legal_past}
 use Rattle.play_laws.proofs.PlaceLists.{ListLaw, list_law}
+use Rattle.hand_canon.specs.CanonScript.{moves_before}
+use Rattle.std.specs.Option.{is_some}
 
 -- known cards are in the deck
 abbrev pub AreInDeck : Code → List Place → Type 0
 AreInDeck code placed = (place : Place) → IsAmong placed place → is_foreign code place.slot ≡ false
 
 taken_deck : (code : Code) (placed : List Place) (late : Bool) (slot : Slot) → is_taken code placed late slot ≡ false → is_foreign code slot ≡ false
-taken_deck code placed late (slots.Known card) free = (or_parts (not (is_in_deck code card)) (list_any (λ place. not (late && Rattle.std.specs.Option.is_some place.gone_after) && is_borne_by card place.slot) placed) free).0
+taken_deck code placed late (slots.Known card) free = (or_parts (not (is_in_deck code card)) (list_any (λ place. not (late && is_some place.gone_after) && is_borne_by card place.slot) placed) free).0
 taken_deck code placed late slots.Unknown free = refl
 
 dealt_deck : (code : Code) (placed : List Place) (taking : Bool) (owner : Option ℕ) (street : ℕ) (late : Bool) (index number : ℕ) (cards : List Slot) → list_any (is_taken code placed taking) cards ≡ false → AreInDeck code (places_dealt owner street late index number cards)
@@ -48,12 +50,6 @@ deal_deck code owner street cards placed free deck place among =
       | inl old ↦ deck place old
       | inr new ↦ dealt_deck code placed late owner street late (count_by (is_in_group owner street) placed) (length placed) cards (or_parts (list_any (is_taken code placed late) cards) (has_repeat cards) free).0 place new
     ]
-
--- what passes nowhere does not pass at a place
-pub not_at : (p : Place → Bool) (placed : List Place) (place : Place) → list_any p placed ≡ false → IsAmong placed place → p place ≡ false
-not_at p [] place none among = absurd among
-not_at p (first ∷ rest) place none (inl is) = ap p (sym is) ∙ (or_parts (p first) (list_any p rest) none).0
-not_at p (first ∷ rest) place none (inr later) = not_at p rest place (or_parts (p first) (list_any p rest) none).1 later
 
 kept_deck : (code : Code) (count : ℕ) (olds news : List Place) → AreKept count olds news → has_misplaced_card code olds news ≡ false → AreInDeck code olds → AreInDeck code news
 kept_deck code count olds news kept fits deck place among = by_known (comes_from count olds news kept place among)
@@ -72,12 +68,6 @@ fold_deck code seat count (first ∷ rest) deck place (inl same) = ap (λ (p : P
     one true = refl
     one false = refl
 fold_deck code seat count (first ∷ rest) deck place (inr later) = fold_deck code seat count rest (λ other among. deck other (inr among)) place later
-
-discard_mark : (street count : ℕ) → IsMark count (discarded_now street count)
-discard_mark street count = record { slot = λ place. refl; number = λ place. refl; past_deck = λ place. refl; gone_after = λ place. inr refl }
-
-show_mark : (count : ℕ) → IsMark count (λ (place : Place). place)
-show_mark count = record { slot = λ place. refl; number = λ place. refl; past_deck = λ place. refl; gone_after = λ place. inl refl }
 
 -- a legal event keeps known cards in the deck
 pub deck_law : (setup : Setup) (before : Past) (at : ℕ) (event : Resolved) → Stepped setup before at event → AreInDeck setup.code (places_of setup.code before) → AreInDeck setup.code (places_of setup.code (event ∷ before))
@@ -121,7 +111,7 @@ legal_cards setup rules (event ∷ events) legal =
     }
 
 gone_later : (code : Code) (list : List Move) (newest : ℕ) (placed : List Place) (place : Place) (street : ℕ) → PlacesLaw code list newest placed → IsAmong placed place → gone_by list street place ≡ true → place.street < street
-gone_later code list newest placed place street law among gone = elim (or_cases (nat_lt 0 place.discarded && nat_le place.discarded street) (owner_folded (Rattle.hand_canon.specs.CanonScript.moves_before street list) place.owner) gone) [
+gone_later code list newest placed place street law among gone = elim (or_cases (nat_lt 0 place.discarded && nat_le place.discarded street) (owner_folded (moves_before street list) place.owner) gone) [
   | inl out ↦
       let parts = and_parts (nat_lt 0 place.discarded) (nat_le place.discarded street) out in
       omega (arith, law.out_after place among (ltb-true 0 place.discarded parts.0), leb-true place.discarded street parts.1)

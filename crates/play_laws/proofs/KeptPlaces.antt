@@ -1,6 +1,6 @@
 -- Events that deal nothing keep what holds of the places.
 use Rattle.std.proofs.Common.{◌≡◌, ℕ, suc, ◌+◌, ◌≤◌, ◌<◌, Bool, true, false, ◌&&◌, ◌||◌, ◌==◌, nat_lt, nat_le, inl, inr, ◌⊎◌, Option, Some, None, is_some, List, [], ◌∷◌, filter, length, count_by, refl, sym, ◌∙◌, ap, subst, arith, if◌then◌else◌}
-use Rattle.std.proofs.lemmas.Bool.{and_parts, or_cases, or_parts, or_from, or_left, or_right, and_from, lt-ltb, ltb-true, leb-true, le-leb, eqb-true, eq-eqb, cases_Bool, cases_lt}
+use Rattle.std.proofs.lemmas.Bool.{or_cases, or_parts, or_left, or_right, leb-true, eqb-true, eq-eqb, ltb-false}
 use Rattle.std.proofs.lemmas.List.Sums.{length-filter}
 use Rattle.play_event.specs.declared.code.Code.{Code}
 use Rattle.play_event.specs.Streets.{deck_of, has_draw}
@@ -12,6 +12,7 @@ use Rattle.list_laws.proofs.Tests.{false_true}
 use Rattle.hand_canon.specs.CanonScript.{moves_before}
 use Rattle.play_laws.specs.LegalPlaces.{owner_folded, gone_by, PlacesLaw}
 use Rattle.play_laws.proofs.PlaceChanges.{HowGone, stays, out, folds, IsChange, AreChanged}
+use Rattle.std.proofs.lemmas.Option.{same_Some}
 
 -- where a place comes from
 pub record ChangedFrom (count street seat : ℕ) (olds : List Place) (new : Place) : Type 0 where
@@ -68,7 +69,7 @@ out_still : (old new : Place) (count street seat : ℕ) → IsChange count stree
 out_still old new count street seat change none some = by_how change.how
   where
     by_how : HowGone count street seat old new → new.discarded ≡ old.discarded
-    by_how (stays gone_after same) = same
+    by_how (stays gone same) = same
     by_how (folds there now same mine) = same
     by_how (out there now on mine) = absurd (omega (arith, some, none there))
 
@@ -76,18 +77,18 @@ out_still old new count street seat change none some = by_how change.how
 pub none_out : (code : Code) (moves : List Move) (newest : ℕ) (placed : List Place) (place : Place) → PlacesLaw code moves newest placed → IsAmong placed place → place.gone_after ≡ None → place.discarded ≡ 0
 none_out code moves newest placed place law among there =
     let is : (nat_lt 0 place.discarded || owner_folded moves place.owner) ≡ false = sym (law.gone_is place among) ∙ ap is_some there in
-    omega (arith, Rattle.std.proofs.lemmas.Bool.ltb-false 0 place.discarded (or_parts (nat_lt 0 place.discarded) (owner_folded moves place.owner) is).0)
+    omega (arith, ltb-false 0 place.discarded (or_parts (nat_lt 0 place.discarded) (owner_folded moves place.owner) is).0)
 
 -- what was gone by a street is
 gone_by_still : (moves after : List Move) (street : ℕ) (old new : Place) → new.owner ≡ old.owner → new.discarded ≡ old.discarded → ((owner : Option ℕ) (by : ℕ) → owner_folded (moves_before by moves) owner ≡ true → owner_folded (moves_before by after) owner ≡ true) → gone_by moves street old ≡ true → gone_by after street new ≡ true
-gone_by_still moves after street old new owner same still gone_after = elim (or_cases (nat_lt 0 old.discarded && nat_le old.discarded street) (owner_folded (moves_before street moves) old.owner) gone_after) [
+gone_by_still moves after street old new owner same still gone = elim (or_cases (nat_lt 0 old.discarded && nat_le old.discarded street) (owner_folded (moves_before street moves) old.owner) gone) [
   | inl is ↦ or_left (nat_lt 0 new.discarded && nat_le new.discarded street) (owner_folded (moves_before street after) new.owner) (ap (λ d. nat_lt 0 d && nat_le d street) same ∙ is)
   | inr is ↦ or_right (nat_lt 0 new.discarded && nat_le new.discarded street) (owner_folded (moves_before street after) new.owner) (ap (owner_folded (moves_before street after)) owner ∙ still old.owner street is)
 ]
 
 changed_when : (code : Code) (moves after : List Move) (newest street seat : ℕ) (olds news : List Place) (a b old_a old_b : Place) → PlacesLaw code moves newest olds → IsQuietEvent code moves after newest street seat olds news → IsAmong olds old_a → IsAmong olds old_b → IsChange (length olds) street seat old_a a → IsChange (length olds) street seat old_b b → HowGone (length olds) street seat old_a a → is_gone_before a.gone_after b.number ≡ true → gone_by after b.street a ≡ true
-changed_when code moves after newest street seat olds news a b old_a old_b law event in_a in_b change_a change_b (stays gone_after same) is =
-    let was : is_gone_before old_a.gone_after old_b.number ≡ true = ap (λ g. is_gone_before g old_b.number) (sym gone_after) ∙ (ap (is_gone_before a.gone_after) (sym change_b.number) ∙ is) in
+changed_when code moves after newest street seat olds news a b old_a old_b law event in_a in_b change_a change_b (stays gone same) is =
+    let was : is_gone_before old_a.gone_after old_b.number ≡ true = ap (λ g. is_gone_before g old_b.number) (sym gone) ∙ (ap (is_gone_before a.gone_after) (sym change_b.number) ∙ is) in
     let P : ℕ → Type 0 = λ k. gone_by after k a ≡ true in
     subst P (sym change_b.street) (gone_by_still moves after old_b.street old_a a change_a.owner same event.still (law.gone_when old_a old_b in_a in_b was))
 changed_when code moves after newest street seat olds news a b old_a old_b law event in_a in_b change_a change_b (out there now on mine) is =
@@ -96,12 +97,12 @@ changed_when code moves after newest street seat olds news a b old_a old_b law e
     absurd (omega (arith, law.number_within old_b in_b, change_b.number, leb-true (length olds) b.number (sym (ap (λ g. is_gone_before g b.number) now) ∙ is)))
 
 changed_within : (count street seat : ℕ) (old new : Place) (at : ℕ) → HowGone count street seat old new → (old.gone_after ≡ Some at → at ≤ count) → new.gone_after ≡ Some at → at ≤ count
-changed_within count street seat old new at (stays gone_after same) before is = before (sym gone_after ∙ is)
-changed_within count street seat old new at (out there now on mine) before is = omega (arith, Rattle.std.proofs.lemmas.Option.same_Some count at (sym now ∙ is))
-changed_within count street seat old new at (folds there now same mine) before is = omega (arith, Rattle.std.proofs.lemmas.Option.same_Some count at (sym now ∙ is))
+changed_within count street seat old new at (stays gone same) before is = before (sym gone ∙ is)
+changed_within count street seat old new at (out there now on mine) before is = omega (arith, same_Some count at (sym now ∙ is))
+changed_within count street seat old new at (folds there now same mine) before is = omega (arith, same_Some count at (sym now ∙ is))
 
 changed_out : (count street seat newest : ℕ) (old new : Place) → HowGone count street seat old new → old.discarded ≤ newest → newest ≤ street → new.discarded ≤ street
-changed_out count street seat newest old new (stays gone_after same) before on = omega (arith, same, before, on)
+changed_out count street seat newest old new (stays gone same) before on = omega (arith, same, before, on)
 changed_out count street seat newest old new (out there now here mine) before on = omega (arith, here)
 changed_out count street seat newest old new (folds there now same mine) before on = omega (arith, same, before, on)
 

@@ -19,6 +19,7 @@ use Rattle.play_laws.proofs.MoverUps.{mover_same}
 use Rattle.play_laws.proofs.LegalPlaces.{filter_append}
 use Rattle.play_laws.proofs.DealtPlaces.{are_new}
 use Rattle.play_laws.proofs.MovesLaw.{is_up_by, ups_by, IsMover, free, shown, FitsMove, MovesLaw}
+use Rattle.play_event.specs.Streets.{up_cards_on, down_cards_on}
 
 -- places that lie where they lay, and whose known cards are the same
 pub record IsSureOf (old new : Place) : Type 0 where
@@ -89,8 +90,8 @@ all_sure (place ∷ rest) = (sure_same place, all_sure rest)
 up_same : (code : Code) (street seat : ℕ) (old new : Place) → IsSureOf old new → is_up_by code street seat new ≡ is_up_by code street seat old
 up_same code street seat old new sure =
     ap (λ o. is_same_owner o (Some seat) && (is_up code new && nat_le new.street street)) sure.owner
-    ∙ ap (λ s. is_same_owner old.owner (Some seat) && ((nat_lt 0 (Rattle.play_event.specs.Streets.up_cards_on code s) && nat_le (Rattle.play_event.specs.Streets.down_cards_on code s) new.index) && nat_le s street)) sure.street
-    ∙ ap (λ i. is_same_owner old.owner (Some seat) && ((nat_lt 0 (Rattle.play_event.specs.Streets.up_cards_on code old.street) && nat_le (Rattle.play_event.specs.Streets.down_cards_on code old.street) i) && nat_le old.street street)) sure.index
+    ∙ ap (λ s. is_same_owner old.owner (Some seat) && ((nat_lt 0 (up_cards_on code s) && nat_le (down_cards_on code s) new.index) && nat_le s street)) sure.street
+    ∙ ap (λ i. is_same_owner old.owner (Some seat) && ((nat_lt 0 (up_cards_on code old.street) && nat_le (down_cards_on code old.street) i) && nat_le old.street street)) sure.index
 
 ups_step : (old new : Place) (olds news : List Place) (a b : Bool) → a ≡ b → IsSureOf old new → (list_any is_unknown (map (λ (p : Place). p.slot) olds) ≡ false → map (λ (p : Place). p.slot) news ≡ map (λ (p : Place). p.slot) olds) → list_any is_unknown (map (λ (p : Place). p.slot) (if b then (old ∷ olds) else olds)) ≡ false → map (λ (p : Place). p.slot) (if a then (new ∷ news) else news) ≡ map (λ (p : Place). p.slot) (if b then (old ∷ olds) else olds)
 ups_step old new olds news true true same sure later known =

@@ -1,7 +1,7 @@
 -- What a legal event tells of the past before it.
 use Rattle.std.proofs.Common.{◌≡◌, ℕ, zero, suc, ◌≤◌, Bool, true, false, ◌&&◌, ◌||◌, ◌==◌, not, nat_lt, inl, inr, ◌⊎◌, Option, Some, None, List, map, length, refl, sym, ap, arith}
 use Rattle.std.specs.Option.{option_map_or}
-use Rattle.std.proofs.lemmas.Bool.{or_parts, or_cases, not-false, and_parts, eqb-true}
+use Rattle.std.proofs.lemmas.Bool.{or_parts, not-false, eqb-true, ltb-false}
 use Rattle.card_set.specs.declared.card.Slot.{Slot}
 use Rattle.card_set.specs.declared.card.Slot.TheVariants as slots
 use Rattle.card_set.specs.declared.card.Card.{Card}
@@ -160,7 +160,7 @@ next_by seat (Some other) is = ap Some (eqb-true other seat (not-false (other ==
 count_by : (owed count : ℕ) → is_wrong_deal owed count ≡ false → (1 ≤ count) × (count ≤ owed)
 count_by owed count is =
     let parts = or_parts (count == 0) (nat_lt owed count) is in
-    (some count parts.0, Rattle.std.proofs.lemmas.Bool.ltb-false owed count parts.1)
+    (some count parts.0, ltb-false owed count parts.1)
   where
     some : (n : ℕ) → (n == 0) ≡ false → 1 ≤ n
     some zero is = false_true (sym is)
@@ -184,7 +184,7 @@ stepped setup rules before (said.Board cards) legal =
 stepped setup rules before (said.Discard seat cards) legal =
     let none = no_reason_holds setup rules before (said.Discard seat cards) legal in
     let due = draw_by setup before seat cards (turn setup before).1 refl (kind_true (is_due_kind setup.code (turn setup before).1 (said.Discard seat cards)) false none.1.0) in
-    discards seat cards due.0 due.1 (next_by seat (next_to_draw setup before (turn setup before).0) none.1.1.0) (Rattle.std.proofs.lemmas.Bool.ltb-false (held_count (places_of setup.code before) seat) (length cards) none.1.1.1.0) none.1.1.1.1.0 none.1.1.1.1.1.0
+    discards seat cards due.0 due.1 (next_by seat (next_to_draw setup before (turn setup before).0) none.1.1.0) (ltb-false (held_count (places_of setup.code before) seat) (length cards) none.1.1.1.0) none.1.1.1.1.0 none.1.1.1.1.1.0
 stepped setup rules before (said.Show seat cards) legal =
     let none = no_reason_holds setup rules before (said.Show seat cards) legal in
     shows seat cards (not-false (may_show setup before seat) none.1.1.0) none.1.1.1.1.0

@@ -1,6 +1,6 @@
 -- The laws of places hold of every legal past.
 use Rattle.std.proofs.Common.{◌≡◌, ℕ, suc, ◌+◌, ◌-◌, ◌≤◌, ◌<◌, Bool, true, false, ◌&&◌, ◌==◌, nat_le, inl, inr, ◌⊎◌, Option, Some, None, List, [], ◌∷◌, ◌++◌, map, filter, length, count_by, refl, sym, ◌∙◌, ap, arith, if◌then◌else◌}
-use Rattle.std.proofs.lemmas.Bool.{or_parts, or_cases, and_parts, and_from, and_right, ne_eqb, eq-eqb, eqb-true, cases_eq, cases_Bool, both_ways, lt-ltb, leb-true, false_from_ne_true, not-false, not_from_true}
+use Rattle.std.proofs.lemmas.Bool.{or_parts, and_parts, and_from, eq-eqb, both_ways, lt-ltb, leb-true, not_from_true, cases_lt}
 use Rattle.std.proofs.lemmas.List.{length-append}
 use Rattle.card_set.specs.declared.card.Slot.{Slot}
 use Rattle.card_set.specs.declared.card.Slot.TheVariants as slots
@@ -37,7 +37,7 @@ use Rattle.play_laws.proofs.DealtPlaces.{deal_law}
 same_group : (owner : Option ℕ) (street count draw seat : ℕ) (old new : Place) → IsChange count draw seat old new → is_in_group owner street new ≡ is_in_group owner street old
 same_group owner street count draw seat old new change = ap (λ o. is_same_owner o owner && (new.street == street)) change.owner ∙ ap (λ s. is_same_owner old.owner owner && (s == street)) change.street
 
-group_step : (old new : Place) (olds news : List Place) (a b : Bool) → a ≡ b → length news ≡ length olds → length (if a then (new ∷ news) else news) ≡ length (if b then (old ∷ olds) else olds)
+pub group_step : (old new : Place) (olds news : List Place) (a b : Bool) → a ≡ b → length news ≡ length olds → length (if a then (new ∷ news) else news) ≡ length (if b then (old ∷ olds) else olds)
 group_step old new olds news true true same later = ap suc later
 group_step old new olds news true false same later = false_true (sym same)
 group_step old new olds news false true same later = false_true same
@@ -143,7 +143,7 @@ all_before : (newest street : ℕ) (list : List Move) → AreReached newest list
 all_before newest street [] reached on none = refl
 all_before newest street (move ∷ rest) reached on none =
     let parts = or_parts (move.street == street) (has_move street rest) none in
-    let early : move.street < street = elim (Rattle.std.proofs.lemmas.Bool.cases_lt move.street street) [
+    let early : move.street < street = elim (cases_lt move.street street) [
       | inl less ↦ less
       | inr more ↦ absurd (both_ways (move.street == street) parts.0 (eq-eqb move.street street (omega (arith, more, reached.0, on))))
     ] in
@@ -212,7 +212,7 @@ places_law setup before at _ past law come (discards seat cards no_deal draw nex
     (discard_marks (is_held_by seat) (length placed) at (known_cards cards) (other_names (filter (is_held_by seat) placed) (known_cards cards)) (blanks_in cards) placed)
   where
     early : (old : Place) → IsAmong (places_of setup.code before) old → old.owner ≡ Some seat → DrawsNext setup before at seat → old.street < at
-    early old among mine who = elim (Rattle.std.proofs.lemmas.Bool.cases_lt old.street at) [
+    early old among mine who = elim (cases_lt old.street at) [
       | inl less ↦ less
       | inr more ↦
           let here : old.street ≡ at = omega (arith, more, law.reached old among, come.on) in

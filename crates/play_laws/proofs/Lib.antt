@@ -34,3 +34,4 @@ pub mod FittingPasts
 pub mod PlayedStreets
 pub mod OneSpelling
 pub mod OtherRules
+pub mod LegalScripts

@@ -19,6 +19,7 @@ use Rattle.card_set.specs.Known.{known_cards}
 use Rattle.play_event.specs.Mover.{mover, seats_from, next_in_turn, first_in_turn}
 use Rattle.list_laws.proofs.Tests.{false_true}
 use Rattle.list_laws.proofs.Options.{some_is_none}
+use Rattle.play_laws.proofs.SeatRanges.{any_seat}
 
 -- up-cards stand in an order
 lower_self : (a : List ℕ) → is_lower a a ≡ false
@@ -237,7 +238,7 @@ next_is setup opener (move ∷ rest) never is = both_ways false refl (ap no_seat
 able_some : (setup : Setup) (list : List Move) (street : ℕ) → list_any (has_to_move setup list street) (all_seats setup) ≡ true → list_any (is_able setup list) (all_seats setup) ≡ true
 able_some setup list street some =
     let seat = some_seat (has_to_move setup list street) 1 setup.stacks.seats some in
-    Rattle.play_laws.proofs.SeatRanges.any_seat setup (is_able setup list) seat.0 seat.1.0 (omega (arith, seat.1.1.0))
+    any_seat setup (is_able setup list) seat.0 seat.1.0 (omega (arith, seat.1.1.0))
     (and_parts (is_able setup list seat.0) (if has_moved_since_rise setup list street seat.0 then false else (nat_lt 0 (owed setup list street seat.0) || nat_le 2 (able_count setup list))) seat.1.1.1).0
 
 -- where some seat has to move some seat is in turn, or it is not known which

@@ -1,20 +1,20 @@
 -- A play that is legal under the rules of one notation is legal under those of another, where each of its moves suits these.
-use Rattle.std.proofs.Common.{◌≡◌, ℕ, ◌+◌, ◌-◌, ◌≤◌, ◌<◌, Bool, true, false, ◌&&◌, ◌||◌, ◌==◌, not, min, nat_le, nat_lt, inl, inr, Option, Some, None, List, [], ◌∷◌, refl, sym, ◌∙◌, ap, arith}
-use Rattle.std.proofs.lemmas.Bool.{and_from, and_parts, false_from_ne_true, le-leb, leb-true, ne_eqb, not-false, not_from_true, or_cases, or_left, or_parts, or_right}
+use Rattle.std.proofs.Common.{◌≡◌, ℕ, ◌+◌, ◌-◌, ◌≤◌, Bool, true, false, ◌&&◌, ◌==◌, not, nat_le, nat_lt, inl, inr, None, List, [], ◌∷◌, refl, sym, ◌∙◌, ap, arith}
+use Rattle.std.proofs.lemmas.Bool.{and_from, and_parts, le-leb, leb-true, ne_eqb, not-false, not_from_true, or_cases, or_left, or_parts, or_right}
 use Rattle.play_event.specs.Due.{turn}
 use Rattle.play_event.specs.Laws.{AreLegal, NoneHold}
 use Rattle.play_event.specs.MoveReasons.{actor_of}
 use Rattle.play_event.specs.Past.{Boarded, Dealt, Discarded, Move, Moved, Mucked, Past, Resolved, Shown, is_fold, is_raise, moves_of}
-use Rattle.play_event.specs.Price.{full_raise, owed, price}
-use Rattle.play_event.specs.Raising.{has_able_opponent, is_closed, is_reopened, is_within_cap, may_raise}
+use Rattle.play_event.specs.Price.{full_raise, price}
+use Rattle.play_event.specs.Raising.{has_able_opponent, is_closed, is_reopened, is_within_cap}
 use Rattle.play_event.specs.Reasons.{why}
 use Rattle.play_event.specs.Said as said
 use Rattle.play_event.specs.Said.{Said}
-use Rattle.play_event.specs.Scripts.{past_of, resolved_by, resolved_on, with_event}
+use Rattle.play_event.specs.Scripts.{past_of, resolved_on, with_event}
 use Rattle.play_event.specs.Streets.{limit_of}
 use Rattle.play_event.specs.Chips.{all_in, street_chips}
 use Rattle.play_event.specs.Amounts.{raise_target}
-use Rattle.play_event.specs.Targets.{floor, greatest_target, is_legal_target, is_target_in, pot_ceiling}
+use Rattle.play_event.specs.Targets.{floor, greatest_target, is_legal_target, is_target_in}
 use Rattle.play_event.specs.ValidSetup.{IsValid, is_fixed}
 use Rattle.play_event.specs.declared.limit.Limit.TheVariants as limits
 use Rattle.play_event.specs.declared.limit.Limit.{Limit}

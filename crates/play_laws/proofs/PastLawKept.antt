@@ -1,17 +1,18 @@
 -- Legal events keep what holds of a legal past.
 use Rattle.std.proofs.Common.{◌≡◌, ◌≢◌, ℕ, ◌≤◌, ◌<◌, true, false, ◌&&◌, ◌||◌, ◌==◌, not, nat_lt, inl, inr, ◌⊎◌, Some, List, [], ◌∷◌, length, refl, sym, ◌∙◌, ap, arith, if◌then◌else◌}
 use Rattle.std.specs.List.{list_any}
-use Rattle.std.proofs.lemmas.Bool.{or_parts, or_cases, and_parts, and_right, ne_eqb, eq-eqb, eqb-true, cases_eq, cases_Bool, both_ways}
+use Rattle.std.proofs.lemmas.Bool.{or_cases, and_parts, and_right, ne_eqb, eqb-true, cases_eq, cases_Bool, both_ways, cases_lt, false_from_ne_true, not-true}
 use Rattle.card_set.specs.declared.card.Slot.{Slot}
 use Rattle.play_event.specs.declared.setup.Setup.{Setup}
 use Rattle.play_event.specs.Streets.{has_draw}
 use Rattle.play_event.specs.Past.{Past, Resolved, Move, Dealt, Boarded, Moved, Discarded, Shown, Mucked, moves_of, newest_street}
-use Rattle.play_event.specs.Seats.{is_live}
+use Rattle.play_event.specs.Seats.{is_live, all_seats}
 use Rattle.play_event.specs.Dealing.{is_deal_due, is_draw_due, hole_cards_dealt, hole_cards_owed, cards_discarded, replacements_owed, cards_owed, has_drawn, next_to_draw}
 use Rattle.play_laws.specs.PastLaws.{AreReached, has_move, PastLaw}
 use Rattle.play_laws.proofs.DueAtEvents.{Reaches, not_due}
 use Rattle.play_laws.proofs.LegalEvents.{Stepped, deals, boards, moves, discards, shows, mucks}
 use Rattle.play_laws.proofs.SettledStreets.{deal_still, draw_still, is_discard_on, replaced_still, none_owed, found_in_range}
+use Rattle.std.specs.Option.{is_some}
 
 -- on another street than that of the turn no seat is owed cards for its discards
 pub owed_elsewhere : (setup : Setup) (before : Past) (at street seat : ℕ) → PastLaw setup before → Reaches setup before at → 1 ≤ seat → seat ≤ setup.stacks.seats → street ≢ at → replacements_owed before street seat ≡ 0
@@ -24,7 +25,7 @@ owed_elsewhere setup before at street seat law come least most other = elim (cas
 ]
   where
     below : street ≡ newest_street before → street < at
-    below same = elim (Rattle.std.proofs.lemmas.Bool.cases_lt street at) [ inl less ↦ less | inr more ↦ absurd (other (omega (arith, more, same, come.on))) ]
+    below same = elim (cases_lt street at) [ inl less ↦ less | inr more ↦ absurd (other (omega (arith, more, same, come.on))) ]
 
 -- and where a move is due none is owed cards at all
 owed_none : (setup : Setup) (before : Past) (at street seat : ℕ) → PastLaw setup before → Reaches setup before at → is_draw_due setup before at ≡ false → 1 ≤ seat → seat ≤ setup.stacks.seats → replacements_owed before street seat ≡ 0
@@ -48,22 +49,22 @@ pub is_next_to_draw : (setup : Setup) (before : Past) (street seat : ℕ) → ne
 is_next_to_draw setup before street seat is =
     let it = found_in_range (λ seat. is_live (moves_of before) seat && not (has_drawn before street seat)) 1 setup.stacks.seats seat is in
     let parts = and_parts (is_live (moves_of before) seat) (not (has_drawn before street seat)) it.0 in
-    record { live = parts.0; undrawn = Rattle.std.proofs.lemmas.Bool.not-true (has_drawn before street seat) parts.1; least = it.1.0; most = omega (arith, it.1.1) }
+    record { live = parts.0; undrawn = not-true (has_drawn before street seat) parts.1; least = it.1.0; most = omega (arith, it.1.1) }
 
-reached_more : (newest street : ℕ) (list : List Move) → newest ≤ street → AreReached newest list → AreReached street list
+pub reached_more : (newest street : ℕ) (list : List Move) → newest ≤ street → AreReached newest list → AreReached street list
 reached_more newest street [] on all = tt
 reached_more newest street (move ∷ rest) on all = (omega (arith, on, all.0), reached_more newest street rest on all.1)
 
 -- no draw is begun on a street that does not draw
 pub drawing : (setup : Setup) (before : Past) (street : ℕ) → is_draw_due setup before street ≡ true → has_draw setup.code street ≡ true
-drawing setup before street is = (and_parts (has_draw setup.code street) (Rattle.std.specs.Option.is_some (next_to_draw setup before street) || list_any (λ seat. nat_lt 0 (replacements_owed before street seat)) (Rattle.play_event.specs.Seats.all_seats setup)) is).0
+drawing setup before street is = (and_parts (has_draw setup.code street) (is_some (next_to_draw setup before street) || list_any (λ seat. nat_lt 0 (replacements_owed before street seat)) (all_seats setup)) is).0
 
 -- no move is on a street where something is to be dealt or drawn
 pub record IsUnmoved (setup : Setup) (before : Past) (street : ℕ) : Type 0 where
   pub none : has_move street (moves_of before) ≡ false
 
 unmoved_by : (setup : Setup) (before : Past) (street : ℕ) → PastLaw setup before → (is_deal_due setup before street ≡ false → is_draw_due setup before street ≡ false → ⊥) → has_move street (moves_of before) ≡ false
-unmoved_by setup before street law never = Rattle.std.proofs.lemmas.Bool.false_from_ne_true (has_move street (moves_of before)) (λ is. let done = law.moved_done street is in never done.0 done.1)
+unmoved_by setup before street law never = false_from_ne_true (has_move street (moves_of before)) (λ is. let done = law.moved_done street is in never done.0 done.1)
 
 -- a street with a deal or a draw due has no move yet
 pub unmoved_deal : (setup : Setup) (before : Past) (street : ℕ) → PastLaw setup before → (is_deal_due setup before street ≡ true) ⊎ ((is_deal_due setup before street ≡ false) × (is_draw_due setup before street ≡ true)) → has_move street (moves_of before) ≡ false

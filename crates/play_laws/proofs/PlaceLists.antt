@@ -10,7 +10,7 @@ use Rattle.play_event.specs.declared.code.Code.{Code}
 use Rattle.play_event.specs.declared.setup.Setup.{Setup}
 use Rattle.play_event.specs.Past.{Past, Resolved, is_fold}
 use Rattle.card_set.specs.Known.{is_unknown, known_cards}
-use Rattle.play_event.specs.Places.{Place, is_same_owner, is_in_group, is_past_deck, places_dealt, after_deal, is_held_by, folded_place, after_fold}
+use Rattle.play_event.specs.Places.{Place, is_same_owner, is_in_group, is_past_deck, places_dealt, after_deal, is_held_by, folded_place, after_fold, gone_now}
 use Rattle.play_event.specs.Naming.{after_names, after_discard, after_show, other_names, blanks_in, is_covered, is_show_of_all, found_by, is_named}
 use Rattle.play_event.specs.Table.{places_of}
 use Rattle.play_event.specs.Laws.{IsAmong}
@@ -27,6 +27,7 @@ use Rattle.play_laws.proofs.QuietEvents.{AreMarked, discard_marks, show_marks, n
 use Rattle.play_laws.proofs.PlaceGroups.{AreRising, group_of, AreIndexed}
 use Rattle.play_laws.proofs.UnknownCards.{discard_unknowns}
 use Rattle.play_laws.proofs.DrawnDiscards.{covers_hand}
+use Rattle.play_event.proofs.OwnerLaws.{is_same_owner-true}
 
 -- numbers are places in the list
 abbrev pub AreNumbered : ℕ → List Place → Type 0
@@ -92,7 +93,7 @@ fold_alike : (seat count : ℕ) (placed : List Place) → AreAlike placed (map (
 fold_alike seat count [] = tt
 fold_alike seat count (place ∷ rest) = (one (is_held_by seat place), fold_alike seat count rest)
   where
-    one : (b : Bool) → ((if b then Rattle.play_event.specs.Places.gone_now count place else place).number ≡ place.number) × (((if b then Rattle.play_event.specs.Places.gone_now count place else place).index ≡ place.index) × (((if b then Rattle.play_event.specs.Places.gone_now count place else place).owner ≡ place.owner) × ((if b then Rattle.play_event.specs.Places.gone_now count place else place).street ≡ place.street)))
+    one : (b : Bool) → ((if b then gone_now count place else place).number ≡ place.number) × (((if b then gone_now count place else place).index ≡ place.index) × (((if b then gone_now count place else place).owner ≡ place.owner) × ((if b then gone_now count place else place).street ≡ place.street)))
     one true = (refl, (refl, (refl, refl)))
     one false = (refl, (refl, (refl, refl)))
 
@@ -118,12 +119,6 @@ dealt_indexed owner to street on late index number (slot ∷ rest) false here =
     not_mine owner to street on late index number (slot ∷ rest) here =
         ap (λ c. if c then (record { owner = to; street = on; index = index; number = number; slot = slot; past_deck = late; gone_after = None; discarded = 0 } ∷ filter (is_in_group owner street) (places_dealt to on late (index + 1) (number + 1) rest)) else filter (is_in_group owner street) (places_dealt to on late (index + 1) (number + 1) rest)) here
         ∙ not_mine owner to street on late (index + 1) (number + 1) rest here
-
-same_owner_is : (a b : Option ℕ) → is_same_owner a b ≡ true → a ≡ b
-same_owner_is (Some a) (Some b) is = ap Some (eqb-true a b is)
-same_owner_is None None is = refl
-same_owner_is (Some a) None is = false_true is
-same_owner_is None (Some b) is = false_true is
 
 -- where the deal is not of the group, the index does not matter
 other_indexed : (owner to : Option ℕ) (street on : ℕ) (late : Bool) (index other number : ℕ) (cards : List Slot) (b : Bool) → (is_same_owner to owner && (on == street)) ≡ b → (b ≡ true → index ≡ other) → AreIndexed other (filter (is_in_group owner street) (places_dealt to on late index number cards))
@@ -152,7 +147,7 @@ deal_indexed code owner to street on cards placed indexed =
     (indexed_append 0 (filter (is_in_group owner street) placed) (filter (is_in_group owner street) news) indexed
     (other_indexed owner to street on late index (0 + length (filter (is_in_group owner street) placed)) (length placed) cards (is_same_owner to owner && (on == street)) refl (λ here.
     let parts = and_parts (is_same_owner to owner) (on == street) here in
-    omega (arith, length-filter (is_in_group to on) placed, ap (λ o. length (filter (is_in_group o on) placed)) (same_owner_is to owner parts.0), ap (λ s. length (filter (is_in_group owner s) placed)) (eqb-true on street parts.1)))))
+    omega (arith, length-filter (is_in_group to on) placed, ap (λ o. length (filter (is_in_group o on) placed)) (is_same_owner-true to owner parts.0), ap (λ s. length (filter (is_in_group owner s) placed)) (eqb-true on street parts.1)))))
 
 -- unknown cards after a deal, a fold and a show
 unknowns_append : (placed more : List Place) → UnknownsFirst placed → ((place : Place) → IsAmong more place → place.discarded ≡ 0) → UnknownsFirst (placed ++ more)
@@ -212,7 +207,7 @@ unfolding AreFiner
 fold_finer seat count [] = tt
 fold_finer seat count (place ∷ rest) = (one (is_held_by seat place), fold_finer seat count rest)
   where
-    one : (b : Bool) → IsFiner place (if b then Rattle.play_event.specs.Places.gone_now count place else place)
+    one : (b : Bool) → IsFiner place (if b then gone_now count place else place)
     one true = record { owner = refl; street = refl; discarded = refl; unknown = λ is. is }
     one false = record { owner = refl; street = refl; discarded = refl; unknown = λ is. is }
 

@@ -2,7 +2,7 @@
 -- their betting was closed before the next street.
 use Rattle.std.proofs.Common.{◌≡◌, ℕ, zero, suc, ◌+◌, ◌-◌, ◌≤◌, ◌<◌, Bool, true, false, ◌==◌, nat_lt, nat_le, inl, inr, ◌⊎◌, Option, Some, None, List, [], ◌∷◌, map, filter, length, refl, sym, ◌∙◌, ap, subst, arith, if◌then◌else◌}
 use Rattle.std.specs.List.{list_any, range_with_len}
-use Rattle.std.proofs.lemmas.Bool.{or_parts, or_cases, or_left, or_right, and_parts, both_ways, cases_Bool, cases_lt, cases_eq, ltb-false, lt-ltb, leb-true, leb-false, lt-leb, le-leb, eqb-true, false_from_ne_true}
+use Rattle.std.proofs.lemmas.Bool.{or_parts, or_cases, and_parts, both_ways, cases_Bool, cases_lt, ltb-false, leb-true, leb-false, eqb-true, not_from_false}
 use Rattle.std.proofs.lemmas.List.Sums.{length-filter}
 use Rattle.card_set.specs.declared.card.Slot.TheVariants as slots
 use Rattle.play_event.specs.declared.code.Code.{Code}
@@ -23,7 +23,7 @@ use Rattle.list_laws.proofs.Tests.{false_true}
 use Rattle.play_event.proofs.StreetLaws.{street_found}
 use Rattle.hand_canon.specs.CanonScript.{moves_before}
 use Rattle.play_laws.specs.LegalPlaces.{owner_folded}
-use Rattle.play_laws.specs.PastLaws.{has_move, PastLaw, DoneLaw}
+use Rattle.play_laws.specs.PastLaws.{has_move, PastLaw, DoneLaw, AreReached}
 use Rattle.play_laws.proofs.DueAtEvents.{IsNotDue, not_due, IsDue, deal, draw, bring, move, is_due, none_found, turned_by}
 use Rattle.play_laws.proofs.DoneKept.{late_fold, all_early}
 use Rattle.play_laws.proofs.SettledStreets.{none_owed}
@@ -31,6 +31,8 @@ use Rattle.play_laws.proofs.LegalPlaces.{PlacesOf, group_count, deal_group, chan
 use Rattle.play_laws.proofs.QuietEvents.{discard_marks, show_marks, nothing, marked_changed, held_parts, fold_changed}
 use Rattle.play_laws.proofs.PlaceGroups.{group_of, Passed, passed}
 use Rattle.play_laws.proofs.DiscardCounts.{is_out_of}
+use Rattle.play_event.proofs.OwnerLaws.{is_same_owner-true}
+use Rattle.std.proofs.lemmas.List.{length-map}
 
 -- what is due on a street leaves a script unfinished
 due_open : (setup : Setup) (before : Past) (street : ℕ) (due : Due) → IsDue setup before street due → is_unfinished due ≡ true
@@ -110,7 +112,7 @@ reached_closed setup before street past done finished some most reached = elim (
   ]
 ]
   where
-    moved_on : (list : List Move) → Rattle.play_laws.specs.PastLaws.AreReached (newest_street before) list → newest_street before < street + 1 → has_move (street + 1) list ≡ true → ⊥
+    moved_on : (list : List Move) → AreReached (newest_street before) list → newest_street before < street + 1 → has_move (street + 1) list ≡ true → ⊥
     moved_on [] all beyond has = both_ways false refl has
     moved_on (first ∷ rest) all beyond has = elim (or_cases (first.street == (street + 1)) (has_move (street + 1) rest) has) [
       | inl here ↦ omega (arith, eqb-true first.street (street + 1) here, all.0, beyond)
@@ -122,7 +124,7 @@ pub board_count : (code : Code) (before : Past) (street : ℕ) → length (filte
 board_count code [] street = refl
 board_count code (Dealt on owner cards ∷ before) street = omega (arith, deal_group code None (Some owner) street on cards (places_of code before), board_count code before street)
 board_count code (Boarded on cards ∷ before) street =
-    omega (arith, deal_group code None None street on (map (λ card. slots.Known card) cards) (places_of code before), board_count code before street, ap (λ n. if on == street then n else 0) (Rattle.std.proofs.lemmas.List.length-map cards (λ card. slots.Known card)))
+    omega (arith, deal_group code None None street on (map (λ card. slots.Known card) cards) (places_of code before), board_count code before street, ap (λ n. if on == street then n else 0) (length-map cards (λ card. slots.Known card)))
 board_count code (Moved played ∷ before) street = by_fold (is_fold played.act) (board_count code before street)
   where
     by_fold : (b : Bool) → length (filter (is_in_group None street) (places_of code before)) ≡ board_cards_dealt before street → length (filter (is_in_group None street) (if b then after_fold played.seat (places_of code before) else places_of code before)) ≡ board_cards_dealt before street
@@ -150,16 +152,10 @@ hole_group setup before street seat done is no_draw some least most live =
 pub folded_group : (setup : Setup) (before : Past) (street seat : ℕ) → PlacesOf setup before → is_live (moves_before street (moves_of before)) seat ≡ false → length (group_of (places_of setup.code before) street (Some seat)) ≡ 0
 folded_group setup before street seat law folded = none_of (group_of (places_of setup.code before) street (Some seat)) (λ place among. in_it place (passed (is_in_group (Some seat) street) (places_of setup.code before) place among))
   where
-    owner_is : (a b : Option ℕ) → is_same_owner a b ≡ true → a ≡ b
-    owner_is (Some a) (Some b) same = ap Some (eqb-true a b same)
-    owner_is None None same = refl
-    owner_is (Some a) None same = false_true same
-    owner_is None (Some b) same = false_true same
-
     in_it : (place : Place) → Passed (is_in_group (Some seat) street) (places_of setup.code before) place → ⊥
     in_it place it =
         let parts = and_parts (is_same_owner place.owner (Some seat)) (place.street == street) it.passes in
-        omega (arith, eqb-true place.street street parts.1, law.folded_after place street it.among (ap (owner_folded (moves_before street (moves_of before))) (owner_is place.owner (Some seat) parts.0) ∙ Rattle.std.proofs.lemmas.Bool.not_from_false (is_live (moves_before street (moves_of before)) seat) folded))
+        omega (arith, eqb-true place.street street parts.1, law.folded_after place street it.among (ap (owner_folded (moves_before street (moves_of before))) (is_same_owner-true place.owner (Some seat) parts.0) ∙ not_from_false (is_live (moves_before street (moves_of before)) seat) folded))
 
     none_of : (places : List Place) → ((place : Place) → IsAmong places place → ⊥) → length places ≡ 0
     none_of [] never = refl

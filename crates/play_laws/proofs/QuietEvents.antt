@@ -1,7 +1,7 @@
 -- Folds, discards and shows are events that deal nothing.
 use Rattle.std.proofs.Common.{◌≡◌, ℕ, zero, suc, ◌≤◌, ◌<◌, Bool, true, false, ◌&&◌, ◌||◌, ◌==◌, not, nat_lt, inl, inr, ◌⊎◌, Option, Some, None, is_some, is_none, List, [], ◌∷◌, map, length, refl, sym, ◌∙◌, ap, subst, arith, if◌then◌else◌}
 use Rattle.std.specs.List.{list_any}
-use Rattle.std.proofs.lemmas.Bool.{and_parts, or_cases, or_parts, or_from, or_left, or_right, and_from, lt-ltb, ltb-true, eqb-true, eq-eqb, not-true, not_from_true, not-false}
+use Rattle.std.proofs.lemmas.Bool.{and_parts, or_cases, or_left, or_right, and_from, lt-ltb, ltb-true, eqb-true, eq-eqb, not-true, not_from_true, not-false, and_right, ne_eqb}
 use Rattle.card_set.specs.declared.card.Card.{Card}
 use Rattle.card_set.specs.declared.card.Slot.{Slot}
 use Rattle.card_set.specs.declared.card.Slot.TheVariants as slots
@@ -17,6 +17,7 @@ use Rattle.hand_canon.specs.CanonScript.{moves_before}
 use Rattle.play_laws.specs.LegalPlaces.{owner_folded, PlacesLaw}
 use Rattle.play_laws.proofs.PlaceChanges.{HowGone, stays, out, folds, IsChange, AreChanged}
 use Rattle.play_laws.proofs.KeptPlaces.{change_law}
+use Rattle.play_event.proofs.OwnerLaws.{is_same_owner-true}
 
 -- a seat that a move folds
 abbrev pub folds_seat : ℕ → Move → Bool
@@ -137,7 +138,7 @@ show_marks covers count draw names others blanks (place ∷ rest) =
 
 -- marks are changes
 marked_how : (covers : Place → Bool) (count draw seat : ℕ) (old new : Place) → (covers old ≡ true → (old.gone_after ≡ None) × (old.owner ≡ Some seat)) → HowMarked covers count draw old new → HowGone count draw seat old new
-marked_how covers count draw seat old new there (kept gone_after same) = stays gone_after same
+marked_how covers count draw seat old new there (kept gone same) = stays gone same
 marked_how covers count draw seat old new there (marked covered now on) = out (there covered).0 now on (there covered).1
 
 marked_change : (covers : Place → Bool) (count draw seat : ℕ) (old new : Place) → (covers old ≡ true → (old.gone_after ≡ None) × (old.owner ≡ Some seat)) → IsMarked covers count draw old new → IsChange count draw seat old new
@@ -152,8 +153,8 @@ marked_changed covers count draw seat (old ∷ olds) (new ∷ news) there is = (
 
 -- and what is gone is told as before
 gone_how : (code : Code) (moves : List Move) (newest : ℕ) (covers : Place → Bool) (count draw : ℕ) (placed : List Place) (old new : Place) → PlacesLaw code moves newest placed → IsAmong placed old → 1 ≤ draw → new.owner ≡ old.owner → HowMarked covers count draw old new → is_some new.gone_after ≡ (nat_lt 0 new.discarded || owner_folded moves new.owner)
-gone_how code moves newest covers count draw placed old new law among some owner (kept gone_after same) =
-    ap is_some gone_after ∙ law.gone_is old among ∙ ap (λ d. nat_lt 0 d || owner_folded moves old.owner) (sym same) ∙ ap (λ o. nat_lt 0 new.discarded || owner_folded moves o) (sym owner)
+gone_how code moves newest covers count draw placed old new law among some owner (kept gone same) =
+    ap is_some gone ∙ law.gone_is old among ∙ ap (λ d. nat_lt 0 d || owner_folded moves old.owner) (sym same) ∙ ap (λ o. nat_lt 0 new.discarded || owner_folded moves o) (sym owner)
 gone_how code moves newest covers count draw placed old new law among some owner (marked covered now on) =
     ap is_some now ∙ sym (or_left (nat_lt 0 new.discarded) (owner_folded moves new.owner) (lt-ltb 0 new.discarded (omega (arith, on, some))))
 
@@ -169,7 +170,7 @@ gone_marked code moves newest covers count draw placed (old ∷ olds) (first ∷
 
 -- and what is discarded was dealt before
 out_how : (code : Code) (moves : List Move) (newest : ℕ) (covers : Place → Bool) (count draw : ℕ) (placed : List Place) (old new : Place) → PlacesLaw code moves newest placed → IsAmong placed old → (covers old ≡ true → old.street < draw) → new.street ≡ old.street → HowMarked covers count draw old new → 0 < new.discarded → new.street < new.discarded
-out_how code moves newest covers count draw placed old new law among early here (kept gone_after same) some = omega (arith, here, same, law.out_after old among (omega (arith, same, some)))
+out_how code moves newest covers count draw placed old new law among early here (kept gone same) some = omega (arith, here, same, law.out_after old among (omega (arith, same, some)))
 out_how code moves newest covers count draw placed old new law among early here (marked covered now on) some = omega (arith, here, on, early covered)
 
 out_marked : (code : Code) (moves : List Move) (newest : ℕ) (covers : Place → Bool) (count draw : ℕ) (placed olds news : List Place) → PlacesLaw code moves newest placed → ((old : Place) → IsAmong olds old → IsAmong placed old) → ((old : Place) → IsAmong placed old → covers old ≡ true → old.street < draw) → AreMarked covers count draw olds news → (new : Place) → IsAmong news new → 0 < new.discarded → new.street < new.discarded
@@ -201,15 +202,9 @@ fold_change : (seat count draw : ℕ) (place : Place) (b : Bool) → (b ≡ true
 fold_change seat count draw place true held = record { owner = refl; street = refl; number = refl; past_deck = refl; how = folds (held refl).0 refl refl (held refl).1 }
 fold_change seat count draw place false held = record { owner = refl; street = refl; number = refl; past_deck = refl; how = stays refl refl }
 
-same_owner_is : (a b : Option ℕ) → is_same_owner a b ≡ true → a ≡ b
-same_owner_is (Some a) (Some b) is = ap Some (eqb-true a b is)
-same_owner_is None None is = refl
-same_owner_is (Some a) None is = false_true is
-same_owner_is None (Some b) is = false_true is
-
 -- a card that a seat holds is there, and is its own
 pub held_parts : (seat : ℕ) (place : Place) → is_held_by seat place ≡ true → (place.gone_after ≡ None) × (place.owner ≡ Some seat)
-held_parts seat place held = (held_is_there seat place held, same_owner_is place.owner (Some seat) (and_parts (is_same_owner place.owner (Some seat)) (is_none place.gone_after) held).0)
+held_parts seat place held = (held_is_there seat place held, is_same_owner-true place.owner (Some seat) (and_parts (is_same_owner place.owner (Some seat)) (is_none place.gone_after) held).0)
 
 -- a fold changes places by no deal
 pub fold_changed : (seat count draw : ℕ) (placed : List Place) → AreChanged count draw seat placed (map (folded_place seat count) placed)
@@ -217,7 +212,7 @@ fold_changed seat count draw [] = tt
 fold_changed seat count draw (place ∷ rest) = (fold_change seat count draw place (is_held_by seat place) (held_parts seat place), fold_changed seat count draw rest)
 
 -- a fold makes the seat's cards gone, and tells so
-pub some_or_none : (gone_after : Option ℕ) → is_none gone_after ≡ not (is_some gone_after)
+pub some_or_none : (gone : Option ℕ) → is_none gone ≡ not (is_some gone)
 some_or_none None = refl
 some_or_none (Some count) = refl
 
@@ -231,16 +226,16 @@ folded_own move moves owner is mine =
 pub folded_other : (move : Move) (moves : List Move) (owner : Option ℕ) (b : Bool) → is_same_owner owner (Some move.seat) ≡ b → b ≡ false → owner_folded (move ∷ moves) owner ≡ owner_folded moves owner
 folded_other move moves None b same is = refl
 folded_other move moves (Some seat) b same is =
-    let differ : (move.seat == seat) ≡ false = Rattle.std.proofs.lemmas.Bool.ne_eqb move.seat seat (λ one. false_true (sym is ∙ (sym same ∙ eq-eqb seat move.seat (sym one)))) in
-    ap (λ b. not (not (b || list_any (folds_seat seat) moves))) (Rattle.std.proofs.lemmas.Bool.and_right (is_fold move.act) (move.seat == seat) differ)
+    let differ : (move.seat == seat) ≡ false = ne_eqb move.seat seat (λ one. false_true (sym is ∙ (sym same ∙ eq-eqb seat move.seat (sym one)))) in
+    ap (λ b. not (not (b || list_any (folds_seat seat) moves))) (and_right (is_fold move.act) (move.seat == seat) differ)
 
 gone_fold : (move : Move) (moves : List Move) (count : ℕ) (place : Place) (o g : Bool) → is_fold move.act ≡ true → is_same_owner place.owner (Some move.seat) ≡ o → is_none place.gone_after ≡ g → is_some place.gone_after ≡ (nat_lt 0 place.discarded || owner_folded moves place.owner) → is_some (if o && g then gone_now count place else place).gone_after ≡ (nat_lt 0 place.discarded || owner_folded (move ∷ moves) place.owner)
-gone_fold move moves count place true true fold owner gone_after was =
-    sym (or_right (nat_lt 0 place.discarded) (owner_folded (move ∷ moves) place.owner) (folded_own move moves place.owner fold (same_owner_is place.owner (Some move.seat) owner)))
-gone_fold move moves count place true false fold owner gone_after was =
-    not-false (is_some place.gone_after) (sym (some_or_none place.gone_after) ∙ gone_after)
-    ∙ sym (or_right (nat_lt 0 place.discarded) (owner_folded (move ∷ moves) place.owner) (folded_own move moves place.owner fold (same_owner_is place.owner (Some move.seat) owner)))
-gone_fold move moves count place false g fold owner gone_after was =
+gone_fold move moves count place true true fold owner gone was =
+    sym (or_right (nat_lt 0 place.discarded) (owner_folded (move ∷ moves) place.owner) (folded_own move moves place.owner fold (is_same_owner-true place.owner (Some move.seat) owner)))
+gone_fold move moves count place true false fold owner gone was =
+    not-false (is_some place.gone_after) (sym (some_or_none place.gone_after) ∙ gone)
+    ∙ sym (or_right (nat_lt 0 place.discarded) (owner_folded (move ∷ moves) place.owner) (folded_own move moves place.owner fold (is_same_owner-true place.owner (Some move.seat) owner)))
+gone_fold move moves count place false g fold owner gone was =
     was ∙ ap (λ f. nat_lt 0 place.discarded || f) (sym (folded_other move moves place.owner false owner refl))
 
 same_discarded : (count : ℕ) (place : Place) (b : Bool) → (if b then gone_now count place else place).discarded ≡ place.discarded

@@ -1,5 +1,5 @@
 -- Ranges of seats: what holds for each seat of a range.
-use Rattle.std.proofs.lemmas.Bool.{or_left, or_right, cases_eq}
+use Rattle.std.proofs.lemmas.Bool.{or_left, or_right, cases_eq, cases_lt}
 use Rattle.std.proofs.Common.{inl, inr, sym, ◌≡◌, ℕ, zero, suc, ◌+◌, ◌≤◌, ◌<◌, Bool, true, false, ◌||◌, List, [], ◌∷◌, ◌++◌, map, filter, find, is_some, Some, refl, ◌∙◌, ap, arith, if◌then◌else◌}
 use Rattle.play_event.specs.declared.setup.Setup.{Setup}
 use Rattle.play_event.specs.Seats.{all_seats}
@@ -56,7 +56,7 @@ any_in_range p first (suc count) seat least most is = elim (cases_eq seat first)
 ]
   where
     above : first ≤ seat → (seat ≡ first → ⊥) → first + 1 ≤ seat
-    above least differ = elim (Rattle.std.proofs.lemmas.Bool.cases_lt first seat) [ inl more ↦ omega (arith, more) | inr less ↦ absurd (differ (omega (arith, less, least))) ]
+    above least differ = elim (cases_lt first seat) [ inl more ↦ omega (arith, more) | inr less ↦ absurd (differ (omega (arith, less, least))) ]
 
 -- a test that passes for a seat of the hand passes somewhere
 pub any_seat : (setup : Setup) (p : ℕ → Bool) (seat : ℕ) → 1 ≤ seat → seat ≤ setup.stacks.seats → p seat ≡ true → list_any p (all_seats setup) ≡ true

@@ -1,7 +1,7 @@
 -- What is not due on a street does not come due there by later events.
 use Rattle.std.proofs.Common.{◌≡◌, ℕ, zero, suc, ◌+◌, ◌-◌, ◌≤◌, ◌<◌, Bool, true, false, ◌&&◌, ◌||◌, ◌==◌, not, nat_lt, inl, inr, Some, is_some, List, [], ◌∷◌, length, find, refl, sym, ◌∙◌, ap, arith, if◌then◌else◌}
 use Rattle.std.specs.List.{list_any, range_with_len}
-use Rattle.std.proofs.lemmas.Bool.{or_parts, or_from, and_parts, and_left, and_right, and_from, ltb-false, le-ltb, cases_Bool, false_from_ne_true, not-true, not-false, not_from_true, or_left, or_right, eqb-true, ne_eqb}
+use Rattle.std.proofs.lemmas.Bool.{or_parts, or_from, ltb-false, le-ltb, cases_lt}
 use Rattle.play_event.specs.declared.setup.Setup.{Setup}
 use Rattle.play_event.specs.Games.{hole_cards_on}
 use Rattle.play_event.specs.Streets.{has_draw}
@@ -120,11 +120,11 @@ draw_still setup before event street no_discard is =
     (none_still (λ seat. nat_lt 0 (replacements_owed before street seat)) (λ seat. nat_lt 0 (replacements_owed (event ∷ before) street seat)) (all_seats setup) (λ seat. less_than (replacements_owed before street seat) (replacements_owed (event ∷ before) street seat) (replaced_still before event street seat no_discard))) is
 
 -- where no draw is due on a street, no seat is owed cards there
-at_range : (p : ℕ → Bool) (first count seat : ℕ) → list_any p (range_with_len first count) ≡ false → first ≤ seat → seat < first + count → p seat ≡ false
+pub at_range : (p : ℕ → Bool) (first count seat : ℕ) → list_any p (range_with_len first count) ≡ false → first ≤ seat → seat < first + count → p seat ≡ false
 at_range p first zero seat is least most = absurd (omega (arith, least, most))
 at_range p first (suc count) seat is least most =
     let parts = or_parts (p first) (list_any p (range_with_len (first + 1) count)) is in
-    elim (Rattle.std.proofs.lemmas.Bool.cases_lt first seat) [
+    elim (cases_lt first seat) [
       | inl above ↦ at_range p (first + 1) count seat parts.1 (omega (arith, above)) (omega (arith, most))
       | inr below ↦ let same : seat ≡ first = omega (arith, below, least) in ap p same ∙ parts.0
     ]

@@ -25,20 +25,42 @@ owner_folded moves None = false
 
 -- a card is gone when the deals of a street come: it was discarded there or before, or its seat folded before
 abbrev pub gone_by : List Move → ℕ → Place → Bool
-gone_by moves street place = (nat_lt 0 place.discarded && nat_le place.discarded street) || owner_folded (moves_before street moves) place.owner
+gone_by moves street place =
+    (nat_lt 0 place.discarded && nat_le place.discarded street)
+    || owner_folded (moves_before street moves) place.owner
 
--- the places of a legal past: no two clash; what was gone before a deal was so by its street; what is gone by a street was
--- dealt before it; and what was dealt past the deck was dealt where the whole draw needs more cards than the deck has
+-- how many cards a draw needs: those dealt on earlier streets, and those discarded in it
+abbrev pub cards_needed : List Place → ℕ → ℕ
+cards_needed placed street =
+    count_by (λ other. nat_lt other.street street) placed
+    + count_by (λ other. other.discarded == street) placed
+
+-- a street draws, and needs more cards than the deck has
+abbrev pub NeedsMoreThanDeck : Code → List Place → ℕ → Type 0
+NeedsMoreThanDeck code placed street =
+    (has_draw code street ≡ true) × (deck_of code < cards_needed placed street)
+
+-- what was gone before a deal was so by its street
+abbrev pub AreGoneByStreet : List Move → List Place → Type 0
+AreGoneByStreet moves placed =
+    (a b : Place) → IsAmong placed a → IsAmong placed b
+    → is_gone_before a.gone_after b.number ≡ true → gone_by moves b.street a ≡ true
+
+-- the places of a legal past: no two clash; what was gone before a deal was so by its street; what is gone by a street
+-- was dealt before it; and what was dealt past the deck was dealt where the whole draw needs more cards than the deck has
 pub record AreLawful (code : Code) (moves : List Move) (placed : List Place) : Type 0 where
   pub apart : NoneClash placed
-  pub gone_when : (a b : Place) → IsAmong placed a → IsAmong placed b → is_gone_before a.gone_after b.number ≡ true → gone_by moves b.street a ≡ true
-  pub gone_after : (place : Place) (street : ℕ) → IsAmong placed place → gone_by moves street place ≡ true → place.street < street
-  pub late : (place : Place) → IsAmong placed place → place.past_deck ≡ true → (has_draw code place.street ≡ true) × (deck_of code < count_by (λ other. nat_lt other.street place.street) placed + count_by (λ other. other.discarded == place.street) placed)
+  pub gone_when : AreGoneByStreet moves placed
+  pub gone_after : (place : Place) (street : ℕ) → IsAmong placed place
+      → gone_by moves street place ≡ true → place.street < street
+  pub late : (place : Place) → IsAmong placed place → place.past_deck ≡ true
+      → NeedsMoreThanDeck code placed place.street
 
 -- Of two unknown cards of one seat, the one dealt first is discarded with the other, where it was held at that draw.
 abbrev pub OutFirst : Place → Place → Type 0
 OutFirst first second =
-    first.owner ≡ second.owner → is_unknown first.slot ≡ true → is_unknown second.slot ≡ true → 0 < second.discarded → first.street < second.discarded
+    first.owner ≡ second.owner → is_unknown first.slot ≡ true → is_unknown second.slot ≡ true
+    → 0 < second.discarded → first.street < second.discarded
     → (first.discarded ≡ 0) ⊎ (second.discarded ≤ first.discarded) → first.discarded ≡ second.discarded
 
 -- so it is for all places of a list
@@ -46,15 +68,21 @@ abbrev pub UnknownsFirst : List Place → Type 0
 UnknownsFirst [] = Unit {0}
 UnknownsFirst (first ∷ rest) = ((second : Place) → IsAmong rest second → OutFirst first second) × UnknownsFirst rest
 
--- What holds of the places of a legal past with these moves, up to its newest street.
+-- What holds of the places of a legal past with these moves, up to its newest street: their numbers are below how many
+-- they are; a card is gone where it was discarded or its seat folded, since a later street than its own; and the rest as
+-- for lawful places.
 pub record PlacesLaw (code : Code) (moves : List Move) (newest : ℕ) (placed : List Place) : Type 0 where
   pub number_within : (place : Place) → IsAmong placed place → place.number < length placed
-  pub gone_within : (place : Place) (count : ℕ) → IsAmong placed place → place.gone_after ≡ Some count → count ≤ length placed
+  pub gone_within : (place : Place) (count : ℕ) → IsAmong placed place
+      → place.gone_after ≡ Some count → count ≤ length placed
   pub since : (place : Place) → IsAmong placed place → 1 ≤ place.street
   pub reached : (place : Place) → IsAmong placed place → place.street ≤ newest
   pub out_reached : (place : Place) → IsAmong placed place → place.discarded ≤ newest
-  pub gone_is : (place : Place) → IsAmong placed place → is_some place.gone_after ≡ (nat_lt 0 place.discarded || owner_folded moves place.owner)
+  pub gone_is : (place : Place) → IsAmong placed place
+      → is_some place.gone_after ≡ (nat_lt 0 place.discarded || owner_folded moves place.owner)
   pub out_after : (place : Place) → IsAmong placed place → 0 < place.discarded → place.street < place.discarded
-  pub folded_after : (place : Place) (street : ℕ) → IsAmong placed place → owner_folded (moves_before street moves) place.owner ≡ true → place.street < street
-  pub gone_when : (a b : Place) → IsAmong placed a → IsAmong placed b → is_gone_before a.gone_after b.number ≡ true → gone_by moves b.street a ≡ true
-  pub late : (place : Place) → IsAmong placed place → place.past_deck ≡ true → (has_draw code place.street ≡ true) × (deck_of code < count_by (λ other. nat_lt other.street place.street) placed + count_by (λ other. other.discarded == place.street) placed)
+  pub folded_after : (place : Place) (street : ℕ) → IsAmong placed place
+      → owner_folded (moves_before street moves) place.owner ≡ true → place.street < street
+  pub gone_when : AreGoneByStreet moves placed
+  pub late : (place : Place) → IsAmong placed place → place.past_deck ≡ true
+      → NeedsMoreThanDeck code placed place.street

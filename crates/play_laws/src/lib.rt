@@ -4,5 +4,5 @@
 mod laws;
 mod spellings;
 
-pub use laws::{law_of_legal_pasts, law_of_legal_places};
+pub use laws::{law_of_legal_pasts, law_of_legal_places, law_of_legal_scripts};
 pub use spellings::{law_of_actors, law_of_equal_targets};
