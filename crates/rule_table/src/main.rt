@@ -9,6 +9,7 @@ mod pots;
 mod rows;
 mod scripts;
 mod shares;
+mod spelling;
 mod words;
 
 use std::alloc::{AllocError, Global};
@@ -43,6 +44,7 @@ fn answer_to(alloc: Global, row: &str) -> Result<Option<String>, AllocError> {
         b"games" => games::answer_to(alloc, rest),
         b"pots" => pots::answer_to(alloc, rest),
         b"scripts" => scripts::answer_to(alloc, rest),
+        b"spelling" => spelling::answer_to(alloc, rest),
         _ => Ok(None),
     }
 }
