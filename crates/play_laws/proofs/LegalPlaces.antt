@@ -37,6 +37,7 @@ use Rattle.play_laws.proofs.DealtPlaces.{deal_law}
 same_group : (owner : Option ℕ) (street count draw seat : ℕ) (old new : Place) → IsChange count draw seat old new → is_in_group owner street new ≡ is_in_group owner street old
 same_group owner street count draw seat old new change = ap (λ o. is_same_owner o owner && (new.street == street)) change.owner ∙ ap (λ s. is_same_owner old.owner owner && (s == street)) change.street
 
+-- filters that pass a place before and after a change alike
 pub group_step : (old new : Place) (olds news : List Place) (a b : Bool) → a ≡ b → length news ≡ length olds → length (if a then (new ∷ news) else news) ≡ length (if b then (old ∷ olds) else olds)
 group_step old new olds news true true same later = ap suc later
 group_step old new olds news true false same later = false_true (sym same)

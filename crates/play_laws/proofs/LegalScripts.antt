@@ -49,6 +49,7 @@ first_of_legal setup rules script legal (suc left) count whole =
     let P : List Said → Type 0 = AreLegal setup rules in
     (subst P (one_more script count (omega (arith, whole))) (first_of_legal setup rules script legal left (suc count) (omega (arith, whole)))).1
 
+-- one way and the other
 pub legal_script : (setup : Setup) (rules : Rules) (script : List Said) → HasNoIllegalEvent setup rules script ↔ AreLegal setup rules (reverse script)
 legal_script setup rules script = (
   (λ none. let P : List Said → Type 0 = λ l. AreLegal setup rules (reverse l) in subst P (all_taken script) (first_legal setup rules script none (length script) (omega arith))),

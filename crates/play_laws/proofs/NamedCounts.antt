@@ -43,6 +43,7 @@ drop_length card (name ∷ rest) named = by_first (is_same_card card name) refl 
     by_first true same it later = refl
     by_first false same it later = ap suc (later it)
 
+-- a card that is not named is no name less
 pub keep_length : (card : Card) (names : List Card) → is_named card names ≡ false → without (slots.Known card) names ≡ names
 keep_length card [] named = refl
 keep_length card (name ∷ rest) named = by_first (is_same_card card name) named (keep_length card rest)

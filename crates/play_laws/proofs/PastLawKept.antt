@@ -51,6 +51,7 @@ is_next_to_draw setup before street seat is =
     let parts = and_parts (is_live (moves_of before) seat) (not (has_drawn before street seat)) it.0 in
     record { live = parts.0; undrawn = not-true (has_drawn before street seat) parts.1; least = it.1.0; most = omega (arith, it.1.1) }
 
+-- moves up to a street are up to a later one
 pub reached_more : (newest street : ℕ) (list : List Move) → newest ≤ street → AreReached newest list → AreReached street list
 reached_more newest street [] on all = tt
 reached_more newest street (move ∷ rest) on all = (omega (arith, on, all.0), reached_more newest street rest on all.1)
