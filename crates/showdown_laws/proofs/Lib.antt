@@ -1,0 +1,6 @@
+-- What lies on the table where a contested hand ends.
+pub mod AllDone
+pub mod StreetSplits
+pub mod WholeHands
+pub mod WholeBoards
+pub mod Different

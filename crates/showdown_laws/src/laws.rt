@@ -1,0 +1,32 @@
+// What lies on the table where a contested hand ends. The functions do nothing: each contract is a law.
+ghost use Rattle.std.specs.Prelude.{◌≡◌, ◌≤◌, ℕ, ◌++◌, true, List, Some, None, length};
+ghost use Rattle.card_places.specs.Held.{held_slots};
+ghost use Rattle.card_set.specs.Different.{AllDifferent};
+ghost use Rattle.card_set.specs.Known.{known_cards};
+ghost use Rattle.play_event.specs.Games.{game_of};
+ghost use Rattle.play_event.specs.Laws.{AreLegal, moves_by};
+ghost use Rattle.play_event.specs.Said.{Said};
+ghost use Rattle.play_event.specs.Seats.{is_live};
+ghost use Rattle.play_event.specs.declared.setup.Rules.{Rules};
+ghost use Rattle.play_event.specs.declared.setup.Setup.{Setup};
+ghost use Rattle.play_laws.specs.LegalPlaces.{places_by};
+ghost use Rattle.showdown_laws.specs.ContestedEnd.{EndContested};
+
+/// Where a contested hand ends, each live seat has as many cards as a hand has, and the board as many as a board.
+pub fn law_of_whole_hands()
+    ensures hands { (setup : Setup) (rules : Rules) (events : List Said) (seat : ℕ)
+        → EndContested setup rules events → 1 ≤ seat → seat ≤ setup.stacks.seats
+        → is_live (moves_by setup events) seat ≡ true
+        → length (held_slots (Some seat) (places_by setup events)) ≡ (game_of setup.code).hole }
+    ensures board { (setup : Setup) (rules : Rules) (events : List Said)
+        → EndContested setup rules events
+        → length (held_slots None (places_by setup events)) ≡ (game_of setup.code).board }
+{}
+
+/// After legal events the known cards that a seat and the board have are all different.
+pub fn law_of_different_cards()
+    ensures { (setup : Setup) (rules : Rules) (events : List Said) (seat : ℕ)
+        → AreLegal setup rules events
+        → AllDifferent (known_cards (held_slots (Some seat) (places_by setup events))
+        ++ known_cards (held_slots None (places_by setup events))) }
+{}
