@@ -1,0 +1,3 @@
+-- What joins the betting and the cards of a hand.
+pub mod Joined
+pub mod Moves

@@ -1,0 +1,12 @@
+-- What is complete behind what was ended is the showdown, and behind that nothing is due.
+use Rattle.hand_play.proofs.Joined.{end_by}
+use Rattle.hand_play.proofs.play.Play.end.Goals as goal
+
+pub returns-then-end_one-clause-stands : goal.returns-then-end_one-clause-stands
+returns-then-end_one-clause-stands g c =
+    let first = c.end_one in
+    let second = c.end_one-then-end_one in
+    λ past half.
+    let mid = first.ensures.up_to past half in
+    end_by first.new.self.betting.table second.new.self.betting.table first.new.self.cards.state second.new.self.cards.state past second.result
+    (second.ensures.undone past mid) (second.ensures.done past mid) (first.ensures.next past half c.if-end_one.true) second.ensures.over (second.ensures.up_to past mid)
