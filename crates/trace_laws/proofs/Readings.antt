@@ -1,0 +1,73 @@
+-- Moves and places that say the same are one.
+use Rattle.std.proofs.Common.{◌≡◌, ℕ, Bool, List, [], ◌∷◌, map, Option, Some, None, refl, sym, ap, ◌∙◌}
+use Rattle.std.specs.Option.{option_map}
+use Rattle.std.proofs.lemmas.Option.{same_Some}
+use Rattle.card_set.specs.declared.card.Slot.{Slot}
+use Rattle.chip_ledger.specs.declared.numbers.Seat.{Seat}
+use Rattle.chip_ledger.proofs.Same.{seat_same}
+use Rattle.play_event.specs.declared.played.Act as rows
+use Rattle.play_event.specs.declared.played.Act.TheVariants as acts
+use Rattle.play_event.specs.declared.played.Move.{Move}
+use Rattle.play_event.specs.declared.played.Place.{Place}
+use Rattle.play_event.specs.Past.{Act, Folded, Called, Raised, BroughtIn}
+use Rattle.play_event.specs.Played.{act_said, move_said}
+use Rattle.hand_canon.specs.TraceRows.{place_said}
+
+-- a map that tells all values apart tells all optional values apart
+pub options_same : {A B : Type 0} (f : A → B) → ((a b : A) → f a ≡ f b → a ≡ b) → (x y : Option A) → option_map f x ≡ option_map f y → x ≡ y
+options_same f apart None None same = refl
+options_same f apart None (Some b) same = absurd (cc)
+options_same f apart (Some a) None same = absurd (cc)
+options_same f apart (Some a) (Some b) same = ap Some (apart a b (same_Some (f a) (f b) same))
+
+-- and all lists
+pub lists_same : {A B : Type 0} (f : A → B) → ((a b : A) → f a ≡ f b → a ≡ b) → (xs ys : List A) → map f xs ≡ map f ys → xs ≡ ys
+lists_same f apart [] [] same = refl
+lists_same f apart [] (y ∷ ys) same = absurd (cc)
+lists_same f apart (x ∷ xs) [] same = absurd (cc)
+lists_same f apart (x ∷ xs) (y ∷ ys) same =
+    let head : x ≡ y = apart x y (cc) in
+    let tail : xs ≡ ys = lists_same f apart xs ys (cc) in
+    ap (λ z. z ∷ xs) head ∙ ap (λ zs. y ∷ zs) tail
+
+-- the act of a row that says this
+act_from : Act → rows.Act
+act_from Folded = acts.Fold
+act_from Called = acts.Call
+act_from Raised = acts.Raise
+act_from BroughtIn = acts.BringIn
+
+act_back : (act : rows.Act) → act_from (act_said act) ≡ act
+unfolding act_from
+act_back acts.Fold = refl
+act_back acts.Call = refl
+act_back acts.Raise = refl
+act_back acts.BringIn = refl
+
+act_same : (a b : rows.Act) → act_said a ≡ act_said b → a ≡ b
+act_same a b same = sym (act_back a) ∙ (ap act_from same ∙ act_back b)
+
+-- moves that say the same are one
+pub move_same : (a b : Move) → move_said a ≡ move_said b → a ≡ b
+move_same a b same =
+    let move : ℕ → Seat → rows.Act → ℕ → ℕ → ℕ → Bool → ℕ → Move =
+    λ street seat act from to price closed unit_to. record { street = street; seat = seat; act = act; from = from; to = to; price = price; closed = closed; unit_to = unit_to } in
+    ap (λ street. move street a.seat a.act a.from a.to a.price a.closed a.unit_to) (ap (λ said. said.street) same)
+    ∙ (ap (λ seat. move b.street seat a.act a.from a.to a.price a.closed a.unit_to) (seat_same a.seat b.seat (ap (λ said. said.seat) same))
+    ∙ (ap (λ act. move b.street b.seat act a.from a.to a.price a.closed a.unit_to) (act_same a.act b.act (ap (λ said. said.act) same))
+    ∙ (ap (λ from. move b.street b.seat b.act from a.to a.price a.closed a.unit_to) (ap (λ said. said.from) same)
+    ∙ (ap (λ to. move b.street b.seat b.act b.from to a.price a.closed a.unit_to) (ap (λ said. said.to) same)
+    ∙ (ap (λ price. move b.street b.seat b.act b.from b.to price a.closed a.unit_to) (ap (λ said. said.price) same)
+    ∙ (ap (λ closed. move b.street b.seat b.act b.from b.to b.price closed a.unit_to) (ap (λ said. said.closed) same)
+    ∙ ap (λ unit_to. move b.street b.seat b.act b.from b.to b.price b.closed unit_to) (ap (λ said. said.unit_to) same)))))))
+
+-- places that say the same are one
+pub place_same : (a b : Place) → place_said a ≡ place_said b → a ≡ b
+place_same a b same =
+    let place : Option Seat → ℕ → Slot → ℕ → Place =
+    λ owner street slot gone. record { owner = owner; street = street; slot = slot; gone = gone } in
+    let owner : a.owner ≡ b.owner = options_same (λ (seat : Seat). seat.number) seat_same a.owner b.owner (ap (λ said. said.owner) same) in
+    ap (λ o. place o a.street a.slot a.gone) owner
+    ∙ (ap (λ street. place b.owner street a.slot a.gone) (ap (λ said. said.street) same)
+    ∙ (ap (λ slot. place b.owner b.street slot a.gone) (ap (λ said. said.slot) same)
+    ∙ ap (λ gone. place b.owner b.street b.slot gone) (ap (λ said. said.discarded) same)))
