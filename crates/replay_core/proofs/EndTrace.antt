@@ -1,0 +1,75 @@
+-- Rows that say what the past says, field by field, are its trace.
+use Rattle.std.proofs.Common.{◌≡◌, ℕ, zero, suc, ◌+◌, ◌≤◌, ◌<◌, true, false, List, [], ◌∷◌, All, length, map, reverse, count_by, sum_by, take, not, IsTrue, inl, inr, refl, sym, ap, subst, ◌∙◌, arith}
+use Rattle.std.proofs.lemmas.List.{length-map, take_all}
+use Rattle.chip_ledger.specs.declared.pots.Pot.{Pot}
+use Rattle.chip_ledger.specs.declared.rakes.RakeRow.{RakeRow}
+use Rattle.chip_ledger.specs.declared.rows.SeatRow.{SeatRow}
+use Rattle.chip_ledger.specs.PotRow.{plain}
+use Rattle.chip_ledger.specs.Pots.{PlainPot}
+use Rattle.chip_ledger.specs.Rakes.{nets_from}
+use Rattle.chip_ledger.specs.SeatRow.{amount_of}
+use Rattle.canon_laws.proofs.SameCore.{plain_again}
+use Rattle.hand_canon.specs.CanonScript.{plain_moves}
+use Rattle.hand_canon.specs.LegalHand.{IsWithinLimits, is_move}
+use Rattle.hand_canon.specs.TraceCore.{TraceCore, core_of}
+use Rattle.list_laws.proofs.Sums.{sum_by-map}
+use Rattle.play_event.specs.declared.event.Event.{Event}
+use Rattle.play_event.specs.declared.setup.Setup.{Setup}
+use Rattle.play_event.specs.Chips.{chips_left}
+use Rattle.play_event.specs.Past.{Past, Move, moves_of}
+use Rattle.play_event.specs.Said.{Said, said_of}
+use Rattle.play_event.specs.Scripts.{past_after, past_at_end, past_of}
+use Rattle.play_event.specs.Stakes.{finishing_stack, returned_after}
+use Rattle.play_event.specs.Trace.{TracedMove, TracedPlace}
+use Rattle.showdown_split.proofs.Flagged.{flagged_inside}
+use Rattle.replay_core.specs.Events.{said_by}
+use Rattle.replay_core.proofs.SameShowdown.{AreOfSeats}
+
+-- cores are one, field by field
+pub same_core : (a b : TraceCore) → a.places ≡ b.places → a.moves ≡ b.moves → a.shown ≡ b.shown → a.mucked ≡ b.mucked → a.pots ≡ b.pots → a.returned ≡ b.returned → a ≡ b
+same_core a b places moves shown mucked pots returned =
+    ap {B = TraceCore} (λ (x : List TracedPlace). record { places = x; moves = a.moves; shown = a.shown; mucked = a.mucked; pots = a.pots; returned = a.returned }) places
+    ∙ ap {B = TraceCore} (λ (x : List TracedMove). record { places = b.places; moves = x; shown = a.shown; mucked = a.mucked; pots = a.pots; returned = a.returned }) moves
+    ∙ ap {B = TraceCore} (λ (x : List ℕ). record { places = b.places; moves = b.moves; shown = x; mucked = a.mucked; pots = a.pots; returned = a.returned }) shown
+    ∙ ap {B = TraceCore} (λ (x : List ℕ). record { places = b.places; moves = b.moves; shown = b.shown; mucked = x; pots = a.pots; returned = a.returned }) mucked
+    ∙ ap {B = TraceCore} (λ (x : List PlainPot). record { places = b.places; moves = b.moves; shown = b.shown; mucked = b.mucked; pots = x; returned = a.returned }) pots
+    ∙ ap {B = TraceCore} (λ (x : List ℕ). record { places = b.places; moves = b.moves; shown = b.shown; mucked = b.mucked; pots = b.pots; returned = x }) returned
+
+-- who may win a pot of a row is a seat of the hand
+pub pots_of_seats : (pots : List Pot) (seats : ℕ) → All (λ (pot : Pot). pot.eligible.seats ≡ seats) pots → AreOfSeats seats (map plain pots)
+pots_of_seats [] seats same = tt
+pots_of_seats (pot ∷ pots) seats same = (
+  λ n may. let range = flagged_inside pot.eligible n may in (range.0, omega (arith, range.1, same 0 pot (omega arith))),
+  pots_of_seats pots seats (λ k d within. same (suc k) d (omega (arith, within))),
+)
+
+-- and so it is of its net
+pub nets_of_seats : (number : ℕ) (rakes : RakeRow) (pots : List PlainPot) (seats : ℕ) → AreOfSeats seats pots → AreOfSeats seats (nets_from number rakes pots)
+nets_of_seats number rakes [] seats inside = tt
+nets_of_seats number rakes (pot ∷ pots) seats inside = (inside.0, nets_of_seats (suc number) rakes pots seats inside.1)
+
+-- what a seat ends with
+pub finish_is : (setup : Setup) (past : Past) (rows : List SeatRow) (left returned finish seat : ℕ) → left ≡ chips_left setup (moves_of past) seat → returned ≡ returned_after setup (moves_of past) seat → finish ≡ left + (returned + sum_by (λ row. amount_of row seat) rows)
+    → finish ≡ finishing_stack setup (plain_moves (core_of setup past).moves) (map amount_of rows) seat
+finish_is setup past rows left returned finish seat left_is returned_is is =
+    is
+    ∙ omega (arith, left_is, returned_is, sum_by-map (λ (share : ℕ → ℕ). share seat) amount_of rows)
+    ∙ ap (λ (moves : List Move). finishing_stack setup moves (map amount_of rows) seat) (sym (plain_again setup (moves_of past)))
+
+-- after all events a script is at its end
+pub at_end : (setup : Setup) (script : List Said) → past_after setup script (length script) ≡ past_at_end setup script
+at_end setup script = ap (λ events. past_of setup (reverse events)) (take_all (length script) script (omega arith))
+
+-- a script within the limits has not many events
+counted_both : (events : List Said) → count_by is_move events + count_by (λ event. not (is_move event)) events ≡ length events
+counted_both [] = refl
+counted_both (event ∷ rest) = by_move (is_move event) refl (counted_both rest)
+  where
+    by_move : (b : Rattle.std.proofs.Common.Bool) → is_move event ≡ b → count_by is_move rest + count_by (λ event. not (is_move event)) rest ≡ length rest → count_by is_move (event ∷ rest) + count_by (λ event. not (is_move event)) (event ∷ rest) ≡ length (event ∷ rest)
+    by_move true is later =
+        omega (arith, later, Rattle.list_laws.proofs.Counting.count_by-cons is_move event rest, Rattle.list_laws.proofs.Counting.count_by-cons (λ (e : Said). not (is_move e)) event rest, ap {B = ℕ} (λ b. Rattle.std.proofs.Common.cond b 1 0) is, ap {B = ℕ} (λ b. Rattle.std.proofs.Common.cond (not b) 1 0) is)
+    by_move false is later =
+        omega (arith, later, Rattle.list_laws.proofs.Counting.count_by-cons is_move event rest, Rattle.list_laws.proofs.Counting.count_by-cons (λ (e : Said). not (is_move e)) event rest, ap {B = ℕ} (λ b. Rattle.std.proofs.Common.cond b 1 0) is, ap {B = ℕ} (λ b. Rattle.std.proofs.Common.cond (not b) 1 0) is)
+
+pub few_events : (script : List Event) → IsWithinLimits (said_by script) → length script ≤ 4352
+few_events script within = omega (arith, counted_both (said_by script), length-map script said_of, within.moves, within.others)

@@ -1,0 +1,9 @@
+-- What joins the events of a script, and the rows of its end.
+pub mod SoFar
+pub mod Counted
+pub mod TracedPlaces
+pub mod SameShowdown
+pub mod ShownHands
+pub mod FinishBound
+pub mod EndTrace
+pub mod Ended

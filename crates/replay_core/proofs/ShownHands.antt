@@ -1,0 +1,191 @@
+-- At the end of a hand each shown seat has cards that the game's pick can use, and the rows show what the trace shows.
+use Rattle.std.proofs.Common.{◌≡◌, ℕ, suc, ◌+◌, ◌≤◌, ◌<◌, Bool, true, false, ◌&&◌, ◌==◌, not, nat_le, Option, Some, None, List, [], ◌∷◌, ◌++◌, map, filter, length, refl, sym, ap, subst, ◌∙◌, arith}
+use Rattle.std.specs.List.{flat_map, list_any, range_with_len}
+use Rattle.std.proofs.lemmas.Bool.{and_parts, leb-true, not-true, or_parts, lt-ltb, le-leb}
+use Rattle.std.proofs.lemmas.List.{length-map, map-append}
+use Rattle.canon_blocks.proofs.TracedSlots.{dealt_same, discarded_same}
+use Rattle.canon_blocks.proofs.TraceOrder.{finals_group, finals_of, the_board}
+use Rattle.canon_laws.proofs.HeldSame.{any_held, held_script}
+use Rattle.card_places.specs.Held.{held_slots}
+use Rattle.card_set.specs.declared.card.Card.{Card}
+use Rattle.card_set.specs.declared.card.Slot.{Slot}
+use Rattle.card_set.specs.declared.card.Slot.TheVariants as slots
+use Rattle.card_set.specs.declared.row.CardRow.{CardRow}
+use Rattle.card_set.specs.Different.{AllDifferent}
+use Rattle.card_set.specs.Known.{is_unknown, known_cards}
+use Rattle.card_set.specs.Row.{cards_of}
+use Rattle.chip_ledger.specs.declared.rows.LiveRow.{LiveRow}
+use Rattle.chip_ledger.specs.LiveRow.{flag_of, flagged}
+use Rattle.chip_ledger.specs.Seat.{seats_of}
+use Rattle.deal_core.specs.Board.{board_cards}
+use Rattle.deal_core.proofs.Boards.{all_known, board_held}
+use Rattle.hand_canon.specs.CanonScript as canon
+use Rattle.hand_canon.specs.LegalHand.{showdown_in}
+use Rattle.hand_canon.specs.TraceCore.{core_of}
+use Rattle.hand_order.specs.declared.best.Pick.{Pick}
+use Rattle.list_laws.proofs.Tests.{false_true}
+use Rattle.play_event.specs.declared.card_rows.HandRow.{HandRow}
+use Rattle.play_event.specs.declared.setup.Rules.{Rules}
+use Rattle.play_event.specs.declared.setup.Setup.{Setup}
+use Rattle.play_event.specs.Due.{is_unfinished, turn}
+use Rattle.play_event.specs.Games.{game_of, street_count}
+use Rattle.play_event.specs.Laws.{AreLegal}
+use Rattle.play_event.specs.Past.{Past, moves_of}
+use Rattle.play_event.specs.Places.{Place}
+use Rattle.play_event.specs.Said.{Said}
+use Rattle.play_event.specs.Scripts.{past_of}
+use Rattle.play_event.specs.SeatSlots.{slots_of_hand}
+use Rattle.play_event.specs.Seats.{all_seats, is_live, live_count}
+use Rattle.play_event.specs.Showing.{has_mucked}
+use Rattle.play_event.specs.Table.{places_of}
+use Rattle.play_event.specs.Trace.{has_unknown_card, is_contested, is_mucked, is_shown, streets_of, traced_places}
+use Rattle.play_laws.proofs.LegalPlaces.{legal_past}
+use Rattle.play_laws.proofs.PlaceGroups.{group_of}
+use Rattle.play_laws.proofs.SeatRanges.{filter_range, flat_same}
+use Rattle.play_laws.proofs.UnknownOrder.{legal_sorted}
+use Rattle.showdown_laws.specs.ContestedEnd.{EndContested}
+use Rattle.showdown_laws.proofs.Different.{cards_differ}
+use Rattle.showdown_laws.proofs.StreetSplits.{by_streets}
+use Rattle.showdown_laws.proofs.WholeBoards.{board_is, whole_boards}
+use Rattle.showdown_laws.proofs.WholeHands.{whole_hands}
+use Rattle.showdown_split.specs.Hands.{holding, showdown_of}
+use Rattle.showdown_split.specs.Playable.{ArePlayable}
+use Rattle.showdown_split.proofs.Flagged.{is_flagged-flag}
+use Rattle.street_laws.proofs.SeatLists.{count_seats}
+use Rattle.variant_table.specs.Variants.{IsUsable}
+use Rattle.replay_core.specs.EndRows.{flag_count, mucked_by, shown_by}
+use Rattle.replay_core.proofs.SameShowdown.{ShowTheSame}
+
+-- a hand is played to its end, and the rows have what they say of it
+pub record IsEnd (setup : Setup) (rules : Rules) (events : List Said) (live mucked unknown shown : LiveRow) (hands : HandRow) (board : CardRow) : Type 0 where
+  pub legal : AreLegal setup rules events
+  pub finished : is_unfinished (turn setup (past_of setup events)).1 ≡ false
+  pub live_seats : live.seats ≡ setup.stacks.seats
+  pub shown_seats : shown.seats ≡ live.seats
+  pub lives : (seat : ℕ) → 1 ≤ seat → seat ≤ setup.stacks.seats → flag_of live seat ≡ is_live (moves_of (past_of setup events)) seat
+  pub mucks : (seat : ℕ) → 1 ≤ seat → seat ≤ setup.stacks.seats → flag_of mucked seat ≡ has_mucked (past_of setup events) seat
+  pub unknowns : (seat : ℕ) → 1 ≤ seat → seat ≤ setup.stacks.seats → flag_of unknown seat ≡ has_unknown_card setup (past_of setup events) seat
+  pub shows : (seat : ℕ) → 1 ≤ seat → seat ≤ live.seats → flag_of shown seat ≡ shown_by live mucked unknown seat
+  pub holds : (seat : ℕ) → 1 ≤ seat → seat ≤ setup.stacks.seats → slots_of_hand hands seat ≡ held_slots (Some seat) (places_of setup.code (past_of setup events))
+  pub boards : cards_of board ≡ board_cards (past_of setup events)
+
+live_as : (setup : Setup) (rules : Rules) (events : List Said) (live mucked unknown shown : LiveRow) (hands : HandRow) (board : CardRow) → IsEnd setup rules events live mucked unknown shown hands board → flag_count live ≡ live_count setup (moves_of (past_of setup events))
+live_as setup rules events live mucked unknown shown hands board ends =
+    ap (λ (n : ℕ). Rattle.std.proofs.Common.count_by (flag_of live) (seats_of n)) ends.live_seats
+    ∙ count_seats (flag_of live) (is_live (moves_of (past_of setup events))) setup.stacks.seats ends.lives
+
+-- the flags are those of the past
+pub shown_as : (setup : Setup) (rules : Rules) (events : List Said) (live mucked unknown shown : LiveRow) (hands : HandRow) (board : CardRow) → IsEnd setup rules events live mucked unknown shown hands board → (seat : ℕ) → 1 ≤ seat → seat ≤ setup.stacks.seats → flag_of shown seat ≡ is_shown setup (past_of setup events) seat
+shown_as setup rules events live mucked unknown shown hands board ends seat low high =
+    ends.shows seat low (omega (arith, high, ends.live_seats))
+    ∙ ap (λ n. nat_le 2 n && flag_of live seat && not (flag_of mucked seat) && not (flag_of unknown seat)) (live_as setup rules events live mucked unknown shown hands board ends)
+    ∙ ap (λ b. is_contested setup (past_of setup events) && b && not (flag_of mucked seat) && not (flag_of unknown seat)) (ends.lives seat low high)
+    ∙ ap (λ b. is_contested setup (past_of setup events) && is_live (moves_of (past_of setup events)) seat && not b && not (flag_of unknown seat)) (ends.mucks seat low high)
+    ∙ ap (λ b. is_contested setup (past_of setup events) && is_live (moves_of (past_of setup events)) seat && not (has_mucked (past_of setup events) seat) && not b) (ends.unknowns seat low high)
+
+pub shown_are : (setup : Setup) (rules : Rules) (events : List Said) (live mucked unknown shown : LiveRow) (hands : HandRow) (board : CardRow) → IsEnd setup rules events live mucked unknown shown hands board → flagged shown ≡ filter (is_shown setup (past_of setup events)) (all_seats setup)
+shown_are setup rules events live mucked unknown shown hands board ends =
+    ap (λ (n : ℕ). filter (flag_of shown) (seats_of n)) (ends.shown_seats ∙ ends.live_seats)
+    ∙ filter_range (flag_of shown) (is_shown setup (past_of setup events)) 1 setup.stacks.seats (λ seat low high. shown_as setup rules events live mucked unknown shown hands board ends seat low (omega (arith, high)))
+
+pub mucked_are : (setup : Setup) (rules : Rules) (events : List Said) (live mucked unknown shown : LiveRow) (hands : HandRow) (board : CardRow) (row : LiveRow) → IsEnd setup rules events live mucked unknown shown hands board → row.seats ≡ live.seats → ((seat : ℕ) → 1 ≤ seat → seat ≤ live.seats → flag_of row seat ≡ mucked_by live shown seat) → flagged row ≡ filter (is_mucked setup (past_of setup events)) (all_seats setup)
+mucked_are setup rules events live mucked unknown shown hands board row ends same flags =
+    ap (λ (n : ℕ). filter (flag_of row) (seats_of n)) (same ∙ ends.live_seats)
+    ∙ filter_range (flag_of row) (is_mucked setup (past_of setup events)) 1 setup.stacks.seats (λ seat low high.
+    let most : seat ≤ setup.stacks.seats = omega (arith, high) in
+    flags seat low (omega (arith, most, ends.live_seats))
+    ∙ ap (λ n. nat_le 2 n && flag_of live seat && not (flag_of shown seat)) (live_as setup rules events live mucked unknown shown hands board ends)
+    ∙ ap (λ b. is_contested setup (past_of setup events) && b && not (flag_of shown seat)) (ends.lives seat low most)
+    ∙ ap (λ b. is_contested setup (past_of setup events) && is_live (moves_of (past_of setup events)) seat && not b) (shown_as setup rules events live mucked unknown shown hands board ends seat low most))
+
+-- what a shown seat is
+record IsShownSeat (setup : Setup) (past : Past) (seat : ℕ) : Type 0 where
+  several : nat_le (live_count setup (moves_of past)) 1 ≡ false
+  live : is_live (moves_of past) seat ≡ true
+  known : has_unknown_card setup past seat ≡ false
+
+more_than_one : (n : ℕ) → nat_le 2 n ≡ true → nat_le n 1 ≡ false
+more_than_one n two = Rattle.std.proofs.lemmas.Bool.lt-leb n 1 (omega (arith, leb-true 2 n two))
+
+shown_seat : (setup : Setup) (past : Past) (seat : ℕ) → is_shown setup past seat ≡ true → IsShownSeat setup past seat
+shown_seat setup past seat is =
+    let last = and_parts (is_contested setup past && is_live (moves_of past) seat && not (has_mucked past seat)) (not (has_unknown_card setup past seat)) is in
+    let middle = and_parts (is_contested setup past && is_live (moves_of past) seat) (not (has_mucked past seat)) last.0 in
+    let first = and_parts (is_contested setup past) (is_live (moves_of past) seat) middle.0 in
+    record { several = more_than_one (live_count setup (moves_of past)) first.0; live = first.1; known = not-true (has_unknown_card setup past seat) last.1 }
+
+all_known_length : (list : List Slot) → list_any is_unknown list ≡ false → length (known_cards list) ≡ length list
+all_known_length [] none = refl
+all_known_length (slots.Known card ∷ rest) none = ap suc (all_known_length rest none)
+all_known_length (slots.Unknown ∷ rest) none = false_true (sym none)
+
+-- the cards of a shown seat are a whole hand
+whole_hand : (setup : Setup) (rules : Rules) (events : List Said) (seat : ℕ) → AreLegal setup rules events → is_unfinished (turn setup (past_of setup events)).1 ≡ false → 1 ≤ seat → seat ≤ setup.stacks.seats → is_shown setup (past_of setup events) seat ≡ true → length (known_cards (held_slots (Some seat) (places_of setup.code (past_of setup events)))) ≡ (game_of setup.code).hole
+whole_hand setup rules events seat legal finished low high is =
+    let past : Past = past_of setup events in
+    let it = shown_seat setup past seat is in
+    all_known_length (held_slots (Some seat) (places_of setup.code past)) (sym (any_held seat (places_of setup.code past)) ∙ it.known)
+    ∙ whole_hands setup rules events seat (record { legal = legal; several = it.several; finished = finished }) (record { least = low; most = high; live = it.live })
+
+board_known : (code : Rattle.play_event.specs.declared.code.Code.Code) (past : Past) → known_cards (held_slots None (places_of code past)) ≡ board_cards past
+board_known code past = ap known_cards (board_held code past) ∙ all_known (board_cards past)
+
+whole_board : (setup : Setup) (rules : Rules) (events : List Said) → EndContested setup rules events → length (board_cards (past_of setup events)) ≡ (game_of setup.code).board
+whole_board setup rules events ends =
+    sym (length-map (board_cards (past_of setup events)) (λ (card : Card). slots.Known card))
+    ∙ ap length (sym (board_held setup.code (past_of setup events)))
+    ∙ whole_boards setup rules events ends
+
+-- the pick can use the cards of each shown seat, and they are different
+pub playable : (setup : Setup) (rules : Rules) (events : List Said) (live mucked unknown shown : LiveRow) (hands : HandRow) (board : CardRow) (held : ℕ) (pick : Pick) → IsEnd setup rules events live mucked unknown shown hands board → IsUsable (game_of setup.code) held pick → ArePlayable held pick hands board shown
+playable setup rules events live mucked unknown shown hands board held pick ends usable_by =
+    let past : Past = past_of setup events in
+    let cards : ℕ → List Card = λ n. known_cards (held_slots (Some n) (places_of setup.code past)) in
+    let within : (n : ℕ) → n ≤ shown.seats → n ≤ setup.stacks.seats = λ n last. omega (arith, last, ends.shown_seats, ends.live_seats) in
+    let same : (n : ℕ) → 1 ≤ n → n ≤ shown.seats → holding hands n ≡ cards n = λ n low last. ap known_cards (ends.holds n low (within n last)) in
+    record {
+      usable = λ n low last flag.
+          let is = sym (shown_as setup rules events live mucked unknown shown hands board ends n low (within n last)) ∙ flag in
+          let contested : EndContested setup rules events = record { legal = ends.legal; several = (shown_seat setup past n is).several; finished = ends.finished } in
+          usable_by (holding hands n) (cards_of board)
+          (ap length (same n low last) ∙ whole_hand setup rules events n ends.legal ends.finished low (within n last) is)
+          (ap length ends.boards ∙ whole_board setup rules events contested);
+      different = λ n low last flag.
+          subst AllDifferent
+          (ap (λ l. l ++ known_cards (held_slots None (places_of setup.code past))) (sym (same n low last)) ∙ ap (λ l. holding hands n ++ l) (board_known setup.code past ∙ sym ends.boards))
+          (cards_differ setup rules events n ends.legal);
+    }
+
+-- the trace's order of the board
+map_flat : (f : ℕ → List Place) (keys : List ℕ) → flat_map (λ key. map (λ (place : Place). place.slot) (f key)) keys ≡ map (λ (place : Place). place.slot) (flat_map f keys)
+map_flat f [] = refl
+map_flat f (key ∷ keys) =
+    ap (λ l. map (λ (place : Place). place.slot) (f key) ++ l) (map_flat f keys)
+    ∙ sym (map-append (λ (place : Place). place.slot) (f key) (flat_map f keys))
+
+traced_board : (setup : Setup) (rules : Rules) (events : List Said) → AreLegal setup rules events → flat_map (canon.dealt_slots (traced_places setup (past_of setup events)) None) (streets_of setup) ≡ held_slots None (places_of setup.code (past_of setup events))
+traced_board setup rules events legal =
+    let past : Past = past_of setup events in
+    let placed : List Place = places_of setup.code past in
+    let count : ℕ = street_count setup.code in
+    flat_same (canon.dealt_slots (traced_places setup past) None) (λ street. map (λ (place : Place). place.slot) (group_of placed street None)) 1 count (λ street low high.
+    dealt_same (finals_of setup placed count) None street
+    ∙ ap (map (λ (place : Place). place.slot)) (finals_group setup placed None street count the_board low (omega (arith, high))))
+    ∙ map_flat (λ street. group_of placed street None) (range_with_len 1 count)
+    ∙ ap (map (λ (place : Place). place.slot)) (by_streets None count placed (legal_sorted setup rules events legal) (legal_past setup rules events legal).places.since ∙ sym (board_is setup rules events legal))
+
+-- the rows show what the trace shows
+pub rows_show : (setup : Setup) (rules : Rules) (events : List Said) (live mucked unknown shown : LiveRow) (hands : HandRow) (board : CardRow) → IsEnd setup rules events live mucked unknown shown hands board → ShowTheSame (showdown_of hands board shown) (showdown_in setup (core_of setup (past_of setup events)))
+rows_show setup rules events live mucked unknown shown hands board ends =
+    let past : Past = past_of setup events in
+    let within : (n : ℕ) → n ≤ shown.seats → n ≤ setup.stacks.seats = λ n last. omega (arith, last, ends.shown_seats, ends.live_seats) in
+    record {
+      seats = ends.shown_seats ∙ ends.live_seats;
+      shown = λ seat low high. sym (is_flagged-flag shown seat low) ∙ ap (list_any (λ n. n == seat)) (shown_are setup rules events live mucked unknown shown hands board ends);
+      holding = λ seat low high flag.
+          let is = sym (shown_as setup rules events live mucked unknown shown hands board ends seat low (within seat high)) ∙ flag in
+          ap known_cards (ends.holds seat low (within seat high)
+          ∙ sym (discarded_same (finals_of setup (places_of setup.code past) (street_count setup.code)) seat 0
+          ∙ held_script setup rules events seat ends.legal low (within seat high) (shown_seat setup past seat is).live));
+      board = ends.boards ∙ sym (ap known_cards (traced_board setup rules events ends.legal) ∙ board_known setup.code past);
+    }

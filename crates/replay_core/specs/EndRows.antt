@@ -1,0 +1,28 @@
+-- Rows of the end of a hand: what they say of its past.
+use Rattle.std.specs.Prelude.{◌≡◌, ℕ, ◌≤◌, ◌&&◌, Bool, not, nat_le, count_by, List}
+use Rattle.chip_ledger.specs.declared.rows.LiveRow.{LiveRow}
+use Rattle.chip_ledger.specs.declared.rows.SeatRow.{SeatRow}
+use Rattle.chip_ledger.specs.LiveRow.{flag_of}
+use Rattle.chip_ledger.specs.Seat.{seats_of}
+use Rattle.chip_ledger.specs.SeatRow.{amount_of}
+use Rattle.play_event.specs.declared.setup.Setup.{Setup}
+use Rattle.play_event.specs.Chips.{chips_put}
+use Rattle.play_event.specs.Past.{Move}
+use Rattle.play_event.specs.Seats.{is_live}
+
+-- how many seats of a row are flagged
+abbrev pub flag_count : LiveRow → ℕ
+flag_count row = count_by (flag_of row) (seats_of row.seats)
+
+-- a seat is shown: the hand is contested, the seat is live and did not muck, and no card of it is unknown
+abbrev pub shown_by : (live mucked unknown : LiveRow) → ℕ → Bool
+shown_by live mucked unknown seat = nat_le 2 (flag_count live) && flag_of live seat && not (flag_of mucked seat) && not (flag_of unknown seat)
+
+-- a seat is mucked: the hand is contested, and the seat is live and not shown
+abbrev pub mucked_by : (live shown : LiveRow) → ℕ → Bool
+mucked_by live shown seat = nat_le 2 (flag_count live) && flag_of live seat && not (flag_of shown seat)
+
+-- the rows have the chips that each seat put in these moves, and the seats that are live after them
+pub record AreRowsOf (setup : Setup) (moves : List Move) (put : SeatRow) (live : LiveRow) : Type 0 where
+  pub puts : (seat : ℕ) → 1 ≤ seat → seat ≤ setup.stacks.seats → amount_of put seat ≡ chips_put setup moves seat
+  pub lives : (seat : ℕ) → 1 ≤ seat → seat ≤ setup.stacks.seats → flag_of live seat ≡ is_live moves seat

@@ -1,0 +1,4 @@
+-- What a replay answers.
+pub mod Events
+pub mod Faults
+pub mod EndRows

@@ -1,0 +1,59 @@
+// Who is shown at the end of a hand, and who mucks, seat by seat.
+ghost use Rattle.std.specs.Prelude.{◌≡◌, ◌≤◌, ℕ};
+ghost use Rattle.chip_ledger.specs.LiveRow.{flag_of};
+ghost use Rattle.replay_core.specs.EndRows.{flag_count, mucked_by, shown_by};
+
+use chip_ledger::{LiveRow, Seat};
+
+// How many seats of the row are flagged.
+#[tactic(auto, using(street_laws::proofs::SeatLists::count_more))]
+fn flag_count(row: &LiveRow) -> u8
+    ensures { result ≡ flag_count row.now }
+{
+    let mut count: u8 = 0;
+    for index in 0..row.seats {
+        let seat = Seat { number: index + 1 };
+        if row.get(seat) {
+            count += 1;
+        }
+    }
+    count
+}
+
+/// Which seats are shown: the live seats of a contested hand that did not muck, and all of whose cards are known.
+pub fn shown_row(live: &LiveRow, mucked: &LiveRow, unknown: &LiveRow) -> LiveRow
+    requires mucked { mucked.now.seats ≡ live.now.seats }
+    requires unknown { unknown.now.seats ≡ live.now.seats }
+    ensures seats { result.seats ≡ live.now.seats }
+    ensures flags { (n : ℕ) → 1 ≤ n → n ≤ live.now.seats
+        → flag_of result n ≡ shown_by live.now mucked.now unknown.now n }
+{
+    let contested = flag_count(live) >= 2;
+    let mut row = LiveRow::new(live.seats);
+    for index in 0..live.seats {
+        let seat = Seat { number: index + 1 };
+        let is_live = live.get(seat);
+        let is_mucked = mucked.get(seat);
+        let is_unknown = unknown.get(seat);
+        row.set(seat, contested && is_live && !is_mucked && !is_unknown);
+    }
+    row
+}
+
+/// Which seats muck: the live seats of a contested hand that are not shown.
+pub fn mucked_row(live: &LiveRow, shown: &LiveRow) -> LiveRow
+    requires { shown.now.seats ≡ live.now.seats }
+    ensures seats { result.seats ≡ live.now.seats }
+    ensures flags { (n : ℕ) → 1 ≤ n → n ≤ live.now.seats
+        → flag_of result n ≡ mucked_by live.now shown.now n }
+{
+    let contested = flag_count(live) >= 2;
+    let mut row = LiveRow::new(live.seats);
+    for index in 0..live.seats {
+        let seat = Seat { number: index + 1 };
+        let is_live = live.get(seat);
+        let is_shown = shown.get(seat);
+        row.set(seat, contested && is_live && !is_shown);
+    }
+    row
+}
