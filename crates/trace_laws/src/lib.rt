@@ -1,6 +1,8 @@
-//! The law of one trace: a past has at most one whole trace.
+//! The laws of whole traces: a past has at most one, its chips are those that were put, and the best hands win them.
 #![tactic(auto)]
 
+mod conservation;
 mod laws;
 
+pub use conservation::{law_of_pots_and_returns, law_of_winners};
 pub use laws::law_of_one_trace;

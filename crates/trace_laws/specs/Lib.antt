@@ -1,0 +1,2 @@
+-- What laws of whole traces say of the shares of pots.
+pub mod Winners

@@ -1,0 +1,29 @@
+//! Laws of the chips of a whole trace: none is lost, and the best shown hands win them.
+ghost use Rattle.std.specs.Prelude.{◌≡◌, ◌+◌, sum_by};
+ghost use Rattle.chip_ledger.specs.declared.pots.Pot.{Pot};
+ghost use Rattle.chip_ledger.specs.PotRow.{plain_shares, pots_in};
+ghost use Rattle.chip_ledger.specs.Rakes.{nets_of};
+ghost use Rattle.chip_ledger.specs.SeatRow.{total_of};
+ghost use Rattle.play_event.specs.Past.{Past, moves_of};
+ghost use Rattle.play_event.specs.Price.{all_chips_put};
+ghost use Rattle.play_event.specs.declared.setup.Setup.{Setup};
+ghost use Rattle.hand_canon.specs.LegalHand.{showdown_in};
+ghost use Rattle.hand_canon.specs.TraceCore.{core_of};
+ghost use Rattle.hand_canon.specs.WholeTrace.{IsTraceOf};
+ghost use Rattle.hand_canon.specs.declared.trace.Trace.{Trace};
+ghost use Rattle.trace_laws.specs.Winners.{AllGoToBest};
+
+/// The pots of a whole trace, before rakes, and what is returned are together all chips that the seats put.
+pub fn law_of_pots_and_returns()
+    ensures { (setup : Setup) (past : Past) (trace : Trace) → IsTraceOf setup past trace
+        → sum_by (λ (pot : Pot). pot.chips) (pots_in trace.pots) + total_of trace.pots.returned
+        ≡ all_chips_put setup (moves_of past) }
+{}
+
+/// Each chip of the net of a pot that two or more seats may win goes to a shown one of them that no other shown one beats,
+/// in the first order or, where a low hand is shown, in the low order.
+pub fn law_of_winners()
+    ensures { (setup : Setup) (past : Past) (trace : Trace) → IsTraceOf setup past trace
+        → AllGoToBest setup.code (showdown_in setup (core_of setup past))
+        (nets_of setup.rakes (core_of setup past).pots) (plain_shares trace.shares) }
+{}
