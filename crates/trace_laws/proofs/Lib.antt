@@ -5,4 +5,5 @@ pub mod SameRows
 pub mod OneSharing
 pub mod OneTrace
 pub mod TraceChips
+pub mod TraceStacks
 pub mod TraceWinners

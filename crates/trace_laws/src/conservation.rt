@@ -1,11 +1,16 @@
 //! Laws of the chips of a whole trace: none is lost, and the best shown hands win them.
-ghost use Rattle.std.specs.Prelude.{◌≡◌, ◌+◌, sum_by};
+ghost use Rattle.std.specs.Prelude.{◌≡◌, ◌+◌, List, sum_by};
 ghost use Rattle.chip_ledger.specs.declared.pots.Pot.{Pot};
-ghost use Rattle.chip_ledger.specs.PotRow.{plain_shares, pots_in};
+ghost use Rattle.chip_ledger.specs.PotRow.{plain_shares, pots_in, shares_in};
 ghost use Rattle.chip_ledger.specs.Rakes.{nets_of};
 ghost use Rattle.chip_ledger.specs.SeatRow.{total_of};
+ghost use Rattle.play_event.specs.Laws.{AreLegal};
 ghost use Rattle.play_event.specs.Past.{Past, moves_of};
 ghost use Rattle.play_event.specs.Price.{all_chips_put};
+ghost use Rattle.play_event.specs.Said.{Said};
+ghost use Rattle.play_event.specs.Scripts.{past_of};
+ghost use Rattle.play_event.specs.ValidSetup.{IsValid};
+ghost use Rattle.play_event.specs.declared.setup.Rules.{Rules};
 ghost use Rattle.play_event.specs.declared.setup.Setup.{Setup};
 ghost use Rattle.hand_canon.specs.LegalHand.{showdown_in};
 ghost use Rattle.hand_canon.specs.TraceCore.{core_of};
@@ -18,6 +23,16 @@ pub fn law_of_pots_and_returns()
     ensures { (setup : Setup) (past : Past) (trace : Trace) → IsTraceOf setup past trace
         → sum_by (λ (pot : Pot). pot.chips) (pots_in trace.pots) + total_of trace.pots.returned
         ≡ all_chips_put setup (moves_of past) }
+{}
+
+/// After legal events the finishing stacks and the pots, before rakes, are together the starting stacks and the shares: so
+/// what leaves the hand is that part of the pots that no seat gets.
+pub fn law_of_finishing_stacks()
+    ensures { (setup : Setup) (rules : Rules) (events : List Said) (trace : Trace)
+        → IsValid setup → AreLegal setup rules events
+        → IsTraceOf setup (past_of setup events) trace
+        → total_of trace.finish + sum_by (λ (pot : Pot). pot.chips) (pots_in trace.pots)
+        ≡ total_of setup.stacks + sum_by total_of (shares_in trace.shares) }
 {}
 
 /// Each chip of the net of a pot that two or more seats may win goes to a shown one of them that no other shown one beats,
