@@ -1,8 +1,9 @@
 //! Laws of the chips of a whole trace: none is lost, and the best shown hands win them.
-ghost use Rattle.std.specs.Prelude.{◌≡◌, ◌+◌, List, sum_by};
+ghost use Rattle.std.specs.Prelude.{◌≡◌, ◌≤◌, ℕ, ◌+◌, List, sum_by};
 ghost use Rattle.chip_ledger.specs.declared.pots.Pot.{Pot};
-ghost use Rattle.chip_ledger.specs.PotRow.{plain_shares, pots_in, shares_in};
-ghost use Rattle.chip_ledger.specs.Rakes.{nets_of};
+ghost use Rattle.chip_ledger.specs.PotRow.{plain_pots, plain_shares, pots_in, shared_in, shares_in};
+ghost use Rattle.chip_ledger.specs.RakeRow.{rake_of};
+ghost use Rattle.chip_ledger.specs.Rakes.{chips_in, nets_of};
 ghost use Rattle.chip_ledger.specs.SeatRow.{total_of};
 ghost use Rattle.play_event.specs.Laws.{AreLegal};
 ghost use Rattle.play_event.specs.Past.{Past, moves_of};
@@ -12,7 +13,7 @@ ghost use Rattle.play_event.specs.Scripts.{past_of};
 ghost use Rattle.play_event.specs.ValidSetup.{IsValid};
 ghost use Rattle.play_event.specs.declared.setup.Rules.{Rules};
 ghost use Rattle.play_event.specs.declared.setup.Setup.{Setup};
-ghost use Rattle.hand_canon.specs.LegalHand.{showdown_in};
+ghost use Rattle.hand_canon.specs.LegalHand.{IsShareable, showdown_in};
 ghost use Rattle.hand_canon.specs.TraceCore.{core_of};
 ghost use Rattle.hand_canon.specs.WholeTrace.{IsTraceOf};
 ghost use Rattle.hand_canon.specs.declared.trace.Trace.{Trace};
@@ -33,6 +34,15 @@ pub fn law_of_finishing_stacks()
         → IsTraceOf setup (past_of setup events) trace
         → total_of trace.finish + sum_by (λ (pot : Pot). pot.chips) (pots_in trace.pots)
         ≡ total_of setup.stacks + sum_by total_of (shares_in trace.shares) }
+{}
+
+/// Where the pots can be shared, as in a legal hand, the shares of each pot and its rake are no more than its chips; the
+/// lowest pot has the number 1, and past the last one there are neither shares nor rakes.
+pub fn law_of_shares_within_pots()
+    ensures { (setup : Setup) (past : Past) (trace : Trace)
+        → IsShareable setup (core_of setup past) → IsTraceOf setup past trace
+        → (number : ℕ) → shared_in trace.shares number + rake_of setup.rakes number
+        ≤ chips_in (plain_pots trace.pots) number }
 {}
 
 /// Each chip of the net of a pot that two or more seats may win goes to a shown one of them that no other shown one beats,
