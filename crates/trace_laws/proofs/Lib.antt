@@ -8,3 +8,4 @@ pub mod ShareBounds
 pub mod TraceChips
 pub mod TraceStacks
 pub mod TraceWinners
+pub mod NoChipsMade

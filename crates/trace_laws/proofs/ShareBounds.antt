@@ -89,10 +89,10 @@ pot_within code showdown row pot share same is (inr shown) =
     contested_within showdown.seats (contends showdown pot) (ranking_of code showdown) pot.chips share shown.contested
 
 -- the chips of a pot at an index, and the shares of it
-abbrev pot_at : List PlainPot → ℕ → ℕ
+abbrev pub pot_at : List PlainPot → ℕ → ℕ
 pot_at pots k = option_map_or (λ (p : PlainPot). p.chips) (slice_get pots k) 0
 
-abbrev share_at : List SeatRow → ℕ → ℕ
+abbrev pub share_at : List SeatRow → ℕ → ℕ
 share_at rows k = option_map_or total_of (slice_get rows k) 0
 
 -- pot by pot

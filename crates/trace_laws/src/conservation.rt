@@ -1,5 +1,6 @@
 //! Laws of the chips of a whole trace: none is lost, and the best shown hands win them.
-ghost use Rattle.std.specs.Prelude.{◌≡◌, ◌≤◌, ℕ, ◌+◌, List, sum_by};
+ghost use Rattle.std.specs.Prelude.{◌≡◌, ◌≤◌, ℕ, ◌+◌, List, length, sum_by};
+ghost use Rattle.std.specs.List.{range_with_len};
 ghost use Rattle.chip_ledger.specs.declared.pots.Pot.{Pot};
 ghost use Rattle.chip_ledger.specs.PotRow.{plain_pots, plain_shares, pots_in, shared_in, shares_in};
 ghost use Rattle.chip_ledger.specs.RakeRow.{rake_of};
@@ -43,6 +44,18 @@ pub fn law_of_shares_within_pots()
         → IsShareable setup (core_of setup past) → IsTraceOf setup past trace
         → (number : ℕ) → shared_in trace.shares number + rake_of setup.rakes number
         ≤ chips_in (plain_pots trace.pots) number }
+{}
+
+/// After legal events, where the pots can be shared, as in a legal hand, the finishing stacks and the rakes of the pots are
+/// together no more than the starting stacks.
+pub fn law_of_no_chips_made()
+    ensures { (setup : Setup) (rules : Rules) (events : List Said) (trace : Trace)
+        → IsValid setup → AreLegal setup rules events
+        → IsShareable setup (core_of setup (past_of setup events))
+        → IsTraceOf setup (past_of setup events) trace
+        → total_of trace.finish
+        + sum_by (rake_of setup.rakes) (range_with_len 1 (length (pots_in trace.pots)))
+        ≤ total_of setup.stacks }
 {}
 
 /// Each chip of the net of a pot that two or more seats may win goes to a shown one of them that no other shown one beats,
