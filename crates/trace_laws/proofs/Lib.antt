@@ -1,5 +1,5 @@
--- Rows are equal where they say the same, shares are unique, and so a past has at most one whole trace; its chips are those
--- that were put, and unbeaten seats win them.
+-- Rows are equal where they say the same, shares are unique, and so a past has at most one whole trace; no chips are
+-- made, and only unbeaten seats win contested pots.
 pub mod Readings
 pub mod SameRows
 pub mod OneSharing

@@ -1,4 +1,4 @@
-//! Laws of the chips of a whole trace: none is lost, and the best shown hands win them.
+//! Laws of the chips of a whole trace: none is made, and of contested pots only unbeaten shown hands get any.
 ghost use Rattle.std.specs.Prelude.{◌≡◌, ◌≤◌, ℕ, ◌+◌, List, length, sum_by};
 ghost use Rattle.std.specs.List.{range_with_len};
 ghost use Rattle.chip_ledger.specs.declared.pots.Pot.{Pot};
@@ -58,8 +58,8 @@ pub fn law_of_no_chips_made()
         ≤ total_of setup.stacks }
 {}
 
-/// Each chip of the net of a pot that two or more seats may win goes to a shown one of them that no other shown one beats,
-/// in the first order or, where a low hand is shown, in the low order.
+/// A seat that gets chips of a pot that two or more seats may win is a shown one of them that no other shown one beats, in
+/// the first order or, where a low hand is shown, in the low order.
 pub fn law_of_winners()
     ensures { (setup : Setup) (past : Past) (trace : Trace) → IsTraceOf setup past trace
         → AllGoToBest setup.code (showdown_in setup (core_of setup past))

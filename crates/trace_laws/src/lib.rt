@@ -1,4 +1,4 @@
-//! The laws of whole traces: a past has at most one, its chips are those that were put, and the best hands win them.
+//! The laws of whole traces: a past has at most one, no chips are made, and only unbeaten shown hands win contested pots.
 #![tactic(auto)]
 
 mod conservation;
