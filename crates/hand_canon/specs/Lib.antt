@@ -9,6 +9,7 @@ pub mod LegalHand
 pub mod WholeTrace
 pub mod AllowedNotes
 pub mod Sound
+pub mod SoundRecord
 pub mod Agreement
 pub mod Numbers
 pub mod Words
