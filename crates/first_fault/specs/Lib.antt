@@ -1,0 +1,3 @@
+-- What reading in a fixed order gives, and what digits say.
+pub mod Reading
+pub mod Digits

@@ -1,0 +1,36 @@
+//! A number is read of decimal digits, leading zeros among them.
+ghost use Rattle.std.specs.Prelude.{◌≡◌, ◌≤◌, IsTrue};
+ghost use Rattle.first_fault.specs.Digits.{are_digits as are_digits_said, number_of};
+
+/// Whether the text is one or more decimal digits.
+#[tactic(auto, unfolding(crate::specs::Digits::are_digits))]
+pub fn are_digits(text: &[u8]) -> bool
+    ensures { result ≡ are_digits_said text.now }
+{
+    if text.is_empty() {
+        return false;
+    }
+    for sign in text {
+        if !sign.is_ascii_digit() {
+            return false;
+        }
+    }
+    true
+}
+
+/// The number that the digits say, or `None` where it is above `most`. Ask first that they are digits.
+#[tactic(auto, unfolding(crate::specs::Digits::number_of, crate::specs::Digits::are_digits))]
+pub fn read_digits(digits: &[u8], most: u64) -> Option<u64>
+    requires digits { IsTrue (are_digits_said digits.now) }
+    requires small { most ≤ 1000000000000000000 }
+    ensures { result ≡ number_of most digits.now }
+{
+    let mut number = 0;
+    for digit in digits {
+        number = 10 * number + u64::from(*digit - b'0');
+        if number > most {
+            return None;
+        }
+    }
+    Some(number)
+}
