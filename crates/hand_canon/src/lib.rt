@@ -14,7 +14,7 @@ mod text;
 mod trace;
 mod writing;
 
-pub use agreement::{FactDiffers, Which};
+pub use agreement::{FactDiffers, Which, check_stated};
 pub use canonical::canon;
 pub use limits::{
     MOST_FILE_MOVES, MOST_HANDS, MOST_MOVES, MOST_OTHER_EVENTS, MOST_TEXT_BYTES, Quantity,
