@@ -1,3 +1,4 @@
 pub mod CardLaws
+pub mod LetterLaws
 pub mod SeatLaws
 pub mod WordLaws

@@ -6,6 +6,8 @@ mod fault;
 mod parts;
 mod reading;
 mod words;
+mod writing;
 
 pub use fault::ActionFault;
 pub use reading::read_action;
+pub use writing::event_text;
