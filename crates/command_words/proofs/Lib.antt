@@ -1,0 +1,2 @@
+-- What the parser of command lines finds in the words of a command.
+mod Parses

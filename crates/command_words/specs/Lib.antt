@@ -1,0 +1,2 @@
+-- Which words say which command.
+pub mod Words
