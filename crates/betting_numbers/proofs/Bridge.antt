@@ -21,7 +21,7 @@ use Rattle.betting_numbers.specs.declared.table.Table.{Table}
 use Rattle.betting_numbers.specs.Seen.{left_seen, able_seen, price_seen, owed_seen, all_in_seen, live_count_seen, able_count_seen, to_move_seen, move_due_seen, bring_in_due_seen, opponent_seen, after_last, last_seen, mover_seen}
 use Rattle.street_laws.specs.Seats.{IsSeat}
 use Rattle.betting_numbers.specs.Standing.{Standing, newest_seat}
-use Rattle.street_laws.proofs.SeatLists.{any_seats, count_seats}
+use Rattle.chip_ledger.proofs.SeatLists.{any_seats, count_seats}
 use Rattle.list_laws.proofs.Finding.{find_agree}
 
 -- a seat to which the turn may be passed

@@ -10,7 +10,7 @@ use Rattle.play_event.specs.Due.{due_on, is_settled}
 use Rattle.play_event.proofs.StreetLaws.{first_is_due}
 use Rattle.betting_numbers.specs.declared.table.Table.{Table}
 use Rattle.betting_numbers.specs.Standing.{Standing, StandsFor}
-use Rattle.street_laws.specs.Walk.{none_later}
+use Rattle.street_laws.specs.Walk.{has_nothing_later}
 use Rattle.betting_numbers.specs.UpTo.{StandsUpTo}
 use Rattle.street_laws.specs.Done.{HasCome, is_done}
 use Rattle.street_laws.specs.CardEvents.{is_card_event}
@@ -22,8 +22,8 @@ module _ (b : Table) (past : Past) (event : Resolved) (stands : StandsFor b past
   pub standing_now : Standing b.setup b.street b (moves_of (event ∷ past))
   standing_now = subst (λ (ms : List Move). Standing b.setup b.street b ms) (sym (moves_kept event past card)) stands.standing
 
-  pub early_now : none_later (event ∷ past) b.street ≡ true
-  early_now = and_from (nat_le (street_of event) b.street) (none_later past b.street) (le-leb (street_of event) b.street (omega (arith, at))) stands.early
+  pub early_now : has_nothing_later (event ∷ past) b.street ≡ true
+  early_now = and_from (nat_le (street_of event) b.street) (has_nothing_later past b.street) (le-leb (street_of event) b.street (omega (arith, at))) stands.early
 
   pub someone_now : 1 ≤ live_count b.setup (moves_of (event ∷ past))
   someone_now = subst (λ (ms : List Move). 1 ≤ live_count b.setup ms) (sym (moves_kept event past card)) stands.someone

@@ -28,7 +28,7 @@ use Rattle.list_laws.proofs.Any.{none_passes}
 use Rattle.betting_numbers.proofs.Bridge.{bring_in_due_is, move_due_is}
 use Rattle.betting_numbers.proofs.NextStreet.{standing_next}
 use Rattle.street_laws.proofs.Later.{early_moves, early_up, none_on}
-use Rattle.street_laws.specs.Walk.{moves_early}
+use Rattle.street_laws.specs.Walk.{has_no_move_later}
 use Rattle.street_laws.proofs.TurnAfter.{AreDealt, due_by, cards_come, quiet_is_showdown}
 use Rattle.betting_numbers.proofs.StandsAfter.{standing_with_due}
 use Rattle.street_laws.specs.Walk.{walked}
@@ -54,13 +54,13 @@ zero_greatest : (f : ℕ → ℕ) (first n : ℕ) → ((k : ℕ) → f k ≡ 0) 
 zero_greatest f first zero none = refl
 zero_greatest f first (suc n) none = omega (arith, none first, zero_greatest f (first + 1) n none)
 
-no_chips : (setup : Setup) (moves : List Move) (street seat : ℕ) → moves_early moves street ≡ true → 1 ≤ street → street_chips setup moves (street + 1) seat ≡ 0
+no_chips : (setup : Setup) (moves : List Move) (street seat : ℕ) → has_no_move_later moves street ≡ true → 1 ≤ street → street_chips setup moves (street + 1) seat ≡ 0
 no_chips setup moves street seat early low =
     let none : moves_on (street + 1) moves ≡ [] = none_on moves street (street + 1) early (omega arith) in
     let nothing : brought setup (street + 1) seat ≡ 0 = ap (λ b. if b then blind_posted setup seat else 0) (ne_eqb (street + 1) 1 (λ same. omega (arith, same, low))) in
     omega (arith, nothing, ap (chips_added seat) none)
 
-pub nobody_owes : (setup : Setup) (moves : List Move) (street : ℕ) → moves_early moves street ≡ true → 1 ≤ street → has_able_seat_to_call setup moves (street + 1) ≡ false
+pub nobody_owes : (setup : Setup) (moves : List Move) (street : ℕ) → has_no_move_later moves street ≡ true → 1 ≤ street → has_able_seat_to_call setup moves (street + 1) ≡ false
 nobody_owes setup moves street early low =
     let free : price setup moves (street + 1) ≡ 0 = zero_greatest (street_chips setup moves (street + 1)) 1 setup.stacks.seats (λ k. no_chips setup moves street k early low) in
     none_passes (λ seat. is_able setup moves seat && nat_lt 0 (owed setup moves (street + 1) seat)) (all_seats setup) (λ seat.

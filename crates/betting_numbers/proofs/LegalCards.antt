@@ -16,7 +16,7 @@ use Rattle.play_event.specs.TurnTargets.{is_bet_due}
 use Rattle.play_event.proofs.ReasonLaws.{no_reason_holds}
 use Rattle.street_laws.specs.CardEvents.{is_card_event, is_card_said, is_showing}
 use Rattle.street_laws.specs.Done.{is_done}
-use Rattle.street_laws.specs.Walk.{none_later}
+use Rattle.street_laws.specs.Walk.{has_nothing_later}
 use Rattle.street_laws.proofs.CardTurns.{several_live, moves_kept}
 use Rattle.street_laws.proofs.Later.{reached_by}
 use Rattle.street_laws.proofs.LegalCards.{at_street, card_resolved, shows_kept, settled_at, betting_event, undrawn, two_live}
@@ -79,7 +79,7 @@ module _ (b : Table) (rules : Rules) (past : Past) (event : Said) (stands : Stan
             ∙ ap (λ (n : ℕ). (n, dues.Over)) at
             ∙ ap (λ (d : Due). (b.street, d)) (sym is);
         someone = subst (λ (ms : List Move). 1 ≤ live_count b.setup ms) (sym same) stands.someone;
-        early = and_from (nat_le (street_of the_event) b.street) (none_later past b.street) (le-leb (street_of the_event) b.street (omega (arith, at))) stands.early;
+        early = and_from (nat_le (street_of the_event) b.street) (has_nothing_later past b.street) (le-leb (street_of the_event) b.street (omega (arith, at))) stands.early;
         unshown = λ other. absurd (other is);
       }
 

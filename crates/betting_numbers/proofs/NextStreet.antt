@@ -15,31 +15,31 @@ use Rattle.betting_numbers.specs.declared.table.Table.{Table}
 use Rattle.betting_numbers.specs.Moving.{IsNextStreet, most_raises}
 use Rattle.street_laws.specs.Seats.{IsSeat}
 use Rattle.betting_numbers.specs.Standing.{Standing, newest_seat}
-use Rattle.street_laws.specs.Walk.{moves_early}
+use Rattle.street_laws.specs.Walk.{has_no_move_later}
 use Rattle.street_laws.proofs.Later.{newest_other, none_on}
 
-pub none_since : (setup : Setup) (moves : List Move) (street later seat : ℕ) → moves_early moves street ≡ true → street < later → has_moved_since_rise setup moves later seat ≡ false
+pub none_since : (setup : Setup) (moves : List Move) (street later seat : ℕ) → has_no_move_later moves street ≡ true → street < later → has_moved_since_rise setup moves later seat ≡ false
 none_since setup [] street later seat early less = refl
 none_since setup (move ∷ before) street later seat early less =
     let parts = newest_other move before street later early less in
     ap (λ b. if b then ((move.seat == seat) || (nat_le move.to (price setup before later) && has_moved_since_rise setup before later seat)) else has_moved_since_rise setup before later seat) parts.0
     ∙ none_since setup before street later seat parts.1 less
 
-pub least_raise : (setup : Setup) (moves : List Move) (street later : ℕ) → moves_early moves street ≡ true → street < later → prices.full_raise setup moves later ≡ setup.min_bet
+pub least_raise : (setup : Setup) (moves : List Move) (street later : ℕ) → has_no_move_later moves street ≡ true → street < later → prices.full_raise setup moves later ≡ setup.min_bet
 least_raise setup [] street later early less = refl
 least_raise setup (move ∷ before) street later early less =
     let parts = newest_other move before street later early less in
     ap (λ b. if b && is_raise move.act && nat_le (prices.full_raise setup before later) (rise setup move before) then max (rise setup move before) (prices.full_raise setup before later) else prices.full_raise setup before later) parts.0
     ∙ least_raise setup before street later parts.1 less
 
-pub none_doubled : (setup : Setup) (moves : List Move) (street later : ℕ) → moves_early moves street ≡ true → street < later → doubled_raises setup moves later ≡ []
+pub none_doubled : (setup : Setup) (moves : List Move) (street later : ℕ) → has_no_move_later moves street ≡ true → street < later → doubled_raises setup moves later ≡ []
 none_doubled setup [] street later early less = refl
 none_doubled setup (move ∷ before) street later early less =
     let parts = newest_other move before street later early less in
     ap (λ b. if b && is_raise move.act then ((2 * move.to - price setup before later) ∷ doubled_raises setup before later) else doubled_raises setup before later) parts.0
     ∙ none_doubled setup before street later parts.1 less
 
-pub bet_at_start : (setup : Setup) (moves : List Move) (street later : ℕ) → moves_early moves street ≡ true → street < later → prices.full_bet setup moves later ≡ prices.full_bet setup [] later
+pub bet_at_start : (setup : Setup) (moves : List Move) (street later : ℕ) → has_no_move_later moves street ≡ true → street < later → prices.full_bet setup moves later ≡ prices.full_bet setup [] later
 bet_at_start setup [] street later early less = refl
 bet_at_start setup (move ∷ before) street later early less =
     let parts = newest_other move before street later early less in
@@ -61,7 +61,7 @@ no_bet_by : (full : Bool) (start : ℕ) → start ≡ 0 → (if full then start 
 no_bet_by true start is = is
 no_bet_by false start is = refl
 
-module _ (b next : Table) (moves : List Move) (st : Standing b.setup b.street b moves) (early : moves_early moves b.street ≡ true) (from_one : 1 ≤ b.street) (new : IsNextStreet b next) where
+module _ (b next : Table) (moves : List Move) (st : Standing b.setup b.street b moves) (early : has_no_move_later moves b.street ≡ true) (from_one : 1 ≤ b.street) (new : IsNextStreet b next) where
   later : ℕ
   later = b.street + 1
 

@@ -22,7 +22,7 @@ use Rattle.betting_numbers.specs.Seen.{live_count_seen, move_due_seen}
 use Rattle.betting_numbers.specs.Moving.{IsMoved, IsNextStreet}
 use Rattle.street_laws.specs.Seats.{IsSeat}
 use Rattle.betting_numbers.specs.Standing.{Standing, StandsFor}
-use Rattle.street_laws.specs.Walk.{none_later}
+use Rattle.street_laws.specs.Walk.{has_nothing_later}
 use Rattle.play_event.specs.ValidSetup.{IsValid}
 use Rattle.street_laws.specs.Dues.{is_move}
 use Rattle.play_event.specs.TurnTargets.{is_bet_due}
@@ -115,10 +115,10 @@ module _ (b mid next : Table) (past : Past) (seat target unit : ℕ) (act : Act)
   mid_stands : Standing mid.setup mid.street mid (new_move ∷ moves_of past)
   mid_stands = standing_after b mid (moves_of past) seat target unit act stands.standing in_hand mv unit_is
 
-  early_mid : none_later (Moved new_move ∷ past) mid.street ≡ true
+  early_mid : has_nothing_later (Moved new_move ∷ past) mid.street ≡ true
   early_mid =
-      subst (λ n. none_later (Moved new_move ∷ past) n ≡ true) (sym mv.street)
-      (and_from (nat_le b.street b.street) (none_later past b.street) (le-leb b.street b.street (omega arith)) stands.early)
+      subst (λ n. has_nothing_later (Moved new_move ∷ past) n ≡ true) (sym mv.street)
+      (and_from (nat_le b.street b.street) (has_nothing_later past b.street) (le-leb b.street b.street (omega arith)) stands.early)
 
   one_mid : 1 ≤ mid.street
   one_mid = omega (arith, from_one, mv.street)
@@ -189,6 +189,6 @@ module _ (b mid next : Table) (past : Past) (seat target unit : ℕ) (act : Act)
     standing = comes.standing;
     turn_is = ap (λ s. turn s (Moved new_move ∷ past)) comes.setup ∙ turn_there;
     someone = subst (λ s. 1 ≤ live_count s (moves_of (Moved new_move ∷ past))) (sym comes.setup) (some_left b.setup new_move (moves_of past) (several_live b.setup past b.street b.due stands.turn_is (λ over. true≢false (sym bets ∙ ap is_bet_due over))));
-    early = and_from (nat_le b.street next.street) (none_later past next.street) (le-leb b.street next.street later_street) (early_up past b.street next.street later_street stands.early);
+    early = and_from (nat_le b.street next.street) (has_nothing_later past next.street) (le-leb b.street next.street later_street) (early_up past b.street next.street later_street stands.early);
     unshown = λ other settled. each_shows;
   }

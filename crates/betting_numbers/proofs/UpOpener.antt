@@ -33,7 +33,7 @@ use Rattle.betting_numbers.proofs.Bridge.{able_is, able_count_is, mover_is, move
 use Rattle.list_laws.proofs.Earliest.{first_exists}
 use Rattle.up_card_order.proofs.FirstOpens.{opens_not, opens_trans}
 use Rattle.betting_numbers.proofs.InTurn.{Passed, passed, nobody_by, found_turn}
-use Rattle.street_laws.proofs.SeatLists.{any_seats}
+use Rattle.chip_ledger.proofs.SeatLists.{any_seats}
 use Rattle.list_laws.proofs.Finding.{find_agree}
 use Rattle.street_laws.proofs.Unsettled.{move_is_due, due_after_cards, bring_in_by}
 use Rattle.list_laws.proofs.Any.{list_any-filter, list_any-weaker}

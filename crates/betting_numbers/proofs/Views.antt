@@ -13,7 +13,7 @@ use Rattle.play_event.specs.Due.{is_settled, is_after_betting, has_able_seat_to_
 use Rattle.betting_numbers.specs.declared.table.Table.{Table}
 use Rattle.betting_numbers.specs.Seen.{live_count_seen, able_seen, owed_seen, able_count_seen, able_owes_seen, settled_seen}
 use Rattle.betting_numbers.specs.Standing.{Standing, StandsFor}
-use Rattle.street_laws.proofs.SeatLists.{any_seats}
+use Rattle.chip_ledger.proofs.SeatLists.{any_seats}
 use Rattle.betting_numbers.proofs.Bridge.{able_is, owed_is, able_count_is, live_count_is}
 
 module _ (b : Table) (moves : List Move) (st : Standing b.setup b.street b moves) where

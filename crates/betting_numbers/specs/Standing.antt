@@ -16,7 +16,7 @@ use Rattle.play_event.specs.Seats.{is_live, live_count}
 use Rattle.play_event.specs.Showing.{has_to_show}
 use Rattle.play_event.specs.ValidSetup.{IsValid}
 use Rattle.street_laws.specs.Seats.{IsSeat}
-use Rattle.street_laws.specs.Walk.{none_later}
+use Rattle.street_laws.specs.Walk.{has_nothing_later}
 use Rattle.betting_numbers.specs.declared.table.Table.{Table}
 use Rattle.betting_numbers.specs.Moving.{most_raises}
 use Rattle.betting_numbers.specs.Seen.{last_seen}
@@ -64,7 +64,7 @@ pub record StandsFor (b : Table) (past : Past) : Type 0 where
   -- one seat at least is live
   pub someone : 1 ≤ live_count b.setup (moves_of past)
   -- no event of the past is of a later street
-  pub early : none_later past b.street ≡ true
+  pub early : has_nothing_later past b.street ≡ true
   -- nobody has shown or mucked while the betting goes on: each live seat has still to do it
   pub unshown : (b.due ≡ dues.Over → ⊥) → is_settled b.setup (moves_of past) (b.street, b.due) ≡ false
       → (seat : ℕ) → is_live (moves_of past) seat ≡ true → has_to_show past seat ≡ true

@@ -7,7 +7,7 @@ use Rattle.play_event.specs.Due.{due_on, is_settled}
 use Rattle.play_event.specs.ValidSetup.{IsValid}
 use Rattle.betting_numbers.specs.declared.table.Table.{Table}
 use Rattle.betting_numbers.specs.Standing.{Standing}
-use Rattle.street_laws.specs.Walk.{none_later}
+use Rattle.street_laws.specs.Walk.{has_nothing_later}
 use Rattle.street_laws.specs.Done.{is_done, HasCome}
 
 -- The deal, the draw or the show that is due is complete in the past, and not yet ended in the state.
@@ -17,7 +17,7 @@ pub record StandsUpTo (b : Table) (past : Past) : Type 0 where
   -- the running numbers are those of the moves of the past
   pub standing : Standing b.setup b.street b (moves_of past)
   -- no event of the past is of a later street
-  pub early : none_later past b.street ≡ true
+  pub early : has_nothing_later past b.street ≡ true
   -- two or more seats are live
   pub more : nat_le (live_count b.setup (moves_of past)) 1 ≡ false
   -- the newest event is not of a later street

@@ -28,7 +28,7 @@ impl Table {
     }
 
     /// The price of the street.
-    #[tactic(auto, using(street_laws::proofs::SeatLists::greatest_more))]
+    #[tactic(auto, using(chip_ledger::proofs::SeatLists::greatest_more))]
     pub fn price(&self) -> u64
         ensures value { result ≡ price_seen self.now }
         ensures bounded { result ≤ MOST_AMOUNT }
@@ -60,7 +60,7 @@ impl Table {
     }
 
     /// How many seats are live.
-    #[tactic(auto, using(street_laws::proofs::SeatLists::count_more))]
+    #[tactic(auto, using(chip_ledger::proofs::SeatLists::count_more))]
     pub fn live_count(&self) -> u8
         ensures { result ≡ live_count_seen self.now }
     {
@@ -75,7 +75,7 @@ impl Table {
     }
 
     /// How many seats are able.
-    #[tactic(auto, using(street_laws::proofs::SeatLists::count_more))]
+    #[tactic(auto, using(chip_ledger::proofs::SeatLists::count_more))]
     pub fn able_count(&self) -> u8
         ensures { result ≡ able_count_seen self.now }
     {
@@ -100,7 +100,7 @@ impl Table {
     }
 
     /// Some seat has a move to make.
-    #[tactic(auto, using(street_laws::proofs::SeatLists::any_more))]
+    #[tactic(auto, using(chip_ledger::proofs::SeatLists::any_more))]
     pub fn is_move_due(&self) -> bool
         ensures { result ≡ move_due_seen self.now }
     {
@@ -113,7 +113,7 @@ impl Table {
     }
 
     /// Another seat is able.
-    #[tactic(auto, using(street_laws::proofs::SeatLists::any_more))]
+    #[tactic(auto, using(chip_ledger::proofs::SeatLists::any_more))]
     pub fn has_opponent(&self, seat: Seat) -> bool
         ensures { result ≡ opponent_seen self.now seat.number }
     {

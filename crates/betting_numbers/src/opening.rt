@@ -13,7 +13,7 @@ use chip_ledger::Seat;
 
 impl Table {
     // The greatest blind that is named.
-    #[tactic(auto, using(street_laws::proofs::SeatLists::greatest_more))]
+    #[tactic(auto, using(chip_ledger::proofs::SeatLists::greatest_more))]
     fn greatest_blind(&self) -> u64
         ensures { result ≡ openers.greatest_blind self.now.setup }
     {
@@ -26,7 +26,7 @@ impl Table {
     }
 
     // The number of the last seat with this blind, or 0.
-    #[tactic(auto, using(street_laws::proofs::SeatLists::last_more))]
+    #[tactic(auto, using(chip_ledger::proofs::SeatLists::last_more))]
     fn last_with(&self, blind: u64) -> u8
         ensures value { result
             ≡ unwrap_or (find (λ seat. amount_of self.now.setup.blinds seat == blind)

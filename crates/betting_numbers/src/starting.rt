@@ -107,7 +107,7 @@ pub fn start(setup: &Setup, rules: &Rules, full_bet: u64) -> Table
 }
 
 // The greatest of the blinds as far as the stacks go.
-#[tactic(auto, using(street_laws::proofs::SeatLists::greatest_more))]
+#[tactic(auto, using(chip_ledger::proofs::SeatLists::greatest_more))]
 fn greatest_posted(blinds: &SeatRow) -> u64
     ensures value { result ≡ greatest (map (amount_of blinds.now) (seats_of blinds.now.seats)) }
     ensures bounded { result ≤ MOST_AMOUNT }

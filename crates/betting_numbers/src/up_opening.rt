@@ -27,7 +27,7 @@ impl Table {
     }
 
     /// An up-card of an able seat is unknown.
-    #[tactic(auto, using(street_laws::proofs::SeatLists::any_more))]
+    #[tactic(auto, using(chip_ledger::proofs::SeatLists::any_more))]
     pub fn some_unknown(&self, up: &UpRow) -> bool
         requires row { up.now.seats ≡ self.now.setup.stacks.seats }
         ensures { result ≡ some_unknown_seen self.now up.now }
@@ -57,7 +57,7 @@ impl Table {
     }
 
     // An able seat opens before this one.
-    #[tactic(auto, using(street_laws::proofs::SeatLists::any_more))]
+    #[tactic(auto, using(chip_ledger::proofs::SeatLists::any_more))]
     fn some_before(&self, opener: Opener, up: &UpRow, seat: Seat) -> bool
         requires in_hand { seat.number ≤ self.now.setup.stacks.seats }
         requires row { up.now.seats ≡ self.now.setup.stacks.seats }

@@ -34,7 +34,7 @@ impl Table {
     }
 
     // An able seat owes chips.
-    #[tactic(auto, using(street_laws::proofs::SeatLists::any_more))]
+    #[tactic(auto, using(chip_ledger::proofs::SeatLists::any_more))]
     fn able_owes(&self) -> bool
         ensures { result ≡ able_owes_seen self.now }
     {

@@ -6,7 +6,8 @@ use Rattle.std.proofs.lemmas.Bool.{or_parts, and_parts, eqb-true}
 use Rattle.play_event.specs.declared.code.Code.{Code}
 use Rattle.play_event.specs.declared.code.Code.TheVariants as games
 use Rattle.play_event.specs.declared.setup.Setup.{Setup}
-use Rattle.play_event.specs.Games.{Street, game_of}
+use Rattle.play_event.specs.Games.{game_of}
+use Rattle.play_event.specs.declared.street.Street.{Street}
 use Rattle.play_event.specs.Streets.{has_draw}
 use Rattle.list_laws.proofs.Tests.{false_true}
 use Rattle.canon_blocks.proofs.DrawRun.{IsDrawStreet}

@@ -6,7 +6,8 @@ use Rattle.play_event.specs.declared.code.Code.{Code}
 use Rattle.play_event.specs.declared.code.Code.TheVariants as games
 use Rattle.play_event.specs.declared.setup.Setup.{Setup}
 use Rattle.play_event.specs.declared.setup.Rules.{Rules}
-use Rattle.play_event.specs.Games.{Street, game_of, hole_cards_on}
+use Rattle.play_event.specs.Games.{game_of, hole_cards_on}
+use Rattle.play_event.specs.declared.street.Street.{Street}
 use Rattle.play_event.specs.Streets.{has_draw}
 use Rattle.play_event.specs.Said.{Said}
 use Rattle.play_event.specs.Past.{Past}

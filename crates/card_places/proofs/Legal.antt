@@ -14,7 +14,7 @@ use Rattle.play_event.specs.CardReasons.{has_no_place}
 use Rattle.card_places.specs.declared.card_state.CardState.{CardState}
 use Rattle.card_places.specs.declared.dealt_cards.DealtCards.{DealtCards}
 use Rattle.card_places.specs.Discarded.{IsRightDiscard}
-use Rattle.card_places.specs.Drawn.{drew_at}
+use Rattle.card_places.specs.Drawn.{has_drawn_at}
 use Rattle.card_places.specs.Placed.{placed}
 use Rattle.card_places.specs.Refusals.{has_to_draw, next_to_draw_in, is_next_in, discard_why_on}
 use Rattle.card_places.specs.Room.{is_seat_of}
@@ -52,7 +52,7 @@ not_false false is = refl
 pub record IsDrawer (t : CardState) (on seat : ℕ) (cards : List Slot) : Type 0 where
   pub first : 1 ≤ seat
   pub last : seat ≤ t.seats
-  pub undrawn : drew_at t.draws on seat ≡ false
+  pub undrawn : has_drawn_at t.draws on seat ≡ false
   pub found : has_no_place (filter (is_held_by seat) (placed t.places)) (known_cards cards) (blanks_in cards) ≡ false
 
 pub drawer_is : (t : CardState) (live : LiveRow) (on seat : ℕ) (cards : List Slot) → discard_why_on t live on seat cards ≡ None → IsDrawer t on seat cards
@@ -62,7 +62,7 @@ drawer_is t live on seat cards is =
     record {
       first = found.1;
       last = omega (arith, found.2);
-      undrawn = not_false (drew_at t.draws on seat) (and_parts (flag_of live seat) (not (drew_at t.draws on seat)) found.0).1;
+      undrawn = not_false (has_drawn_at t.draws on seat) (and_parts (flag_of live seat) (not (has_drawn_at t.draws on seat)) found.0).1;
       found = parts.1;
     }
 

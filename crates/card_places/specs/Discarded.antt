@@ -5,7 +5,7 @@ use Rattle.chip_ledger.specs.declared.rows.LiveRow.{LiveRow}
 use Rattle.play_event.specs.Naming.{after_discard}
 use Rattle.card_places.specs.declared.card_state.CardState.{CardState}
 use Rattle.card_places.specs.declared.dealt_cards.DealtCards.{DealtCards}
-use Rattle.card_places.specs.Drawn.{drew_at, named_at}
+use Rattle.card_places.specs.Drawn.{has_drawn_at, named_at}
 use Rattle.card_places.specs.Placed.{placed}
 use Rattle.card_places.specs.Refusals.{discard_why_on}
 
@@ -21,7 +21,7 @@ pub record IsDiscarded (old new : CardState) (on seat : ℕ) (cards : List Slot)
   pub seats : new.seats ≡ old.seats
   pub shown : new.shown ≡ old.shown
   pub mucked : new.mucked ≡ old.mucked
-  pub drew : drew_at new.draws on seat ≡ true
+  pub drew : has_drawn_at new.draws on seat ≡ true
   pub named : named_at new.draws on seat ≡ length cards
-  pub others : (street number : ℕ) → 1 ≤ number → number ≤ 10 → (street ≢ on) ⊎ (number ≢ seat) → drew_at new.draws street number ≡ drew_at old.draws street number
+  pub others : (street number : ℕ) → 1 ≤ number → number ≤ 10 → (street ≢ on) ⊎ (number ≢ seat) → has_drawn_at new.draws street number ≡ has_drawn_at old.draws street number
   pub others_named : (street number : ℕ) → 1 ≤ number → number ≤ 10 → (street ≢ on) ⊎ (number ≢ seat) → named_at new.draws street number ≡ named_at old.draws street number

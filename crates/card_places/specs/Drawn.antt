@@ -3,8 +3,8 @@ use Rattle.std.specs.Prelude.{ℕ, ◌+◌, ◌-◌, ◌*◌, Bool, false, slice
 use Rattle.card_places.specs.declared.draws.Draws.{Draws}
 
 -- the seat drew on the street
-abbrev pub drew_at : Draws → ℕ → ℕ → Bool
-drew_at d street seat = slice_index_or d.drew (10 * street + seat - 1) false
+abbrev pub has_drawn_at : Draws → ℕ → ℕ → Bool
+has_drawn_at d street seat = slice_index_or d.drew (10 * street + seat - 1) false
 
 -- how many cards it named
 abbrev pub named_at : Draws → ℕ → ℕ → ℕ

@@ -4,7 +4,7 @@ use Rattle.card_set.specs.declared.card.Card.{Card}
 use Rattle.play_event.specs.declared.code.Code.{Code}
 use Rattle.play_event.specs.Games.{hole_cards_on, board_cards_on}
 use Rattle.play_event.specs.Streets.{down_cards_on, up_cards_on, has_draw}
-use Rattle.variant_table.specs.declared.street.Street.{Street}
+use Rattle.play_event.specs.declared.street.Street.{Street}
 use Rattle.play_event.specs.Places.{Place}
 use Rattle.play_event.specs.Naming as naming
 use Rattle.play_event.specs.Naming.{discarded_now}

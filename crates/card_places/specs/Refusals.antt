@@ -20,7 +20,7 @@ use Rattle.play_event.specs.Places.{Place, is_in_group, is_held_by, up_slots}
 use Rattle.play_event.specs.Taken.{has_taken_card, has_misplaced_card}
 use Rattle.play_event.specs.CardReasons.{is_wrong_deal, has_no_place, is_show_of_others}
 use Rattle.card_places.specs.declared.card_state.CardState.{CardState}
-use Rattle.card_places.specs.Drawn.{drew_at, named_at}
+use Rattle.card_places.specs.Drawn.{has_drawn_at, named_at}
 use Rattle.card_places.specs.Placed.{placed}
 use Rattle.card_places.specs.Room.{is_seat_of}
 
@@ -75,7 +75,7 @@ board_why t dues.Show cards = Some reasons.WrongKind
 
 -- the next seat to draw
 abbrev pub has_to_draw : CardState → LiveRow → ℕ → ℕ → Bool
-has_to_draw t live on seat = flag_of live seat && not (drew_at t.draws on seat)
+has_to_draw t live on seat = flag_of live seat && not (has_drawn_at t.draws on seat)
 
 abbrev pub next_to_draw_in : CardState → LiveRow → ℕ → Option ℕ
 next_to_draw_in t live on = find (has_to_draw t live on) (seats_of t.seats)
@@ -147,22 +147,25 @@ muck_why t live (dues.Draw on) seat = Some reasons.WrongKind
 muck_why t live dues.BringIn seat = Some reasons.WrongKind
 muck_why t live dues.Move seat = Some reasons.WrongKind
 
--- how many cards of a deal a seat lacks
-abbrev pub lacks_in : CardState → LiveRow → ℕ → ℕ → Bool
-lacks_in t live on seat = nat_lt 0 (if flag_of live seat then hole_cards_on t.table.code on - count_by (is_in_group (Some seat) on) (placed t.places) else 0)
+-- a live seat is owed hole cards of the street
+abbrev pub is_owed_deal_in : CardState → LiveRow → ℕ → ℕ → Bool
+is_owed_deal_in t live on seat = nat_lt 0 (if flag_of live seat then hole_cards_on t.table.code on - count_by (is_in_group (Some seat) on) (placed t.places) else 0)
 
+-- a seat is owed cards for those that it discarded in the draw of the street
 abbrev pub is_owed_draw_in : CardState → ℕ → ℕ → Bool
 is_owed_draw_in t on seat = nat_lt 0 (named_at t.draws on seat - count_by (is_in_group (Some seat) on) (placed t.places))
 
+-- a live seat did not show or muck
 abbrev pub has_to_show_in : CardState → LiveRow → ℕ → Bool
 has_to_show_in t live seat = flag_of live seat && not (flag_of t.shown seat || flag_of t.mucked seat)
 
-abbrev pub board_lacks_in : CardState → ℕ → Bool
-board_lacks_in t on = nat_lt 0 (board_owed_in t on)
+-- the board is owed cards of the street
+abbrev pub is_board_owed_in : CardState → ℕ → Bool
+is_board_owed_in t on = nat_lt 0 (board_owed_in t on)
 
 -- what is due is complete
 abbrev pub is_done_in : CardState → LiveRow → Due → Bool
-is_done_in t live (dues.Deal on) = not (list_any (lacks_in t live on) (seats_of t.seats) || nat_lt 0 (board_owed_in t on))
+is_done_in t live (dues.Deal on) = not (list_any (is_owed_deal_in t live on) (seats_of t.seats) || nat_lt 0 (board_owed_in t on))
 is_done_in t live (dues.Draw on) = not (has_draw t.table.code on && (is_some (next_to_draw_in t live on) || list_any (is_owed_draw_in t on) (seats_of t.seats)))
 is_done_in t live dues.Show = not (list_any (has_to_show_in t live) (seats_of t.seats))
 is_done_in t live dues.BringIn = false

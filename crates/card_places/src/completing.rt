@@ -14,18 +14,19 @@ use play_event::Due;
 fn lacks(state: &CardState, live: &LiveRow, on: u8, seat: Seat) -> bool
     requires live { live.now.seats ≡ state.now.seats }
     requires seat { seat.number ≤ state.now.seats }
-    ensures { result ≡ why.lacks_in state.now live.now on seat.number }
+    ensures { result ≡ why.is_owed_deal_in state.now live.now on seat.number }
 {
     let street = state.table.street(on);
     live.get(seat) && state.places.in_group(Some(seat), on) < street.down + street.up
 }
 
 // Some seat lacks cards of the street's deal.
-#[tactic(auto, using(street_laws::proofs::SeatLists::any_more))]
+#[tactic(auto, using(chip_ledger::proofs::SeatLists::any_more))]
 fn some_lacks(state: &CardState, live: &LiveRow, on: u8) -> bool
     requires live { live.now.seats ≡ state.now.seats }
     requires ten { state.now.seats ≤ 10 }
-    ensures { result ≡ list_any (why.lacks_in state.now live.now on) (seats_of state.now.seats) }
+    ensures { result
+        ≡ list_any (why.is_owed_deal_in state.now live.now on) (seats_of state.now.seats) }
 {
     let mut any = false;
     for index in 0..state.seats {
@@ -36,7 +37,7 @@ fn some_lacks(state: &CardState, live: &LiveRow, on: u8) -> bool
 }
 
 // Some seat is owed cards for its discards.
-#[tactic(auto, using(street_laws::proofs::SeatLists::any_more))]
+#[tactic(auto, using(chip_ledger::proofs::SeatLists::any_more))]
 fn some_owed(state: &CardState, on: u8) -> bool
     requires street { on ≤ 5 }
     requires ten { state.now.seats ≤ 10 }
@@ -52,7 +53,7 @@ fn some_owed(state: &CardState, on: u8) -> bool
 }
 
 // Some seat has still to show or muck.
-#[tactic(auto, using(street_laws::proofs::SeatLists::any_more))]
+#[tactic(auto, using(chip_ledger::proofs::SeatLists::any_more))]
 fn some_to_show(state: &CardState, live: &LiveRow) -> bool
     requires live { live.now.seats ≡ state.now.seats }
     requires ten { state.now.seats ≤ 10 }
@@ -69,7 +70,7 @@ fn some_to_show(state: &CardState, live: &LiveRow) -> bool
 
 // The board lacks cards of the street.
 fn board_lacks(state: &CardState, on: u8) -> bool
-    ensures { result ≡ why.board_lacks_in state.now on }
+    ensures { result ≡ why.is_board_owed_in state.now on }
 {
     state.places.in_group(None, on) < state.table.street(on).board
 }

@@ -14,11 +14,11 @@ pub struct Draws {
 }
 
 impl Draws {
-    ghost use Rattle.card_places.specs.Drawn.{drew_at, named_at};
+    ghost use Rattle.card_places.specs.Drawn.{has_drawn_at, named_at};
 
     /// No seat drew.
     pub fn new() -> Self
-        ensures drew { (street seat : ℕ) → drew_at result street seat ≡ false }
+        ensures drew { (street seat : ℕ) → has_drawn_at result street seat ≡ false }
         ensures named { (street seat : ℕ) → named_at result street seat ≡ 0 }
     {
         Draws {
@@ -30,7 +30,7 @@ impl Draws {
     /// The seat drew on the street.
     pub fn drew(&self, street: u8, seat: Seat) -> bool
         requires { street ≤ 5 }
-        ensures { result ≡ drew_at self.now street seat.number }
+        ensures { result ≡ has_drawn_at self.now street seat.number }
     {
         self.drew[10 * street as usize + seat.number as usize - 1]
     }
@@ -48,11 +48,11 @@ impl Draws {
     pub fn set(&mut self, street: u8, seat: Seat, count: u8)
         requires street { street ≤ 5 }
         requires most { count ≤ 7 }
-        ensures drew { drew_at self.new street seat.number ≡ true }
+        ensures drew { has_drawn_at self.new street seat.number ≡ true }
         ensures named { named_at self.new street seat.number ≡ count }
         ensures others { (on number : ℕ) → 1 ≤ number → number ≤ 10
-            → (on ≢ street) ⊎ (number ≢ seat.number) → drew_at self.new on number
-            ≡ drew_at self.old on number }
+            → (on ≢ street) ⊎ (number ≢ seat.number) → has_drawn_at self.new on number
+            ≡ has_drawn_at self.old on number }
         ensures others_named { (on number : ℕ) → 1 ≤ number → number ≤ 10
             → (on ≢ street) ⊎ (number ≢ seat.number) → named_at self.new on number
             ≡ named_at self.old on number }

@@ -2,7 +2,7 @@
 ghost use Rattle.std.specs.Prelude.{◌≡◌, ◌≤◌, ℕ, [], false};
 ghost use Rattle.chip_ledger.specs.LiveRow.{flag_of};
 ghost use Rattle.play_event.specs.Games.{game_of};
-ghost use Rattle.card_places.specs.Drawn.{drew_at, named_at};
+ghost use Rattle.card_places.specs.Drawn.{has_drawn_at, named_at};
 ghost use Rattle.card_places.specs.Placed.{placed};
 
 use crate::card_state::CardState;
@@ -21,7 +21,7 @@ pub fn empty(code: Code, seats: u8) -> CardState
     ensures code { result.table.code ≡ code }
     ensures seats { result.seats ≡ seats }
     ensures places { placed result.places ≡ [] }
-    ensures drew { (street seat : ℕ) → drew_at result.draws street seat ≡ false }
+    ensures drew { (street seat : ℕ) → has_drawn_at result.draws street seat ≡ false }
     ensures named { (street seat : ℕ) → named_at result.draws street seat ≡ 0 }
     ensures shown { (seat : ℕ) → flag_of result.shown seat ≡ false }
     ensures mucked { (seat : ℕ) → flag_of result.mucked seat ≡ false }

@@ -1,6 +1,7 @@
 pub mod BitLaws
 pub mod Counted
 pub mod DeckLaws
+pub mod KnownCards
 pub mod Listing
 pub mod Read
 pub mod RowLaws

@@ -11,7 +11,8 @@ use Rattle.card_set.specs.declared.card.Slot.{Slot}
 use Rattle.card_set.specs.declared.card.Slot.TheVariants as slots
 use Rattle.card_set.specs.declared.spelling.CardFault.{CardFault}
 use Rattle.card_set.specs.declared.spelling.CardFault.TheVariants as faults
-use Rattle.card_set.specs.Spelling.{rank_letter, suit_letter, slot_spelling, spelling, rank_lettered, suit_lettered, slot_spelled, slots_spelled, all_ranks, all_suits, HasFault, PairFault, BeginsSlot, SpellsSlot, FirstBadPair}
+use Rattle.card_set.specs.Deck.{all_ranks, all_suits}
+use Rattle.card_set.specs.Spelling.{rank_letter, suit_letter, slot_spelling, spelling, rank_lettered, suit_lettered, slot_spelled, slots_spelled, HasFault, PairFault, BeginsSlot, SpellsSlot, FirstBadPair}
 
 -- one slot more is its two letters more
 pub spelling-push : (row : List Slot) (slot : Slot) → spelling (row ++ slot ∷ []) ≡ spelling row ++ slot_spelling slot

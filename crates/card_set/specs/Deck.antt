@@ -1,5 +1,5 @@
 -- The cards in the order of the deck: by rank from the lowest, and then by suit c, d, h, s.
-use Rattle.std.specs.Prelude.{ℕ, Bool, ◌+◌, ◌*◌, ◌==◌}
+use Rattle.std.specs.Prelude.{ℕ, Bool, ◌+◌, ◌*◌, ◌/◌, ◌%◌, ◌==◌, List, [], ◌∷◌, slice_get, unwrap_or}
 use Rattle.card_set.specs.declared.card.Card.{Card}
 use Rattle.card_set.specs.declared.card.Rank.{Rank}
 use Rattle.card_set.specs.declared.card.Rank.TheVariants as ranks
@@ -29,6 +29,16 @@ suits_before suits.D = 1
 suits_before suits.H = 2
 suits_before suits.S = 3
 
+-- the ranks, from the lowest
+abbrev pub all_ranks : List Rank
+all_ranks =
+    ranks.Two ∷ ranks.Three ∷ ranks.Four ∷ ranks.Five ∷ ranks.Six ∷ ranks.Seven ∷ ranks.Eight ∷ ranks.Nine
+    ∷ ranks.Ten ∷ ranks.Jack ∷ ranks.Queen ∷ ranks.King ∷ ranks.Ace ∷ []
+
+-- the suits, in the order of the deck
+abbrev pub all_suits : List Suit
+all_suits = suits.C ∷ suits.D ∷ suits.H ∷ suits.S ∷ []
+
 -- the place of a card in the deck, from 0 to 51
 abbrev pub deck_place : Card → ℕ
 deck_place card = 4 * ranks_below card.rank + suits_before card.suit
@@ -36,3 +46,10 @@ deck_place card = 4 * ranks_below card.rank + suits_before card.suit
 -- both are one card
 abbrev pub is_same_card : Card → Card → Bool
 is_same_card a b = deck_place a == deck_place b
+
+-- the card at a place of the deck, from 0; past the last place its rank is the ace
+unfoldable pub card_placed : ℕ → Card
+card_placed place = record {
+  rank = unwrap_or (slice_get all_ranks (place / 4)) ranks.Ace;
+  suit = unwrap_or (slice_get all_suits (place % 4)) suits.S;
+}

@@ -7,6 +7,7 @@ use Rattle.card_set.specs.declared.card.Suit.{Suit}
 use Rattle.card_set.specs.declared.card.Suit.TheVariants as suits
 use Rattle.card_set.specs.declared.card.Slot.{Slot}
 use Rattle.card_set.specs.declared.card.Slot.TheVariants as slots
+use Rattle.card_set.specs.Deck.{all_ranks, all_suits}
 use Rattle.card_set.specs.declared.spelling.CardFault.{CardFault}
 use Rattle.card_set.specs.declared.spelling.CardFault.TheVariants as faults
 
@@ -87,16 +88,6 @@ HasFault bytes faults.OddLength = length bytes % 2 ≡ 1
 HasFault bytes faults.TooMany = (length bytes % 2 ≡ 0) × (14 < length bytes)
 HasFault bytes faults.BadRank = FirstBadPair bytes faults.BadRank
 HasFault bytes faults.BadSuit = FirstBadPair bytes faults.BadSuit
-
--- the ranks, from the lowest
-abbrev pub all_ranks : List Rank
-all_ranks =
-    ranks.Two ∷ ranks.Three ∷ ranks.Four ∷ ranks.Five ∷ ranks.Six ∷ ranks.Seven ∷ ranks.Eight ∷ ranks.Nine
-    ∷ ranks.Ten ∷ ranks.Jack ∷ ranks.Queen ∷ ranks.King ∷ ranks.Ace ∷ []
-
--- the suits, in the order of their letters
-abbrev pub all_suits : List Suit
-all_suits = suits.C ∷ suits.D ∷ suits.H ∷ suits.S ∷ []
 
 -- the rank with this letter, where there is one
 unfoldable pub rank_lettered : ℕ → Option Rank

@@ -1,6 +1,9 @@
 // Each card has a place in the deck: by rank from the lowest, and then by suit c, d, h, s.
-ghost use Rattle.std.specs.Prelude.{◌≡◌, ◌<◌};
-ghost use Rattle.card_set.specs.Deck.{deck_place, ranks_below, suits_before};
+ghost use Rattle.std.specs.Prelude.{◌≡◌, ◌<◌, slice_get, unwrap_or};
+ghost use Rattle.card_set.specs.declared.card.Rank.TheVariants as ranks;
+ghost use Rattle.card_set.specs.declared.card.Suit.TheVariants as suits;
+ghost use Rattle.card_set.specs.Deck as deck;
+ghost use Rattle.card_set.specs.Deck.{all_ranks, all_suits, deck_place, ranks_below, suits_before};
 
 use crate::card::{Card, Rank, Suit};
 
@@ -52,16 +55,25 @@ pub fn card_at(place: u8) -> Card
     requires { place < 52 }
     ensures { deck_place result ≡ place }
 {
+    card_placed(place)
+}
+
+/// The card at a place of the deck, which may lie past its end: there its rank is the ace.
+#[tactic(auto, unfolding(crate::specs::Deck::card_placed))]
+pub fn card_placed(place: u8) -> Card
+    ensures card { result ≡ deck.card_placed place }
+    ensures place { place < 52 → deck_place result ≡ place }
+{
     Card {
         rank: rank_at(place / 4),
         suit: suit_at(place % 4),
     }
 }
 
-// The rank with so many below it.
+// The rank with so many below it; past the last the ace.
 fn rank_at(place: u8) -> Rank
-    requires { place < 13 }
-    ensures { ranks_below result ≡ place }
+    ensures rank { result ≡ unwrap_or (slice_get all_ranks place) ranks.Ace }
+    ensures place { place < 13 → ranks_below result ≡ place }
 {
     match place {
         0 => Rank::Two,
@@ -80,10 +92,10 @@ fn rank_at(place: u8) -> Rank
     }
 }
 
-// The suit with so many before it.
+// The suit with so many before it; past the last the spades.
 fn suit_at(place: u8) -> Suit
-    requires { place < 4 }
-    ensures { suits_before result ≡ place }
+    ensures suit { result ≡ unwrap_or (slice_get all_suits place) suits.S }
+    ensures place { place < 4 → suits_before result ≡ place }
 {
     match place {
         0 => Suit::C,

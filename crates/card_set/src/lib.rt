@@ -3,13 +3,15 @@
 
 mod card;
 mod deck;
+mod known;
 mod memory;
 mod row;
 mod set;
 mod spelling;
 
 pub use card::{Card, Rank, Slot, Suit};
-pub use deck::{card_at, place_in_deck, place_of_rank, place_of_suit};
+pub use deck::{card_at, card_placed, place_in_deck, place_of_rank, place_of_suit};
+pub use known::known_row;
 pub use memory::Memory;
 pub use row::{CardRow, ROW_ENTRIES, SlotRow};
 pub use set::CardSet;

@@ -50,7 +50,8 @@ impl CardSet {
     /// Puts the card into the set; one that is in it stays.
     pub fn insert(&mut self, card: Card)
         ensures inside { is_in self.new card ≡ true }
-        ensures others { (other : Card) → other ≢ card → is_in self.new other ≡ is_in self.old other }
+        ensures others { (other : Card) → other ≢ card
+            → is_in self.new other ≡ is_in self.old other }
     {
         self.bits |= 1 << Self::place_among_bits(card);
     }
@@ -58,7 +59,8 @@ impl CardSet {
     /// Takes the card out of the set; one that is not in it stays out.
     pub fn remove(&mut self, card: Card)
         ensures outside { is_in self.new card ≡ false }
-        ensures others { (other : Card) → other ≢ card → is_in self.new other ≡ is_in self.old other }
+        ensures others { (other : Card) → other ≢ card
+            → is_in self.new other ≡ is_in self.old other }
     {
         self.bits &= !(1 << Self::place_among_bits(card));
     }

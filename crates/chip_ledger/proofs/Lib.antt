@@ -1,4 +1,5 @@
 -- Lemmas on seats and rows.
+pub mod SeatLists
 pub mod Seats
 pub mod Same
 pub mod Fillers

@@ -7,7 +7,7 @@ use Rattle.std.proofs.lemmas.List.Kept.{AllPairs-cons, AllPairs-filter}
 use Rattle.list_laws.proofs.Rising.{Rising, above_first, filter-Rising}
 use Rattle.list_laws.proofs.Any.{list_any-map, list_any-filter, list_any-weaker, list_any-from_nothing}
 use Rattle.list_laws.proofs.Lists.{map_nothing}
-use Rattle.chip_ledger.specs.Pots.{Stake, PlainPot, after_return, all_reach, between, joining, kept, layers, levels, may_win, pots_at, pots_of, reaching, with_dead}
+use Rattle.chip_ledger.specs.Pots.{Stake, PlainPot, after_return, is_reached_by_all, between, joining, kept, layers, levels, may_win, pots_at, pots_of, reaching, with_dead}
 use Rattle.chip_ledger.proofs.PotLevels.{Rising-levels, level_reached}
 use Rattle.chip_ledger.proofs.PotSums.{stake_chips}
 
@@ -59,7 +59,7 @@ pots_at_winnable stakes dead (x ∷ rest) e h =
     layers_winnable stakes 0 (x ∷ rest)
     (filter-Rising 0 1 (levels stakes) (omega arith) (Rising-levels stakes) ∙ e) in
     let own : PlainPot = record { chips = dead; eligible = reaching stakes 0 } in
-    cond_both (all_reach stakes x) (with_dead dead cut) (own ∷ cut) (All IsWinnable)
+    cond_both (is_reached_by_all stakes x) (with_dead dead cut) (own ∷ cut) (All IsWinnable)
     (λ _. All-with_dead IsWinnable (λ n p k. k) dead cut each)
     (λ _. All-cons IsWinnable own cut (reaching-some stakes 0 h) each)
 
@@ -149,7 +149,7 @@ pots_at_nested stakes dead (x ∷ rest) r =
     let apart : AllPairs Nests (own ∷ cut) =
     AllPairs-cons Nests own cut (layers_above stakes 0 dead 0 1 (x ∷ rest) (omega arith) r)
     (layers_nested stakes 0 1 (x ∷ rest) r) in
-    cond_both (all_reach stakes x) (first ∷ further) (own ∷ cut) (AllPairs Nests) (λ _. together) (λ _. apart)
+    cond_both (is_reached_by_all stakes x) (first ∷ further) (own ∷ cut) (AllPairs Nests) (λ _. together) (λ _. apart)
 
 -- a seat that may win a pot may win each lower one
 pub pots_nested : (stakes : List Stake) (dead : ℕ) → AllPairs Nests (pots_of stakes dead)

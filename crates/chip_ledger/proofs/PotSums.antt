@@ -4,7 +4,7 @@ use Rattle.std.proofs.lemmas.Bool.{cond_both, ltb-false}
 use Rattle.std.proofs.lemmas.List.Sums.{sum_by-cons}
 use Rattle.list_laws.proofs.Rising.{above_first, filter-Rising}
 use Rattle.list_laws.proofs.Sums.{sum_by-agree, sum_by-filter, sum_by-map, sum_by-plus, sum_by-same}
-use Rattle.chip_ledger.specs.Pots.{Stake, PlainPot, after_return, all_reach, between, folded_above, joining, kept, layers, levels, pots_at, pots_of, reaching, returned, with_dead, greatest_other}
+use Rattle.chip_ledger.specs.Pots.{Stake, PlainPot, after_return, is_reached_by_all, between, folded_above, joining, kept, layers, levels, pots_at, pots_of, reaching, returned, with_dead, greatest_other}
 use Rattle.chip_ledger.proofs.PotLevels.{Rising-levels, no_live_above}
 
 -- the chips of all these pots
@@ -72,7 +72,7 @@ pots_at_levels stakes dead (x ∷ rest) e =
     let cut = layers stakes 0 (x ∷ rest) in
     let first : PlainPot =
     record { chips = between stakes 0 x + joining stakes x rest; eligible = reaching stakes x } in
-    cond_both (all_reach stakes x) (with_dead dead cut)
+    cond_both (is_reached_by_all stakes x) (with_dead dead cut)
     (record { chips = dead; eligible = reaching stakes 0 } ∷ cut)
     (λ pots. pot_chips pots ≡ stake_chips stakes + dead)
     (λ _. with_dead_sum dead first (layers stakes x rest) ∙ omega arith)

@@ -4,7 +4,7 @@ use Rattle.std.specs.List.{list_all, list_any}
 use Rattle.std.proofs.lemmas.Bool.{and_parts, le-leb}
 use Rattle.std.proofs.lemmas.List.{length-map}
 use Rattle.std.proofs.lemmas.List.Sums.{length-filter, sum_by-cons}
-use Rattle.chip_ledger.specs.Pots.{Stake, PlainPot, after_return, all_reach, between, folded_above, kept, layers, levels, may_win, pots_at, pots_of, reaching, with_chips}
+use Rattle.chip_ledger.specs.Pots.{Stake, PlainPot, after_return, is_reached_by_all, between, folded_above, kept, layers, levels, may_win, pots_at, pots_of, reaching, with_chips}
 use Rattle.list_laws.proofs.Any.{list_any-filter, list_any-map, list_any-same}
 use Rattle.list_laws.proofs.Rising.{filter-Rising}
 use Rattle.list_laws.proofs.Sums.{sum_by-map}
@@ -47,10 +47,10 @@ none_step false reaches some all n none rest = rest (omega (arith, none))
 -- where no seat is live none reaches a level, and so all live ones do
 none_reach : (x : ℕ) (stakes : List Stake)
     → live_stakes stakes ≡ 0
-    → (list_any (λ s. s.live && nat_le x s.chips) stakes ≡ false) × (all_reach stakes x ≡ true)
+    → (list_any (λ s. s.live && nat_le x s.chips) stakes ≡ false) × (is_reached_by_all stakes x ≡ true)
 none_reach x [] none = (refl, refl)
 none_reach x (s ∷ rest) none =
-    none_step s.live (nat_le x s.chips) (list_any (λ t. t.live && nat_le x t.chips) rest) (all_reach rest x)
+    none_step s.live (nat_le x s.chips) (list_any (λ t. t.live && nat_le x t.chips) rest) (is_reached_by_all rest x)
     (live_stakes rest) (sym (count_by-cons (λ (t : Stake). t.live) s rest) ∙ none) (none_reach x rest)
 
 alone_step : (live reaches some all : Bool) (n : ℕ)
@@ -67,10 +67,10 @@ alone_step true false some all n few none more found = absurd (cc (found, (none 
 alone_reaches : (x : ℕ) (stakes : List Stake)
     → live_stakes stakes ≤ 1
     → list_any (λ s. s.live && nat_le x s.chips) stakes ≡ true
-    → all_reach stakes x ≡ true
+    → is_reached_by_all stakes x ≡ true
 alone_reaches x [] few found = refl
 alone_reaches x (s ∷ rest) few found =
-    alone_step s.live (nat_le x s.chips) (list_any (λ t. t.live && nat_le x t.chips) rest) (all_reach rest x)
+    alone_step s.live (nat_le x s.chips) (list_any (λ t. t.live && nat_le x t.chips) rest) (is_reached_by_all rest x)
     (live_stakes rest) (omega (arith, few, count_by-cons (λ (t : Stake). t.live) s rest)) (none_reach x rest)
     (alone_reaches x rest) found
 
@@ -86,11 +86,11 @@ kept_both s xs ys true false zero z h e = absurd (cc h)
 
 -- where all live seats reach a level, those that reach it are all live seats
 reaching_filter : (x : ℕ) (stakes : List Stake)
-    → all_reach stakes x ≡ true
+    → is_reached_by_all stakes x ≡ true
     → filter (λ s. s.live && nat_le x s.chips) stakes ≡ filter (λ s. s.live && nat_le 0 s.chips) stakes
 reaching_filter x [] h = refl
 reaching_filter x (s ∷ rest) h =
-    let parts = and_parts (not s.live || nat_le x s.chips) (all_reach rest x) h in
+    let parts = and_parts (not s.live || nat_le x s.chips) (is_reached_by_all rest x) h in
     kept_both s (filter (λ t. t.live && nat_le x t.chips) rest) (filter (λ t. t.live && nat_le 0 t.chips) rest)
     s.live (nat_le x s.chips) (nat_le 0 s.chips) (le-leb 0 s.chips (omega arith)) parts.0
     (reaching_filter x rest parts.1)

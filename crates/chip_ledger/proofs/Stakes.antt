@@ -14,7 +14,7 @@ use Rattle.chip_ledger.specs.LiveRow.{flag_of}
 use Rattle.chip_ledger.specs.SeatRow.{amount_of}
 use Rattle.chip_ledger.specs.PotRow.{stake_of, stakes_of}
 use Rattle.chip_ledger.specs.Greatest.{greatest}
-use Rattle.chip_ledger.specs.Pots.{Stake, all_reach, between, different, folded_above, greatest_other, levels, with_number}
+use Rattle.chip_ledger.specs.Pots.{Stake, is_reached_by_all, between, different, folded_above, greatest_other, levels, with_number}
 use Rattle.chip_ledger.specs.Seat.{seats_of}
 use Rattle.chip_ledger.proofs.Different.{first_above, first_above-with_number, lesser}
 use Rattle.chip_ledger.proofs.PotLevels.{makes_level}
@@ -99,8 +99,8 @@ first_level_more b puts live n =
 
 -- whether all reach a level, with one seat more
 pub all_reach_more : (puts : SeatRow) (live : LiveRow) (n level : ℕ)
-    → all_reach (stakes_upto puts live (n + 1)) level
-    ≡ (all_reach (stakes_upto puts live n) level && (not (flag_of live (n + 1)) || nat_le level (amount_of puts (n + 1))))
+    → is_reached_by_all (stakes_upto puts live (n + 1)) level
+    ≡ (is_reached_by_all (stakes_upto puts live n) level && (not (flag_of live (n + 1)) || nat_le level (amount_of puts (n + 1))))
 all_reach_more puts live n level =
     let reaches : Stake → Bool = λ t. not t.live || nat_le level t.chips in
     let s = stake_of puts live (n + 1) in
@@ -113,7 +113,7 @@ pub all_reach_fails : (puts : SeatRow) (live : LiveRow) (n level : ℕ)
     → n < puts.seats
     → flag_of live (n + 1) ≡ true
     → amount_of puts (n + 1) < level
-    → all_reach (stakes_of puts live) level ≡ false
+    → is_reached_by_all (stakes_of puts live) level ≡ false
 all_reach_fails puts live n level inside is_live short =
     let reaches : Stake → Bool = λ t. not t.live || nat_le level t.chips in
     let s = stake_of puts live (n + 1) in

@@ -92,8 +92,8 @@ with_dead dead [] = []
 with_dead dead (pot ∷ pots) = record pot { chips = pot.chips + dead } ∷ pots
 
 -- whether every live seat reaches a level
-abbrev pub all_reach : List Stake → ℕ → Bool
-all_reach stakes level = list_all (λ s. not s.live || nat_le level s.chips) stakes
+abbrev pub is_reached_by_all : List Stake → ℕ → Bool
+is_reached_by_all stakes level = list_all (λ s. not s.live || nat_le level s.chips) stakes
 
 -- the pots with the dead chips, empty ones too: the dead chips are in a pot of their own for all live
 -- seats, or in the first pot where this is for all of them too; without a level all chips are in one pot
@@ -101,7 +101,7 @@ unfoldable pub pots_at : List Stake → ℕ → List ℕ → List PlainPot
 pots_at stakes dead [] =
     record { chips = sum_by (λ s. s.chips) stakes + dead; eligible = reaching stakes 0 } ∷ []
 pots_at stakes dead (first ∷ rest) =
-    if all_reach stakes first
+    if is_reached_by_all stakes first
     then with_dead dead (layers stakes 0 (first ∷ rest))
     else record { chips = dead; eligible = reaching stakes 0 } ∷ layers stakes 0 (first ∷ rest)
 

@@ -19,11 +19,11 @@ use Rattle.card_places.specs.declared.card_state.CardState.{CardState}
 use Rattle.card_places.specs.Drawn.{named_at}
 use Rattle.card_places.specs.Placed.{placed}
 use Rattle.deal_core.specs.Standing.{IsSeatOf, IsNow}
-use Rattle.card_places.specs.Refusals.{board_owed_in, next_to_draw_in, lacks_in, is_owed_draw_in, has_to_show_in, is_done_in}
+use Rattle.card_places.specs.Refusals.{board_owed_in, next_to_draw_in, is_owed_deal_in, is_owed_draw_in, has_to_show_in, is_done_in}
 use Rattle.street_laws.specs.Dues.{IsDueWithin, is_cards_due}
 use Rattle.street_laws.specs.Done.{is_done}
 use Rattle.street_laws.proofs.Groups.{group_count}
-use Rattle.street_laws.proofs.SeatLists.{any_seats}
+use Rattle.chip_ledger.proofs.SeatLists.{any_seats}
 use Rattle.deal_core.proofs.WhyDeal.{dealt_is, board_owed_is}
 use Rattle.deal_core.proofs.WhyDiscard.{next_is}
 
@@ -31,7 +31,7 @@ module _ (t : CardState) (due : Due) (live : LiveRow) (setup : Setup) (past : Pa
   dealt_of : (on seat : ℕ) → count_by (is_in_group (Some seat) on) (placed t.places) ≡ hole_cards_dealt past on seat
   dealt_of on seat = dealt_is t due live setup past now (Some seat) on ∙ group_count setup.code (Some seat) past on
 
-  lacks_is : (on seat : ℕ) → IsSeatOf t.seats seat → lacks_in t live on seat ≡ nat_lt 0 (hole_cards_owed setup past on seat)
+  lacks_is : (on seat : ℕ) → IsSeatOf t.seats seat → is_owed_deal_in t live on seat ≡ nat_lt 0 (hole_cards_owed setup past on seat)
   lacks_is on seat in_hand =
       ap (λ (n : ℕ). nat_lt 0 (if flag_of live seat then hole_cards_on t.table.code on - n else 0)) (dealt_of on seat)
       ∙ ap (λ (c : Code). nat_lt 0 (if flag_of live seat then hole_cards_on c on - hole_cards_dealt past on seat else 0)) (sym now.code_is)
@@ -54,7 +54,7 @@ module _ (t : CardState) (due : Due) (live : LiveRow) (setup : Setup) (past : Pa
 -- the same in the past, whatever street is due
 pub done_is : (t : CardState) (at due : Due) (live : LiveRow) (setup : Setup) (past : Past) → IsNow t at live setup past → IsDueWithin 5 due → is_done_in t live due ≡ is_done setup past due
 done_is t at (dues.Deal on) live setup past now within =
-    ap (λ b. not (b || nat_lt 0 (board_owed_in t on))) (all_are t at live setup past now (lacks_in t live on) (λ seat. nat_lt 0 (hole_cards_owed setup past on seat)) (lacks_is t at live setup past now on))
+    ap (λ b. not (b || nat_lt 0 (board_owed_in t on))) (all_are t at live setup past now (is_owed_deal_in t live on) (λ seat. nat_lt 0 (hole_cards_owed setup past on seat)) (lacks_is t at live setup past now on))
     ∙ ap (λ (n : ℕ). not (list_any (λ seat. nat_lt 0 (hole_cards_owed setup past on seat)) (seats_of setup.stacks.seats) || nat_lt 0 n)) (sym (board_owed_is t at live setup past now on))
 done_is t at (dues.Draw on) live setup past now within =
     ap (λ (c : Code). not (has_draw c on && (is_some (next_to_draw_in t live on) || list_any (is_owed_draw_in t on) (seats_of t.seats)))) (sym now.code_is)

@@ -13,7 +13,7 @@ use Rattle.play_event.specs.Places.{after_deal}
 use Rattle.play_event.specs.Scripts.{with_event}
 use Rattle.card_places.specs.declared.card_state.CardState.{CardState}
 use Rattle.card_places.specs.declared.draws.Draws.{Draws}
-use Rattle.card_places.specs.Drawn.{drew_at, named_at}
+use Rattle.card_places.specs.Drawn.{has_drawn_at, named_at}
 use Rattle.card_places.specs.Dealt.{IsDealt}
 use Rattle.deal_core.proofs.Same.{back, same_places}
 use Rattle.deal_core.specs.Standing.{StandsFor}
@@ -21,7 +21,7 @@ use Rattle.deal_core.specs.Standing.{StandsFor}
 stands_hole : (t next : CardState) (past : Past) (on seat : ℕ) (cards : List Slot) → StandsFor t past → IsDealt t next (Some seat) on cards → StandsFor next (Dealt on seat cards ∷ past)
 stands_hole t next past on seat cards stands dealt = record {
   places = dealt.places ∙ ap (after_deal t.table.code (Some seat) on cards) stands.places ∙ same_places t next (Dealt on seat cards ∷ past) dealt.table;
-  drew = λ street n within in_hand. ap (λ (d : Draws). drew_at d street n) dealt.draws ∙ stands.drew street n within (back t next n dealt.seats in_hand);
+  drew = λ street n within in_hand. ap (λ (d : Draws). has_drawn_at d street n) dealt.draws ∙ stands.drew street n within (back t next n dealt.seats in_hand);
   named = λ street n within in_hand. ap (λ (d : Draws). named_at d street n) dealt.draws ∙ stands.named street n within (back t next n dealt.seats in_hand);
   shown = λ n in_hand. ap (λ (r : LiveRow). flag_of r n) dealt.shown ∙ stands.shown n (back t next n dealt.seats in_hand);
   mucked = λ n in_hand. ap (λ (r : LiveRow). flag_of r n) dealt.mucked ∙ stands.mucked n (back t next n dealt.seats in_hand);
@@ -30,7 +30,7 @@ stands_hole t next past on seat cards stands dealt = record {
 stands_board : (t next : CardState) (past : Past) (on : ℕ) (cards : List Card) → StandsFor t past → IsDealt t next None on (known_slots cards) → StandsFor next (Boarded on cards ∷ past)
 stands_board t next past on cards stands dealt = record {
   places = dealt.places ∙ ap (after_deal t.table.code None on (known_slots cards)) stands.places ∙ same_places t next (Boarded on cards ∷ past) dealt.table;
-  drew = λ street n within in_hand. ap (λ (d : Draws). drew_at d street n) dealt.draws ∙ stands.drew street n within (back t next n dealt.seats in_hand);
+  drew = λ street n within in_hand. ap (λ (d : Draws). has_drawn_at d street n) dealt.draws ∙ stands.drew street n within (back t next n dealt.seats in_hand);
   named = λ street n within in_hand. ap (λ (d : Draws). named_at d street n) dealt.draws ∙ stands.named street n within (back t next n dealt.seats in_hand);
   shown = λ n in_hand. ap (λ (r : LiveRow). flag_of r n) dealt.shown ∙ stands.shown n (back t next n dealt.seats in_hand);
   mucked = λ n in_hand. ap (λ (r : LiveRow). flag_of r n) dealt.mucked ∙ stands.mucked n (back t next n dealt.seats in_hand);

@@ -12,7 +12,7 @@ use Rattle.play_event.specs.Due.{turn}
 use Rattle.play_event.specs.Naming.{after_discard}
 use Rattle.play_event.specs.Scripts.{with_event}
 use Rattle.card_places.specs.declared.card_state.CardState.{CardState}
-use Rattle.card_places.specs.Drawn.{drew_at, named_at}
+use Rattle.card_places.specs.Drawn.{has_drawn_at, named_at}
 use Rattle.card_places.specs.Discarded.{IsDiscarded}
 use Rattle.street_laws.proofs.Undrawn.{undrawn_none}
 use Rattle.deal_core.proofs.Same.{back, same_places}
@@ -30,10 +30,10 @@ other_one on street seat n is = by_street (on == street) refl is
     by_street false here none = inl (λ same. let yes_is : (on == street) ≡ true = eq-eqb on street (sym same) in absurd cc)
 
 module _ (t next : CardState) (past : Past) (on seat : ℕ) (cards : List Slot) (stands : StandsFor t past) (change : IsDiscarded t next on seat cards) (ten : t.seats ≤ 10) (undrawn : has_drawn past on seat ≡ false) where
-  drew_is : (street n : ℕ) (b : Bool) → ((on == street) && (seat == n)) ≡ b → street ≤ 5 → IsSeatOf t.seats n → drew_at next.draws street n ≡ (b || has_drawn past street n)
+  drew_is : (street n : ℕ) (b : Bool) → ((on == street) && (seat == n)) ≡ b → street ≤ 5 → IsSeatOf t.seats n → has_drawn_at next.draws street n ≡ (b || has_drawn past street n)
   drew_is street n true is within in_hand =
       let parts = and_parts (on == street) (seat == n) is in
-      ap (λ (s : ℕ). drew_at next.draws s n) (sym (eqb-true on street parts.0)) ∙ ap (drew_at next.draws on) (sym (eqb-true seat n parts.1)) ∙ change.drew
+      ap (λ (s : ℕ). has_drawn_at next.draws s n) (sym (eqb-true on street parts.0)) ∙ ap (has_drawn_at next.draws on) (sym (eqb-true seat n parts.1)) ∙ change.drew
   drew_is street n false is within in_hand =
       change.others street n in_hand.first (omega (arith, in_hand.last, ten)) (other_one on street seat n is) ∙ stands.drew street n within in_hand
 

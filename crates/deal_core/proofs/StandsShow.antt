@@ -13,7 +13,7 @@ use Rattle.play_event.specs.Naming.{after_show}
 use Rattle.play_event.specs.Scripts.{with_event}
 use Rattle.card_places.specs.declared.card_state.CardState.{CardState}
 use Rattle.card_places.specs.declared.draws.Draws.{Draws}
-use Rattle.card_places.specs.Drawn.{drew_at, named_at}
+use Rattle.card_places.specs.Drawn.{has_drawn_at, named_at}
 use Rattle.card_places.specs.Placed.{placed}
 use Rattle.card_places.specs.Shown.{IsShown, IsMucked}
 use Rattle.deal_core.proofs.Same.{back, same_places}
@@ -31,7 +31,7 @@ pub show_stands : (t next : CardState) (setup : Setup) (past : Past) (seat : ℕ
 unfolding with_event
 show_stands t next setup past seat cards stands shown = record {
   places = shown.places ∙ ap (after_show t.table.code seat cards) stands.places ∙ same_places t next (Shown (turn setup past).0 seat cards ∷ past) shown.table;
-  drew = λ street n within in_hand. ap (λ (d : Draws). drew_at d street n) shown.draws ∙ stands.drew street n within (back t next n shown.seats in_hand);
+  drew = λ street n within in_hand. ap (λ (d : Draws). has_drawn_at d street n) shown.draws ∙ stands.drew street n within (back t next n shown.seats in_hand);
   named = λ street n within in_hand. ap (λ (d : Draws). named_at d street n) shown.draws ∙ stands.named street n within (back t next n shown.seats in_hand);
   shown = λ n in_hand. flag_is t.shown next.shown seat n (has_shown past n) (seat == n) refl shown.shown (shown.others n in_hand.first) (stands.shown n (back t next n shown.seats in_hand));
   mucked = λ n in_hand. ap (λ (r : LiveRow). flag_of r n) shown.mucked ∙ stands.mucked n (back t next n shown.seats in_hand);
@@ -41,7 +41,7 @@ pub muck_stands : (t next : CardState) (setup : Setup) (past : Past) (seat : ℕ
 unfolding with_event
 muck_stands t next setup past seat stands mucked = record {
   places = ap placed mucked.places ∙ stands.places ∙ same_places t next past mucked.table;
-  drew = λ street n within in_hand. ap (λ (d : Draws). drew_at d street n) mucked.draws ∙ stands.drew street n within (back t next n mucked.seats in_hand);
+  drew = λ street n within in_hand. ap (λ (d : Draws). has_drawn_at d street n) mucked.draws ∙ stands.drew street n within (back t next n mucked.seats in_hand);
   named = λ street n within in_hand. ap (λ (d : Draws). named_at d street n) mucked.draws ∙ stands.named street n within (back t next n mucked.seats in_hand);
   shown = λ n in_hand. ap (λ (r : LiveRow). flag_of r n) mucked.shown ∙ stands.shown n (back t next n mucked.seats in_hand);
   mucked = λ n in_hand. flag_is t.mucked next.mucked seat n (has_mucked past n) (seat == n) refl mucked.mucked (mucked.others n in_hand.first) (stands.mucked n (back t next n mucked.seats in_hand));

@@ -11,7 +11,7 @@ use Rattle.play_event.specs.Seats.{is_live}
 use Rattle.play_event.specs.Due.{turn}
 use Rattle.play_event.specs.Table.{places_of}
 use Rattle.card_places.specs.declared.card_state.CardState.{CardState}
-use Rattle.card_places.specs.Drawn.{drew_at, named_at}
+use Rattle.card_places.specs.Drawn.{has_drawn_at, named_at}
 use Rattle.card_places.specs.Placed.{placed}
 
 -- a number is that of a seat
@@ -26,7 +26,7 @@ pub record StandsFor (t : CardState) (past : Past) : Type 0 where
   -- its cards, in the order of dealing, are the places of the past
   pub places : placed t.places ≡ places_of t.table.code past
   -- it knows who drew on which street
-  pub drew : (street seat : ℕ) → street ≤ 5 → IsSeatOf t.seats seat → drew_at t.draws street seat ≡ has_drawn past street seat
+  pub drew : (street seat : ℕ) → street ≤ 5 → IsSeatOf t.seats seat → has_drawn_at t.draws street seat ≡ has_drawn past street seat
   -- and how many cards each seat discarded there, and so how many it is still owed
   pub named : (street seat : ℕ) → street ≤ 5 → IsSeatOf t.seats seat → named_at t.draws street seat ≡ cards_discarded past street seat
   -- it knows who showed

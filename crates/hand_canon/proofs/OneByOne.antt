@@ -68,15 +68,6 @@ pub flat_few : {X Y : Type 0} (f : X → List Y) (most : ℕ) (xs : List X) → 
 flat_few f most [] few = omega arith
 flat_few f most (x ∷ xs) few = omega (arith, few x, flat_few f most xs few, length-append (f x) (flat_map f xs), suc_times (length xs) most)
 
--- the known cards of one slot more
-known_append : (first second : List Slot) → known_cards (first ++ second) ≡ known_cards first ++ known_cards second
-known_append [] second = refl
-known_append (slots.Known card ∷ rest) second = ap (λ (cards : List Card). card ∷ cards) (known_append rest second)
-known_append (slots.Unknown ∷ rest) second = known_append rest second
-
-pub one_known_more : (cards : List Slot) (i : ℕ) (d : Slot) → i < length cards → known_cards (take (i + 1) cards) ≡ known_cards (take i cards) ++ known_cards (get_or cards i d ∷ [])
-one_known_more cards i d inside = ap known_cards (take_more cards i d inside) ∙ known_append (take i cards) (get_or cards i d ∷ [])
-
 -- what one seat more says
 pub seat_more : {X : Type 0} (f : ℕ → List X) (i : ℕ) (old mid new : List X) → mid ≡ old ++ flat_map f (seats_of i) → new ≡ mid ++ f (i + 1) → new ≡ old ++ flat_map f (seats_of (i + 1))
 seat_more f i old mid new before is =

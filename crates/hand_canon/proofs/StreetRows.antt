@@ -4,21 +4,21 @@ use Rattle.std.specs.Prelude.{slice_get, unwrap_or}
 use Rattle.std.specs.Option.{option_map_or}
 use Rattle.play_event.specs.Games as tables
 use Rattle.play_event.specs.Games.{Game}
-use Rattle.variant_table.specs.declared.street.Street.{Street}
-use Rattle.variant_table.specs.Plain.{plain_street, no_street}
+use Rattle.play_event.specs.declared.street.Street.{Street}
+use Rattle.variant_table.specs.Tables.{no_street}
 use Rattle.variant_table.specs.Tables.{street_at}
 use Rattle.play_event.specs.declared.code.Code.{Code}
 use Rattle.play_event.specs.declared.code.Code.TheVariants as games
 use Rattle.std.proofs.Common.{◌≤◌, length}
 
 -- the row at an index, and past the rows one that does not draw
-draws_row : (rows : List Street) (past : Street) → past.draws ≡ false → (i : ℕ) → option_map_or (λ s. s.draws) (slice_get (map plain_street rows) i) false ≡ (get_or rows i past).draws
+draws_row : (rows : List Street) (past : Street) → past.draws ≡ false → (i : ℕ) → option_map_or (λ s. s.draws) (slice_get (rows) i) false ≡ (get_or rows i past).draws
 draws_row [] past none zero = sym none
 draws_row [] past none (suc i) = sym none
 draws_row (row ∷ rows) past none zero = refl
 draws_row (row ∷ rows) past none (suc i) = draws_row rows past none i
 
-found_draws : (street : Option tables.Street) → option_map_or (λ s. s.draws) (Some (unwrap_or street no_street)) false ≡ option_map_or (λ s. s.draws) street false
+found_draws : (street : Option Street) → option_map_or (λ s. s.draws) (Some (unwrap_or street no_street)) false ≡ option_map_or (λ s. s.draws) street false
 found_draws None = refl
 found_draws (Some street) = refl
 
@@ -44,7 +44,7 @@ streets_few games.N2L1D = omega arith
 streets_few games.F2L3D = omega arith
 streets_few games.FB = omega arith
 
-pub draws_are : (game : Game) (rows : List Street) (past : Street) (i : ℕ) → map plain_street rows ≡ map (street_at game) (1 ∷ 2 ∷ 3 ∷ 4 ∷ 5 ∷ []) → past.draws ≡ false → i < 5
+pub draws_are : (game : Game) (rows : List Street) (past : Street) (i : ℕ) → rows ≡ map (street_at game) (1 ∷ 2 ∷ 3 ∷ 4 ∷ 5 ∷ []) → past.draws ≡ false → i < 5
     → (get_or rows i past).draws ≡ option_map_or (λ s. s.draws) (slice_get game.streets i) false
 draws_are game rows past i same none few =
     sym (draws_row rows past none i) ∙ ap (λ l. option_map_or (λ s. s.draws) (slice_get l i) false) same ∙ draws_five game i few

@@ -13,11 +13,11 @@ ghost use Rattle.hand_canon.specs.TraceRows.{core_said};
 ghost use Rattle.hand_canon.specs.Words.{words_of};
 
 use crate::folds::{count_unfolded, folds, folds_before};
-use crate::gathered::{dealt_to_board, dealt_to_seats, discarded_by_seats, known_row};
+use crate::gathered::{dealt_to_board, dealt_to_seats, discarded_by_seats};
 use crate::numbered::Numbered;
 use crate::streets::{count_streets, draws};
 use crate::trace::Trace;
-use card_set::{Memory, SlotRow};
+use card_set::{Memory, SlotRow, known_row};
 use chip_ledger::{LiveRow, Seat};
 use play_event::{Act, HandRow, Kind, Move, Script, Spelled};
 use std::alloc::Global;

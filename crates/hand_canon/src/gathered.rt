@@ -7,7 +7,7 @@ ghost use Rattle.hand_canon.specs.CanonScript.{dealt_slots, discarded_slots};
 ghost use Rattle.hand_canon.specs.RowTests.{slot_for};
 ghost use Rattle.hand_canon.specs.TraceRows.{place_said};
 
-use card_set::{CardRow, Slot, SlotRow};
+use card_set::SlotRow;
 use play_event::{HandRow, Place};
 
 /// The cards that each seat, of ten, was dealt on a street.
@@ -82,33 +82,5 @@ fn add_to_board(board: &mut SlotRow, place: Place, counts: bool)
 {
     if counts && place.owner.is_none() {
         board.push(place.slot);
-    }
-}
-
-/// The known cards of a row, in order.
-#[tactic(auto, using(crate::proofs::OneByOne::one_known_more))]
-pub(crate) fn known_row(slots: &SlotRow) -> CardRow
-    ensures { cards_of result ≡ known_cards (slots_of slots.now) }
-{
-    let mut cards = CardRow::new();
-    for slot in slots.as_slice() {
-        cards = with_known(cards, *slot);
-    }
-    cards
-}
-
-// The cards and one more, where it is known.
-fn with_known(cards: CardRow, slot: Slot) -> CardRow
-    requires { cards.len < 7 }
-    ensures cards { cards_of result ≡ cards_of cards ++ known_cards (slot ∷ []) }
-    ensures longer { result.len ≤ cards.len + 1 }
-{
-    match slot {
-        Slot::Known(card) => {
-            let mut more = cards;
-            more.push(card);
-            more
-        }
-        Slot::Unknown => cards,
     }
 }

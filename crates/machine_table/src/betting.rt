@@ -14,7 +14,7 @@ use card_set::read_slots;
 use chip_ledger::Seat;
 use play_event::{Code, Due, Event, Illegal, Kind, Rules, Setup, Spelled, UpRow};
 use std::alloc::{AllocError, Global};
-use variant_table::{F2L3D, F7S, F7S8, FB, FO8, FR, FT, N2L1D, NS, NT, PO, Variant};
+use variant_table::{F2L3D, F7S, F7S8, FB, FO8, FR, FT, N2L1D, NS, NT, PO, Variant, is_valid};
 
 /// The answers to the events of a row.
 pub fn answer_to(alloc: Global, row: &str) -> Result<Option<String>, AllocError> {

@@ -5,7 +5,6 @@
 mod betting;
 mod cards;
 mod setups;
-mod valid;
 mod words;
 
 use std::alloc::{AllocError, Global};

@@ -7,26 +7,15 @@ use Rattle.play_event.specs.declared.limit.Limit.{Limit}
 use Rattle.play_event.specs.declared.limit.Limit.TheVariants as limits
 use Rattle.play_event.specs.declared.limit.Opener.{Opener}
 use Rattle.play_event.specs.declared.limit.Opener.TheVariants as openers
-
--- the bet size of a street: the small bet, the big bet, or the least bet
-pub data Size : Type 0 where
-  Small : Size
-  Big : Size
-  Least : Size
+use Rattle.play_event.specs.declared.street.Size.{Size}
+use Rattle.play_event.specs.declared.street.Size.TheVariants as sizes
+use Rattle.play_event.specs.declared.street.Street.{Street}
 
 -- which five of a seat's cards and the board's count: any, or two of the seat and three of the board; or all cards of the seat
 pub data Pick : Type 0 where
   AnyFive : Pick
   TwoAndThree : Pick
   AllHeld : Pick
-
--- what a street deals to each live seat, face down and face up, what it deals to the board, whether it draws, and its bet size
-pub record Street : Type 0 where
-  pub down : ℕ
-  pub up : ℕ
-  pub board : ℕ
-  pub draws : Bool
-  pub size : Size
 
 -- a game: its deck, limit and opener; the cards of a seat and of the board at the end, which of them count, and
 -- whether half of each pot goes to the best low hand; the most seats, and the streets
@@ -63,23 +52,23 @@ flop_streets cards early late = hole_street cards early ∷ board_street 3 early
 
 -- stud: two down and one up, three times one up, and one down
 abbrev pub stud_streets : List Street
-stud_streets = stud_street 2 1 Small ∷ stud_street 0 1 Small ∷ stud_street 0 1 Big ∷ stud_street 0 1 Big ∷ stud_street 1 0 Big ∷ []
+stud_streets = stud_street 2 1 sizes.Small ∷ stud_street 0 1 sizes.Small ∷ stud_street 0 1 sizes.Big ∷ stud_street 0 1 sizes.Big ∷ stud_street 1 0 sizes.Big ∷ []
 
 -- three draws
 abbrev pub draw_streets : ℕ → List Street
-draw_streets cards = hole_street cards Small ∷ draw_street Small ∷ draw_street Big ∷ draw_street Big ∷ []
+draw_streets cards = hole_street cards sizes.Small ∷ draw_street sizes.Small ∷ draw_street sizes.Big ∷ draw_street sizes.Big ∷ []
 
 -- the game with a code
 abbrev pub game_of : Code → Game
-game_of games.FT = record { deck = 52; limit = limits.Fixed; opener = openers.Blinds; hole = 2; board = 5; pick = AnyFive; split = false; seats = 10; streets = flop_streets 2 Small Big }
-game_of games.NT = record { deck = 52; limit = limits.No; opener = openers.Blinds; hole = 2; board = 5; pick = AnyFive; split = false; seats = 10; streets = flop_streets 2 Least Least }
-game_of games.NS = record { deck = 36; limit = limits.No; opener = openers.Blinds; hole = 2; board = 5; pick = AnyFive; split = false; seats = 10; streets = flop_streets 2 Least Least }
-game_of games.PO = record { deck = 52; limit = limits.Pot; opener = openers.Blinds; hole = 4; board = 5; pick = TwoAndThree; split = false; seats = 10; streets = flop_streets 4 Least Least }
-game_of games.FO8 = record { deck = 52; limit = limits.Fixed; opener = openers.Blinds; hole = 4; board = 5; pick = TwoAndThree; split = true; seats = 10; streets = flop_streets 4 Small Big }
+game_of games.FT = record { deck = 52; limit = limits.Fixed; opener = openers.Blinds; hole = 2; board = 5; pick = AnyFive; split = false; seats = 10; streets = flop_streets 2 sizes.Small sizes.Big }
+game_of games.NT = record { deck = 52; limit = limits.No; opener = openers.Blinds; hole = 2; board = 5; pick = AnyFive; split = false; seats = 10; streets = flop_streets 2 sizes.Least sizes.Least }
+game_of games.NS = record { deck = 36; limit = limits.No; opener = openers.Blinds; hole = 2; board = 5; pick = AnyFive; split = false; seats = 10; streets = flop_streets 2 sizes.Least sizes.Least }
+game_of games.PO = record { deck = 52; limit = limits.Pot; opener = openers.Blinds; hole = 4; board = 5; pick = TwoAndThree; split = false; seats = 10; streets = flop_streets 4 sizes.Least sizes.Least }
+game_of games.FO8 = record { deck = 52; limit = limits.Fixed; opener = openers.Blinds; hole = 4; board = 5; pick = TwoAndThree; split = true; seats = 10; streets = flop_streets 4 sizes.Small sizes.Big }
 game_of games.F7S = record { deck = 52; limit = limits.Fixed; opener = openers.LowUp; hole = 7; board = 0; pick = AnyFive; split = false; seats = 7; streets = stud_streets }
 game_of games.F7S8 = record { deck = 52; limit = limits.Fixed; opener = openers.LowUp; hole = 7; board = 0; pick = AnyFive; split = true; seats = 7; streets = stud_streets }
 game_of games.FR = record { deck = 52; limit = limits.Fixed; opener = openers.HighUp; hole = 7; board = 0; pick = AnyFive; split = false; seats = 7; streets = stud_streets }
-game_of games.N2L1D = record { deck = 52; limit = limits.No; opener = openers.Blinds; hole = 5; board = 0; pick = AllHeld; split = false; seats = 6; streets = hole_street 5 Least ∷ draw_street Least ∷ [] }
+game_of games.N2L1D = record { deck = 52; limit = limits.No; opener = openers.Blinds; hole = 5; board = 0; pick = AllHeld; split = false; seats = 6; streets = hole_street 5 sizes.Least ∷ draw_street sizes.Least ∷ [] }
 game_of games.F2L3D = record { deck = 52; limit = limits.Fixed; opener = openers.Blinds; hole = 5; board = 0; pick = AllHeld; split = false; seats = 6; streets = draw_streets 5 }
 game_of games.FB = record { deck = 52; limit = limits.Fixed; opener = openers.Blinds; hole = 4; board = 0; pick = AllHeld; split = false; seats = 6; streets = draw_streets 4 }
 

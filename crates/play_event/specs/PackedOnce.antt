@@ -16,9 +16,9 @@ use Rattle.card_set.specs.declared.card.Slot.{Slot}
 use Rattle.card_set.specs.declared.card.Slot.TheVariants as slots
 use Rattle.card_set.specs.declared.row.SlotRow.{SlotRow}
 use Rattle.card_set.specs.declared.row.CardRow.{CardRow}
-use Rattle.card_set.specs.Deck.{ranks_below, suits_before}
+use Rattle.card_set.specs.Deck.{ranks_below, suits_before, card_placed}
 use Rattle.card_set.specs.Row.{slots_of, cards_of}
-use Rattle.card_set.specs.Spelling.{all_ranks, all_suits}
+use Rattle.card_set.specs.Deck.{all_ranks, all_suits, card_placed}
 use Rattle.card_set.proofs.DeckLaws.{suits_before-few}
 use Rattle.card_set.proofs.RowLaws.{slots_same, cards_same}
 use Rattle.chip_ledger.specs.declared.numbers.Seat.{Seat}
@@ -31,7 +31,7 @@ use Rattle.play_event.specs.declared.event.Spelled.TheVariants as spelled
 use Rattle.play_event.specs.Said.{Said, kind_said, seat_named, numbered}
 use Rattle.play_event.specs.EventNumbers.{AmountFits, ChipsFit, IsEvent, AreEvents}
 use Rattle.play_event.specs.PackedForm.{actor_byte, card_byte, slot_byte, counted, stated_bytes, amount_bytes, kind_byte, kind_bytes, packed_event, packed_events}
-use Rattle.play_event.specs.PackedReading.{number_at, counted_at, seat_numbered, seat_at, actor_at, card_placed, card_of, slot_of, slots_at, cards_at, stated_at, amount_at, move_at, hand_at, kind_at, event_at}
+use Rattle.play_event.specs.PackedReading.{number_at, counted_at, seat_numbered, seat_at, actor_at, card_of, slot_of, slots_at, cards_at, stated_at, amount_at, move_at, hand_at, kind_at, event_at}
 use Rattle.play_event.specs.PackedScript.{PackedScript}
 
 -- ---- cards

@@ -2,11 +2,9 @@
 use Rattle.std.specs.Prelude.{ℕ, ◌-◌, ◌/◌, ◌%◌, ◌==◌, ◌&&◌, nat_le, nat_lt, if◌then◌else◌, List, [], ◌∷◌, length, map, take, drop, slice_get, unwrap_or, Option, Some, None}
 use Rattle.std.specs.Int.{Width, w32, w64, byte_len, from_be_bytes}
 use Rattle.card_set.specs.declared.card.Card.{Card}
-use Rattle.card_set.specs.declared.card.Rank.TheVariants as ranks
-use Rattle.card_set.specs.declared.card.Suit.TheVariants as suits
 use Rattle.card_set.specs.declared.card.Slot.{Slot}
 use Rattle.card_set.specs.declared.card.Slot.TheVariants as slots
-use Rattle.card_set.specs.Spelling.{all_ranks, all_suits}
+use Rattle.card_set.specs.Deck.{card_placed}
 use Rattle.play_event.specs.declared.event.Spelled.{Spelled}
 use Rattle.play_event.specs.declared.event.Spelled.TheVariants as spelled
 use Rattle.play_event.specs.Said as said
@@ -49,13 +47,6 @@ unfoldable pub actor_at : List ℕ → Option (Option ℕ × List ℕ)
 actor_at bytes = do
   number ← byte_at bytes
   if number.0 == 0 then Some (None, number.1) else (seat_numbered number.0 >>= λ seat. Some (Some seat, number.1))
-
--- the card at a place of the deck, from 0
-unfoldable pub card_placed : ℕ → Card
-card_placed place = record {
-  rank = unwrap_or (slice_get all_ranks (place / 4)) ranks.Ace;
-  suit = unwrap_or (slice_get all_suits (place % 4)) suits.S;
-}
 
 -- the card and the slot of a byte
 abbrev pub card_of : ℕ → Card

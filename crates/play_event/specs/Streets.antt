@@ -6,7 +6,9 @@ use Rattle.play_event.specs.declared.setup.Setup.{Setup}
 use Rattle.play_event.specs.declared.limit.Limit.{Limit}
 use Rattle.play_event.specs.declared.limit.Opener.{Opener}
 use Rattle.play_event.specs.declared.limit.Opener.TheVariants as openers
-use Rattle.play_event.specs.Games.{Size, Small, Big, Least, game_of}
+use Rattle.play_event.specs.declared.street.Size.{Size}
+use Rattle.play_event.specs.declared.street.Size.TheVariants as sizes
+use Rattle.play_event.specs.Games.{game_of}
 
 -- what bounds a raise
 abbrev pub limit_of : Code → Limit
@@ -34,13 +36,13 @@ has_draw code street = option_map_or (λ s. s.draws) (slice_get (game_of code).s
 
 -- the bet size of the street
 abbrev pub size_on : Code → ℕ → Size
-size_on code street = option_map_or (λ s. s.size) (slice_get (game_of code).streets (street - 1)) Least
+size_on code street = option_map_or (λ s. s.size) (slice_get (game_of code).streets (street - 1)) sizes.Least
 
 -- a bet of this size, in chips
 abbrev pub chips_of_size : Setup → Size → ℕ
-chips_of_size setup Small = setup.small_bet
-chips_of_size setup Big = setup.big_bet
-chips_of_size setup Least = setup.min_bet
+chips_of_size setup sizes.Small = setup.small_bet
+chips_of_size setup sizes.Big = setup.big_bet
+chips_of_size setup sizes.Least = setup.min_bet
 
 -- the unit of a street: the small or big bet in fixed limit, and the least bet in the other limits
 abbrev pub unit : Setup → ℕ → ℕ

@@ -1,6 +1,7 @@
 -- Which setups are those of a hand: the numbers fit the game.
 use Rattle.std.specs.Prelude.{◌≡◌, ℕ, ◌≤◌, Bool, true, false, not, nat_lt}
 use Rattle.std.specs.List.{list_any}
+use Rattle.chip_ledger.specs.declared.numbers.TheConstants.{MOST_CHIPS}
 use Rattle.chip_ledger.specs.declared.rows.TheConstants.{MOST_AMOUNT}
 use Rattle.chip_ledger.specs.RakeRow.{rake_of}
 use Rattle.chip_ledger.specs.SeatRow.{amount_of}
@@ -11,13 +12,9 @@ use Rattle.play_event.specs.Games.{game_of}
 use Rattle.play_event.specs.Streets.{limit_of, is_stud}
 use Rattle.play_event.specs.Seats.{all_seats}
 
--- the greatest stack, blind or bet size
-abbrev pub most_chips : ℕ
-most_chips = 1000000000000
-
 -- a stack or a bet size: at least one chip
 abbrev pub IsSize : ℕ → Type 0
-IsSize chips = (1 ≤ chips) × (chips ≤ most_chips)
+IsSize chips = (1 ≤ chips) × (chips ≤ MOST_CHIPS)
 
 -- a bet size that the game uses, or one that it does not use, which is 0
 abbrev pub IsSizeWhere : Bool → ℕ → Type 0
@@ -41,7 +38,7 @@ pub record IsValid (setup : Setup) : Type 0 where
   pub few_seats : setup.stacks.seats ≤ (game_of setup.code).seats
   pub stacks : (seat : ℕ) → 1 ≤ seat → seat ≤ setup.stacks.seats → IsSize (amount_of setup.stacks seat)
   pub antes : (seat : ℕ) → amount_of setup.antes seat ≤ amount_of setup.stacks seat
-  pub blinds : (seat : ℕ) → amount_of setup.blinds seat ≤ most_chips
+  pub blinds : (seat : ℕ) → amount_of setup.blinds seat ≤ MOST_CHIPS
   pub bring_in : IsSizeWhere (is_stud setup.code) setup.bring_in
   pub small_bet : IsSizeWhere (is_fixed (limit_of setup.code)) setup.small_bet
   pub big_bet : IsSizeWhere (is_fixed (limit_of setup.code)) setup.big_bet

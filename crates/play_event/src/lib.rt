@@ -14,6 +14,7 @@ mod reason;
 mod script;
 mod setup;
 mod stake_laws;
+mod street;
 mod unpacking;
 
 pub use card_rows::{HandRow, UpRow};
@@ -31,3 +32,4 @@ pub use reason::{Due, Illegal};
 pub use script::Script;
 pub use setup::{Reopen, Rules, Setup};
 pub use stake_laws::law_of_folds;
+pub use street::{Size, Street};

@@ -1,16 +1,13 @@
 //! Packed bytes are read from left to right: an event at their front, and the bytes behind it.
-ghost use Rattle.std.specs.Prelude.{◌≡◌, ◌≤◌, ◌&&◌, map, length, nat_le, slice_get, unwrap_or, Option, Some, None, if◌then◌else◌, IfSome};
+ghost use Rattle.std.specs.Prelude.{◌≡◌, ◌≤◌, ◌&&◌, map, length, nat_le, Option, Some, None, if◌then◌else◌, IfSome};
 ghost use Rattle.std.specs.Option.{option_map};
 ghost use Rattle.std.specs.Int.{w32, w64};
 ghost use Rattle.card_set.specs.Row.{slots_of, cards_of};
-ghost use Rattle.card_set.specs.Spelling.{all_ranks, all_suits};
-ghost use Rattle.card_set.specs.declared.card.Rank.TheVariants as ranks;
-ghost use Rattle.card_set.specs.declared.card.Suit.TheVariants as suits;
 ghost use Rattle.play_event.specs.Said.{kind_said, seat_named, numbered};
-ghost use Rattle.play_event.specs.PackedReading.{byte_at, number_at, counted_at, seat_numbered, seat_at, actor_at, card_placed, card_of, slot_of, slots_at, cards_at, stated_at, amount_at, move_at, hand_at, kind_at, event_at};
+ghost use Rattle.play_event.specs.PackedReading.{byte_at, number_at, counted_at, seat_numbered, seat_at, actor_at, card_of, slot_of, slots_at, cards_at, stated_at, amount_at, move_at, hand_at, kind_at, event_at};
 
 use crate::event::{Event, Kind, Spelled};
-use card_set::{Card, CardRow, Rank, Slot, SlotRow, Suit};
+use card_set::{Card, CardRow, Slot, SlotRow, card_placed};
 use chip_ledger::Seat;
 
 /// The event at the front of the bytes and the bytes behind it, or `None` where no event begins so.
@@ -200,48 +197,10 @@ fn slot_named(byte: u8) -> Slot
 }
 
 // The card of a byte from 1 to 52.
-#[tactic(auto, unfolding(crate::specs::PackedReading::card_placed))]
 fn card_named(byte: u8) -> Card
     ensures { result ≡ card_of byte }
 {
-    let place = byte.saturating_sub(1);
-    Card {
-        rank: rank_placed(place / 4),
-        suit: suit_placed(place % 4),
-    }
-}
-
-// The rank with so many below it; past the last the ace.
-fn rank_placed(place: u8) -> Rank
-    ensures { result ≡ unwrap_or (slice_get all_ranks place) ranks.Ace }
-{
-    match place {
-        0 => Rank::Two,
-        1 => Rank::Three,
-        2 => Rank::Four,
-        3 => Rank::Five,
-        4 => Rank::Six,
-        5 => Rank::Seven,
-        6 => Rank::Eight,
-        7 => Rank::Nine,
-        8 => Rank::Ten,
-        9 => Rank::Jack,
-        10 => Rank::Queen,
-        11 => Rank::King,
-        _ => Rank::Ace,
-    }
-}
-
-// The suit with so many before it; past the last the spades.
-fn suit_placed(place: u8) -> Suit
-    ensures { result ≡ unwrap_or (slice_get all_suits place) suits.S }
-{
-    match place {
-        0 => Suit::C,
-        1 => Suit::D,
-        2 => Suit::H,
-        _ => Suit::S,
-    }
+    card_placed(byte.saturating_sub(1))
 }
 
 // Up to seven bytes that stand behind their count.

@@ -8,7 +8,8 @@ use Rattle.play_event.specs.declared.code.Code.TheVariants as games
 use Rattle.play_event.specs.declared.setup.Setup.{Setup}
 use Rattle.play_event.specs.declared.limit.Opener.{Opener}
 use Rattle.play_event.specs.declared.limit.Opener.TheVariants as openers
-use Rattle.play_event.specs.Games.{Street, game_of}
+use Rattle.play_event.specs.Games.{game_of}
+use Rattle.play_event.specs.declared.street.Street.{Street}
 use Rattle.play_event.specs.Streets.{has_draw, up_cards_on, down_cards_on, opener_of}
 use Rattle.play_event.specs.Past.{Past, Move, moves_of, moves_on, newest_street}
 use Rattle.play_event.specs.Seats.{is_live, is_able}

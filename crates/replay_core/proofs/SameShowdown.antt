@@ -9,12 +9,12 @@ use Rattle.hand_order.specs.Best.{Beats}
 use Rattle.hand_order.specs.Choices.{allowed}
 use Rattle.play_event.specs.declared.code.Code.{Code}
 use Rattle.play_event.specs.Games.{game_of}
-use Rattle.street_laws.proofs.SeatLists.{any_seats}
+use Rattle.chip_ledger.proofs.SeatLists.{any_seats}
 use Rattle.showdown_split.specs.Alike.{AreAlike}
 use Rattle.showdown_split.proofs.Compared.{same_contested}
 use Rattle.variant_table.specs.Orders.{award_of, second_of}
 use Rattle.variant_table.specs.Plain.{pick_of}
-use Rattle.variant_table.specs.Shares.{AllShared, AreContested, AreOfOne, AreSharesOf, HasHand, Showdown, choices_for, contends, first_unshown, first_unshown_from, is_unshown, ranking_of}
+use Rattle.variant_table.specs.Shares.{AllShared, AreContested, AreOfOne, AreSharesOf, HasHand, Showdown, choices_for, is_contender, first_unshown, first_unshown_from, is_unshown, ranking_of}
 
 -- two showdowns show the same
 pub record ShowTheSame (a b : Showdown) : Type 0 where
@@ -27,21 +27,21 @@ pub record ShowTheSame (a b : Showdown) : Type 0 where
 abbrev pub IsOfSeats : ℕ → PlainPot → Type 0
 IsOfSeats seats pot = (seat : ℕ) → may_win pot seat ≡ true → (1 ≤ seat) × (seat ≤ seats)
 
-same_contends : (a b : Showdown) (pot : PlainPot) → ShowTheSame a b → IsOfSeats a.seats pot → (seat : ℕ) → contends a pot seat ≡ contends b pot seat
+same_contends : (a b : Showdown) (pot : PlainPot) → ShowTheSame a b → IsOfSeats a.seats pot → (seat : ℕ) → is_contender a pot seat ≡ is_contender b pot seat
 same_contends a b pot same inside seat = by_may (may_win pot seat) refl
   where
     by_may : (m : Bool) → may_win pot seat ≡ m → (may_win pot seat && a.shown seat) ≡ (may_win pot seat && b.shown seat)
     by_may true is = let range = inside seat is in ap (λ s. may_win pot seat && s) (same.shown seat range.0 range.1)
     by_may false is = ap (λ m. m && a.shown seat) is ∙ sym (ap (λ m. m && b.shown seat) is)
 
-same_choices : (code : Code) (a b : Showdown) (pot : PlainPot) → ShowTheSame a b → IsOfSeats a.seats pot → (seat : ℕ) → contends b pot seat ≡ true → choices_for code a seat ≡ choices_for code b seat
+same_choices : (code : Code) (a b : Showdown) (pot : PlainPot) → ShowTheSame a b → IsOfSeats a.seats pot → (seat : ℕ) → is_contender b pot seat ≡ true → choices_for code a seat ≡ choices_for code b seat
 same_choices code a b pot same inside seat contends_b =
     let parts = and_parts (may_win pot seat) (a.shown seat) (same_contends a b pot same inside seat ∙ contends_b) in
     let range = inside seat parts.0 in
     ap (λ (hole : List Card). allowed (pick_of (game_of code).pick) hole a.board) (same.holding seat range.0 range.1 parts.1)
     ∙ ap (allowed (pick_of (game_of code).pick) (b.holding seat)) same.board
 
-alike : (code : Code) (a b : Showdown) (pot : PlainPot) → ShowTheSame a b → IsOfSeats a.seats pot → AreAlike (contends b pot) (ranking_of code a) (ranking_of code b)
+alike : (code : Code) (a b : Showdown) (pot : PlainPot) → ShowTheSame a b → IsOfSeats a.seats pot → AreAlike (is_contender b pot) (ranking_of code a) (ranking_of code b)
 alike code a b pot same inside = record {
   beats = λ m n first second.
       let one = same_choices code a b pot same inside m first in
@@ -69,8 +69,8 @@ same_shares code a b pot share same inside (inr shown) =
     inr (record {
       several = shown.several;
       someone = (shown.someone.0, sym (same_contends a b pot same inside shown.someone.0) ∙ shown.someone.1);
-      contested = subst (λ (n : ℕ). AreContested n (contends b pot) (ranking_of code b) pot.chips share) same.seats
-          (same_contested a.seats (contends a pot) (contends b pot) (ranking_of code a) (ranking_of code b) pot.chips share (same_contends a b pot same inside) (alike code a b pot same inside) shown.contested);
+      contested = subst (λ (n : ℕ). AreContested n (is_contender b pot) (ranking_of code b) pot.chips share) same.seats
+          (same_contested a.seats (is_contender a pot) (is_contender b pot) (ranking_of code a) (ranking_of code b) pot.chips share (same_contends a b pot same inside) (alike code a b pot same inside) shown.contested);
     })
 
 -- each of some pots is of seats of the hand
@@ -86,8 +86,8 @@ all_same code a b (pot ∷ pots) (share ∷ shares) same inside all = (same_shar
 
 same_unshown : (a b : Showdown) (pot : PlainPot) → ShowTheSame a b → IsOfSeats a.seats pot → is_unshown a pot ≡ is_unshown b pot
 same_unshown a b pot same inside =
-    ap (λ c. nat_le 2 (length pot.eligible) && not c) (any_seats (contends a pot) (contends b pot) a.seats (λ n low high. same_contends a b pot same inside n))
-    ∙ ap (λ (n : ℕ). nat_le 2 (length pot.eligible) && not (list_any (contends b pot) (seats_of n))) same.seats
+    ap (λ c. nat_le 2 (length pot.eligible) && not c) (any_seats (is_contender a pot) (is_contender b pot) a.seats (λ n low high. same_contends a b pot same inside n))
+    ∙ ap (λ (n : ℕ). nat_le 2 (length pot.eligible) && not (list_any (is_contender b pot) (seats_of n))) same.seats
 
 same_from : (number : ℕ) (a b : Showdown) (pots : List PlainPot) → ShowTheSame a b → AreOfSeats a.seats pots → first_unshown_from number a pots ≡ first_unshown_from number b pots
 same_from number a b [] same inside = refl

@@ -51,7 +51,7 @@ use Rattle.showdown_laws.proofs.WholeHands.{whole_hands}
 use Rattle.showdown_split.specs.Hands.{holding, showdown_of}
 use Rattle.showdown_split.specs.Playable.{ArePlayable}
 use Rattle.showdown_split.proofs.Flagged.{is_flagged-flag}
-use Rattle.street_laws.proofs.SeatLists.{count_seats}
+use Rattle.chip_ledger.proofs.SeatLists.{count_seats}
 use Rattle.variant_table.specs.Variants.{IsUsable}
 use Rattle.replay_core.specs.EndRows.{flag_count, mucked_by, shown_by}
 use Rattle.replay_core.proofs.SameShowdown.{ShowTheSame}

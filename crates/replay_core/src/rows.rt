@@ -6,7 +6,7 @@ ghost use Rattle.replay_core.specs.EndRows.{flag_count, mucked_by, shown_by};
 use chip_ledger::{LiveRow, Seat};
 
 // How many seats of the row are flagged.
-#[tactic(auto, using(street_laws::proofs::SeatLists::count_more))]
+#[tactic(auto, using(chip_ledger::proofs::SeatLists::count_more))]
 fn flag_count(row: &LiveRow) -> u8
     ensures { result ≡ flag_count row.now }
 {

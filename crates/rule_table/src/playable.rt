@@ -7,11 +7,10 @@ ghost use Rattle.chip_ledger.specs.LiveRow.{flagged};
 ghost use Rattle.hand_order.specs.Choices.{CanPick};
 ghost use Rattle.showdown_split.specs.Playable.{ArePlayable, AreWinnable};
 
-use card_set::{Card, CardRow};
+use card_set::{Card, CardRow, known_row};
 use chip_ledger::{LiveRow, MOST_AMOUNT, Pot, Seat};
 use hand_order::{HandOrder, Pick};
 use play_event::HandRow;
-use showdown_split::known_row;
 use variant_table::Variant;
 
 /// Whether each shown seat has cards that the game's pick can use, all different from one another and from the board's.

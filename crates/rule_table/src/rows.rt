@@ -1,10 +1,9 @@
 // Rows of amounts, seats and cards as a row of the table writes them: parts with commas between them, `-` for nothing.
 ghost use Rattle.std.specs.Prelude.{◌<◌};
 
-use card_set::{CardRow, SlotRow, read_slots};
+use card_set::{CardRow, SlotRow, known_row, read_slots};
 use chip_ledger::{LiveRow, MOST_AMOUNT, RakeRow, Seat, SeatRow};
 use play_event::HandRow;
-use showdown_split::known_row;
 
 /// The amounts of two to ten seats, as `100,300,500`.
 pub fn amounts(text: &str) -> Option<SeatRow> {

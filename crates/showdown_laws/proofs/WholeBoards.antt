@@ -13,7 +13,8 @@ use Rattle.play_event.specs.declared.code.Code.TheVariants as games
 use Rattle.play_event.specs.declared.setup.Rules.{Rules}
 use Rattle.play_event.specs.declared.setup.Setup.{Setup}
 use Rattle.play_event.specs.Dealing.{board_cards_owed, hole_cards_owed}
-use Rattle.play_event.specs.Games.{Street, game_of, street_count}
+use Rattle.play_event.specs.Games.{game_of, street_count}
+use Rattle.play_event.specs.declared.street.Street.{Street}
 use Rattle.play_event.specs.Laws.{AreLegal, IsAmong}
 use Rattle.play_event.specs.Naming.{after_discard, after_show, blanks_in, is_covered, is_show_of_all, other_names}
 use Rattle.play_event.specs.Past.{Past, Dealt, Boarded, Moved, Discarded, Shown, Mucked, is_fold}

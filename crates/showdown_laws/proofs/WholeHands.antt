@@ -13,7 +13,8 @@ use Rattle.play_event.specs.declared.code.Code.TheVariants as games
 use Rattle.play_event.specs.declared.setup.Rules.{Rules}
 use Rattle.play_event.specs.declared.setup.Setup.{Setup}
 use Rattle.play_event.specs.Dealing.{cards_discarded, hole_cards_dealt, is_draw_due, next_to_draw, replacements_owed}
-use Rattle.play_event.specs.Games.{Street, game_of, hole_cards_on, street_count}
+use Rattle.play_event.specs.Games.{game_of, hole_cards_on, street_count}
+use Rattle.play_event.specs.declared.street.Street.{Street}
 use Rattle.play_event.specs.Laws.{IsAmong}
 use Rattle.play_event.specs.Past.{Move, Past, moves_of}
 use Rattle.play_event.specs.Places.{Place, is_held_by, is_in_group, is_same_owner}
@@ -28,7 +29,7 @@ use Rattle.play_laws.proofs.DoneKept.{live_dealt}
 use Rattle.play_laws.proofs.DonePasts.{legal_done}
 use Rattle.play_laws.proofs.FittingMoves.{same_filter}
 use Rattle.play_laws.proofs.LegalPlaces.{group_count, legal_past}
-use Rattle.street_laws.proofs.SeatLists.{none_at}
+use Rattle.chip_ledger.proofs.SeatLists.{none_at}
 use Rattle.showdown_laws.specs.ContestedEnd.{EndContested}
 use Rattle.showdown_laws.proofs.AllDone.{all_dealt}
 

@@ -1,5 +1,4 @@
 -- Lemmas on the known cards of a seat, on points, and on the parts of chips.
-pub mod KnownCards
 pub mod Parts
 pub mod Bests
 pub mod Compared

@@ -7,7 +7,7 @@ use Rattle.list_laws.proofs.Tests.{chosen}
 use Rattle.chip_ledger.specs.Pots.{PlainPot}
 use Rattle.play_event.specs.declared.code.Code.{Code}
 use Rattle.variant_table.specs.Division.{AreHalves, AreParts, count_to}
-use Rattle.variant_table.specs.Shares.{AreSharesOf, IsLowShown, Ranking, Showdown, contends, ranking_of}
+use Rattle.variant_table.specs.Shares.{AreSharesOf, IsLowShown, Ranking, Showdown, is_contender, ranking_of}
 use Rattle.showdown_split.specs.Laws.{GoesToBest, HasNoPart, IsUnbeaten, LeavesNoneOut}
 use Rattle.showdown_split.proofs.Bests.{count_some}
 
@@ -56,15 +56,15 @@ half_of_best seats contending ranking chips share shown halves seat low high som
 pub goes_to_best : (code : Code) (showdown : Showdown) (pot : PlainPot) (share : ℕ → ℕ) → AreSharesOf code showdown pot share → GoesToBest code showdown pot share
 goes_to_best code showdown pot share (inl one) seat low high several some = absurd (omega (arith, one.one, several))
 goes_to_best code showdown pot share (inr shown) seat low high several some = elim shown.contested [
-  | inl whole ↦ inl (part_of_best showdown.seats (contends showdown pot) (ranking_of code showdown).beats pot.chips share whole.1 seat low high some)
-  | inr halves ↦ half_of_best showdown.seats (contends showdown pot) (ranking_of code showdown) pot.chips share halves.0 halves.1 seat low high some (cases_lt 0 (halves.1.high seat))
+  | inl whole ↦ inl (part_of_best showdown.seats (is_contender showdown pot) (ranking_of code showdown).beats pot.chips share whole.1 seat low high some)
+  | inr halves ↦ half_of_best showdown.seats (is_contender showdown pot) (ranking_of code showdown) pot.chips share halves.0 halves.1 seat low high some (cases_lt 0 (halves.1.high seat))
 ]
 
 pub leaves_none_out : (code : Code) (showdown : Showdown) (pot : PlainPot) (share : ℕ → ℕ) → AreSharesOf code showdown pot share → LeavesNoneOut code showdown pot share
 leaves_none_out code showdown pot share (inl one) seat low high several none = absurd (omega (arith, one.one, several))
 leaves_none_out code showdown pot share (inr shown) seat low high several none = elim shown.contested [
-  | inl whole ↦ inl (none_left_out showdown.seats (contends showdown pot) (ranking_of code showdown).beats pot.chips share whole.1 seat low high none)
+  | inl whole ↦ inl (none_left_out showdown.seats (is_contender showdown pot) (ranking_of code showdown).beats pot.chips share whole.1 seat low high none)
   | inr halves ↦
       let both = halves.1.together seat low high in
-      inr (none_left_out showdown.seats (contends showdown pot) (ranking_of code showdown).beats (pot.chips - pot.chips / 2) halves.1.high halves.1.high_parts seat low high (omega arith), none_left_out showdown.seats (contends showdown pot) (ranking_of code showdown).beats_low (pot.chips / 2) halves.1.low halves.1.low_parts seat low high (omega arith))
+      inr (none_left_out showdown.seats (is_contender showdown pot) (ranking_of code showdown).beats (pot.chips - pot.chips / 2) halves.1.high halves.1.high_parts seat low high (omega arith), none_left_out showdown.seats (is_contender showdown pot) (ranking_of code showdown).beats_low (pot.chips / 2) halves.1.low halves.1.low_parts seat low high (omega arith))
 ]

@@ -3,7 +3,7 @@ use Rattle.std.specs.Prelude.{◌≡◌, ◌<◌, ◌≤◌, ℕ, ◌-◌, ◌/�
 use Rattle.chip_ledger.specs.Pots.{PlainPot}
 use Rattle.play_event.specs.declared.code.Code.{Code}
 use Rattle.variant_table.specs.Division.{TellsWinners, count_to}
-use Rattle.variant_table.specs.Shares.{IsLowShown, Showdown, contends, ranking_of}
+use Rattle.variant_table.specs.Shares.{IsLowShown, Showdown, is_contender, ranking_of}
 
 -- a seat contends, and no other contending seat beats it
 abbrev pub IsUnbeaten : (ℕ → Bool) → (ℕ → ℕ → Type 0) → ℕ → Type 0
@@ -23,7 +23,7 @@ HasNoPart seats contending beats chips seat = (¬ (IsUnbeaten contending beats s
 -- each chip of a pot that several seats may win goes to an unbeaten seat: high, or low where a low hand is shown
 abbrev pub GoesToBest : Code → Showdown → PlainPot → (ℕ → ℕ) → Type 0
 GoesToBest code showdown pot share =
-    let contending = contends showdown pot in
+    let contending = is_contender showdown pot in
     let ranking = ranking_of code showdown in
     (seat : ℕ) → 1 ≤ seat → seat ≤ showdown.seats → 2 ≤ length pot.eligible → 0 < share seat
     → IsUnbeaten contending ranking.beats seat ⊎ (IsLowShown contending ranking × IsUnbeaten contending ranking.beats_low seat)
@@ -31,7 +31,7 @@ GoesToBest code showdown pot share =
 -- a seat without a share of such a pot has no part of the whole, or none of either half
 abbrev pub LeavesNoneOut : Code → Showdown → PlainPot → (ℕ → ℕ) → Type 0
 LeavesNoneOut code showdown pot share =
-    let contending = contends showdown pot in
+    let contending = is_contender showdown pot in
     let ranking = ranking_of code showdown in
     (seat : ℕ) → 1 ≤ seat → seat ≤ showdown.seats → 2 ≤ length pot.eligible → share seat ≡ 0
     → HasNoPart showdown.seats contending ranking.beats pot.chips seat

@@ -11,9 +11,8 @@ ghost use Rattle.showdown_split.specs.Hands.{holding, showdown_of};
 ghost use Rattle.showdown_split.specs.Playable.{ArePlayable};
 ghost use Rattle.showdown_split.specs.Scores.{points_of};
 
-use crate::known::known_row;
 use crate::scores::Scores;
-use card_set::CardRow;
+use card_set::{CardRow, known_row};
 use chip_ledger::{LiveRow, Seat};
 use hand_order::{HandOrder, Pick, Score, best_of};
 use play_event::HandRow;

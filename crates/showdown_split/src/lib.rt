@@ -12,7 +12,6 @@ ghost use Rattle.showdown_split.specs.Playable.{ArePlayable, AreWinnable};
 
 mod division;
 mod judging;
-mod known;
 pub mod laws;
 mod net;
 mod pot;
@@ -23,7 +22,6 @@ mod winners;
 use card_set::CardRow;
 use chip_ledger::{LiveRow, PotRow, RakeRow, ShareRow};
 use judging::judged;
-pub use known::known_row;
 use net::net_of;
 use play_event::HandRow;
 use pot::shares_of;

@@ -5,7 +5,7 @@ ghost use Rattle.chip_ledger.specs.LiveRow.{flag_of, flagged};
 ghost use Rattle.chip_ledger.specs.PotRow.{plain};
 ghost use Rattle.chip_ledger.specs.SeatRow.{amount_of, total_of};
 ghost use Rattle.variant_table.specs.Division.{count_to};
-ghost use Rattle.variant_table.specs.Shares.{AreContested, AreShares, contends, is_unshown};
+ghost use Rattle.variant_table.specs.Shares.{AreContested, AreShares, is_contender, is_unshown};
 ghost use Rattle.showdown_split.specs.Scores.{points_of};
 ghost use Rattle.showdown_split.specs.SeatPoints.{is_flagged, ranking_by, shown_only};
 
@@ -78,7 +78,7 @@ pub fn shares_of(pot: &Pot, shown: &LiveRow, high: &Scores, low: &Scores) -> Opt
     ensures none { IfNone result (is_unshown (shown_only shown.now) (plain pot.now) ≡ true) }
     ensures some { OnSome result (is_unshown (shown_only shown.now) (plain pot.now) ≡ false) }
     ensures shares { IfSome result (λ row. AreShares shown.now.seats
-        (contends (shown_only shown.now) (plain pot.now))
+        (is_contender (shown_only shown.now) (plain pot.now))
         (ranking_by (points_of high.now) (points_of low.now)) (plain pot.now) (amount_of row)) }
     ensures total { IfSome result (λ row. total_of row ≡ pot.now.chips) }
 {

@@ -12,7 +12,7 @@ use Rattle.chip_ledger.specs.declared.rows.SeatRow.{SeatRow}
 use Rattle.chip_ledger.specs.LiveRow.{flag_of, flagged}
 use Rattle.chip_ledger.specs.SeatRow.{amount_of}
 use Rattle.chip_ledger.specs.PotRow.{plain, stake_of, stakes_of}
-use Rattle.chip_ledger.specs.Pots.{PlainPot, Stake, all_reach, between, joining, layers, levels, pots_at, reaching, with_chips, with_dead}
+use Rattle.chip_ledger.specs.Pots.{PlainPot, Stake, is_reached_by_all, between, joining, layers, levels, pots_at, reaching, with_chips, with_dead}
 use Rattle.chip_ledger.proofs.PotLevels.{Rising-levels, length-levels}
 use Rattle.chip_ledger.proofs.StakeRows.{flagged-live, flagged-reaching}
 use Rattle.chip_ledger.proofs.PotSums.{stake_chips}
@@ -150,7 +150,7 @@ levels_first stakes first next = sym (levels_above-zero stakes) ∙ levels_from_
 -- dead chips are in the first pot where every live seat reaches the first level
 pub pots_at-together : (stakes : List Stake) (dead first : ℕ)
     → slice_get (levels_above stakes 0) 0 ≡ Some first
-    → all_reach stakes first ≡ true
+    → is_reached_by_all stakes first ≡ true
     → pots_at stakes dead (levels stakes) ≡ with_dead dead (layers stakes 0 (levels stakes))
 unfolding pots_at
 pots_at-together stakes dead first next all =
@@ -158,13 +158,13 @@ pots_at-together stakes dead first next all =
     let own : PlainPot = record { chips = dead; eligible = reaching stakes 0 } in
     let cut = layers stakes 0 (first ∷ levels_above stakes first) in
     ap (pots_at stakes dead) xs
-    ∙ cond-true (all_reach stakes first) (with_dead dead cut) (own ∷ cut) all
+    ∙ cond-true (is_reached_by_all stakes first) (with_dead dead cut) (own ∷ cut) all
     ∙ ap (λ ys. with_dead dead (layers stakes 0 ys)) (sym xs)
 
 -- and else they are a pot of their own
 pub pots_at-apart : (stakes : List Stake) (dead first : ℕ)
     → slice_get (levels_above stakes 0) 0 ≡ Some first
-    → all_reach stakes first ≡ false
+    → is_reached_by_all stakes first ≡ false
     → with_chips (pots_at stakes dead (levels stakes))
     ≡ with_chips (record { chips = dead; eligible = reaching stakes 0 } ∷ []) ++ with_chips
     (with_dead 0 (layers stakes 0 (levels stakes)))
@@ -174,7 +174,7 @@ pots_at-apart stakes dead first next some =
     let own : PlainPot = record { chips = dead; eligible = reaching stakes 0 } in
     let cut = layers stakes 0 (first ∷ levels_above stakes first) in
     ap (λ ys. with_chips (pots_at stakes dead ys)) xs
-    ∙ ap with_chips (cond-false (all_reach stakes first) (with_dead dead cut) (own ∷ cut) some)
+    ∙ ap with_chips (cond-false (is_reached_by_all stakes first) (with_dead dead cut) (own ∷ cut) some)
     ∙ with_chips-cons own cut (nat_lt 0 dead)
     ∙ ap (λ ys. with_chips (own ∷ []) ++ with_chips (layers stakes 0 ys)) (sym xs)
     ∙ ap (λ ps. with_chips (own ∷ []) ++ with_chips ps) (sym (with_no_dead (layers stakes 0 (levels stakes))))

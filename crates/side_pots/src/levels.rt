@@ -2,7 +2,7 @@
 ghost use Rattle.std.specs.Prelude.{◌≡◌, min, slice_get};
 ghost use Rattle.std.specs.Option.{option_map_or};
 ghost use Rattle.chip_ledger.specs.PotRow.{stakes_of};
-ghost use Rattle.chip_ledger.specs.Pots.{all_reach};
+ghost use Rattle.chip_ledger.specs.Pots.{is_reached_by_all};
 ghost use Rattle.side_pots.specs.Levels.{levels_above};
 
 use chip_ledger::{LiveRow, Seat, SeatRow};
@@ -37,7 +37,7 @@ pub fn next_level(left: &SeatRow, live: &LiveRow, below: u64) -> Option<u64>
 #[tactic(auto, using(chip_ledger::proofs::Stakes::all_reach_more, chip_ledger::proofs::Stakes::all_reach_fails))]
 pub fn every_live_seat_reaches(left: &SeatRow, live: &LiveRow, level: u64) -> bool
     requires { live.now.seats ≡ left.now.seats }
-    ensures { result ≡ all_reach (stakes_of left.now live.now) level }
+    ensures { result ≡ is_reached_by_all (stakes_of left.now live.now) level }
 {
     for index in 0..left.seats {
         let seat = Seat { number: index + 1 };

@@ -1,5 +1,4 @@
 -- What is due in a hand, street by street.
-pub mod SeatLists
 pub mod StreetTables
 pub mod Later
 pub mod TurnAfter

@@ -20,7 +20,7 @@ use Rattle.play_event.specs.declared.reason.Due.{Due}
 use Rattle.play_event.specs.declared.setup.Rules.{Rules}
 use Rattle.play_event.specs.declared.setup.Setup.{Setup}
 use Rattle.street_laws.proofs.CardTurns.{first_none, several_live}
-use Rattle.street_laws.proofs.SeatLists.{none_at}
+use Rattle.chip_ledger.proofs.SeatLists.{none_at}
 use Rattle.street_laws.proofs.TurnAfter.{due_by}
 
 -- nothing is due on a street

@@ -22,7 +22,7 @@ use Rattle.play_event.specs.declared.setup.Setup.{Setup}
 use Rattle.street_laws.proofs.Later.{none_dealt, none_boarded, none_drawn}
 use Rattle.street_laws.proofs.StreetTables.{each_street}
 use Rattle.play_event.specs.TurnTargets.{is_bet_due}
-use Rattle.street_laws.specs.Walk.{none_later, street_cards}
+use Rattle.street_laws.specs.Walk.{has_nothing_later, street_cards}
 
 -- what is due on a street by the cases in their order
 abbrev pub due_by : ℕ → (deal draw bring_in move : Bool) → Option Due
@@ -101,7 +101,7 @@ nothing_owed_by true owed dealt none = let zero_left : owed - dealt ≡ 0 = omeg
 nothing_owed_by false owed dealt none = refl
 
 -- on a street after all events the street's cards are due
-module _ (setup : Setup) (past : Past) (street next : ℕ) (early : none_later past street ≡ true) (later : street < next) (within : next ≤ street_count setup.code) (more : nat_le (live_count setup (moves_of past)) 1 ≡ false) where
+module _ (setup : Setup) (past : Past) (street next : ℕ) (early : has_nothing_later past street ≡ true) (later : street < next) (within : next ≤ street_count setup.code) (more : nat_le (live_count setup (moves_of past)) 1 ≡ false) where
   some_live : list_any (is_live (moves_of past)) (all_seats setup) ≡ true
   some_live = one_live setup (moves_of past) more
 

@@ -13,9 +13,9 @@ use Rattle.play_event.specs.declared.reason.Due.TheVariants as dues
 use Rattle.play_event.specs.declared.reason.Due.{Due}
 use Rattle.play_event.specs.declared.setup.Setup.{Setup}
 use Rattle.street_laws.proofs.TurnAfter.{AreDealt, due_by, cards_come, quiet_is_showdown, few_is_over, one_live}
-use Rattle.street_laws.specs.Walk.{none_later, street_cards, turn_after, walked}
+use Rattle.street_laws.specs.Walk.{has_nothing_later, street_cards, turn_after, walked}
 
-module _ (setup : Setup) (past : Past) (street : ℕ) (are : AreDealt setup past street) (early : none_later past street ≡ true) (reached : newest_street past ≤ street) (quiet : (between : ℕ) → newest_street past ≤ between → between < street → due_on setup past between ≡ None) (within : street ≤ street_count setup.code) (more : nat_le (live_count setup (moves_of past)) 1 ≡ false) where
+module _ (setup : Setup) (past : Past) (street : ℕ) (are : AreDealt setup past street) (early : has_nothing_later past street ≡ true) (reached : newest_street past ≤ street) (quiet : (between : ℕ) → newest_street past ≤ between → between < street → due_on setup past between ≡ None) (within : street ≤ street_count setup.code) (more : nat_le (live_count setup (moves_of past)) 1 ≡ false) where
   pub due_here : (bring_in move : Bool) → is_bring_in_due setup (moves_of past) street ≡ bring_in → is_move_due setup (moves_of past) street ≡ move → due_on setup past street ≡ due_by street false false bring_in move
   due_here bring_in move bring_is move_is =
       ap (λ d. due_by street d (is_draw_due setup past street) (is_bring_in_due setup (moves_of past) street) (is_move_due setup (moves_of past) street)) are.dealt
@@ -55,9 +55,9 @@ shows_come setup past more each =
     ap (λ (b : Bool). if b then dues.Show else dues.Over) (list_any-weaker (is_live (moves_of past)) (has_to_show past) each (all_seats setup) (one_live setup (moves_of past) more))
 
 -- what is due after a move
-module _ (setup : Setup) (past : Past) (move : Move) (are : AreDealt setup (Moved move ∷ past) move.street) (early : none_later past move.street ≡ true) (within : move.street ≤ street_count setup.code) (each : (seat : ℕ) → is_live (move ∷ moves_of past) seat ≡ true → has_to_show (Moved move ∷ past) seat ≡ true) where
-  early_now : none_later (Moved move ∷ past) move.street ≡ true
-  early_now = and_from (nat_le move.street move.street) (none_later past move.street) (le-leb move.street move.street (omega arith)) early
+module _ (setup : Setup) (past : Past) (move : Move) (are : AreDealt setup (Moved move ∷ past) move.street) (early : has_nothing_later past move.street ≡ true) (within : move.street ≤ street_count setup.code) (each : (seat : ℕ) → is_live (move ∷ moves_of past) seat ≡ true → has_to_show (Moved move ∷ past) seat ≡ true) where
+  early_now : has_nothing_later (Moved move ∷ past) move.street ≡ true
+  early_now = and_from (nat_le move.street move.street) (has_nothing_later past move.street) (le-leb move.street move.street (omega arith)) early
 
   after_by : (few : Bool) → nat_le (live_count setup (move ∷ moves_of past)) 1 ≡ few → turn setup (Moved move ∷ past) ≡ turn_after setup.code move.street few (is_bring_in_due setup (move ∷ moves_of past) move.street) (is_move_due setup (move ∷ moves_of past) move.street)
   after_by true few_is = few_is_over setup (Moved move ∷ past) few_is

@@ -9,12 +9,12 @@ use Rattle.play_event.specs.declared.reason.Due.TheVariants as dues
 use Rattle.play_event.specs.declared.reason.Due.{Due}
 
 -- no event of the past is of a later street
-abbrev pub none_later : Past → ℕ → Bool
-none_later past street = list_all (λ event. nat_le (street_of event) street) past
+abbrev pub has_nothing_later : Past → ℕ → Bool
+has_nothing_later past street = list_all (λ event. nat_le (street_of event) street) past
 
 -- no move is of a later street
-abbrev pub moves_early : List Move → ℕ → Bool
-moves_early moves street = list_all (λ (move : Move). nat_le move.street street) moves
+abbrev pub has_no_move_later : List Move → ℕ → Bool
+has_no_move_later moves street = list_all (λ (move : Move). nat_le move.street street) moves
 
 -- a street begins with its deal or its draw
 abbrev pub street_cards : Code → ℕ → Due

@@ -7,7 +7,7 @@ use Rattle.chip_ledger.specs.SeatRow.{amount_of}
 use Rattle.chip_ledger.proofs.Same.{seat_row_same_by_seats}
 use Rattle.play_event.specs.declared.code.Code.{Code}
 use Rattle.variant_table.specs.Division.{AreHalves, AreParts}
-use Rattle.variant_table.specs.Shares.{AllShared, AreContested, AreShares, Ranking, Showdown, contends, ranking_of}
+use Rattle.variant_table.specs.Shares.{AllShared, AreContested, AreShares, Ranking, Showdown, is_contender, ranking_of}
 use Rattle.showdown_split.proofs.Parts.{divided-agree}
 
 -- the winners are told, and the parts with them
@@ -51,6 +51,6 @@ share_lists_same code showdown (pot ∷ pots) (x ∷ xs) (y ∷ ys) one other a 
     let seats : x.seats ≡ showdown.seats = one zero x (omega arith) in
     let too : y.seats ≡ showdown.seats = other zero y (omega arith) in
     let head : x ≡ y = seat_row_same_by_seats x y (seats ∙ sym too) (λ seat least most.
-    shares_same showdown.seats (contends showdown pot) (ranking_of code showdown) pot (amount_of x) (amount_of y) a.0 b.0 seat least (omega (arith, most, seats))) in
+    shares_same showdown.seats (is_contender showdown pot) (ranking_of code showdown) pot (amount_of x) (amount_of y) a.0 b.0 seat least (omega (arith, most, seats))) in
     let tail : xs ≡ ys = share_lists_same code showdown pots xs ys (λ k d within. one (suc k) d (omega (arith, within))) (λ k d within. other (suc k) d (omega (arith, within))) a.1 b.1 in
     ap (λ z. z ∷ xs) head ∙ ap (λ zs. y ∷ zs) tail

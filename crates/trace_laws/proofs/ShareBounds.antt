@@ -22,7 +22,7 @@ use Rattle.variant_table.specs.Division.{AreHalves, AreParts, count_to, divided}
 use Rattle.play_event.specs.declared.code.Code.{Code}
 use Rattle.play_event.specs.declared.setup.Setup.{Setup}
 use Rattle.play_event.specs.Past.{Past}
-use Rattle.variant_table.specs.Shares.{AllShared, AreContested, AreOfOne, AreSharesOf, Ranking, Showdown, contends, ranking_of}
+use Rattle.variant_table.specs.Shares.{AllShared, AreContested, AreOfOne, AreSharesOf, Ranking, Showdown, is_contender, ranking_of}
 use Rattle.showdown_split.proofs.Bests.{count_some}
 use Rattle.showdown_split.proofs.FirstRake.{have_rakes}
 use Rattle.showdown_split.proofs.Flagged.{is_flagged-flag, length-flagged, sum_for_each}
@@ -86,7 +86,7 @@ one_whole seats row pot share same is one =
 pot_within : (code : Code) (showdown : Showdown) (row : LiveRow) (pot : PlainPot) (share : ℕ → ℕ) → row.seats ≡ showdown.seats → pot.eligible ≡ flagged row → AreSharesOf code showdown pot share → sum_by share (seats_of showdown.seats) ≤ pot.chips
 pot_within code showdown row pot share same is (inl one) = omega (arith, one_whole showdown.seats row pot share same is one)
 pot_within code showdown row pot share same is (inr shown) =
-    contested_within showdown.seats (contends showdown pot) (ranking_of code showdown) pot.chips share shown.contested
+    contested_within showdown.seats (is_contender showdown pot) (ranking_of code showdown) pot.chips share shown.contested
 
 -- the chips of a pot at an index, and the shares of it
 abbrev pub pot_at : List PlainPot → ℕ → ℕ

@@ -16,19 +16,19 @@ divided seats wins chips seat =
 
 -- a test is true exactly of the winners: the seats that contend and that no other contending seat beats
 abbrev pub TellsWinners : (ℕ → Bool) → (ℕ → ℕ → Type 0) → (ℕ → Bool) → Type 0
-TellsWinners contends beats wins =
-    (seat : ℕ) → IsTrue (wins seat) ↔ (IsTrue (contends seat) × ((other : ℕ) → IsTrue (contends other) → ¬ (beats other seat)))
+TellsWinners contending beats wins =
+    (seat : ℕ) → IsTrue (wins seat) ↔ (IsTrue (contending seat) × ((other : ℕ) → IsTrue (contending other) → ¬ (beats other seat)))
 
 -- each of so many seats has its part of chips that are divided among the winners
-pub record AreParts (seats : ℕ) (contends : ℕ → Bool) (beats : ℕ → ℕ → Type 0) (chips : ℕ) (share : ℕ → ℕ) : Type 0 where
+pub record AreParts (seats : ℕ) (contending : ℕ → Bool) (beats : ℕ → ℕ → Type 0) (chips : ℕ) (share : ℕ → ℕ) : Type 0 where
   pub wins : ℕ → Bool
-  pub told : TellsWinners contends beats wins
+  pub told : TellsWinners contending beats wins
   pub parts : (seat : ℕ) → 1 ≤ seat → seat ≤ seats → share seat ≡ divided seats wins chips seat
 
 -- each seat has its parts of both halves of a pot, of which the high half has the odd chip
-pub record AreHalves (seats : ℕ) (contends : ℕ → Bool) (beats beats_low : ℕ → ℕ → Type 0) (chips : ℕ) (share : ℕ → ℕ) : Type 0 where
+pub record AreHalves (seats : ℕ) (contending : ℕ → Bool) (beats beats_low : ℕ → ℕ → Type 0) (chips : ℕ) (share : ℕ → ℕ) : Type 0 where
   pub high : ℕ → ℕ
   pub low : ℕ → ℕ
-  pub high_parts : AreParts seats contends beats (chips - chips / 2) high
-  pub low_parts : AreParts seats contends beats_low (chips / 2) low
+  pub high_parts : AreParts seats contending beats (chips - chips / 2) high
+  pub low_parts : AreParts seats contending beats_low (chips / 2) low
   pub together : (seat : ℕ) → 1 ≤ seat → seat ≤ seats → share seat ≡ high seat + low seat

@@ -21,8 +21,8 @@ pub record Showdown : Type 0 where
   pub board : List Card
 
 -- a seat contends for a pot: it may win it, and is shown
-abbrev pub contends : Showdown → PlainPot → ℕ → Bool
-contends showdown pot seat = may_win pot seat && showdown.shown seat
+abbrev pub is_contender : Showdown → PlainPot → ℕ → Bool
+is_contender showdown pot seat = may_win pot seat && showdown.shown seat
 
 -- the choices of cards that a game allows a seat
 abbrev pub choices_for : Code → Showdown → ℕ → List (List Card)
@@ -74,7 +74,7 @@ AreShares seats contending ranking pot share = AreOfOne seats pot share ⊎ AreO
 
 -- the shares of a pot in a game
 abbrev pub AreSharesOf : Code → Showdown → PlainPot → (ℕ → ℕ) → Type 0
-AreSharesOf code showdown pot share = AreShares showdown.seats (contends showdown pot) (ranking_of code showdown) pot share
+AreSharesOf code showdown pot share = AreShares showdown.seats (is_contender showdown pot) (ranking_of code showdown) pot share
 
 -- the shares of some pots, in order: what each seat gets of each
 abbrev pub AllShared : Code → Showdown → List PlainPot → List (ℕ → ℕ) → Type 0
@@ -85,7 +85,7 @@ AllShared code showdown (pot ∷ pots) (share ∷ shares) = AreSharesOf code sho
 
 -- a pot that two or more seats may win, of which none is shown
 abbrev pub is_unshown : Showdown → PlainPot → Bool
-is_unshown showdown pot = nat_le 2 (length pot.eligible) && not (list_any (contends showdown pot) (seats_of showdown.seats))
+is_unshown showdown pot = nat_le 2 (length pot.eligible) && not (list_any (is_contender showdown pot) (seats_of showdown.seats))
 
 -- the number of the first such pot, where the first pot has this number
 abbrev pub first_unshown_from : ℕ → Showdown → List PlainPot → Option ℕ

@@ -5,6 +5,7 @@ use Rattle.play_event.specs.declared.limit.Limit.{Limit}
 use Rattle.play_event.specs.declared.limit.Opener.{Opener}
 use Rattle.play_event.specs.Games.{Game, game_of}
 use Rattle.play_event.specs.Games as tables
+use Rattle.play_event.specs.declared.street.Street.{Street}
 use Rattle.hand_order.specs.declared.best.Pick.{Pick}
 use Rattle.hand_order.specs.Choices.{CanPick}
 use Rattle.variant_table.specs.Orders.{Order}
@@ -27,12 +28,12 @@ pub record IsOrder (order : Order) (held : ℕ) (is_hand : List Card → Type 0)
   pub weaker_is : (a b : List Card) → is_weaker a b ↔ order.is_weaker a b
 
 -- the hole cards of some streets together
-abbrev pub hole_cards : List tables.Street → ℕ
+abbrev pub hole_cards : List Street → ℕ
 hole_cards [] = 0
 hole_cards (street ∷ rest) = street.down + street.up + hole_cards rest
 
 -- the board cards of some streets together
-abbrev pub board_cards : List tables.Street → ℕ
+abbrev pub board_cards : List Street → ℕ
 board_cards [] = 0
 board_cards (street ∷ rest) = street.board + board_cards rest
 

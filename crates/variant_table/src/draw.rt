@@ -8,16 +8,15 @@ ghost use Rattle.play_event.specs.declared.limit.Opener.TheVariants as openers;
 ghost use Rattle.variant_table.specs.declared.deck.TheConstants.{WHOLE_DECK};
 ghost use Rattle.variant_table.specs.declared.draw.TheConstants.{DRAW_SEATS};
 ghost use Rattle.variant_table.specs.Orders.{badugi_order, deuce_seven_order};
-ghost use Rattle.variant_table.specs.Plain.{plain_street, plain_size};
 ghost use Rattle.variant_table.specs.TableLaws.{same_order, values_of};
 
 use crate::deck::WHOLE_DECK;
-use crate::street::{NO_STREET, Size, Street, hole_cards};
+use crate::street::{NO_STREET, hole_cards};
 use crate::variant::Variant;
 use badugi_rank::Badugi;
 use hand_order::Pick;
 use low_rank::DeuceSeven;
-use play_event::{Code, Limit, Opener};
+use play_event::{Code, Limit, Opener, Size, Street};
 
 // The most seats of a draw game.
 const DRAW_SEATS: u8 = 6;
@@ -185,7 +184,7 @@ impl Variant for FB {
 fn triple_draw_street(number: u8, cards: u8) -> Street
     requires first { 1 ≤ number }
     requires last { number ≤ 4 }
-    ensures { slice_get (draw_streets cards) (number - 1) ≡ Some (plain_street result) }
+    ensures { slice_get (draw_streets cards) (number - 1) ≡ Some result }
 {
     match number {
         1 => hole_cards(cards, 0, Size::Small),
@@ -196,7 +195,7 @@ fn triple_draw_street(number: u8, cards: u8) -> Street
 
 // A street on which each live seat draws.
 fn draw(size: Size) -> Street
-    ensures { plain_street result ≡ draw_street (plain_size size) }
+    ensures { result ≡ draw_street size }
 {
     Street {
         draws: true,

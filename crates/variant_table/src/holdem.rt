@@ -10,11 +10,11 @@ ghost use Rattle.variant_table.specs.Orders.{high_order, short_deck_order};
 ghost use Rattle.variant_table.specs.TableLaws.{same_order, values_of};
 
 use crate::deck::{SHORT_DECK, WHOLE_DECK};
-use crate::street::{FLOP_SEATS, Size, Street, flop_street};
+use crate::street::{FLOP_SEATS, flop_street};
 use crate::variant::Variant;
 use hand_order::Pick;
 use high_rank::{High, ShortDeckHigh};
-use play_event::{Code, Limit, Opener};
+use play_event::{Code, Limit, Opener, Size, Street};
 
 /// Fixed-limit Texas hold'em.
 #[derive(Clone, Copy, Debug)]

@@ -10,12 +10,12 @@ ghost use Rattle.variant_table.specs.Orders.{eight_low_order, high_order};
 ghost use Rattle.variant_table.specs.TableLaws.{same_order, values_of};
 
 use crate::deck::WHOLE_DECK;
-use crate::street::{FLOP_SEATS, Size, Street, flop_street};
+use crate::street::{FLOP_SEATS, flop_street};
 use crate::variant::Variant;
 use hand_order::Pick;
 use high_rank::High;
 use low_rank::EightLow;
-use play_event::{Code, Limit, Opener};
+use play_event::{Code, Limit, Opener, Size, Street};
 
 /// Pot-limit Omaha.
 #[derive(Clone, Copy, Debug)]

@@ -1,32 +1,8 @@
-// A street deals hole cards or board cards, or draws, and then bets in one size.
+//! A street deals hole cards or board cards, or draws, and then bets in one size.
 ghost use Rattle.std.specs.Prelude.{◌≡◌, ◌≤◌, ◌-◌, Some, slice_get};
 ghost use Rattle.play_event.specs.Games.{board_street, draw_street, flop_streets, hole_street, stud_street};
-ghost use Rattle.variant_table.specs.Plain.{plain_size, plain_street};
 
-/// The size of a street's bets.
-#[derive(Clone, Copy, Debug, PartialEq, Eq, Hash)]
-pub enum Size {
-    /// The small bet of fixed limit.
-    Small,
-    /// The big bet of fixed limit.
-    Big,
-    /// The least bet of no limit and pot limit.
-    Least,
-}
-
-/// What a street deals to each live seat and to the board, whether it draws, and the size of its bets.
-#[derive(Clone, Copy, Debug, PartialEq, Eq, Hash)]
-pub struct Street {
-    /// Cards face down for each live seat.
-    pub down: u8,
-    /// Cards face up for each live seat.
-    pub up: u8,
-    /// Cards for the board.
-    pub board: u8,
-    /// Whether each live seat draws.
-    pub draws: bool,
-    pub size: Size,
-}
+use play_event::{Size, Street};
 
 /// A street that deals nothing, as stands past the last one.
 pub const NO_STREET: Street = Street {
@@ -45,8 +21,8 @@ pub const FLOP_SEATS: u8 = 10;
 pub fn flop_street(number: u8, cards: u8, early: Size, late: Size) -> Street
     requires first { 1 ≤ number }
     requires last { number ≤ 4 }
-    ensures { slice_get (flop_streets cards (plain_size early) (plain_size late)) (number - 1)
-        ≡ Some (plain_street result) }
+    ensures { slice_get (flop_streets cards early late) (number - 1)
+        ≡ Some result }
 {
     match number {
         1 => hole_cards(cards, 0, early),
@@ -57,7 +33,7 @@ pub fn flop_street(number: u8, cards: u8, early: Size, late: Size) -> Street
 
 // A street that deals each live seat so many cards face down and face up.
 pub fn hole_cards(down: u8, up: u8, size: Size) -> Street
-    ensures { plain_street result ≡ stud_street down up (plain_size size) }
+    ensures { result ≡ stud_street down up size }
 {
     Street {
         down,
@@ -69,7 +45,7 @@ pub fn hole_cards(down: u8, up: u8, size: Size) -> Street
 
 // A street that deals so many cards to the board.
 fn board_cards(cards: u8, size: Size) -> Street
-    ensures { plain_street result ≡ board_street cards (plain_size size) }
+    ensures { result ≡ board_street cards size }
 {
     Street {
         board: cards,

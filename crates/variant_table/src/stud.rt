@@ -8,16 +8,15 @@ ghost use Rattle.play_event.specs.declared.limit.Opener.TheVariants as openers;
 ghost use Rattle.variant_table.specs.declared.deck.TheConstants.{WHOLE_DECK};
 ghost use Rattle.variant_table.specs.declared.stud.TheConstants.{STUD_SEATS};
 ghost use Rattle.variant_table.specs.Orders.{eight_low_order, high_order, razz_order};
-ghost use Rattle.variant_table.specs.Plain.{plain_street};
 ghost use Rattle.variant_table.specs.TableLaws.{same_order, values_of};
 
 use crate::deck::WHOLE_DECK;
-use crate::street::{Size, Street, hole_cards};
+use crate::street::hole_cards;
 use crate::variant::Variant;
 use hand_order::Pick;
 use high_rank::High;
 use low_rank::{EightLow, RazzLow};
-use play_event::{Code, Limit, Opener};
+use play_event::{Code, Limit, Opener, Size, Street};
 
 // The most seats of a stud game.
 const STUD_SEATS: u8 = 7;
@@ -182,7 +181,7 @@ impl Variant for FR {
 fn stud_street(number: u8) -> Street
     requires first { 1 ≤ number }
     requires last { number ≤ 5 }
-    ensures { slice_get stud_streets (number - 1) ≡ Some (plain_street result) }
+    ensures { slice_get stud_streets (number - 1) ≡ Some result }
 {
     match number {
         1 => hole_cards(2, 1, Size::Small),

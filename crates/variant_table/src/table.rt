@@ -1,17 +1,16 @@
 // The table of a game by its code has the values of the type with this code.
 ghost use Rattle.std.specs.Prelude.{◌≡◌, ◌≤◌};
 ghost use Rattle.play_event.specs.Games.{game_of};
-ghost use Rattle.variant_table.specs.Plain.{plain_street};
 ghost use Rattle.variant_table.specs.Tables.{IsTableOf, street_at};
 
 use crate::draw::{F2L3D, FB, N2L1D};
 use crate::holdem::{FT, NS, NT};
 use crate::omaha::{FO8, PO};
-use crate::street::{NO_STREET, Street};
+use crate::street::NO_STREET;
 use crate::stud::{F7S, F7S8, FR};
 use crate::variant::Variant;
 use hand_order::Pick;
-use play_event::{Code, Limit, Opener};
+use play_event::{Code, Limit, Opener, Street};
 
 /// What is the same for all hands of a game.
 #[derive(Clone, Copy, Debug, PartialEq, Eq)]
@@ -75,7 +74,7 @@ fn table<V: Variant>() -> GameTable
 // The street with this number, or past the last one a street that deals nothing.
 fn row<V: Variant>(number: u8) -> Street
     requires { 1 ≤ number }
-    ensures { plain_street result ≡ street_at (game_of V.CODE) number }
+    ensures { result ≡ street_at (game_of V.CODE) number }
 {
     if number <= V::STREETS {
         V::street(number)

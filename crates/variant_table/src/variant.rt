@@ -8,15 +8,13 @@ ghost use Rattle.hand_order.specs.declared.best.Pick.{Pick};
 ghost use Rattle.play_event.specs.declared.limit.Limit.{Limit};
 ghost use Rattle.play_event.specs.declared.limit.Opener.{Opener};
 ghost use Rattle.variant_table.specs.Orders.{award_of, second_of};
-ghost use Rattle.variant_table.specs.Plain.{plain_street};
 ghost use Rattle.variant_table.specs.Variants.{AreValuesOf, IsOrder, IsUsable, AddsUp};
 ghost use Rattle.variant_table.specs.TableLaws.{table_adds_up, usable_award, usable_second};
 
 use crate::deck::SHORT_DECK;
-use crate::street::Street;
 use card_set::{Card, Rank, place_of_rank};
 use hand_order::{HandOrder, Pick};
-use play_event::{Code, Limit, Opener};
+use play_event::{Code, Limit, Opener, Street};
 
 /// A game with its table.
 pub trait Variant {
@@ -62,7 +60,7 @@ pub trait Variant {
     fn street(number: u8) -> Street
         requires first { 1 ≤ number }
         requires last { number ≤ STREETS }
-        ensures { slice_get (game_of CODE).streets (number - 1) ≡ Some (plain_street result) };
+        ensures { slice_get (game_of CODE).streets (number - 1) ≡ Some result };
 
     /// Whether the deck has this card.
     fn in_deck(card: Card) -> bool

@@ -8,16 +8,17 @@ use Rattle.chip_ledger.specs.SeatRow.{amount_of}
 use Rattle.play_event.specs.declared.setup.Setup.{Setup}
 use Rattle.play_event.specs.Games.{game_of}
 use Rattle.play_event.specs.Streets.{limit_of, is_stud}
-use Rattle.play_event.specs.ValidSetup.{IsValid, IsSize, IsSizeWhere, is_fixed, has_antes, most_chips}
+use Rattle.chip_ledger.specs.declared.numbers.TheConstants.{MOST_CHIPS}
+use Rattle.play_event.specs.ValidSetup.{IsValid, IsSize, IsSizeWhere, is_fixed, has_antes}
 
 -- an amount is a stack or a bet size
 abbrev is_size : ℕ → Bool
-is_size chips = nat_le 1 chips && nat_le chips most_chips
+is_size chips = nat_le 1 chips && nat_le chips MOST_CHIPS
 
 size_by : (chips : ℕ) → is_size chips ≡ true → IsSize chips
 size_by chips passes =
-    let both = and_parts (nat_le 1 chips) (nat_le chips most_chips) passes in
-    (leb-true 1 chips both.0, leb-true chips most_chips both.1)
+    let both = and_parts (nat_le 1 chips) (nat_le chips MOST_CHIPS) passes in
+    (leb-true 1 chips both.0, leb-true chips MOST_CHIPS both.1)
 
 -- a bet size that is used, or 0
 abbrev is_size_where : Bool → ℕ → Bool
@@ -73,7 +74,7 @@ pass_seats setup =
 
 abbrev pass_amounts : Setup → Bool
 pass_amounts setup =
-    are_sizes setup.stacks.seats setup.stacks.amounts && (are_below setup.antes.amounts setup.stacks.amounts && (are_most most_chips setup.blinds.amounts && are_most MOST_AMOUNT setup.rakes.rakes))
+    are_sizes setup.stacks.seats setup.stacks.amounts && (are_below setup.antes.amounts setup.stacks.amounts && (are_most MOST_CHIPS setup.blinds.amounts && are_most MOST_AMOUNT setup.rakes.rakes))
 
 abbrev pass_bets : Setup → Bool
 pass_bets setup =
@@ -93,9 +94,9 @@ valid_by setup seats amounts bets rest =
     let fixed = is_fixed (limit_of setup.code) in
     let seats_1 = and_parts (setup.antes.seats == setup.stacks.seats) ((setup.blinds.seats == setup.stacks.seats) && nat_le setup.stacks.seats (game_of setup.code).seats) seats in
     let seats_2 = and_parts (setup.blinds.seats == setup.stacks.seats) (nat_le setup.stacks.seats (game_of setup.code).seats) seats_1.1 in
-    let amounts_1 = and_parts (are_sizes setup.stacks.seats setup.stacks.amounts) (are_below setup.antes.amounts setup.stacks.amounts && (are_most most_chips setup.blinds.amounts && are_most MOST_AMOUNT setup.rakes.rakes)) amounts in
-    let amounts_2 = and_parts (are_below setup.antes.amounts setup.stacks.amounts) (are_most most_chips setup.blinds.amounts && are_most MOST_AMOUNT setup.rakes.rakes) amounts_1.1 in
-    let amounts_3 = and_parts (are_most most_chips setup.blinds.amounts) (are_most MOST_AMOUNT setup.rakes.rakes) amounts_2.1 in
+    let amounts_1 = and_parts (are_sizes setup.stacks.seats setup.stacks.amounts) (are_below setup.antes.amounts setup.stacks.amounts && (are_most MOST_CHIPS setup.blinds.amounts && are_most MOST_AMOUNT setup.rakes.rakes)) amounts in
+    let amounts_2 = and_parts (are_below setup.antes.amounts setup.stacks.amounts) (are_most MOST_CHIPS setup.blinds.amounts && are_most MOST_AMOUNT setup.rakes.rakes) amounts_1.1 in
+    let amounts_3 = and_parts (are_most MOST_CHIPS setup.blinds.amounts) (are_most MOST_AMOUNT setup.rakes.rakes) amounts_2.1 in
     let bets_1 = and_parts (is_size_where (is_stud setup.code) setup.bring_in) (is_size_where fixed setup.small_bet && (is_size_where fixed setup.big_bet && is_size_where (not fixed) setup.min_bet)) bets in
     let bets_2 = and_parts (is_size_where fixed setup.small_bet) (is_size_where fixed setup.big_bet && is_size_where (not fixed) setup.min_bet) bets_1.1 in
     let bets_3 = and_parts (is_size_where fixed setup.big_bet) (is_size_where (not fixed) setup.min_bet) bets_2.1 in
@@ -110,7 +111,7 @@ valid_by setup seats amounts bets rest =
       few_seats = leb-true setup.stacks.seats (game_of setup.code).seats seats_2.1;
       stacks = λ seat first last. sizes_by setup.stacks.seats setup.stacks.amounts (seat - 1) amounts_1.0 (omega (arith, first, last));
       antes = λ seat. below_by setup.antes.amounts setup.stacks.amounts (seat - 1) amounts_2.0;
-      blinds = λ seat. most_by most_chips setup.blinds.amounts (seat - 1) amounts_3.0;
+      blinds = λ seat. most_by MOST_CHIPS setup.blinds.amounts (seat - 1) amounts_3.0;
       bring_in = size_where (is_stud setup.code) setup.bring_in bets_1.0;
       small_bet = size_where fixed setup.small_bet bets_2.0;
       big_bet = size_where fixed setup.big_bet bets_3.0;

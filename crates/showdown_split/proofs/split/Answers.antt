@@ -9,7 +9,7 @@ use Rattle.chip_ledger.specs.PotRow.{plain, plain_pots, pots_in, shares_in}
 use Rattle.chip_ledger.specs.Pots.{PlainPot, may_win}
 use Rattle.chip_ledger.specs.Rakes.{nets_of}
 use Rattle.chip_ledger.specs.SeatRow.{amount_of}
-use Rattle.variant_table.specs.Shares.{contends, first_unshown, is_unshown, ranking_of}
+use Rattle.variant_table.specs.Shares.{is_contender, first_unshown, is_unshown, ranking_of}
 use Rattle.showdown_split.specs.Hands.{showdown_of}
 use Rattle.showdown_split.specs.Scores.{points_of}
 use Rattle.showdown_split.specs.SeatPoints.{ranking_by}
@@ -40,7 +40,7 @@ loop-pot-preserved g c =
     let before = map plain (take i items) in
     let next = plain_more items i pot c.loop-pot-test.true c.pot-item.is in
     let more = nets_more rakes items i c.loop-pot.shares.count pot net c.loop-pot-test.true c.pot-item.is c.loop-pot.invariant.count c.net_of-net.ensures.net in
-    let test = contends showdown (plain net) in
+    let test = is_contender showdown (plain net) in
     let same_seats : net.eligible.seats ≡ shown.seats =
     ap (λ (row : LiveRow). row.seats) c.net_of-net.ensures.eligible
     ∙ ap (λ (p : Pot). p.eligible.seats) c.pot-item.is

@@ -5,4 +5,4 @@ use Rattle.card_places.specs.Refusals as why
 use Rattle.card_places.proofs.completing.some_lacks.Given as goal
 
 abbrev pub invariant-loop-index : goal.invariant-loop-index
-invariant-loop-index l = l.any ≡ list_any (why.lacks_in l.state l.live l.on) (seats_of l.index)
+invariant-loop-index l = l.any ≡ list_any (why.is_owed_deal_in l.state l.live l.on) (seats_of l.index)

@@ -10,7 +10,7 @@ use Rattle.chip_ledger.specs.Seat.{seats_of}
 use Rattle.chip_ledger.specs.SeatRow.{amount_of}
 use Rattle.chip_ledger.proofs.Seats.{sum-seats}
 use Rattle.variant_table.specs.Division.{count_to}
-use Rattle.variant_table.specs.Shares.{AreContested, contends}
+use Rattle.variant_table.specs.Shares.{AreContested, is_contender}
 use Rattle.showdown_split.specs.Scores.{points_of}
 use Rattle.showdown_split.specs.SeatPoints.{is_flagged, ranking_by, shown_only}
 use Rattle.showdown_split.proofs.Compared.{alike_itself, same_contested}
@@ -43,7 +43,7 @@ pub returns-then-not-any-clause-none : goal.returns-then-not-any-clause-none
 returns-then-not-any-clause-none c =
     let pot = c.args.pot.now in
     let shown = c.args.shown.now in
-    let test = contends (shown_only shown) (plain pot) in
+    let test = is_contender (shown_only shown) (plain pot) in
     let rivals = c.contending-rivals in
     let several : 2 ≤ length (flagged pot.eligible) = several_flagged pot.eligible c.requires.some (λ one. c.if-flags_to-eq1.false (c.flags_to.ensures.number ∙ one)) in
     let same = flagged_both rivals.result pot.eligible shown rivals.ensures.seats c.requires.seats rivals.ensures.flags in
@@ -54,7 +54,7 @@ pub returns-clause-shares : goal.returns-clause-shares
 returns-clause-shares c =
     let pot = c.args.pot.now in
     let shown = c.args.shown.now in
-    let test = contends (shown_only shown) (plain pot) in
+    let test = is_contender (shown_only shown) (plain pot) in
     let rivals = c.contending-rivals in
     let ranking = ranking_by (points_of c.args.high.now) (points_of c.args.low.now) in
     let same = flagged_both rivals.result pot.eligible shown rivals.ensures.seats c.requires.seats rivals.ensures.flags in
@@ -73,14 +73,14 @@ returns-then-flags_to-eq1-clause-some c =
     let pot = c.args.pot.now in
     let shown = c.args.shown.now in
     let one : length (flagged pot.eligible) ≡ 1 = omega (arith, length-flagged pot.eligible, c.flags_to.ensures.number, c.if-flags_to-eq1.true) in
-    ap (λ (n : ℕ). nat_le 2 n && not (list_any (contends (shown_only shown) (plain pot)) (seats_of shown.seats))) one
+    ap (λ (n : ℕ). nat_le 2 n && not (list_any (is_contender (shown_only shown) (plain pot)) (seats_of shown.seats))) one
 
 pub returns-clause-some : goal.returns-clause-some
 returns-clause-some c =
     let pot = c.args.pot.now in
     let shown = c.args.shown.now in
     let rivals = c.contending-rivals in
-    let test = contends (shown_only shown) (plain pot) in
+    let test = is_contender (shown_only shown) (plain pot) in
     let same = flagged_both rivals.result pot.eligible shown rivals.ensures.seats c.requires.seats rivals.ensures.flags in
     let one = some_flagged rivals.result (c.any.ensures.0 c.if-not-any.false) in
     let range = flagged_inside rivals.result one.0 one.1 in

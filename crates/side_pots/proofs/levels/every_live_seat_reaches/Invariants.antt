@@ -1,8 +1,8 @@
 -- All seats so far reach the level.
 use Rattle.std.proofs.Common.{◌≡◌, true}
-use Rattle.chip_ledger.specs.Pots.{all_reach}
+use Rattle.chip_ledger.specs.Pots.{is_reached_by_all}
 use Rattle.chip_ledger.proofs.Stakes.{stakes_upto}
 use Rattle.side_pots.proofs.levels.every_live_seat_reaches.Given as goal
 
 abbrev pub invariant-loop-index : goal.invariant-loop-index
-invariant-loop-index l = all_reach (stakes_upto l.left l.live l.index) l.level ≡ true
+invariant-loop-index l = is_reached_by_all (stakes_upto l.left l.live l.index) l.level ≡ true

@@ -1,5 +1,5 @@
 use Rattle.std.proofs.Common.{ℕ, ◌≤◌, ◌<◌, IsTrue, slice_index}
-use Rattle.machine_table.proofs.valid.are_few.Given as goal
+use Rattle.variant_table.proofs.valid.are_few.Given as goal
 
 abbrev pub invariant-loop-amount : goal.invariant-loop-amount
 invariant-loop-amount l = IsTrue l.few → (k : ℕ) → k < l.amount-index → slice_index l.amounts k ≤ l.most

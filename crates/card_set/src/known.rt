@@ -1,11 +1,13 @@
-// The cards of a seat are those of its slots that are known.
+//! The known cards of a row of slots are a row of cards.
 ghost use Rattle.std.specs.Prelude.{◌≡◌, ◌≤◌, ◌<◌, ◌+◌, [], ◌∷◌, ◌++◌};
+ghost use Rattle.card_set.specs.declared.row.TheConstants.{ROW_ENTRIES};
 ghost use Rattle.card_set.specs.Row.{cards_of, slots_of};
 ghost use Rattle.card_set.specs.Known.{known_cards};
 
-use card_set::{CardRow, Slot, SlotRow};
+use crate::card::Slot;
+use crate::row::{CardRow, SlotRow};
 
-/// The known cards of a row, in order.
+/// The known cards of a row of slots, in order.
 #[tactic(auto, using(crate::proofs::KnownCards::one_known_more))]
 pub fn known_row(slots: &SlotRow) -> CardRow
     ensures { cards_of result ≡ known_cards (slots_of slots.now) }
@@ -19,7 +21,7 @@ pub fn known_row(slots: &SlotRow) -> CardRow
 
 // The cards and one more, where it is known.
 fn with_known(cards: CardRow, slot: Slot) -> CardRow
-    requires { cards.len < 7 }
+    requires { cards.len < ROW_ENTRIES }
     ensures cards { cards_of result ≡ cards_of cards ++ known_cards (slot ∷ []) }
     ensures longer { result.len ≤ cards.len + 1 }
 {

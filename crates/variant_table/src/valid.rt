@@ -7,12 +7,9 @@ ghost use Rattle.play_event.specs.Streets.{is_opened_by_up_cards};
 ghost use Rattle.play_event.specs.ValidSetup as valid;
 ghost use Rattle.play_event.specs.ValidSetup.{IsSize, IsSizeWhere, IsValid};
 
-use chip_ledger::{MOST_AMOUNT, Seat, SeatRow};
+use crate::table::table_of;
+use chip_ledger::{MOST_AMOUNT, MOST_CHIPS, Seat, SeatRow};
 use play_event::{Limit, Opener, Setup};
-use variant_table::table_of;
-
-// The greatest stack, blind or bet size.
-const MOST_CHIPS: u64 = 1_000_000_000_000;
 
 /// The setup is that of a hand.
 pub fn is_valid(setup: &Setup) -> bool
@@ -109,7 +106,7 @@ fn are_within(row: &SeatRow, other: &SeatRow) -> bool
 }
 
 // Some seat has an amount.
-#[tactic(auto, using(street_laws::proofs::SeatLists::any_more))]
+#[tactic(auto, using(chip_ledger::proofs::SeatLists::any_more))]
 fn has_some(row: &SeatRow) -> bool
     ensures { result
         ≡ list_any (λ seat. nat_lt 0 (amount_of row.now seat)) (seats_of row.now.seats) }
