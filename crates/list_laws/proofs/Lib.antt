@@ -11,3 +11,5 @@ pub mod Counting
 pub mod Finding
 pub mod Earliest
 pub mod Bits
+pub mod NumbersOfRange
+pub mod CountsReversed

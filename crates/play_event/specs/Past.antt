@@ -1,5 +1,5 @@
 -- The past of a hand is the list of its resolved events, the newest first. Nothing else is state.
-use Rattle.std.specs.Prelude.{ℕ, Bool, true, false, ◌==◌, List, [], ◌∷◌, filter}
+use Rattle.std.specs.Prelude.{ℕ, Bool, true, false, ◌==◌, nat_lt, List, [], ◌∷◌, filter}
 use Rattle.card_set.specs.declared.card.Card.{Card}
 use Rattle.card_set.specs.declared.card.Slot.{Slot}
 
@@ -58,6 +58,10 @@ moves_of (Mucked street seat ∷ before) = moves_of before
 -- the moves of one street
 abbrev pub moves_on : ℕ → List Move → List Move
 moves_on street moves = filter (λ move. move.street == street) moves
+
+-- the moves before a street
+abbrev pub moves_before : ℕ → List Move → List Move
+moves_before street moves = filter (λ move. nat_lt move.street street) moves
 
 -- the move is a fold
 abbrev pub is_fold : Act → Bool
