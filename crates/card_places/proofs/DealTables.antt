@@ -10,7 +10,6 @@ use Rattle.play_event.specs.declared.street.Street.{Street}
 use Rattle.variant_table.specs.declared.table.GameTable.{GameTable}
 use Rattle.variant_table.specs.Tables.{no_street}
 use Rattle.variant_table.specs.Tables.{IsTableOf, street_at}
-use Rattle.std.proofs.lemmas.List.{length-map}
 use Rattle.card_places.specs.Marks.{IsStreetOf}
 
 -- a street that is read from those of the game has what they deal

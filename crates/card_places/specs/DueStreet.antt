@@ -3,6 +3,7 @@ use Rattle.std.specs.Prelude.{ℕ, Option, Some, None}
 use Rattle.play_event.specs.declared.reason.Due.{Due}
 use Rattle.play_event.specs.declared.reason.Due.TheVariants as dues
 
+-- the street of a deal or a draw
 abbrev pub due_street : Due → Option ℕ
 due_street (dues.Deal on) = Some on
 due_street (dues.Draw on) = Some on

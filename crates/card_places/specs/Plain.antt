@@ -5,9 +5,11 @@ use Rattle.chip_ledger.specs.declared.numbers.Seat.{Seat}
 use Rattle.play_event.specs.Places.{Place}
 use Rattle.card_places.specs.declared.dealt_card.DealtCard.{DealtCard}
 
+-- the number of a seat, if there is one
 abbrev pub seat_of : Option Seat → Option ℕ
 seat_of seat = option_map (λ (s : Seat). s.number) seat
 
+-- a dealt card as a place
 abbrev pub place_of : DealtCard → Place
 place_of l =
     record {

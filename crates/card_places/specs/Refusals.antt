@@ -28,10 +28,12 @@ use Rattle.card_places.specs.Room.{is_seat_of}
 abbrev pub owed_of : (draws live : Bool) (hole named dealt : ℕ) → ℕ
 owed_of draws live hole named dealt = if draws then named - dealt else (if live then hole - dealt else 0)
 
+-- how many cards of the street a seat is owed
 abbrev pub owed_in : CardState → LiveRow → ℕ → ℕ → ℕ
 owed_in t live on seat =
     owed_of (has_draw t.table.code on) (flag_of live seat) (hole_cards_on t.table.code on) (named_at t.draws on seat) (count_by (is_in_group (Some seat) on) (placed t.places))
 
+-- how many cards of the street the board is owed
 abbrev pub board_owed_in : CardState → ℕ → ℕ
 board_owed_in t on = board_cards_on t.table.code on - count_by (is_in_group None on) (placed t.places)
 
@@ -43,11 +45,13 @@ deal_chain wrong_seat owed count taken =
     else if taken then Some reasons.CardTaken
     else None
 
+-- why hole cards of the street may not be dealt to a seat
 abbrev pub hole_why_on : CardState → LiveRow → ℕ → ℕ → List Slot → Option Illegal
 hole_why_on t live on seat cards =
     let owed = owed_in t live on seat in
     deal_chain (not (is_seat_of t.seats seat) || (owed == 0)) owed (length cards) (has_taken_card t.table.code (placed t.places) on cards)
 
+-- why cards of the street may not be dealt to the board
 abbrev pub board_why_on : CardState → ℕ → List Slot → Option Illegal
 board_why_on t on cards =
     let owed = board_owed_in t on in
@@ -73,13 +77,15 @@ board_why t dues.BringIn cards = Some reasons.WrongKind
 board_why t dues.Move cards = Some reasons.WrongKind
 board_why t dues.Show cards = Some reasons.WrongKind
 
--- the next seat to draw
+-- a live seat did not draw on the street
 abbrev pub has_to_draw : CardState → LiveRow → ℕ → ℕ → Bool
 has_to_draw t live on seat = flag_of live seat && not (has_drawn_at t.draws on seat)
 
+-- the next seat to draw on the street, if there is one
 abbrev pub next_to_draw_in : CardState → LiveRow → ℕ → Option ℕ
 next_to_draw_in t live on = find (has_to_draw t live on) (seats_of t.seats)
 
+-- a seat draws next on the street
 abbrev pub is_next_in : CardState → LiveRow → ℕ → ℕ → Bool
 is_next_in t live on seat = option_map_or (λ next. next == seat) (next_to_draw_in t live on) false
 
@@ -92,12 +98,14 @@ discard_chain next held count taken lacking =
     else if lacking then Some reasons.NotHeld
     else None
 
+-- why a seat may not discard these cards on the street
 abbrev pub discard_why_on : CardState → LiveRow → ℕ → ℕ → List Slot → Option Illegal
 discard_why_on t live on seat cards =
     discard_chain (is_next_in t live on seat) (held_count (placed t.places) seat) (length cards)
     (has_misplaced_card t.table.code (placed t.places) (after_discard on seat cards (placed t.places)))
     (has_no_place (filter (is_held_by seat) (placed t.places)) (known_cards cards) (blanks_in cards))
 
+-- why a seat may not discard these cards now
 abbrev pub discard_why : CardState → LiveRow → Due → ℕ → List Slot → Option Illegal
 discard_why t live dues.Over seat cards = Some reasons.HandOver
 discard_why t live (dues.Draw on) seat cards = discard_why_on t live on seat cards
@@ -110,6 +118,7 @@ discard_why t live dues.Show seat cards = Some reasons.WrongKind
 abbrev pub may_show_in : CardState → LiveRow → ℕ → Bool
 may_show_in t live seat = is_seat_of t.seats seat && (flag_of live seat && not (flag_of t.shown seat || flag_of t.mucked seat))
 
+-- a show may have so many cards: all that the seat holds, or its down-cards alone where its up-cards are known
 abbrev pub may_show_many : Code → List Place → ℕ → ℕ → Bool
 may_show_many code placed seat count =
     (count == held_count placed seat) || ((count == held_down_count code placed seat) && not (list_any is_unknown (up_slots code placed seat)))
@@ -123,6 +132,7 @@ show_chain may many taken others =
     else if others then Some reasons.NotHeld
     else None
 
+-- why a seat may not show these cards, when a show may come
 abbrev pub show_why_on : CardState → LiveRow → ℕ → List Card → Option Illegal
 show_why_on t live seat cards =
     show_chain (may_show_in t live seat) (may_show_many t.table.code (placed t.places) seat (length cards))

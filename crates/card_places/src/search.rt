@@ -39,7 +39,8 @@ pub fn covers(table: &DealTable, card: &DealtCard, seat: Seat, all: bool) -> boo
 fn look(table: &DealTable, search: &Search, card: DealtCard, taken: u8, blanks: u8) -> Found
     ensures { (rest : List Place) → search_from table.now.code search.now taken blanks
         (place_of card ∷ rest)
-        ≡ place_of result.card ∷ search_from table.now.code search.now result.taken result.blanks rest }
+        ≡ place_of result.card
+        ∷ search_from table.now.code search.now result.taken result.blanks rest }
 {
     if covers(table, &card, search.seat, search.all) {
         find(

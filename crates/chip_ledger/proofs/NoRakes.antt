@@ -1,5 +1,5 @@
 -- Rakes that pots have the chips for.
-use Rattle.std.proofs.Common.{◌≡◌, ℕ, ◌-◌, ◌≤◌, List, arith}
+use Rattle.std.proofs.Common.{◌≡◌, ℕ, ◌-◌, List, arith}
 use Rattle.chip_ledger.specs.Fillers.{index-replicate}
 use Rattle.chip_ledger.specs.Pots.{PlainPot}
 use Rattle.chip_ledger.specs.RakeRow.{no_rakes, rake_of}

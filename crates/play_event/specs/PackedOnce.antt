@@ -95,6 +95,7 @@ actor_again (Some seat) rest =
     let named : nat_eq seat.number 0 ≡ false = grind (arith, seat.first) in
     rw (named, seat_within seat) refl
 
+-- numbers below the limit take so many bytes, and are read again from them
 pub record IsWide (width : Width) (limit : ℕ) : Type 0 where
   pub len : (n : ℕ) → length (to_be_bytes width n) ≡ byte_len width
   pub again : (n : ℕ) → n < limit → from_be_bytes width (to_be_bytes width n) ≡ n
@@ -190,6 +191,7 @@ kind_same (kinds.Show seat cards) _ same = absurd cc
 kind_same (kinds.Muck seat) (kinds.Muck other) same = let number : seat.number ≡ other.number = cc in cc (seat_same seat other number)
 kind_same (kinds.Muck seat) _ same = absurd cc
 
+-- events with one number that say the same are one
 pub event_same : (a b : Event) → numbered a ≡ numbered b → a ≡ b
 event_same a b same =
     let at : a.at ≡ b.at = ap (λ (n : ℕ × Said). n.0) same in

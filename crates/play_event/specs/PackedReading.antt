@@ -1,5 +1,5 @@
 -- What packed bytes say, read from left to right: what stands at their front, and the bytes behind it.
-use Rattle.std.specs.Prelude.{ℕ, ◌-◌, ◌/◌, ◌%◌, ◌==◌, ◌&&◌, nat_le, nat_lt, if◌then◌else◌, List, [], ◌∷◌, length, map, take, drop, slice_get, unwrap_or, Option, Some, None}
+use Rattle.std.specs.Prelude.{ℕ, ◌-◌, ◌==◌, ◌&&◌, nat_le, nat_lt, if◌then◌else◌, List, [], ◌∷◌, length, map, take, drop, Option, Some, None}
 use Rattle.std.specs.Int.{Width, w32, w64, byte_len, from_be_bytes}
 use Rattle.card_set.specs.declared.card.Card.{Card}
 use Rattle.card_set.specs.declared.card.Slot.{Slot}
@@ -10,6 +10,7 @@ use Rattle.play_event.specs.declared.event.Spelled.TheVariants as spelled
 use Rattle.play_event.specs.Said as said
 use Rattle.play_event.specs.Said.{Said, Numbered}
 
+-- what comes of a value that is there; of none, none
 infixl 10 ◌>>=◌
 abbrev pub ◌>>=◌ : {A B : Type 0} → Option A → (A → Option B) → Option B
 None >>= next = None
@@ -36,6 +37,7 @@ counted_at bytes = do
 abbrev pub seat_numbered : ℕ → Option ℕ
 seat_numbered number = if nat_le 1 number && nat_le number 10 then Some number else None
 
+-- the seat whose number a byte is
 unfoldable pub seat_at : List ℕ → Option (ℕ × List ℕ)
 seat_at bytes = do
   number ← byte_at bytes
@@ -48,18 +50,21 @@ actor_at bytes = do
   number ← byte_at bytes
   if number.0 == 0 then Some (None, number.1) else (seat_numbered number.0 >>= λ seat. Some (Some seat, number.1))
 
--- the card and the slot of a byte
+-- the card of a byte from 1 to 52: its place in the deck, counted from 1
 abbrev pub card_of : ℕ → Card
 card_of byte = card_placed (byte - 1)
 
+-- the slot of a byte: 0 is an unknown card
 abbrev pub slot_of : ℕ → Slot
 slot_of byte = if byte == 0 then slots.Unknown else slots.Known (card_of byte)
 
+-- up to seven slots behind their count
 unfoldable pub slots_at : List ℕ → Option (List Slot × List ℕ)
 slots_at bytes = do
   row ← counted_at bytes
   Some (map slot_of row.0, row.1)
 
+-- up to seven cards behind their count
 unfoldable pub cards_at : List ℕ → Option (List Card × List ℕ)
 cards_at bytes = do
   row ← counted_at bytes

@@ -46,5 +46,6 @@ said_of event = kind_said event.kind
 abbrev pub Numbered : Type 0
 Numbered = ℕ × Said
 
+-- an event by its number and what it says
 abbrev pub numbered : Event → Numbered
 numbered event = (event.at, said_of event)

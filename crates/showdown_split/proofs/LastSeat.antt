@@ -1,11 +1,11 @@
 -- Where one seat is live, the net of each pot goes to this seat.
-use Rattle.std.proofs.Common.{◌≡◌, ◌≤◌, ◌&&◌, ℕ, Bool, true, false, cond, List, [], ◌∷◌, length, map, filter, count_by, nat_le, nat_lt, refl, sym, ◌∙◌, ap, subst, arith, inl}
+use Rattle.std.proofs.Common.{◌≡◌, ◌&&◌, ℕ, Bool, true, false, cond, List, [], ◌∷◌, length, map, filter, nat_le, nat_lt, refl, sym, ◌∙◌, ap, subst, arith, inl}
 use Rattle.std.proofs.lemmas.Bool.{le-leb}
 use Rattle.std.proofs.lemmas.List.{length-map}
 use Rattle.std.proofs.lemmas.List.Sums.{length-filter}
 use Rattle.list_laws.proofs.Sums.{sum_by-map, sum_by-same}
 use Rattle.chip_ledger.specs.declared.rakes.RakeRow.{RakeRow}
-use Rattle.chip_ledger.specs.Pots.{PlainPot, Stake, after_return, kept, reaching, whole_share, with_chips}
+use Rattle.chip_ledger.specs.Pots.{PlainPot, Stake, after_return, kept, reaching, whole_share}
 use Rattle.chip_ledger.specs.Rakes.{nets_of}
 use Rattle.chip_ledger.proofs.SolePot.{live_stakes, one_pot, sole_pot}
 use Rattle.play_event.specs.declared.code.Code.{Code}

@@ -43,7 +43,8 @@ pub fn returned_row(puts: &SeatRow, live: &LiveRow) -> SeatRow
     requires { live.now.seats ≡ puts.now.seats }
     ensures seats { result.seats ≡ puts.now.seats }
     ensures amounts { (n : ℕ) → 1 ≤ n → n ≤ puts.now.seats
-        → amount_of result n ≡ returned (stakes_of puts.now live.now) (stake_of puts.now live.now n) }
+        → amount_of result n
+        ≡ returned (stakes_of puts.now live.now) (stake_of puts.now live.now n) }
 {
     let mut row = SeatRow::new(puts.seats);
     for index in 0..puts.seats {

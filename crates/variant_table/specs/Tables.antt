@@ -1,7 +1,6 @@
 -- What a table of a game holds.
 use Rattle.std.specs.Prelude.{◌≡◌, ℕ, ◌-◌, false, [], ◌∷◌, map, slice_get, unwrap_or}
 use Rattle.play_event.specs.Games.{Game}
-use Rattle.play_event.specs.Games as tables
 use Rattle.play_event.specs.declared.street.Street.{Street}
 use Rattle.variant_table.specs.declared.table.GameTable.{GameTable}
 use Rattle.play_event.specs.declared.street.Size.TheVariants as sizes

@@ -3,8 +3,7 @@ use Rattle.std.specs.Prelude.{◌≡◌, ℕ, ◌+◌, ◌*◌, ◌≤◌, Bool,
 use Rattle.card_set.specs.declared.card.Card.{Card}
 use Rattle.play_event.specs.declared.limit.Limit.{Limit}
 use Rattle.play_event.specs.declared.limit.Opener.{Opener}
-use Rattle.play_event.specs.Games.{Game, game_of}
-use Rattle.play_event.specs.Games as tables
+use Rattle.play_event.specs.Games.{Game}
 use Rattle.play_event.specs.declared.street.Street.{Street}
 use Rattle.hand_order.specs.declared.best.Pick.{Pick}
 use Rattle.hand_order.specs.Choices.{CanPick}
