@@ -1,4 +1,7 @@
 pub mod CardLaws
 pub mod LetterLaws
+pub mod PartsAgain
+pub mod SaidAgain
 pub mod SeatLaws
 pub mod WordLaws
+pub mod WordsAgain

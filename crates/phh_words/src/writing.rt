@@ -1,10 +1,11 @@
 //! An event is written in the words of its form.
-ghost use Rattle.std.specs.Prelude.{◌≡◌, ◌<◌, ◌++◌, ◌∷◌, Some, IfOk, OnOk, IsTrue, slice_index, string_bytes};
+ghost use Rattle.std.specs.Prelude.{◌≡◌, ℕ, ◌<◌, ◌≤◌, ◌++◌, ◌∷◌, Some, Ok, IfOk, OnOk, IsTrue, slice_index, string_bytes};
 ghost use Rattle.card_set.specs.Known.{known_slots};
 ghost use Rattle.card_set.specs.Spelling.{slot_spelling, spelling};
-ghost use Rattle.play_event.specs.Said.{Board, Discard, Hole, Raise, Show, kind_said};
+ghost use Rattle.play_event.specs.Said.{Board, Discard, Hole, Raise, Said, Show, kind_said};
+ghost use Rattle.phh_words.specs.Action.{action_said};
 ghost use Rattle.phh_words.specs.Words.{seat_name};
-ghost use Rattle.phh_words.specs.Written.{event_text as text_said, has_words};
+ghost use Rattle.phh_words.specs.Written.{CanBeSaid, event_text as text_said, has_words};
 
 use card_set::{Card, Memory, Slot, slot_text};
 use chip_ledger::Seat;
@@ -132,3 +133,11 @@ fn letters_of(slot: Slot) -> [u8; 2]
 {
     slot_text(slot)
 }
+
+/// The text of an event says that event again, in each hand in which an action can say it. The function does nothing: its
+/// contract is a law.
+#[tactic(auto, using(crate::proofs::SaidAgain::event_again))]
+pub fn law_of_words()
+    ensures { (seats : ℕ) (event : Said) → seats ≤ 10 → CanBeSaid seats event
+        → action_said seats (text_said event) ≡ Ok (Some event) }
+{}
