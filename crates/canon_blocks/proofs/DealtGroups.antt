@@ -7,13 +7,12 @@ use Rattle.std.proofs.lemmas.List.{append-nil, append_assoc}
 use Rattle.std.proofs.lemmas.List.Sums.{length-filter}
 use Rattle.card_set.specs.declared.card.Slot.{Slot}
 use Rattle.play_event.specs.declared.code.Code.{Code}
-use Rattle.play_event.specs.Past.{Past, Move}
+use Rattle.play_event.specs.Past.{Past, Move, moves_before}
 use Rattle.play_event.specs.Places.{Place, is_same_owner, is_in_group, is_past_deck, places_dealt, after_deal}
 use Rattle.play_event.specs.Table.{places_of}
 use Rattle.play_event.specs.Taken.{is_foreign}
 use Rattle.play_event.specs.Laws.{IsAmong}
 use Rattle.play_event.proofs.ClashLaws.{among_append}
-use Rattle.hand_canon.specs.CanonScript.{moves_before}
 use Rattle.play_laws.specs.LegalPlaces.{owner_folded, gone_by, AreLawful}
 use Rattle.canon_blocks.proofs.Mirrors.{Mirrors, AreMirrored}
 use Rattle.canon_blocks.proofs.FreeGroups.{IsBefore, IsAsLate, out_by, group_not_taken}

@@ -7,11 +7,10 @@ use Rattle.card_set.specs.declared.card.Slot.{Slot}
 use Rattle.card_set.specs.declared.card.Slot.TheVariants as slots
 use Rattle.play_event.specs.declared.code.Code.{Code}
 use Rattle.play_event.specs.Streets.{deck_of, has_draw}
-use Rattle.play_event.specs.Past.{Move}
+use Rattle.play_event.specs.Past.{Move, moves_before}
 use Rattle.play_event.specs.Places.{Place, is_same_owner, is_in_group, is_past_deck}
 use Rattle.play_event.specs.Taken.{is_one_card, is_borne_by, is_foreign, is_taken, has_repeat, is_repeated, has_taken_card}
 use Rattle.play_event.specs.Laws.{IsAmong}
-use Rattle.hand_canon.specs.CanonScript.{moves_before}
 use Rattle.play_laws.specs.LegalPlaces.{gone_by, AreLawful}
 use Rattle.canon_blocks.proofs.Mirrors.{AreMirrored}
 use Rattle.canon_blocks.proofs.FreeCards.{late_and_gone, street_apart, IsFreeOver, not_taken}

@@ -5,14 +5,13 @@ use Rattle.play_event.specs.declared.code.Code.{Code}
 use Rattle.play_event.specs.declared.setup.Setup.{Setup}
 use Rattle.play_event.specs.declared.setup.Rules.{Rules}
 use Rattle.play_event.specs.Said.{Said}
-use Rattle.play_event.specs.Past.{Past, Resolved, Move, moves_of, newest_street, is_fold}
+use Rattle.play_event.specs.Past.{Past, Resolved, Move, moves_of, newest_street, is_fold, moves_before}
 use Rattle.play_event.specs.Due.{turn}
 use Rattle.play_event.specs.Places.{Place, is_same_owner, is_held_by, folded_place, gone_now, after_fold}
 use Rattle.play_event.specs.Table.{places_of}
 use Rattle.play_event.specs.Scripts.{with_event, past_of}
 use Rattle.play_event.specs.Laws.{AreLegal}
 use Rattle.list_laws.proofs.Tests.{false_true}
-use Rattle.hand_canon.specs.CanonScript.{moves_before}
 use Rattle.play_laws.specs.LegalPlaces.{owner_folded}
 use Rattle.canon_blocks.proofs.Mirrors.{Mirrors, AreMirrored}
 use Rattle.play_laws.specs.PastLaws.{AreReached, PastLaw}

@@ -6,7 +6,7 @@ use Rattle.std.proofs.lemmas.List.{append-nil, append_assoc}
 use Rattle.play_event.specs.declared.setup.Setup.{Setup}
 use Rattle.play_event.specs.declared.setup.Rules.{Rules}
 use Rattle.play_event.specs.Said.{Said}
-use Rattle.play_event.specs.Past.{Past, Resolved, Moved, moves_of, newest_street, street_of, Discarded, Shown, Dealt, Mucked, Boarded}
+use Rattle.play_event.specs.Past.{Past, Resolved, Moved, moves_of, newest_street, street_of, Discarded, Shown, Dealt, Mucked, Boarded, moves_before}
 use Rattle.play_event.specs.Seats.{is_live, all_seats}
 use Rattle.play_event.specs.Dealing.{has_drawn}
 use Rattle.play_event.specs.Due.{turn}
@@ -16,7 +16,6 @@ use Rattle.play_event.specs.Trace.{owners, places_on}
 use Rattle.play_event.specs.Laws.{IsAmong, AreLegal}
 use Rattle.list_laws.proofs.Tests.{false_true}
 use Rattle.play_event.proofs.ClashLaws.{among_append}
-use Rattle.hand_canon.specs.CanonScript.{moves_before}
 use Rattle.play_laws.specs.PastLaws.{plays_on}
 use Rattle.play_laws.proofs.DueAtEvents.{Reaches, turn_reaches}
 use Rattle.play_laws.proofs.LegalEvents.{Stepped, deals, boards, moves, discards, shows, mucks, stepped}

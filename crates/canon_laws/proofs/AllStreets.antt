@@ -6,13 +6,13 @@ use Rattle.play_event.specs.declared.setup.Setup.{Setup}
 use Rattle.play_event.specs.declared.setup.Rules.{Rules}
 use Rattle.play_event.specs.Games.{street_count}
 use Rattle.play_event.specs.Said.{Said}
-use Rattle.play_event.specs.Past.{Past, Resolved, Move, moves_of}
+use Rattle.play_event.specs.Past.{Past, Resolved, Move, moves_of, moves_before}
 use Rattle.play_event.specs.Seats.{live_count}
 use Rattle.play_event.specs.Due.{turn, is_unfinished}
 use Rattle.play_event.specs.Trace.{traced_places, streets_of}
 use Rattle.play_event.specs.Scripts.{past_of, with_event}
 use Rattle.play_event.specs.Laws.{AreLegal}
-use Rattle.hand_canon.specs.CanonScript.{moves_before, street_said}
+use Rattle.hand_canon.specs.CanonScript.{street_said}
 use Rattle.canon_blocks.proofs.Runs.{Runs, run_append}
 use Rattle.play_laws.proofs.DueAtEvents.{turn_reaches}
 use Rattle.play_laws.proofs.LegalEvents.{Stepped, stepped, deals, boards, mucks, shows, discards, moves}

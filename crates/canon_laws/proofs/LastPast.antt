@@ -10,7 +10,7 @@ use Rattle.play_event.specs.declared.setup.Rules.{Rules}
 use Rattle.play_event.specs.Games.{street_count}
 use Rattle.play_event.specs.Said as said
 use Rattle.play_event.specs.Said.{Said}
-use Rattle.play_event.specs.Past.{Past, Move, moves_of, newest_street}
+use Rattle.play_event.specs.Past.{Past, Move, moves_of, newest_street, moves_before}
 use Rattle.play_event.specs.Seats.{is_live, all_seats, live_count}
 use Rattle.play_event.specs.Showing.{has_mucked, is_show_due}
 use Rattle.play_event.specs.Due.{turn, due_on, first_due, is_unfinished}
@@ -21,7 +21,7 @@ use Rattle.play_event.specs.Trace.{traced_places, streets_of, is_shown, is_conte
 use Rattle.play_event.specs.Scripts.{past_of}
 use Rattle.play_event.specs.Laws.{AreLegal}
 use Rattle.list_laws.proofs.Tests.{false_true}
-use Rattle.hand_canon.specs.CanonScript.{moves_before, street_said, showdown_said, showing_said, script_of, held_slots}
+use Rattle.hand_canon.specs.CanonScript.{street_said, showdown_said, showing_said, script_of, held_slots}
 use Rattle.canon_blocks.proofs.Mirrors.{AreMirrored}
 use Rattle.canon_blocks.proofs.Runs.{Runs, run_append}
 use Rattle.play_laws.proofs.DueAtEvents.{turned_by}

@@ -5,7 +5,7 @@ use Rattle.play_event.specs.declared.setup.Setup.{Setup}
 use Rattle.play_event.specs.declared.setup.Rules.{Rules}
 use Rattle.play_event.specs.Games.{street_count}
 use Rattle.play_event.specs.Said.{Said}
-use Rattle.play_event.specs.Past.{Past, Move, moves_of, newest_street}
+use Rattle.play_event.specs.Past.{Past, Move, moves_of, newest_street, moves_before}
 use Rattle.play_event.specs.Seats.{is_live, all_seats, live_count}
 use Rattle.play_event.specs.Dealing.{hole_cards_dealt, board_cards_dealt, cards_discarded, has_drawn}
 use Rattle.play_event.specs.Due.{due_on}
@@ -14,7 +14,6 @@ use Rattle.play_event.specs.Table.{places_of}
 use Rattle.play_event.specs.Scripts.{past_of}
 use Rattle.play_event.specs.Showing.{has_shown, has_mucked}
 use Rattle.play_event.specs.Laws.{AreLegal}
-use Rattle.hand_canon.specs.CanonScript.{moves_before}
 use Rattle.canon_blocks.proofs.Mirrors.{AreMirrored}
 use Rattle.canon_blocks.proofs.CardEvents.{HasCome}
 use Rattle.canon_blocks.proofs.MovesRun.{IsLed}

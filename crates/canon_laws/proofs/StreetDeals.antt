@@ -11,7 +11,7 @@ use Rattle.play_event.specs.declared.setup.Rules.{Rules}
 use Rattle.play_event.specs.Games.{street_count, hole_cards_on, board_cards_on}
 use Rattle.play_event.specs.Streets.{has_draw}
 use Rattle.play_event.specs.Said.{Said}
-use Rattle.play_event.specs.Past.{Past, Move, moves_of}
+use Rattle.play_event.specs.Past.{Past, Move, moves_of, moves_before}
 use Rattle.play_event.specs.Seats.{is_live, all_seats, live_count}
 use Rattle.play_event.specs.Dealing.{is_deal_due, is_draw_due, hole_cards_dealt, board_cards_dealt, cards_discarded, has_drawn, cards_owed, hole_cards_owed, board_cards_owed, replacements_owed, next_to_draw}
 use Rattle.card_set.specs.Known.{is_unknown}
@@ -21,7 +21,7 @@ use Rattle.play_event.specs.Trace.{traced_places, places_on}
 use Rattle.play_event.specs.Scripts.{past_of}
 use Rattle.play_event.specs.Laws.{AreLegal, IsAmong}
 use Rattle.play_event.proofs.ClashLaws.{IsOneOf, among_append}
-use Rattle.hand_canon.specs.CanonScript.{moves_before, deals_said, deal_said, board_said, dealt_slots}
+use Rattle.hand_canon.specs.CanonScript.{deals_said, deal_said, board_said, dealt_slots}
 use Rattle.canon_blocks.proofs.Mirrors.{AreMirrored}
 use Rattle.play_laws.specs.LegalPlaces.{AreLawful}
 use Rattle.canon_blocks.proofs.Runs.{Runs, run_append}

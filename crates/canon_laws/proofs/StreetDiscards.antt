@@ -9,7 +9,7 @@ use Rattle.play_event.specs.Games.{street_count}
 use Rattle.play_event.specs.Streets.{has_draw}
 use Rattle.play_event.specs.Said as said
 use Rattle.play_event.specs.Said.{Said}
-use Rattle.play_event.specs.Past.{Past, Move, moves_of}
+use Rattle.play_event.specs.Past.{Past, Move, moves_of, moves_before}
 use Rattle.play_event.specs.Seats.{is_live, all_seats, live_count}
 use Rattle.play_event.specs.Dealing.{hole_cards_dealt, board_cards_dealt, cards_discarded, has_drawn}
 use Rattle.play_event.specs.Places.{Place, is_same_owner}
@@ -17,7 +17,7 @@ use Rattle.play_event.specs.Table.{places_of}
 use Rattle.play_event.specs.Trace.{traced_places}
 use Rattle.play_event.specs.Scripts.{past_of}
 use Rattle.play_event.specs.Laws.{AreLegal}
-use Rattle.hand_canon.specs.CanonScript.{moves_before, discards_said, discarded_slots, drawing_seats, is_reached}
+use Rattle.hand_canon.specs.CanonScript.{discards_said, discarded_slots, drawing_seats, is_reached}
 use Rattle.canon_blocks.proofs.Mirrors.{AreMirrored}
 use Rattle.canon_blocks.proofs.Runs.{Runs}
 use Rattle.canon_blocks.proofs.CardEvents.{HasCome}

@@ -8,7 +8,7 @@ use Rattle.play_event.specs.declared.setup.Rules.{Rules}
 use Rattle.play_event.specs.Games.{street_count}
 use Rattle.play_event.specs.Streets.{has_draw, up_cards_on, down_cards_on}
 use Rattle.play_event.specs.Said.{Said}
-use Rattle.play_event.specs.Past.{Past, Move, moves_of}
+use Rattle.play_event.specs.Past.{Past, Move, moves_of, moves_before}
 use Rattle.play_event.specs.Seats.{all_seats}
 use Rattle.play_event.specs.Dealing.{is_deal_due, is_draw_due, hole_cards_dealt, board_cards_dealt, cards_discarded, has_drawn}
 use Rattle.play_event.specs.Showing.{has_shown, has_mucked}
@@ -18,7 +18,7 @@ use Rattle.play_event.specs.Table.{places_of}
 use Rattle.play_event.specs.Trace.{traced_places}
 use Rattle.play_event.specs.Scripts.{past_of}
 use Rattle.play_event.specs.Laws.{AreLegal}
-use Rattle.hand_canon.specs.CanonScript.{moves_before, street_said, discards_said, deals_said, move_named}
+use Rattle.hand_canon.specs.CanonScript.{street_said, discards_said, deals_said, move_named}
 use Rattle.canon_blocks.proofs.Mirrors.{Mirrors, AreMirrored}
 use Rattle.play_laws.specs.PastLaws.{DoneLaw}
 use Rattle.canon_blocks.proofs.Runs.{Runs, run_append}

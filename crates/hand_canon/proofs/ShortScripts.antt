@@ -6,14 +6,14 @@ use Rattle.std.proofs.lemmas.List.FromFn.{length-range_with_len}
 use Rattle.std.proofs.lemmas.List.Sums.{count_by-le-length, length-filter}
 use Rattle.card_set.specs.declared.card.Slot.{Slot}
 use Rattle.play_event.specs.declared.setup.Setup.{Setup}
-use Rattle.play_event.specs.Past.{Move}
+use Rattle.play_event.specs.Past.{Move, moves_before}
 use Rattle.play_event.specs.Said.{Discard}
 use Rattle.play_event.specs.Seats.{all_seats, is_live, live_count}
 use Rattle.play_event.specs.Streets.{has_draw}
 use Rattle.play_event.specs.Games.{street_count}
 use Rattle.play_event.specs.Trace.{TracedPlace, streets_of}
 use Rattle.hand_canon.specs.TraceCore.{TraceCore}
-use Rattle.hand_canon.specs.CanonScript.{board_said, canonical_script, deal_said, deals_said, dealt_slots, discarded_slots, discards_said, drawing_seats, is_reached, move_named, moves_before, moves_named, plain_move, plain_moves, showdown_said, showing_said, street_said}
+use Rattle.hand_canon.specs.CanonScript.{board_said, canonical_script, deal_said, deals_said, dealt_slots, discarded_slots, discards_said, drawing_seats, is_reached, move_named, moves_named, plain_move, plain_moves, showdown_said, showing_said, street_said}
 use Rattle.hand_canon.specs.Numbers.{number_of}
 use Rattle.hand_canon.proofs.OneByOne.{flat_few}
 

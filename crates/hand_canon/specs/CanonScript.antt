@@ -1,6 +1,6 @@
 -- The canonical script of a trace: cards as they are known at the end, in the order of streets and seats; each draw's
 -- discards before its deals; moves named and spelled by their target; and a showdown in the order of seats.
-use Rattle.std.specs.Prelude.{ℕ, Bool, ◌&&◌, ◌==◌, nat_le, nat_lt, if◌then◌else◌, List, [], ◌∷◌, ◌++◌, map, filter, flat_map, reverse, Option, Some, None}
+use Rattle.std.specs.Prelude.{ℕ, Bool, ◌&&◌, ◌==◌, nat_le, if◌then◌else◌, List, [], ◌∷◌, ◌++◌, map, filter, flat_map, reverse, Option, Some, None}
 use Rattle.std.specs.List.{list_any}
 use Rattle.card_set.specs.declared.card.Slot.{Slot}
 use Rattle.card_set.specs.Known.{known_cards}
@@ -8,7 +8,7 @@ use Rattle.play_event.specs.declared.event.Spelled.TheVariants as spelled
 use Rattle.play_event.specs.declared.setup.Setup.{Setup}
 use Rattle.play_event.specs.Streets.{has_draw}
 use Rattle.play_event.specs.Said.{Said, Hole, Board, Fold, Call, Raise, BringIn, Discard, Show, Muck}
-use Rattle.play_event.specs.Past.{Move, Act, Folded, Called, Raised, BroughtIn}
+use Rattle.play_event.specs.Past.{Move, Act, Folded, Called, Raised, BroughtIn, moves_before}
 use Rattle.play_event.specs.Seats.{all_seats, is_live, live_count}
 use Rattle.play_event.specs.Places.{is_same_owner}
 use Rattle.play_event.specs.Trace.{TracedMove, TracedPlace, streets_of}
@@ -21,10 +21,6 @@ plain_move move = record { street = move.street; seat = move.seat; act = move.ac
 -- the moves of a trace, the newest first
 abbrev pub plain_moves : List TracedMove → List Move
 plain_moves moves = reverse (map plain_move moves)
-
--- the moves before a street
-abbrev pub moves_before : ℕ → List Move → List Move
-moves_before street moves = filter (λ move. nat_lt move.street street) moves
 
 -- a card was dealt to an owner on a street
 abbrev pub is_dealt_to : Option ℕ → ℕ → TracedPlace → Bool

@@ -5,13 +5,12 @@ use Rattle.std.proofs.lemmas.List.{length-append}
 use Rattle.card_set.specs.declared.card.Slot.{Slot}
 use Rattle.play_event.specs.declared.code.Code.{Code}
 use Rattle.play_event.specs.Streets.{deck_of, has_draw}
-use Rattle.play_event.specs.Past.{Move}
+use Rattle.play_event.specs.Past.{Move, moves_before}
 use Rattle.play_event.specs.Places.{Place, is_in_group, is_past_deck, places_dealt, after_deal}
 use Rattle.play_event.specs.Taken.{is_gone_before}
 use Rattle.play_event.specs.Laws.{IsAmong}
 use Rattle.list_laws.proofs.Tests.{false_true}
 use Rattle.play_event.proofs.ClashLaws.{among_append}
-use Rattle.hand_canon.specs.CanonScript.{moves_before}
 use Rattle.play_laws.specs.LegalPlaces.{owner_folded, gone_by, PlacesLaw}
 use Rattle.play_laws.proofs.QuietEvents.{folded_back, folded_own, folded_first}
 use Rattle.play_laws.proofs.PlaceGroups.{more_count}

@@ -10,7 +10,7 @@ use Rattle.play_event.specs.Games.{street_count, hole_cards_on}
 use Rattle.play_event.specs.Streets.{has_draw}
 use Rattle.play_event.specs.Said as said
 use Rattle.play_event.specs.Said.{Said}
-use Rattle.play_event.specs.Past.{Past, Resolved, Move, Dealt, Boarded, Moved, Discarded, Shown, Mucked, moves_of, newest_street, street_of}
+use Rattle.play_event.specs.Past.{Past, Resolved, Move, Dealt, Boarded, Moved, Discarded, Shown, Mucked, moves_of, newest_street, street_of, moves_before}
 use Rattle.play_event.specs.Seats.{is_live, live_count}
 use Rattle.play_event.specs.Dealing.{is_deal_due, is_draw_due, hole_cards_dealt, has_drawn}
 use Rattle.play_event.specs.Due.{turn, due_on, first_due, showdown, is_bring_in_due, is_move_due}
@@ -19,7 +19,6 @@ use Rattle.play_event.specs.Scripts.{with_event, past_of, resolved_on}
 use Rattle.play_event.specs.Laws.{AreLegal}
 use Rattle.play_event.proofs.ReasonLaws.{no_reason_holds}
 use Rattle.list_laws.proofs.Tests.{false_true}
-use Rattle.hand_canon.specs.CanonScript.{moves_before}
 use Rattle.play_laws.specs.PastLaws.{PastLaw, DoneLaw, plays_on}
 use Rattle.play_laws.proofs.DueAtEvents.{Reaches, IsNotDue, turn_reaches}
 use Rattle.play_laws.proofs.LegalEvents.{Stepped, stepped, kind_true}

@@ -8,7 +8,7 @@ use Rattle.play_event.specs.declared.code.Code.{Code}
 use Rattle.play_event.specs.declared.setup.Setup.{Setup}
 use Rattle.play_event.specs.declared.setup.Rules.{Rules}
 use Rattle.play_event.specs.Said.{Said}
-use Rattle.play_event.specs.Past.{Past, Resolved, Move, moves_of, newest_street, is_fold}
+use Rattle.play_event.specs.Past.{Past, Resolved, Move, moves_of, newest_street, is_fold, moves_before}
 use Rattle.card_set.specs.Known.{known_cards}
 use Rattle.play_event.specs.Due.{turn}
 use Rattle.play_event.specs.Places.{Place, is_in_group, is_past_deck, places_dealt, after_deal, is_held_by, folded_place, after_fold, gone_now}
@@ -25,7 +25,6 @@ use Rattle.play_laws.proofs.DueAtEvents.{turn_reaches}
 use Rattle.play_laws.proofs.LegalEvents.{Stepped, deals, boards, moves, discards, shows, mucks, stepped}
 use Rattle.play_laws.proofs.LegalPlaces.{LegalPast, legal_past}
 use Rattle.play_laws.proofs.PlaceLists.{ListLaw, list_law}
-use Rattle.hand_canon.specs.CanonScript.{moves_before}
 use Rattle.std.specs.Option.{is_some}
 
 -- known cards are in the deck

@@ -11,7 +11,7 @@ use Rattle.play_event.specs.declared.setup.Rules.{Rules}
 use Rattle.play_event.specs.Games.{street_count, hole_cards_on}
 use Rattle.play_event.specs.Streets.{has_draw}
 use Rattle.play_event.specs.Said.{Said}
-use Rattle.play_event.specs.Past.{Past, Resolved, Move, Dealt, Boarded, Moved, Discarded, Shown, Mucked, moves_of, newest_street, is_fold}
+use Rattle.play_event.specs.Past.{Past, Resolved, Move, Dealt, Boarded, Moved, Discarded, Shown, Mucked, moves_of, newest_street, is_fold, moves_before}
 use Rattle.play_event.specs.Seats.{is_live}
 use Rattle.card_set.specs.Known.{known_cards}
 use Rattle.play_event.specs.Dealing.{hole_cards_dealt, hole_cards_owed, cards_discarded, cards_owed, has_drawn}
@@ -23,7 +23,6 @@ use Rattle.play_event.specs.CardReasons.{is_seat}
 use Rattle.play_event.specs.Scripts.{with_event, past_of}
 use Rattle.play_event.specs.Laws.{IsAmong, AreLegal}
 use Rattle.list_laws.proofs.Tests.{false_true}
-use Rattle.hand_canon.specs.CanonScript.{moves_before}
 use Rattle.play_laws.specs.LegalPlaces.{owner_folded, PlacesLaw}
 use Rattle.play_laws.proofs.PlaceChanges.{IsChange, AreChanged}
 use Rattle.play_laws.specs.PastLaws.{AreReached, has_move, PastLaw}

@@ -10,7 +10,7 @@ use Rattle.play_event.specs.declared.reason.Due.{Due}
 use Rattle.play_event.specs.declared.setup.Setup.{Setup}
 use Rattle.play_event.specs.Games.{street_count, hole_cards_on, board_cards_on}
 use Rattle.play_event.specs.Streets.{has_draw}
-use Rattle.play_event.specs.Past.{Past, Move, Dealt, Boarded, Moved, Discarded, Shown, Mucked, moves_of, newest_street, is_fold}
+use Rattle.play_event.specs.Past.{Past, Move, Dealt, Boarded, Moved, Discarded, Shown, Mucked, moves_of, newest_street, is_fold, moves_before}
 use Rattle.play_event.specs.Seats.{is_live, all_seats, live_count}
 use Rattle.play_event.specs.Dealing.{is_deal_due, is_draw_due, board_cards_dealt, board_cards_owed, hole_cards_owed, cards_discarded}
 use Rattle.play_event.specs.Due.{turn, due_on, first_due, is_bring_in_due, is_move_due, is_unfinished}
@@ -21,7 +21,6 @@ use Rattle.play_event.specs.Table.{places_of}
 use Rattle.play_event.specs.Laws.{IsAmong}
 use Rattle.list_laws.proofs.Tests.{false_true}
 use Rattle.play_event.proofs.StreetLaws.{street_found}
-use Rattle.hand_canon.specs.CanonScript.{moves_before}
 use Rattle.play_laws.specs.LegalPlaces.{owner_folded}
 use Rattle.play_laws.specs.PastLaws.{has_move, PastLaw, DoneLaw, AreReached}
 use Rattle.play_laws.proofs.DueAtEvents.{IsNotDue, not_due, IsDue, deal, draw, bring, move, is_due, none_found, turned_by}

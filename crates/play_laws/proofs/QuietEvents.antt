@@ -6,14 +6,13 @@ use Rattle.card_set.specs.declared.card.Card.{Card}
 use Rattle.card_set.specs.declared.card.Slot.{Slot}
 use Rattle.card_set.specs.declared.card.Slot.TheVariants as slots
 use Rattle.play_event.specs.declared.code.Code.{Code}
-use Rattle.play_event.specs.Past.{Move, is_fold}
+use Rattle.play_event.specs.Past.{Move, is_fold, moves_before}
 use Rattle.play_event.specs.Seats.{is_live}
 use Rattle.play_event.specs.Places.{Place, is_same_owner, is_held_by, folded_place, gone_now, after_fold}
 use Rattle.play_event.specs.Naming.{found_by, after_names, discarded_now, is_named}
 use Rattle.play_event.specs.Laws.{IsAmong}
 use Rattle.list_laws.proofs.Tests.{false_true}
 use Rattle.play_event.proofs.Kept.{held_is_there}
-use Rattle.hand_canon.specs.CanonScript.{moves_before}
 use Rattle.play_laws.specs.LegalPlaces.{owner_folded, PlacesLaw}
 use Rattle.play_laws.proofs.PlaceChanges.{HowGone, stays, out, folds, IsChange, AreChanged}
 use Rattle.play_laws.proofs.KeptPlaces.{change_law}

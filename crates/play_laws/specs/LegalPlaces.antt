@@ -2,7 +2,7 @@
 use Rattle.std.specs.Prelude.{◌≡◌, ◌⊎◌, ℕ, ◌+◌, ◌<◌, ◌≤◌, Bool, true, false, ◌&&◌, ◌||◌, ◌==◌, not, nat_lt, nat_le, List, [], ◌∷◌, length, count_by, Option, Some, None, is_some}
 use Rattle.play_event.specs.declared.code.Code.{Code}
 use Rattle.play_event.specs.Streets.{deck_of, has_draw}
-use Rattle.play_event.specs.Past.{Move}
+use Rattle.play_event.specs.Past.{Move, moves_before}
 use Rattle.play_event.specs.Seats.{is_live}
 use Rattle.card_set.specs.Known.{is_unknown}
 use Rattle.play_event.specs.Places.{Place}
@@ -12,7 +12,6 @@ use Rattle.play_event.specs.Said.{Said}
 use Rattle.play_event.specs.Scripts.{past_of}
 use Rattle.play_event.specs.Table.{places_of}
 use Rattle.play_event.specs.declared.setup.Setup.{Setup}
-use Rattle.hand_canon.specs.CanonScript.{moves_before}
 
 -- the places of the cards after events, the newest first
 abbrev pub places_by : Setup → List Said → List Place

@@ -4,11 +4,10 @@ use Rattle.std.specs.List.{list_any}
 use Rattle.play_event.specs.declared.setup.Setup.{Setup}
 use Rattle.play_event.specs.Games.{street_count, hole_cards_on, board_cards_on}
 use Rattle.play_event.specs.Streets.{has_draw}
-use Rattle.play_event.specs.Past.{Past, Resolved, Move, Dealt, Boarded, Moved, Discarded, Shown, Mucked, moves_of, newest_street}
+use Rattle.play_event.specs.Past.{Past, Resolved, Move, Dealt, Boarded, Moved, Discarded, Shown, Mucked, moves_of, newest_street, moves_before}
 use Rattle.play_event.specs.Seats.{is_live, live_count}
 use Rattle.play_event.specs.Dealing.{is_deal_due, is_draw_due, hole_cards_dealt, board_cards_dealt, cards_discarded, has_drawn, replacements_owed}
 use Rattle.play_event.specs.Due.{is_bring_in_due, is_move_due}
-use Rattle.hand_canon.specs.CanonScript.{moves_before}
 
 -- each move is on this street or before it
 abbrev pub AreReached : ℕ → List Move → Type 0
