@@ -8,6 +8,7 @@ use Rattle.play_event.specs.declared.reason.Due.TheVariants as dues
 use Rattle.play_event.specs.declared.setup.Setup.{Setup}
 use Rattle.play_event.specs.declared.setup.Rules.{Rules}
 use Rattle.play_event.specs.Games.{hole_cards_on, board_cards_on}
+use Rattle.play_laws.proofs.DrawTables.{IsDrawStreet}
 use Rattle.play_event.specs.Streets.{has_draw}
 use Rattle.play_event.specs.Said as said
 use Rattle.play_event.specs.Said.{Said}
@@ -48,12 +49,6 @@ find_first p start (suc count) seat least most is none = elim (cases_lt start se
       let same : start ≡ seat = omega (arith, below, least) in
       ap (λ b. if b then Some start else find p (range_with_len (start + 1) count)) (ap p same ∙ is) ∙ ap Some same
 ]
-
--- a street that draws and deals nothing else
-pub record IsDrawStreet (setup : Setup) (street : ℕ) : Type 0 where
-  pub draws : has_draw setup.code street ≡ true
-  pub no_hole : hole_cards_on setup.code street ≡ 0
-  pub no_board : board_cards_on setup.code street ≡ 0
 
 draw_is_due : (setup : Setup) (before : Past) (street seat : ℕ) → IsDrawStreet setup street → next_to_draw setup before street ≡ Some seat → due_on setup before street ≡ Some (dues.Draw street)
 draw_is_due setup before street seat is next =

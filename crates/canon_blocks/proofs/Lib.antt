@@ -21,7 +21,6 @@ pub mod SamePlaces
 pub mod StreetMoves
 pub mod TraceOrderCounts
 pub mod DiscardTests
-pub mod DrawTables
 pub mod StreetCounts
 pub mod StreetLists
 pub mod TracedSlots

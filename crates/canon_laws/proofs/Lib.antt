@@ -1,5 +1,4 @@
 -- The canonical script, street by street, its showdown, and the trace that it leaves.
-pub mod HeldFew
 pub mod HeldSame
 pub mod ShowdownRun
 pub mod Street
@@ -14,5 +13,4 @@ pub mod TidyTraces
 pub mod Confluent
 pub mod OneTrace
 pub mod SuitedMoves
-pub mod SameShares
 pub mod MoveCounts

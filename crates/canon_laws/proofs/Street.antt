@@ -28,7 +28,8 @@ use Rattle.canon_blocks.proofs.TraceOrderCounts.{legal_owned}
 use Rattle.canon_blocks.proofs.TraceOrder.{finals_of, is_final, on_street_is}
 use Rattle.canon_blocks.proofs.FreeGroups.{out_by}
 use Rattle.canon_blocks.proofs.DiscardsRun.{out_to, mirrored_as, IsDrawn}
-use Rattle.canon_blocks.proofs.DrawRun.{IsDrawStreet, AreDiscarded, discards_run, with_discards, out_slots}
+use Rattle.play_laws.proofs.DrawTables.{IsDrawStreet}
+use Rattle.canon_blocks.proofs.DrawRun.{AreDiscarded, discards_run, with_discards, out_slots}
 use Rattle.play_event.specs.Trace.{places_on, owners}
 
 -- the canonical past where a street begins; the street before it has this number

@@ -21,7 +21,7 @@ use Rattle.play_event.specs.Trace.{traced_places, places_on}
 use Rattle.play_event.specs.Scripts.{past_of}
 use Rattle.play_event.specs.Laws.{AreLegal, IsAmong}
 use Rattle.play_event.proofs.ClashLaws.{IsOneOf, among_append}
-use Rattle.hand_canon.specs.CanonScript.{deals_said, deal_said, board_said, dealt_slots}
+use Rattle.canonical_play.specs.CanonScript.{deals_said, deal_said, board_said, dealt_slots}
 use Rattle.canon_blocks.proofs.Mirrors.{AreMirrored}
 use Rattle.play_laws.specs.LegalPlaces.{AreLawful}
 use Rattle.canon_blocks.proofs.Runs.{Runs, run_append}
@@ -41,7 +41,7 @@ use Rattle.canon_blocks.proofs.DealsRun.{with_deal, with_deals, street_deals, ho
 use Rattle.canon_blocks.proofs.DealtGroups.{AreDealt, dealt_out, deal_more, no_cards}
 use Rattle.canon_blocks.proofs.BoardRun.{with_board, board_run, known_again}
 use Rattle.play_laws.proofs.KnownBoard.{board_known}
-use Rattle.canon_blocks.proofs.DrawTables.{draw_tables}
+use Rattle.play_laws.proofs.DrawTables.{draw_tables}
 use Rattle.canon_blocks.proofs.StreetCounts.{IsAside, aside_more, aside_deals, aside_board, deals_out, deals_drawn, deals_board, deals_holes, board_holes, board_out, board_drawn, board_own}
 use Rattle.canon_blocks.proofs.StreetLists.{IsBlock, block_more, deals_block, board_block}
 use Rattle.canon_blocks.proofs.TracedSlots.{dealt_same}

@@ -17,7 +17,7 @@ use Rattle.play_event.specs.Table.{places_of}
 use Rattle.play_event.specs.Trace.{traced_places}
 use Rattle.play_event.specs.Scripts.{past_of}
 use Rattle.play_event.specs.Laws.{AreLegal}
-use Rattle.hand_canon.specs.CanonScript.{discards_said, discarded_slots, drawing_seats, is_reached}
+use Rattle.canonical_play.specs.CanonScript.{discards_said, discarded_slots, drawing_seats, is_reached}
 use Rattle.canon_blocks.proofs.Mirrors.{AreMirrored}
 use Rattle.canon_blocks.proofs.Runs.{Runs}
 use Rattle.canon_blocks.proofs.CardEvents.{HasCome}
@@ -35,7 +35,7 @@ use Rattle.canon_blocks.proofs.FreeGroups.{out_by}
 use Rattle.play_laws.proofs.PlaceGroups.{group_of, group_slots}
 use Rattle.canon_blocks.proofs.DiscardsRun.{out_to, mirrored_as}
 use Rattle.canon_blocks.proofs.DrawRun.{with_discards, out_slots}
-use Rattle.canon_blocks.proofs.DrawTables.{draw_tables}
+use Rattle.play_laws.proofs.DrawTables.{draw_tables}
 use Rattle.canon_blocks.proofs.StreetCounts.{IsAside, aside_same, aside_discards, discards_holes, discards_board, discards_own}
 use Rattle.canon_blocks.proofs.StreetLists.{IsBlock, discards_block}
 use Rattle.canon_blocks.proofs.TracedSlots.{discarded_same}

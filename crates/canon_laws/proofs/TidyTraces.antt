@@ -21,12 +21,12 @@ use Rattle.play_event.specs.Trace.{traced_move, traced_moves, is_shown, TracedPl
 use Rattle.play_event.specs.Scripts.{past_of, past_at_end}
 use Rattle.card_set.specs.Known.{is_unknown}
 use Rattle.play_event.specs.Laws.{AreLegal, IsAmong}
-use Rattle.hand_canon.specs.TraceCore.{TraceCore, core_of, core_after}
-use Rattle.hand_canon.specs.LegalHand.{IsPlayed}
-use Rattle.hand_canon.specs.CanonScript.{dealt_slots, discarded_slots, held_slots}
+use Rattle.canonical_play.specs.TraceCore.{TraceCore, core_of, core_after}
+use Rattle.canonical_play.specs.PlayedScript.{IsPlayed}
+use Rattle.canonical_play.specs.CanonScript.{dealt_slots, discarded_slots, held_slots}
 use Rattle.std.proofs.lemmas.Option.{same_Some}
 use Rattle.list_laws.proofs.Options.{some_is_none}
-use Rattle.hand_canon.specs.Tidy.{HasTidyCards, IsTidy}
+use Rattle.canonical_play.specs.Tidy.{HasTidyCards, IsTidy}
 use Rattle.play_laws.proofs.LegalPlaces.{legal_past, group_count}
 use Rattle.play_laws.proofs.DonePasts.{legal_done}
 use Rattle.play_laws.proofs.PlayedStreets.{board_count}
@@ -42,7 +42,7 @@ use Rattle.canon_blocks.proofs.TracedSlots.{dealt_same, discarded_same}
 use Rattle.canon_laws.proofs.StreetDiscards.{out_finals}
 use Rattle.canon_laws.proofs.HeldSame.{held_script, any_held}
 use Rattle.canon_laws.proofs.LastPast.{is_in, not_in, shown_parts}
-use Rattle.canon_laws.proofs.HeldFew.{holds_at, filter_less, held_seven, out_seven, holes_seven}
+use Rattle.play_laws.proofs.HeldFew.{holds_at, filter_less, held_seven, out_seven, holes_seven}
 use Rattle.play_event.proofs.OwnerLaws.{is_same_owner-true}
 
 few_board : (streets : List Street) (index : ℕ) → list_any (λ s. nat_lt 7 s.board) streets ≡ false → option_map_or (λ s. s.board) (slice_get streets index) 0 ≤ 7

@@ -3,18 +3,14 @@ use Rattle.std.specs.Prelude.{◌≡◌, List}
 use Rattle.play_event.specs.declared.setup.Setup.{Setup}
 use Rattle.play_event.specs.declared.setup.Rules.{Rules}
 use Rattle.play_event.specs.Said.{Said}
-use Rattle.hand_canon.specs.TraceCore.{core_after}
-use Rattle.hand_canon.specs.CanonScript.{canonical_script}
-use Rattle.hand_canon.specs.LegalHand.{IsPlayed}
+use Rattle.canonical_play.specs.TraceCore.{core_after}
+use Rattle.canonical_play.specs.CanonScript.{canon_of}
+use Rattle.canonical_play.specs.PlayedScript.{IsPlayed}
 
 -- another script is played to its end, and leaves the trace of this one
 pub record HasTraceOf (setup : Setup) (rules : Rules) (script other : List Said) : Type 0 where
   pub played : IsPlayed setup rules other
   pub same : core_after setup other ≡ core_after setup script
-
--- the canonical script of the trace of a script
-abbrev pub canon_of : Setup → List Said → List Said
-canon_of setup script = canonical_script setup (core_after setup script)
 
 -- the canonical script of its trace is played to its end, and leaves the trace of a script
 abbrev pub IsConfluent : Setup → Rules → List Said → Type 0

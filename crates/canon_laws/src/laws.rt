@@ -1,15 +1,15 @@
 // Laws of traces and of their canonical scripts.
-ghost use Rattle.std.specs.Prelude.{◌≡◌, ◌↔◌, ◌≤◌, ℕ, List, count_by};
+ghost use Rattle.std.specs.Prelude.{◌≡◌, ◌↔◌, ◌≤◌, List, count_by};
 ghost use Rattle.play_event.specs.Said.{Said};
 ghost use Rattle.play_event.specs.ValidSetup.{IsValid};
 ghost use Rattle.play_event.specs.declared.setup.Rules.{Rules};
 ghost use Rattle.play_event.specs.declared.setup.Setup.{Setup};
-ghost use Rattle.hand_canon.specs.TraceCore.{core_after};
-ghost use Rattle.hand_canon.specs.Tidy.{IsTidy};
-ghost use Rattle.hand_canon.specs.LegalHand.{IsLegalHand, IsPlayed, is_move};
-ghost use Rattle.hand_canon.specs.WholeTrace.{HasShares};
-ghost use Rattle.hand_canon.specs.declared.limits.TheConstants.{MOST_MOVES};
-ghost use Rattle.canon_laws.specs.Confluence.{IsConfluent, canon_of};
+ghost use Rattle.canonical_play.specs.TraceCore.{core_after};
+ghost use Rattle.canonical_play.specs.Tidy.{IsTidy};
+ghost use Rattle.canonical_play.specs.PlayedScript.{IsPlayed, is_move};
+ghost use Rattle.canonical_play.specs.declared.limits.TheConstants.{MOST_MOVES};
+ghost use Rattle.canonical_play.specs.CanonScript.{canon_of};
+ghost use Rattle.canon_laws.specs.Confluence.{IsConfluent};
 ghost use Rattle.canon_laws.specs.OtherRules.{SuitsRules};
 
 /// The canonical script of the trace of a script that is played to its end is played to its end, under the same
@@ -17,17 +17,6 @@ ghost use Rattle.canon_laws.specs.OtherRules.{SuitsRules};
 pub fn law_of_confluence()
     ensures confluent { (setup : Setup) (rules : Rules) (script : List Said)
         → IsPlayed setup rules script → IsConfluent setup rules script }
-{}
-
-/// The canonical script of the trace of a legal hand is a legal hand under the same rules, and has the same shares
-/// and finishing stacks.
-pub fn law_of_whole_traces()
-    ensures legal { (setup : Setup) (rules : Rules) (script : List Said)
-        → IsLegalHand setup rules script → IsLegalHand setup rules (canon_of setup script) }
-    ensures same_shares { (setup : Setup) (rules : Rules) (script : List Said)
-        → (shares : List (ℕ → ℕ)) (finish : ℕ → ℕ) → IsPlayed setup rules script
-        → HasShares setup (core_after setup script) shares finish
-        ↔ HasShares setup (core_after setup (canon_of setup script)) shares finish }
 {}
 
 /// Two scripts that are played to their ends, each under rules of its own, leave one trace exactly where they have

@@ -11,7 +11,7 @@ use Rattle.play_event.specs.declared.setup.Setup.{Setup}
 use Rattle.play_event.specs.Past.{Move, is_fold, moves_before}
 use Rattle.play_event.specs.Played.{move_said}
 use Rattle.play_event.specs.Seats.{is_live, live_count}
-use Rattle.hand_canon.specs.CanonScript.{plain_move, plain_moves, moves_named, move_named}
+use Rattle.canonical_play.specs.CanonScript.{plain_move, plain_moves, moves_named, move_named}
 use Rattle.hand_canon.specs.RowTests.{is_fold_before, is_fold_of, said_on, unfolded_count}
 use Rattle.hand_canon.proofs.OneByOne.{filter-reverse, flat_map-map, kept_flat, list_any-reverse}
 

@@ -12,8 +12,8 @@ use Rattle.play_event.specs.Seats.{all_seats, is_live, live_count}
 use Rattle.play_event.specs.Streets.{has_draw}
 use Rattle.play_event.specs.Games.{street_count}
 use Rattle.play_event.specs.Trace.{TracedPlace, streets_of}
-use Rattle.hand_canon.specs.TraceCore.{TraceCore}
-use Rattle.hand_canon.specs.CanonScript.{board_said, canonical_script, deal_said, deals_said, dealt_slots, discarded_slots, discards_said, drawing_seats, is_reached, move_named, moves_named, plain_move, plain_moves, showdown_said, showing_said, street_said}
+use Rattle.canonical_play.specs.TraceCore.{TraceCore}
+use Rattle.canonical_play.specs.CanonScript.{board_said, canonical_script, deal_said, deals_said, dealt_slots, discarded_slots, discards_said, drawing_seats, is_reached, move_named, moves_named, plain_move, plain_moves, showdown_said, showing_said, street_said}
 use Rattle.hand_canon.specs.Numbers.{number_of}
 use Rattle.hand_canon.proofs.OneByOne.{flat_few}
 

@@ -1,10 +1,11 @@
--- What a trace keeps of a hand, its canonical script, what is tidy, which notes are allowed, and what stated facts are
--- compared with.
+-- Records and traces: what is said of their rows, the shares of a whole trace, which notes are allowed, and what stated facts
+-- are compared with. What a trace keeps but for its shares, and its canonical script, are passed on.
+pub use Rattle.canonical_play.specs.TraceCore
+pub use Rattle.canonical_play.specs.CanonScript
+pub use Rattle.canonical_play.specs.PlayedScript
+pub use Rattle.canonical_play.specs.Tidy
 pub mod NetRow
-pub mod TraceCore
-pub mod CanonScript
 pub mod TraceRows
-pub mod Tidy
 pub mod LegalHand
 pub mod WholeTrace
 pub mod AllowedNotes

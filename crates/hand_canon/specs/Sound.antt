@@ -6,7 +6,8 @@ use Rattle.play_event.specs.ValidSetup.{IsValid}
 use Rattle.hand_canon.specs.declared.record.Record.{Record}
 use Rattle.hand_canon.specs.declared.trace.Play.{Play}
 use Rattle.hand_canon.specs.AllowedNotes.{AreAllowed}
-use Rattle.hand_canon.specs.LegalHand.{IsLegalHand, IsWithinLimits}
+use Rattle.canonical_play.specs.PlayedScript.{IsWithinLimits}
+use Rattle.hand_canon.specs.LegalHand.{IsLegalHand}
 use Rattle.hand_canon.specs.WholeTrace.{IsTraceOf}
 
 -- the script of a record

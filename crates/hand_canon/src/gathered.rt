@@ -3,7 +3,7 @@ ghost use Rattle.std.specs.Prelude.{◌≡◌, ◌≤◌, ◌<◌, ◌≢◌, �
 ghost use Rattle.card_set.specs.Row.{cards_of, slots_of};
 ghost use Rattle.card_set.specs.Known.{known_cards};
 ghost use Rattle.play_event.specs.SeatSlots.{slots_of_hand};
-ghost use Rattle.hand_canon.specs.CanonScript.{dealt_slots, discarded_slots};
+ghost use Rattle.canonical_play.specs.CanonScript.{dealt_slots, discarded_slots};
 ghost use Rattle.hand_canon.specs.RowTests.{slot_for};
 ghost use Rattle.hand_canon.specs.TraceRows.{place_said};
 

@@ -16,9 +16,8 @@ mod writing;
 
 pub use agreement::{FactDiffers, Which, check_stated};
 pub use canonical::canon;
-pub use limits::{
-    MOST_FILE_MOVES, MOST_HANDS, MOST_MOVES, MOST_OTHER_EVENTS, MOST_TEXT_BYTES, Quantity,
-};
+pub use canonical_play::{MOST_MOVES, MOST_OTHER_EVENTS};
+pub use limits::{MOST_FILE_MOVES, MOST_HANDS, MOST_TEXT_BYTES, Quantity};
 pub use notes::{Clock, NoteName, Notes};
 pub use record::{NetRow, Record, Records, Stated};
 pub use text::Text;

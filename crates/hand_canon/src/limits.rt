@@ -1,13 +1,7 @@
-// The limits of what is read, each of them a decision of this project.
+// The limits of what is read but for those of a hand, each of them a decision of this project.
 
 /// The most hands of a file.
 pub const MOST_HANDS: usize = 65_536;
-
-/// The most moves of a hand: its folds, calls, raises and bring-ins.
-pub const MOST_MOVES: usize = 4_096;
-
-/// The most other events of a hand. A legal hand has 144 at most.
-pub const MOST_OTHER_EVENTS: usize = 256;
 
 /// The most moves of a file.
 pub const MOST_FILE_MOVES: usize = 1_048_576;

@@ -35,3 +35,5 @@ pub mod PlayedStreets
 pub mod OneSpelling
 pub mod OtherRules
 pub mod LegalScripts
+pub mod DrawTables
+pub mod HeldFew

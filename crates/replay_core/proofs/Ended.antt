@@ -13,7 +13,7 @@ use Rattle.chip_ledger.specs.SeatRow.{amount_of}
 use Rattle.deal_core.specs.Board.{board_cards}
 use Rattle.deal_core.specs.Standing as cards
 use Rattle.deal_core.specs.Standing.{IsSeatOf}
-use Rattle.hand_canon.specs.LegalHand.{IsPlayed}
+use Rattle.canonical_play.specs.PlayedScript.{IsPlayed}
 use Rattle.hand_play.specs.Together.{StandTogether}
 use Rattle.play_event.specs.declared.card_rows.HandRow.{HandRow}
 use Rattle.play_event.specs.declared.code.Code.{Code}

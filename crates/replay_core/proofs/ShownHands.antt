@@ -19,9 +19,9 @@ use Rattle.chip_ledger.specs.LiveRow.{flag_of, flagged}
 use Rattle.chip_ledger.specs.Seat.{seats_of}
 use Rattle.deal_core.specs.Board.{board_cards}
 use Rattle.deal_core.proofs.Boards.{all_known, board_held}
-use Rattle.hand_canon.specs.CanonScript as canon
+use Rattle.canonical_play.specs.CanonScript as canon
 use Rattle.hand_canon.specs.LegalHand.{showdown_in}
-use Rattle.hand_canon.specs.TraceCore.{core_of}
+use Rattle.canonical_play.specs.TraceCore.{core_of}
 use Rattle.hand_order.specs.declared.best.Pick.{Pick}
 use Rattle.list_laws.proofs.Tests.{false_true}
 use Rattle.play_event.specs.declared.card_rows.HandRow.{HandRow}

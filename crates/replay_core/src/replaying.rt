@@ -1,6 +1,7 @@
 // A script under its setup and rules, to its trace.
 ghost use Rattle.std.specs.Prelude.{◌≡◌, IfErr, IfOk, OnOk};
-ghost use Rattle.hand_canon.specs.LegalHand.{IsLegalHand, IsWithinLimits};
+ghost use Rattle.canonical_play.specs.PlayedScript.{IsWithinLimits};
+ghost use Rattle.hand_canon.specs.LegalHand.{IsLegalHand};
 ghost use Rattle.hand_canon.specs.WholeTrace.{IsTraceOf};
 ghost use Rattle.play_event.specs.Due as dues;
 ghost use Rattle.play_event.specs.Scripts.{past_at_end};

@@ -5,9 +5,9 @@ use Rattle.std.specs.List.{list_any}
 use Rattle.std.proofs.lemmas.Bool.{and_left, and_right, le-ltb, lt-ltb, ltb-false, not_from_true, or_parts}
 use Rattle.std.proofs.lemmas.List.{length-map}
 use Rattle.card_places.specs.Held.{held_slots}
-use Rattle.canon_blocks.proofs.DrawTables.{draw_tables}
+use Rattle.play_laws.proofs.DrawTables.{draw_tables}
 use Rattle.play_event.proofs.OwnerLaws.{is_same_owner-true}
-use Rattle.canon_laws.proofs.HeldFew.{balance, holds_at}
+use Rattle.play_laws.proofs.HeldFew.{balance, first_holes, holds_at, no_holes, none_pass, one_more}
 use Rattle.play_event.specs.declared.code.Code.{Code}
 use Rattle.play_event.specs.declared.code.Code.TheVariants as games
 use Rattle.play_event.specs.declared.setup.Rules.{Rules}
@@ -33,12 +33,6 @@ use Rattle.chip_ledger.proofs.SeatLists.{none_at}
 use Rattle.showdown_laws.specs.ContestedEnd.{EndContested}
 use Rattle.showdown_laws.proofs.AllDone.{all_dealt}
 
--- the hole cards of the first streets
-first_holes : List Street → ℕ → ℕ
-first_holes [] count = 0
-first_holes (s ∷ rest) zero = 0
-first_holes (s ∷ rest) (suc count) = (s.down + s.up) + first_holes rest count
-
 -- those of all streets are a hand
 whole_hand : (code : Code) → first_holes (game_of code).streets (street_count code) ≡ (game_of code).hole
 unfolding first_holes
@@ -53,24 +47,6 @@ whole_hand games.FR = refl
 whole_hand games.N2L1D = refl
 whole_hand games.F2L3D = refl
 whole_hand games.FB = refl
-
-no_holes : (streets : List Street) → first_holes streets 0 ≡ 0
-unfolding first_holes
-no_holes [] = refl
-no_holes (s ∷ rest) = refl
-
-one_more : (streets : List Street) (count : ℕ) → first_holes streets (suc count) ≡ first_holes streets count + option_map_or (λ s. s.down + s.up) (slice_get streets count) 0
-unfolding first_holes
-one_more [] count = refl
-one_more (s ∷ rest) zero = omega (arith, no_holes rest)
-one_more (s ∷ rest) (suc count) = omega (arith, one_more rest count)
-
-none_passes : (p : Place → Bool) (placed : List Place) → ((place : Place) → IsAmong placed place → p place ≡ false) → length (filter p placed) ≡ 0
-none_passes p placed none = ap length (same_filter p (λ _. false) placed none) ∙ nothing placed
-  where
-    nothing : (places : List Place) → length (filter (λ (_ : Place). false) places) ≡ 0
-    nothing [] = refl
-    nothing (place ∷ rest) = nothing rest
 
 -- a draw replaces what was discarded in it
 replaced : (setup : Setup) (past : Past) (street seat : ℕ) → has_draw setup.code street ≡ true → is_draw_due setup past street ≡ false → 1 ≤ seat → seat ≤ setup.stacks.seats → cards_discarded past street seat ≤ hole_cards_dealt past street seat
@@ -90,7 +66,7 @@ held_so_far : (setup : Setup) (rules : Rules) (events : List Said) (seat count :
     → length (filter (holds_at seat (count + 1)) (places_of setup.code (past_of setup events))) ≡ first_holes (game_of setup.code).streets count
 held_so_far setup rules events seat zero ends in_hand few =
     let law = (legal_past setup rules events ends.legal).places in
-    none_passes (holds_at seat (0 + 1)) (places_of setup.code (past_of setup events)) (λ place among.
+    none_pass (holds_at seat (0 + 1)) (places_of setup.code (past_of setup events)) (λ place among.
     and_right (is_same_owner place.owner (Some seat)) (nat_lt place.street (0 + 1) && not (nat_lt 0 place.discarded && nat_lt place.discarded (0 + 1)))
     (and_left (nat_lt place.street (0 + 1)) (not (nat_lt 0 place.discarded && nat_lt place.discarded (0 + 1))) (le-ltb place.street (0 + 1) (omega (arith, law.since place among)))))
     ∙ sym (no_holes (game_of setup.code).streets)

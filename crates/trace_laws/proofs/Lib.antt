@@ -9,3 +9,4 @@ pub mod TraceChips
 pub mod TraceStacks
 pub mod TraceWinners
 pub mod NoChipsMade
+pub mod SameShares

@@ -17,9 +17,9 @@ use Rattle.play_event.specs.Past.{Past}
 use Rattle.play_event.specs.Played.{move_said}
 use Rattle.play_event.specs.Stakes.{finishing_stack}
 use Rattle.hand_canon.specs.declared.trace.Trace.{Trace}
-use Rattle.hand_canon.specs.CanonScript.{plain_moves}
+use Rattle.canonical_play.specs.CanonScript.{plain_moves}
 use Rattle.hand_canon.specs.LegalHand.{showdown_in}
-use Rattle.hand_canon.specs.TraceCore.{TraceCore, core_of}
+use Rattle.canonical_play.specs.TraceCore.{TraceCore, core_of}
 use Rattle.hand_canon.specs.TraceRows.{core_said, place_said}
 use Rattle.hand_canon.specs.WholeTrace.{HasSeats, HasShares, IsTraceOf}
 use Rattle.trace_laws.proofs.Readings.{lists_same, move_same, place_same}

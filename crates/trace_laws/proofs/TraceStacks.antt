@@ -23,7 +23,7 @@ use Rattle.play_event.specs.Trace.{traced_move, traced_moves}
 use Rattle.play_event.specs.ValidSetup.{IsValid}
 use Rattle.play_event.proofs.ChipLaws.{put_and_left}
 use Rattle.hand_canon.specs.declared.trace.Trace.{Trace}
-use Rattle.hand_canon.specs.CanonScript.{plain_move, plain_moves}
+use Rattle.canonical_play.specs.CanonScript.{plain_move, plain_moves}
 use Rattle.hand_canon.specs.WholeTrace.{IsTraceOf}
 use Rattle.trace_laws.proofs.TraceChips.{pots_and_returns, returned_total}
 

@@ -1,9 +1,14 @@
 // Laws of whole traces.
-ghost use Rattle.std.specs.Prelude.{◌≡◌, ◌↔◌};
+ghost use Rattle.std.specs.Prelude.{◌≡◌, ◌↔◌, ℕ, List};
 ghost use Rattle.play_event.specs.Past.{Past};
+ghost use Rattle.play_event.specs.Said.{Said};
+ghost use Rattle.play_event.specs.declared.setup.Rules.{Rules};
 ghost use Rattle.play_event.specs.declared.setup.Setup.{Setup};
-ghost use Rattle.hand_canon.specs.TraceCore.{core_of};
-ghost use Rattle.hand_canon.specs.WholeTrace.{IsTraceOf};
+ghost use Rattle.canonical_play.specs.CanonScript.{canon_of};
+ghost use Rattle.canonical_play.specs.PlayedScript.{IsPlayed};
+ghost use Rattle.canonical_play.specs.TraceCore.{core_after, core_of};
+ghost use Rattle.hand_canon.specs.LegalHand.{IsLegalHand};
+ghost use Rattle.hand_canon.specs.WholeTrace.{HasShares, IsTraceOf};
 ghost use Rattle.hand_canon.specs.declared.trace.Trace.{Trace};
 
 /// A past has at most one whole trace. Whole traces of two pasts under one setup are one trace exactly where the pasts
@@ -15,4 +20,15 @@ pub fn law_of_one_trace()
     ensures one_core { (setup : Setup) (past later : Past) (trace other : Trace)
         → IsTraceOf setup past trace → IsTraceOf setup later other
         → (trace ≡ other) ↔ (core_of setup past ≡ core_of setup later) }
+{}
+
+/// The canonical script of the trace of a legal hand is a legal hand under the same rules, and has the same shares
+/// and finishing stacks.
+pub fn law_of_canonical_hands()
+    ensures legal { (setup : Setup) (rules : Rules) (script : List Said)
+        → IsLegalHand setup rules script → IsLegalHand setup rules (canon_of setup script) }
+    ensures same_shares { (setup : Setup) (rules : Rules) (script : List Said)
+        → (shares : List (ℕ → ℕ)) (finish : ℕ → ℕ) → IsPlayed setup rules script
+        → HasShares setup (core_after setup script) shares finish
+        ↔ HasShares setup (core_after setup (canon_of setup script)) shares finish }
 {}

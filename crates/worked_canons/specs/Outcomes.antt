@@ -4,8 +4,8 @@ use Rattle.play_event.specs.declared.setup.Setup.{Setup}
 use Rattle.play_event.specs.Said.{Said}
 use Rattle.play_event.specs.Scripts.{has_early_end}
 use Rattle.worked_hands.specs.Outcomes.{AllLegal}
-use Rattle.hand_canon.specs.TraceCore.{core_after}
-use Rattle.canon_laws.specs.Confluence.{canon_of}
+use Rattle.canonical_play.specs.TraceCore.{core_after}
+use Rattle.canonical_play.specs.CanonScript.{canon_of}
 use Rattle.worked_canons.specs.TraceNumbers.{are_same, trace_numbers}
 
 -- the events of the canonical script are legal

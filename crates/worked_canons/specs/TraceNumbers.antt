@@ -6,7 +6,7 @@ use Rattle.card_set.specs.Deck.{deck_place}
 use Rattle.chip_ledger.specs.Pots.{PlainPot}
 use Rattle.play_event.specs.Past.{Act, Folded, Called, Raised, BroughtIn}
 use Rattle.play_event.specs.Trace.{TracedMove, TracedPlace}
-use Rattle.hand_canon.specs.TraceCore.{TraceCore}
+use Rattle.canonical_play.specs.TraceCore.{TraceCore}
 
 -- a slot: 0 where its card is unknown
 abbrev pub slot_number : Slot → ℕ

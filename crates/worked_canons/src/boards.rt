@@ -4,7 +4,7 @@ ghost use Rattle.worked_hands.specs.Words.{deal, board, fold, call, raise, bring
 ghost use Rattle.worked_hands.specs.Outcomes.{AllLegal};
 ghost use Rattle.worked_hands.specs.Setups.{antes_and_blinds, no_limit, pot_limit, stud};
 ghost use Rattle.worked_hands.specs.ShowScripts.{early_shows, named_at_showdown};
-ghost use Rattle.canon_laws.specs.Confluence.{canon_of};
+ghost use Rattle.canonical_play.specs.CanonScript.{canon_of};
 ghost use Rattle.worked_canons.specs.Outcomes.{HasCompleteCanon, HasLegalCanon, HasSameTrace};
 ghost use Rattle.worked_canons.specs.Scripts.{omaha_hand, stud_hand};
 

@@ -3,7 +3,7 @@ ghost use Rattle.std.specs.Prelude.{◌≡◌, [], ◌∷◌, ◌++◌, codes};
 ghost use Rattle.worked_hands.specs.Words.{deal, fold, call, raise, discard, show, muck};
 ghost use Rattle.worked_hands.specs.Outcomes.{AllLegal};
 ghost use Rattle.worked_hands.specs.Setups.{triple_draw};
-ghost use Rattle.canon_laws.specs.Confluence.{canon_of};
+ghost use Rattle.canonical_play.specs.CanonScript.{canon_of};
 ghost use Rattle.worked_canons.specs.Outcomes.{HasCompleteCanon, HasLegalCanon, HasSameTrace};
 ghost use Rattle.worked_canons.specs.Scripts.{badugi_hand, folded_draw, mixed_draw, past_the_deck};
 ghost use Rattle.worked_canons.specs.Setups.{badugi, three_in_single_draw};

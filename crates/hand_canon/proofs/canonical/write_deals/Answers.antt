@@ -1,7 +1,7 @@
 -- The deals to the seats, and then the board's.
 use Rattle.std.proofs.Common.{◌∙◌, Some, None, ap, map, sym}
 use Rattle.card_set.specs.Row.{slots_of}
-use Rattle.hand_canon.specs.CanonScript.{dealt_slots}
+use Rattle.canonical_play.specs.CanonScript.{dealt_slots}
 use Rattle.hand_canon.specs.TraceRows.{place_said}
 use Rattle.hand_canon.proofs.CanonParts.{deals_are}
 use Rattle.hand_canon.proofs.WrittenWords.{on_ok, same_words, two_parts}

@@ -6,7 +6,7 @@ use Rattle.chip_ledger.specs.Rakes.{first_rake_above, nets_of}
 use Rattle.chip_ledger.specs.SeatRow.{amount_of}
 use Rattle.hand_canon.specs.declared.trace.Trace.{Trace}
 use Rattle.hand_canon.specs.LegalHand.{showdown_in}
-use Rattle.hand_canon.specs.TraceCore.{core_of}
+use Rattle.canonical_play.specs.TraceCore.{core_of}
 use Rattle.hand_canon.specs.TraceRows.{core_said}
 use Rattle.play_event.specs.declared.code.Code.{Code}
 use Rattle.play_event.specs.Games.{game_of}

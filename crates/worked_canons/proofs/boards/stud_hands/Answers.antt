@@ -7,7 +7,7 @@ use Rattle.chip_ledger.specs.Pots.{after_return, levels, layers, pots_at, pots_o
 use Rattle.play_event.specs.Due.{turn}
 use Rattle.play_event.specs.Reasons.{why}
 use Rattle.play_event.specs.Scripts.{with_event}
-use Rattle.hand_canon.specs.CanonScript.{canonical_script}
+use Rattle.canonical_play.specs.CanonScript.{canonical_script}
 use Rattle.worked_canons.proofs.boards.stud_hands.Goals as goal
 
 pub returns-clause-the_hand_is_legal : goal.returns-clause-the_hand_is_legal

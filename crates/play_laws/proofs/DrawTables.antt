@@ -6,11 +6,10 @@ use Rattle.std.proofs.lemmas.Bool.{or_parts, and_parts, eqb-true}
 use Rattle.play_event.specs.declared.code.Code.{Code}
 use Rattle.play_event.specs.declared.code.Code.TheVariants as games
 use Rattle.play_event.specs.declared.setup.Setup.{Setup}
-use Rattle.play_event.specs.Games.{game_of}
+use Rattle.play_event.specs.Games.{board_cards_on, game_of, hole_cards_on}
 use Rattle.play_event.specs.declared.street.Street.{Street}
 use Rattle.play_event.specs.Streets.{has_draw}
 use Rattle.list_laws.proofs.Tests.{false_true}
-use Rattle.canon_blocks.proofs.DrawRun.{IsDrawStreet}
 
 is_odd : Street → Bool
 is_odd s = s.draws && not ((s.down + s.up == 0) && (s.board == 0))
@@ -48,6 +47,12 @@ no_cards (first ∷ rest) zero none draws =
 no_cards (first ∷ rest) (suc index) none draws =
     let it = no_cards rest index (or_parts (is_odd first) (list_any is_odd rest) none).1 draws in
     record { hole = it.hole; board = it.board }
+
+-- a street that draws and deals nothing else
+pub record IsDrawStreet (setup : Setup) (street : ℕ) : Type 0 where
+  pub draws : has_draw setup.code street ≡ true
+  pub no_hole : hole_cards_on setup.code street ≡ 0
+  pub no_board : board_cards_on setup.code street ≡ 0
 
 -- a street that draws deals no cards of its own, in each game
 pub draw_tables : (setup : Setup) (street : ℕ) → has_draw setup.code street ≡ true → IsDrawStreet setup street

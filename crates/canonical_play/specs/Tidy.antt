@@ -3,9 +3,9 @@ use Rattle.std.specs.Prelude.{◌≡◌, ℕ, ◌≤◌, ◌&&◌, ◌==◌, tru
 use Rattle.std.specs.List.{list_any}
 use Rattle.card_set.specs.Known.{is_unknown}
 use Rattle.play_event.specs.Places.{is_same_owner}
-use Rattle.hand_canon.specs.declared.limits.TheConstants.{MOST_MOVES}
-use Rattle.hand_canon.specs.TraceCore.{TraceCore}
-use Rattle.hand_canon.specs.CanonScript.{dealt_slots, discarded_slots, held_slots}
+use Rattle.canonical_play.specs.declared.limits.TheConstants.{MOST_MOVES}
+use Rattle.canonical_play.specs.TraceCore.{TraceCore}
+use Rattle.canonical_play.specs.CanonScript.{dealt_slots, discarded_slots, held_slots}
 
 -- The cards of a trace: the board and what shown seats hold are known; no owner has more than seven cards of one street,
 -- no seat discards more than seven in one draw, and none holds more than seven.

@@ -22,7 +22,7 @@ use Rattle.play_laws.proofs.DiscardCounts.{is_out_of, out_counts}
 use Rattle.list_laws.proofs.Tests.{false_true}
 
 -- the hole cards of the first streets
-pub first_holes : List Street → ℕ → ℕ
+unfoldable pub first_holes : List Street → ℕ → ℕ
 first_holes [] count = 0
 first_holes (s ∷ rest) zero = 0
 first_holes (s ∷ rest) (suc count) = (s.down + s.up) + first_holes rest count
@@ -31,12 +31,14 @@ all_holes : List Street → ℕ
 all_holes [] = 0
 all_holes (s ∷ rest) = (s.down + s.up) + all_holes rest
 
-no_holes : (streets : List Street) → first_holes streets 0 ≡ 0
+-- no streets have none
+pub no_holes : (streets : List Street) → first_holes streets 0 ≡ 0
 unfolding first_holes
 no_holes [] = refl
 no_holes (s ∷ rest) = refl
 
-one_more : (streets : List Street) (count : ℕ) → first_holes streets (suc count) ≡ first_holes streets count + option_map_or (λ s. s.down + s.up) (slice_get streets count) 0
+-- one street more
+pub one_more : (streets : List Street) (count : ℕ) → first_holes streets (suc count) ≡ first_holes streets count + option_map_or (λ s. s.down + s.up) (slice_get streets count) 0
 unfolding first_holes
 one_more [] count = refl
 one_more (s ∷ rest) zero = omega (arith, no_holes rest)
@@ -82,7 +84,8 @@ pub filter_less : (p q : Place → Bool) (placed : List Place) → ((place : Pla
 filter_less p q [] less = omega arith
 filter_less p q (place ∷ rest) less = less_step p q place rest (p place) (q place) (less place (inl refl)) (filter_less p q rest (λ other among. less other (inr among)))
 
-none_pass : (p : Place → Bool) (placed : List Place) → ((place : Place) → IsAmong placed place → p place ≡ false) → length (filter p placed) ≡ 0
+-- a test that no place passes keeps none
+pub none_pass : (p : Place → Bool) (placed : List Place) → ((place : Place) → IsAmong placed place → p place ≡ false) → length (filter p placed) ≡ 0
 none_pass p [] none = refl
 none_pass p (place ∷ rest) none =
     ap (λ b. length (if b then (place ∷ filter p rest) else filter p rest)) (none place (inl refl)) ∙ none_pass p rest (λ other among. none other (inr among))

@@ -3,10 +3,11 @@ use Rattle.std.proofs.Common.{◌≡◌, ◌↔◌, ℕ, List, subst, sym}
 use Rattle.play_event.specs.Said.{Said}
 use Rattle.play_event.specs.declared.setup.Rules.{Rules}
 use Rattle.play_event.specs.declared.setup.Setup.{Setup}
-use Rattle.hand_canon.specs.TraceCore.{TraceCore, core_after}
-use Rattle.canon_laws.specs.Confluence.{canon_of}
+use Rattle.canonical_play.specs.TraceCore.{TraceCore, core_after}
+use Rattle.canonical_play.specs.CanonScript.{canon_of}
 use Rattle.canon_laws.proofs.Confluent.{confluent}
-use Rattle.hand_canon.specs.LegalHand.{IsLegalHand, IsPlayed, IsShareable}
+use Rattle.canonical_play.specs.PlayedScript.{IsPlayed}
+use Rattle.hand_canon.specs.LegalHand.{IsLegalHand, IsShareable}
 use Rattle.hand_canon.specs.WholeTrace.{HasShares}
 
 -- the canonical script leaves the trace of the script

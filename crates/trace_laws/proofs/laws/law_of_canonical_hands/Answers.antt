@@ -1,5 +1,5 @@
-use Rattle.canon_laws.proofs.SameShares.{legal_hand, same_shares}
-use Rattle.canon_laws.proofs.laws.law_of_whole_traces.Goals as goal
+use Rattle.trace_laws.proofs.SameShares.{legal_hand, same_shares}
+use Rattle.trace_laws.proofs.laws.law_of_canonical_hands.Goals as goal
 
 pub returns-clause-legal : goal.returns-clause-legal
 returns-clause-legal c = legal_hand

@@ -12,7 +12,7 @@ use Rattle.play_event.specs.Past.{Move, Act, Folded, Called, Raised, BroughtIn, 
 use Rattle.play_event.specs.Seats.{all_seats, is_live, live_count}
 use Rattle.play_event.specs.Places.{is_same_owner}
 use Rattle.play_event.specs.Trace.{TracedMove, TracedPlace, streets_of}
-use Rattle.hand_canon.specs.TraceCore.{TraceCore}
+use Rattle.canonical_play.specs.TraceCore.{TraceCore, core_after}
 
 -- a move of a trace without what is computed of the moves before it
 abbrev pub plain_move : TracedMove → Move
@@ -112,3 +112,7 @@ script_of setup placed moves shown =
 -- the canonical script of a trace
 unfoldable pub canonical_script : Setup → TraceCore → List Said
 canonical_script setup trace = script_of setup trace.places (plain_moves trace.moves) trace.shown
+
+-- the canonical script of the trace of a script
+abbrev pub canon_of : Setup → List Said → List Said
+canon_of setup script = canonical_script setup (core_after setup script)
