@@ -16,7 +16,8 @@ use Rattle.canonical_play.specs.TraceCore.{TraceCore, core_after}
 
 -- a move of a trace without what is computed of the moves before it
 abbrev pub plain_move : TracedMove → Move
-plain_move move = record { street = move.street; seat = move.seat; act = move.act; from = move.from; to = move.to }
+plain_move move =
+    record { street = move.street; seat = move.seat; act = move.act; from = move.from; to = move.to }
 
 -- the moves of a trace, the newest first
 abbrev pub plain_moves : List TracedMove → List Move
@@ -28,15 +29,18 @@ is_dealt_to owner street place = is_same_owner place.owner owner && (place.stree
 
 -- the cards of an owner of one street
 abbrev pub dealt_slots : List TracedPlace → Option ℕ → ℕ → List Slot
-dealt_slots placed owner street = map (λ place. place.slot) (filter (is_dealt_to owner street) placed)
+dealt_slots placed owner street =
+    map (λ place. place.slot) (filter (is_dealt_to owner street) placed)
 
 -- a card was discarded by a seat in the draw of a street
 abbrev pub is_discard_of : ℕ → ℕ → TracedPlace → Bool
-is_discard_of seat street place = is_same_owner place.owner (Some seat) && (place.discarded == street)
+is_discard_of seat street place =
+    is_same_owner place.owner (Some seat) && (place.discarded == street)
 
 -- the cards that a seat discarded in the draw of a street
 abbrev pub discarded_slots : List TracedPlace → ℕ → ℕ → List Slot
-discarded_slots placed seat street = map (λ place. place.slot) (filter (is_discard_of seat street) placed)
+discarded_slots placed seat street =
+    map (λ place. place.slot) (filter (is_discard_of seat street) placed)
 
 -- the cards that a seat holds at the end: those that it did not discard
 abbrev pub held_slots : List TracedPlace → ℕ → List Slot
@@ -55,7 +59,8 @@ board_said (slot ∷ rest) = Board (known_cards (slot ∷ rest)) ∷ []
 -- the deals of a street: to each seat in one event, and to the board
 abbrev pub deals_said : Setup → List TracedPlace → ℕ → List Said
 deals_said setup placed street =
-    flat_map (λ seat. deal_said seat (dealt_slots placed (Some seat) street)) (all_seats setup) ++ board_said (dealt_slots placed None street)
+    flat_map (λ seat. deal_said seat (dealt_slots placed (Some seat) street)) (all_seats setup)
+    ++ board_said (dealt_slots placed None street)
 
 -- the seats that draw on a street: those that are live when it begins
 abbrev pub drawing_seats : Setup → List Move → ℕ → List ℕ
@@ -69,7 +74,9 @@ is_reached setup moves street = nat_le 2 (live_count setup (moves_before street 
 abbrev pub discards_said : Setup → List TracedPlace → List Move → ℕ → List Said
 discards_said setup placed moves street =
     if has_draw setup.code street && is_reached setup moves street
-    then map (λ seat. Discard seat (discarded_slots placed seat street)) (drawing_seats setup moves street)
+    then map
+    (λ seat. Discard seat (discarded_slots placed seat street))
+    (drawing_seats setup moves street)
     else []
 
 -- what a seat did, named and spelled by its target
@@ -90,12 +97,15 @@ moves_named moves street = map move_named (reverse (filter (λ move. move.street
 -- one street: its discards, its deals and its moves
 abbrev pub street_said : Setup → List TracedPlace → List Move → ℕ → List Said
 street_said setup placed moves street =
-    discards_said setup placed moves street ++ (deals_said setup placed street ++ moves_named moves street)
+    discards_said setup placed moves street
+    ++ (deals_said setup placed street ++ moves_named moves street)
 
 -- a seat shows all its cards, or mucks
 abbrev pub showing_said : List TracedPlace → List ℕ → ℕ → Said
 showing_said placed shown seat =
-    if list_any (λ other. other == seat) shown then Show seat (known_cards (held_slots placed seat)) else Muck seat
+    if list_any (λ other. other == seat) shown
+    then Show seat (known_cards (held_slots placed seat))
+    else Muck seat
 
 -- the showdown of a contested hand
 abbrev pub showdown_said : Setup → List TracedPlace → List Move → List ℕ → List Said
@@ -107,7 +117,8 @@ showdown_said setup placed moves shown =
 -- the canonical script of places, moves (the newest first) and shown seats
 abbrev pub script_of : Setup → List TracedPlace → List Move → List ℕ → List Said
 script_of setup placed moves shown =
-    flat_map (street_said setup placed moves) (streets_of setup) ++ showdown_said setup placed moves shown
+    flat_map (street_said setup placed moves) (streets_of setup)
+    ++ showdown_said setup placed moves shown
 
 -- the canonical script of a trace
 unfoldable pub canonical_script : Setup → TraceCore → List Said

@@ -47,11 +47,13 @@ value_of trace seat = pos (amount_of trace.finish seat) -ℤ pos (amount_of trac
 
 -- a stated finishing stack
 abbrev pub finish_compared : Trace → SeatRow → ℕ → Comparison
-finish_compared trace row seat = comparison (Finish seat) (pos (amount_of row seat)) (pos (amount_of trace.finish seat))
+finish_compared trace row seat =
+    comparison (Finish seat) (pos (amount_of row seat)) (pos (amount_of trace.finish seat))
 
 -- a stated win
 abbrev pub win_compared : Trace → SeatRow → ℕ → Comparison
-win_compared trace row seat = comparison (Win seat) (pos (amount_of row seat)) (pos (win_of trace seat))
+win_compared trace row seat =
+    comparison (Win seat) (pos (amount_of row seat)) (pos (win_of trace seat))
 
 -- a stated total of the pots
 abbrev pub pots_compared : Trace → ℕ → Comparison
@@ -63,7 +65,8 @@ value_compared trace row seat = comparison (Value seat) (net_of row seat) (value
 
 -- what is compared of a row, seat by seat, if there is a row
 abbrev pub row_compared : {Row : Type 0} → Trace → (Trace → Row → ℕ → Comparison) → Option Row → List Comparison
-row_compared trace compared row = option_map_or (λ stated. map (compared trace stated) (all_seats trace.setup)) row []
+row_compared trace compared row =
+    option_map_or (λ stated. map (compared trace stated) (all_seats trace.setup)) row []
 
 -- what is compared of the total of the pots, if it is stated
 abbrev pub total_compared : Trace → Option ℕ → List Comparison

@@ -48,6 +48,10 @@ days_in_month year month =
     if month == 2 then (if is_leap_year year then 29 else 28)
     else (if (month == 4) || (month == 6) || (month == 9) || (month == 11) then 30 else 31)
 
+-- the month of a year has this day
+abbrev pub IsDayOf : ℕ → ℕ → ℕ → Type 0
+IsDayOf year month day = day ≤ days_in_month year month
+
 -- a time of a day
 pub record IsTime (time : Clock) : Type 0 where
   pub hour : time.hour ≤ 23
@@ -57,7 +61,8 @@ pub record IsTime (time : Clock) : Type 0 where
 
 -- the notes of a hand with so many seats
 pub record AreAllowed (count : ℕ) (notes : Notes) : Type 0 where
-  pub names : (seat : ℕ) → 1 ≤ seat → seat ≤ count → IfSome (slice_index_or notes.names (seat - 1) None) (IsName seat)
+  pub names : (seat : ℕ) → 1 ≤ seat → seat ≤ count
+      → IfSome (slice_index_or notes.names (seat - 1) None) (IsName seat)
   pub no_more_names : (index : ℕ) → count ≤ index → slice_index_or notes.names index None ≡ None
   pub seats : IfSome notes.seats (AreSeatNumbers count)
   pub seat_count : IfSome notes.seat_count (IsSeatCount count)
@@ -68,6 +73,6 @@ pub record AreAllowed (count : ℕ) (notes : Notes) : Type 0 where
   pub year : IfSome notes.year (IsWithin 1 9999)
   pub month : IfSome notes.month (IsWithin 1 12)
   pub day : IfSome notes.day (IsWithin 1 31)
-  pub date : IfSome notes.year (λ year. IfSome notes.month (λ month. IfSome notes.day (λ day. day ≤ days_in_month year month)))
+  pub date : IfSome notes.year (λ year. IfSome notes.month (λ month. IfSome notes.day (IsDayOf year month)))
   pub time : IfSome notes.time IsTime
   pub zone : IfSome notes.zone IsNoteText

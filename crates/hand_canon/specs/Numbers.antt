@@ -9,4 +9,5 @@ number_of number = min number 4294967295
 
 -- the events have the numbers 1, 2 and so on
 abbrev pub AreNumbered : List Event → Type 0
-AreNumbered events = map (λ event. event.at) events ≡ map number_of (range_with_len 1 (length events))
+AreNumbered events =
+    map (λ event. event.at) events ≡ map number_of (range_with_len 1 (length events))

@@ -26,11 +26,13 @@ is_fold_before street seat move = nat_lt move.street street && is_fold_of seat m
 
 -- what is said of a move, where it is one of a street
 abbrev pub said_on : ℕ → Move → List Said
-said_on street move = if move.street == street then move_named (plain_move (move_said move)) ∷ [] else []
+said_on street move =
+    if move.street == street then move_named (plain_move (move_said move)) ∷ [] else []
 
 -- the card of a place, where it counts and belongs to this owner
 abbrev pub slot_for : Option ℕ → Bool → Place → List Slot
-slot_for owner counts place = if is_same_owner (place_said place).owner owner && counts then place.slot ∷ [] else []
+slot_for owner counts place =
+    if is_same_owner (place_said place).owner owner && counts then place.slot ∷ [] else []
 
 -- how many of so many seats have not folded
 abbrev pub unfolded_count : LiveRow → ℕ → ℕ
@@ -38,10 +40,14 @@ unfolded_count folded seats = count_by (λ seat. not (flag_of folded seat)) (sea
 
 -- the discard of a seat, unless it has folded
 abbrev pub discards_from : LiveRow → HandRow → ℕ → List Said
-discards_from folded discards seat = if flag_of folded seat then [] else Discard seat (slots_of_hand discards seat) ∷ []
+discards_from folded discards seat =
+    if flag_of folded seat then [] else Discard seat (slots_of_hand discards seat) ∷ []
 
 -- the show of all that a seat holds, or its muck, unless it has folded
 abbrev pub showings_from : LiveRow → LiveRow → HandRow → ℕ → List Said
 showings_from folded shown held seat =
     if flag_of folded seat then []
-    else (if flag_of shown seat then Show seat (known_cards (slots_of_hand held seat)) else Muck seat) ∷ []
+    else (
+    if flag_of shown seat
+    then Show seat (known_cards (slots_of_hand held seat))
+    else Muck seat) ∷ []

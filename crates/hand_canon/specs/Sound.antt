@@ -19,5 +19,6 @@ pub record IsSound (play : Play) : Type 0 where
   pub valid : IsValid play.hand.setup
   pub within : IsWithinLimits (script_said play.hand)
   pub legal : IsLegalHand play.hand.setup play.hand.rules (script_said play.hand)
-  pub trace : IsTraceOf play.hand.setup (past_at_end play.hand.setup (script_said play.hand)) play.trace
+  pub trace :
+      IsTraceOf play.hand.setup (past_at_end play.hand.setup (script_said play.hand)) play.trace
   pub notes : AreAllowed play.hand.setup.stacks.seats play.hand.notes

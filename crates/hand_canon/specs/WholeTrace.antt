@@ -26,7 +26,8 @@ pub record HasSeats (seats : ℕ) (trace : Trace) : Type 0 where
 
 -- what each seat gets of the net of each pot, and what it ends with
 pub record HasShares (setup : Setup) (trace : TraceCore) (shares : List (ℕ → ℕ)) (finish : ℕ → ℕ) : Type 0 where
-  pub shared : AllShared setup.code (showdown_in setup trace) (nets_of setup.rakes trace.pots) shares
+  pub shared :
+      AllShared setup.code (showdown_in setup trace) (nets_of setup.rakes trace.pots) shares
   pub finishes : (seat : ℕ) → 1 ≤ seat → seat ≤ setup.stacks.seats
       → finish seat ≡ finishing_stack setup (plain_moves trace.moves) shares seat
 
@@ -36,4 +37,5 @@ pub record IsTraceOf (setup : Setup) (past : Past) (trace : Trace) : Type 0 wher
   pub same_setup : trace.setup ≡ setup
   pub seats : HasSeats setup.stacks.seats trace
   pub core : core_said trace ≡ core_of setup past
-  pub shares : HasShares setup (core_of setup past) (plain_shares trace.shares) (amount_of trace.finish)
+  pub shares :
+      HasShares setup (core_of setup past) (plain_shares trace.shares) (amount_of trace.finish)

@@ -60,12 +60,14 @@ abbrev pub OutFirst : Place → Place → Type 0
 OutFirst first second =
     first.owner ≡ second.owner → is_unknown first.slot ≡ true → is_unknown second.slot ≡ true
     → 0 < second.discarded → first.street < second.discarded
-    → (first.discarded ≡ 0) ⊎ (second.discarded ≤ first.discarded) → first.discarded ≡ second.discarded
+    → (first.discarded ≡ 0) ⊎ (second.discarded ≤ first.discarded)
+    → first.discarded ≡ second.discarded
 
 -- so it is for all places of a list
 abbrev pub UnknownsFirst : List Place → Type 0
 UnknownsFirst [] = Unit {0}
-UnknownsFirst (first ∷ rest) = ((second : Place) → IsAmong rest second → OutFirst first second) × UnknownsFirst rest
+UnknownsFirst (first ∷ rest) =
+    ((second : Place) → IsAmong rest second → OutFirst first second) × UnknownsFirst rest
 
 -- What holds of the places of a legal past with these moves, up to its newest street: their numbers are below how many
 -- they are; a card is gone where it was discarded or its seat folded, since a later street than its own; and the rest as
@@ -79,7 +81,8 @@ pub record PlacesLaw (code : Code) (moves : List Move) (newest : ℕ) (placed : 
   pub out_reached : (place : Place) → IsAmong placed place → place.discarded ≤ newest
   pub gone_is : (place : Place) → IsAmong placed place
       → is_some place.gone_after ≡ (nat_lt 0 place.discarded || owner_folded moves place.owner)
-  pub out_after : (place : Place) → IsAmong placed place → 0 < place.discarded → place.street < place.discarded
+  pub out_after : (place : Place) → IsAmong placed place → 0 < place.discarded
+      → place.street < place.discarded
   pub folded_after : (place : Place) (street : ℕ) → IsAmong placed place
       → owner_folded (moves_before street moves) place.owner ≡ true → place.street < street
   pub gone_when : AreGoneByStreet moves placed

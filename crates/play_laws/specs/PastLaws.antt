@@ -40,7 +40,8 @@ pub record PastLaw (setup : Setup) (before : Past) : Type 0 where
   pub within : newest_street before ≤ street_count setup.code
   pub since : 1 ≤ newest_street before
   pub moved : AreReached (newest_street before) (moves_of before)
-  pub moved_done : (street : ℕ) → has_move street (moves_of before) ≡ true → HasCards setup before street
+  pub moved_done : (street : ℕ) → has_move street (moves_of before) ≡ true
+      → HasCards setup before street
   pub drawn_count : (street seat : ℕ) → has_draw setup.code street ≡ true
       → hole_cards_dealt before street seat ≤ cards_discarded before street seat
   pub undrawn : (street seat : ℕ) → has_draw setup.code street ≡ false
@@ -67,7 +68,8 @@ was_live before street seat = is_live (moves_before street (moves_of before)) se
 -- and where no deal or draw is due each seat that was live there has its cards and has drawn; and a street with events
 -- other than shows began with two live seats or more.
 pub record DoneLaw (setup : Setup) (before : Past) : Type 0 where
-  pub earlier : (street : ℕ) → 1 ≤ street → street < newest_street before → IsStreetDone setup before street
+  pub earlier : (street : ℕ) → 1 ≤ street → street < newest_street before
+      → IsStreetDone setup before street
   pub closed : (street later : ℕ) → 1 ≤ street → street < later → later ≤ newest_street before
       → IsBettingClosed setup (moves_before later (moves_of before)) street
   pub dealt_most : (street seat : ℕ) → has_draw setup.code street ≡ false

@@ -21,7 +21,8 @@ with_actor seat event = event
 
 -- whose turn it is after a past
 abbrev pub in_turn_after : Setup → Past → InTurn
-in_turn_after setup past = mover setup (up_cards setup.code past) (moves_of past) (turn setup past).0
+in_turn_after setup past =
+    mover setup (up_cards setup.code past) (moves_of past) (turn setup past).0
 
 -- the target of a raise after a past, by the seat that it names or else by the seat in turn
 abbrev pub target_after : Setup → Past → Option ℕ → Spelled → ℕ

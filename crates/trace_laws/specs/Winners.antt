@@ -10,4 +10,5 @@ abbrev pub AllGoToBest : Code → Showdown → List PlainPot → List (ℕ → �
 AllGoToBest code showdown [] [] = Unit {0}
 AllGoToBest code showdown [] (share ∷ shares) = ⊥
 AllGoToBest code showdown (pot ∷ pots) [] = ⊥
-AllGoToBest code showdown (pot ∷ pots) (share ∷ shares) = GoesToBest code showdown pot share × AllGoToBest code showdown pots shares
+AllGoToBest code showdown (pot ∷ pots) (share ∷ shares) =
+    GoesToBest code showdown pot share × AllGoToBest code showdown pots shares
