@@ -3,6 +3,7 @@ use Rattle.std.proofs.Common.{◌≡◌, ℕ, zero, suc, ◌+◌, ◌≤◌, ◌
 use Rattle.std.specs.List.{list_any, flat_map, range_with_len}
 use Rattle.std.proofs.lemmas.Bool.{or_cases, or_left, or_right, and_parts, and_from, and_left, and_right, eqb-true, eq-eqb, ne_eqb, cases_eq, cases_lt}
 use Rattle.std.proofs.lemmas.List.{append-nil, append_assoc}
+use Rattle.std.proofs.lemmas.List.Elements.{filter-append}
 use Rattle.play_event.specs.declared.setup.Setup.{Setup}
 use Rattle.play_event.specs.declared.setup.Rules.{Rules}
 use Rattle.play_event.specs.Said.{Said}
@@ -22,7 +23,7 @@ use Rattle.play_laws.proofs.LegalEvents.{Stepped, deals, boards, moves, discards
 use Rattle.play_laws.proofs.PastLawKept.{is_next_to_draw}
 use Rattle.play_laws.proofs.DoneKept.{before_same, live_before}
 use Rattle.play_laws.proofs.DonePasts.{AreOn, played_on, legal_done}
-use Rattle.play_laws.proofs.LegalPlaces.{legal_past, filter_append}
+use Rattle.play_laws.proofs.LegalPlaces.{legal_past}
 use Rattle.play_laws.proofs.PlaceGroups.{group_of, Passed, passed}
 use Rattle.play_event.proofs.OwnerLaws.{is_same_owner-true}
 
@@ -83,7 +84,7 @@ finals_of setup placed count = flat_map (places_on setup placed) (range_with_len
 -- filters of pieces
 pub filter_flat : {K : Type 0} (p : Place → Bool) (piece : K → List Place) (keys : List K) → filter p (flat_map piece keys) ≡ flat_map (λ key. filter p (piece key)) keys
 filter_flat p piece [] = refl
-filter_flat p piece (key ∷ rest) = filter_append p (piece key) (flat_map piece rest) ∙ ap (λ l. filter p (piece key) ++ l) (filter_flat p piece rest)
+filter_flat p piece (key ∷ rest) = filter-append p (piece key) (flat_map piece rest) ∙ ap (λ l. filter p (piece key) ++ l) (filter_flat p piece rest)
 
 flat_same : {K : Type 0} (f g : K → List Place) (keys : List K) → ((key : K) → f key ≡ g key) → flat_map f keys ≡ flat_map g keys
 flat_same f g [] same = refl

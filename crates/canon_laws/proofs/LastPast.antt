@@ -31,7 +31,7 @@ use Rattle.play_laws.proofs.PlayedStreets.{IsReached}
 use Rattle.canon_blocks.proofs.FreeGroups.{out_by}
 use Rattle.canon_blocks.proofs.TraceOrder.{finals_of}
 use Rattle.canon_blocks.proofs.TracedSlots.{discarded_same}
-use Rattle.play_laws.proofs.SeatRanges.{map_same}
+use Rattle.list_laws.proofs.NumbersOfRange.{map_same}
 use Rattle.canon_blocks.proofs.CleanShow.{HoldsKnown, held_cards}
 use Rattle.canon_laws.proofs.HeldSame.{slots_held, held_same, held_script, unknown_same, holds_known}
 use Rattle.canon_laws.proofs.ShowdownRun.{AtShow, turn_shows, show_word, shows_run}

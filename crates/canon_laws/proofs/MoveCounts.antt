@@ -1,7 +1,7 @@
 -- A past has as many moves as its script says.
 use Rattle.std.proofs.Common.{◌≡◌, ◌≤◌, Bool, List, [], ◌∷◌, length, count_by, reverse, refl, ap, arith}
-use Rattle.std.proofs.lemmas.List.{reverse-append}
-use Rattle.list_laws.proofs.Counting.{count_by-cons, count_by-push}
+use Rattle.list_laws.proofs.Counting.{count_by-cons}
+use Rattle.list_laws.proofs.CountsReversed.{count_reversed}
 use Rattle.play_event.specs.Past.{moves_of}
 use Rattle.play_event.specs.Said as said
 use Rattle.play_event.specs.Said.{Said}
@@ -27,13 +27,6 @@ move_count setup (said.Board cards ∷ events) = omega (arith, move_count setup 
 move_count setup (said.Discard seat cards ∷ events) = omega (arith, move_count setup events, count_by-cons is_move (said.Discard seat cards) events)
 move_count setup (said.Show seat cards ∷ events) = omega (arith, move_count setup events, count_by-cons is_move (said.Show seat cards) events)
 move_count setup (said.Muck seat ∷ events) = omega (arith, move_count setup events, count_by-cons is_move (said.Muck seat) events)
-
--- as many from the end as from the beginning
-count_reversed : (p : Said → Bool) (script : List Said) → count_by p (reverse script) ≡ count_by p script
-count_reversed p [] = refl
-count_reversed p (event ∷ rest) =
-    let turned = ap (count_by p) (reverse-append (event ∷ []) rest) in
-    omega (arith, turned, count_by-push p (reverse rest) event, count_reversed p rest, count_by-cons p event rest)
 
 -- a trace is tidy if the moves of its script are within the limit
 pub tidy_within : (setup : Setup) (rules : Rules) (script : List Said) → IsPlayed setup rules script → count_by is_move script ≤ MOST_MOVES → IsTidy (core_after setup script)

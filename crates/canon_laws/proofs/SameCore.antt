@@ -18,7 +18,7 @@ use Rattle.play_event.specs.Stakes.{pots_after, returned_after}
 use Rattle.canonical_play.specs.CanonScript.{plain_move, plain_moves}
 use Rattle.play_laws.proofs.LegalPlaces.{legal_past}
 use Rattle.canon_blocks.proofs.TraceOrder.{is_final}
-use Rattle.play_laws.proofs.SeatRanges.{filter_range}
+use Rattle.list_laws.proofs.NumbersOfRange.{filter_range}
 use Rattle.canon_laws.proofs.HeldSame.{held_same, held_script, unknown_same}
 use Rattle.canon_blocks.proofs.SamePlaces.{same_places}
 use Rattle.canon_laws.proofs.LastPast.{IsLast}

@@ -45,7 +45,7 @@ use Rattle.play_laws.proofs.DrawTables.{draw_tables}
 use Rattle.canon_blocks.proofs.StreetCounts.{IsAside, aside_more, aside_deals, aside_board, deals_out, deals_drawn, deals_board, deals_holes, board_holes, board_out, board_drawn, board_own}
 use Rattle.canon_blocks.proofs.StreetLists.{IsBlock, block_more, deals_block, board_block}
 use Rattle.canon_blocks.proofs.TracedSlots.{dealt_same}
-use Rattle.play_laws.proofs.SeatRanges.{flat_same, any_none, find_no}
+use Rattle.list_laws.proofs.NumbersOfRange.{flat_same, any_none, find_no}
 use Rattle.canon_laws.proofs.StreetDiscards.{AtDeals}
 use Rattle.play_event.proofs.OwnerLaws.{is_same_owner-true}
 

@@ -39,7 +39,7 @@ use Rattle.play_laws.proofs.DrawTables.{draw_tables}
 use Rattle.canon_blocks.proofs.StreetCounts.{IsAside, aside_same, aside_discards, discards_holes, discards_board, discards_own}
 use Rattle.canon_blocks.proofs.StreetLists.{IsBlock, discards_block}
 use Rattle.canon_blocks.proofs.TracedSlots.{discarded_same}
-use Rattle.play_laws.proofs.SeatRanges.{map_same}
+use Rattle.list_laws.proofs.NumbersOfRange.{map_same}
 use Rattle.canon_laws.proofs.Street.{AtStreet, draw_run}
 use Rattle.list_laws.proofs.Tests.{false_true}
 

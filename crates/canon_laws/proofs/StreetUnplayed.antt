@@ -32,7 +32,7 @@ use Rattle.canon_blocks.proofs.DiscardsRun.{mirrored_as}
 use Rattle.canon_blocks.proofs.StreetMoves.{legal_falling, moves_split}
 use Rattle.canon_blocks.proofs.StreetLists.{IsUnplayed, unplayed}
 use Rattle.canon_laws.proofs.StreetDeals.{length_none, group_is}
-use Rattle.play_laws.proofs.SeatRanges.{flat_none}
+use Rattle.list_laws.proofs.NumbersOfRange.{flat_none}
 use Rattle.canon_laws.proofs.StreetPlay.{IsNext}
 use Rattle.canon_laws.proofs.Street.{AtStreet}
 use Rattle.play_event.specs.Dealing.{has_drawn}

@@ -4,6 +4,7 @@ use Rattle.std.proofs.lemmas.Bool.{and_parts, and_from, and_right, eqb-true, ne_
 use Rattle.std.proofs.lemmas.List.{append-nil}
 use Rattle.card_set.specs.declared.card.Slot.{Slot}
 use Rattle.card_set.specs.declared.card.Slot.TheVariants as slots
+use Rattle.std.proofs.lemmas.List.Elements.{filter-append}
 use Rattle.play_event.specs.declared.code.Code.{Code}
 use Rattle.play_event.specs.declared.setup.Setup.{Setup}
 use Rattle.play_event.specs.declared.setup.Rules.{Rules}
@@ -24,7 +25,7 @@ use Rattle.play_laws.specs.PastLaws.{PastLaw}
 use Rattle.play_laws.proofs.DueAtEvents.{Reaches, turn_reaches}
 use Rattle.play_laws.proofs.LegalEvents.{Stepped, deals, boards, moves, discards, shows, mucks, stepped}
 use Rattle.play_laws.proofs.PastLawKept.{is_next_to_draw}
-use Rattle.play_laws.proofs.LegalPlaces.{PlacesOf, legal_past, filter_append, group_step}
+use Rattle.play_laws.proofs.LegalPlaces.{PlacesOf, legal_past, group_step}
 use Rattle.play_laws.proofs.PlaceLists.{rising}
 use Rattle.play_laws.proofs.InDeck.{legal_cards}
 use Rattle.play_laws.proofs.PlaceGroups.{AreRising, Passed, passed, rising_filter}
@@ -109,7 +110,7 @@ deal_out : (code : Code) (owner : Option ℕ) (on : ℕ) (cards : List Slot) (pl
 deal_out code owner on cards placed street seat some =
     let late : Bool = is_past_deck code placed on in
     let news : List Place = places_dealt owner on late (count_by (is_in_group owner on) placed) (length placed) cards in
-    ap (λ (l : List Place). length l) (filter_append (is_out_of street seat) placed news
+    ap (λ (l : List Place). length l) (filter-append (is_out_of street seat) placed news
     ∙ ap (λ l. filter (is_out_of street seat) placed ++ l) (none_new street seat news some (λ place among. (are_new owner on late (count_by (is_in_group owner on) placed) (length placed) cards place among).discarded))
     ∙ append-nil (filter (is_out_of street seat) placed))
 

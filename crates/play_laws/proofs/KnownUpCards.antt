@@ -6,6 +6,7 @@ use Rattle.std.proofs.lemmas.List.{append-nil}
 use Rattle.card_set.specs.declared.card.Slot.{Slot}
 use Rattle.card_set.specs.declared.card.Slot.TheVariants as slots
 use Rattle.card_set.specs.declared.card.Card.{Card}
+use Rattle.std.proofs.lemmas.List.Elements.{filter-append}
 use Rattle.play_event.specs.declared.code.Code.{Code}
 use Rattle.play_event.specs.declared.setup.Setup.{Setup}
 use Rattle.play_event.specs.declared.setup.Rules.{Rules}
@@ -16,7 +17,6 @@ use Rattle.play_event.specs.Naming.{after_names, after_discard, after_show, disc
 use Rattle.play_event.specs.Laws.{IsAmong}
 use Rattle.list_laws.proofs.Tests.{false_true}
 use Rattle.play_laws.proofs.MoverUps.{mover_same}
-use Rattle.play_laws.proofs.LegalPlaces.{filter_append}
 use Rattle.play_laws.proofs.DealtPlaces.{are_new}
 use Rattle.play_laws.proofs.MovesLaw.{is_up_by, ups_by, IsMover, free, shown, FitsMove, MovesLaw}
 use Rattle.play_event.specs.Streets.{up_cards_on, down_cards_on}
@@ -122,7 +122,7 @@ pub ups_deal : (code : Code) (street seat : ℕ) (owner : Option ℕ) (on : ℕ)
 ups_deal code street seat owner on cards placed later =
     let late : Bool = is_past_deck code placed on in
     let news : List Place = places_dealt owner on late (count_by (is_in_group owner on) placed) (length placed) cards in
-    ap (map (λ (p : Place). p.slot)) (filter_append (is_up_by code street seat) placed news
+    ap (map (λ (p : Place). p.slot)) (filter-append (is_up_by code street seat) placed news
     ∙ ap (λ l. filter (is_up_by code street seat) placed ++ l) (none_up code street seat news (λ place among. omega (arith, later, (are_new owner on late (count_by (is_in_group owner on) placed) (length placed) cards place among).street)))
     ∙ append-nil (filter (is_up_by code street seat) placed))
 

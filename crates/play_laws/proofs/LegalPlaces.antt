@@ -4,6 +4,7 @@ use Rattle.std.proofs.lemmas.Bool.{or_parts, and_parts, and_from, eq-eqb, both_w
 use Rattle.std.proofs.lemmas.List.{length-append}
 use Rattle.card_set.specs.declared.card.Slot.{Slot}
 use Rattle.card_set.specs.declared.card.Slot.TheVariants as slots
+use Rattle.std.proofs.lemmas.List.Elements.{filter-append}
 use Rattle.play_event.specs.declared.code.Code.{Code}
 use Rattle.play_event.specs.declared.code.Code.TheVariants as games
 use Rattle.play_event.specs.declared.setup.Setup.{Setup}
@@ -51,15 +52,6 @@ changed_group owner street count draw seat (old ∷ olds) [] changed = absurd ch
 changed_group owner street count draw seat (old ∷ olds) (new ∷ news) changed =
     group_step old new (filter (is_in_group owner street) olds) (filter (is_in_group owner street) news) (is_in_group owner street new) (is_in_group owner street old) (same_group owner street count draw seat old new changed.0) (changed_group owner street count draw seat olds news changed.1)
 
--- a filter takes two lists one after the other
-pub filter_append : (p : Place → Bool) (xs ys : List Place) → filter p (xs ++ ys) ≡ filter p xs ++ filter p ys
-filter_append p [] ys = refl
-filter_append p (first ∷ rest) ys = ap (λ l. if p first then (first ∷ l) else l) (filter_append p rest ys) ∙ by_pass (p first)
-  where
-    by_pass : (b : Bool) → (if b then (first ∷ (filter p rest ++ filter p ys)) else (filter p rest ++ filter p ys)) ≡ (if b then (first ∷ filter p rest) else filter p rest) ++ filter p ys
-    by_pass true = refl
-    by_pass false = refl
-
 dealt_group : (owner to : Option ℕ) (street on : ℕ) (late : Bool) (index number : ℕ) (cards : List Slot) → length (filter (is_in_group owner street) (places_dealt to on late index number cards)) ≡ (if is_same_owner to owner && (on == street) then length cards else 0)
 dealt_group owner to street on late index number [] = by_pass (is_same_owner to owner && (on == street))
   where
@@ -79,7 +71,7 @@ dealt_group owner to street on late index number (slot ∷ rest) = by_pass (is_s
 pub deal_group : (code : Code) (owner to : Option ℕ) (street on : ℕ) (cards : List Slot) (placed : List Place) → length (filter (is_in_group owner street) (after_deal code to on cards placed)) ≡ (if is_same_owner to owner && (on == street) then length cards else 0) + length (filter (is_in_group owner street) placed)
 deal_group code owner to street on cards placed =
     let news : List Place = places_dealt to on (is_past_deck code placed on) (count_by (is_in_group to on) placed) (length placed) cards in
-    omega (arith, ap (λ (l : List Place). length l) (filter_append (is_in_group owner street) placed news), length-append (filter (is_in_group owner street) placed) (filter (is_in_group owner street) news), dealt_group owner to street on (is_past_deck code placed on) (count_by (is_in_group to on) placed) (length placed) cards)
+    omega (arith, ap (λ (l : List Place). length l) (filter-append (is_in_group owner street) placed news), length-append (filter (is_in_group owner street) placed) (filter (is_in_group owner street) news), dealt_group owner to street on (is_past_deck code placed on) (count_by (is_in_group to on) placed) (length placed) cards)
 
 and_swap : (a b : Bool) (n : ℕ) → (if a && b then n else 0) ≡ (if b && a then n else 0)
 and_swap true true n = refl

@@ -6,6 +6,7 @@ use Rattle.std.proofs.lemmas.List.Sums.{length-filter}
 use Rattle.card_set.specs.declared.card.Slot.{Slot}
 use Rattle.card_set.specs.declared.card.Slot.TheVariants as slots
 use Rattle.card_set.specs.declared.card.Card.{Card}
+use Rattle.std.proofs.lemmas.List.Elements.{filter-append}
 use Rattle.play_event.specs.declared.code.Code.{Code}
 use Rattle.play_event.specs.declared.setup.Setup.{Setup}
 use Rattle.play_event.specs.Past.{Past, Resolved, is_fold}
@@ -21,7 +22,7 @@ use Rattle.play_laws.specs.PastLaws.{PastLaw}
 use Rattle.play_laws.proofs.DueAtEvents.{Reaches}
 use Rattle.play_laws.proofs.LegalEvents.{Stepped, deals, boards, moves, discards, shows, mucks}
 use Rattle.play_laws.proofs.PastLawKept.{is_next_to_draw}
-use Rattle.play_laws.proofs.LegalPlaces.{PlacesOf, filter_append}
+use Rattle.play_laws.proofs.LegalPlaces.{PlacesOf}
 use Rattle.play_laws.proofs.DealtPlaces.{are_new}
 use Rattle.play_laws.proofs.QuietEvents.{AreMarked, discard_marks, show_marks, nothing}
 use Rattle.play_laws.proofs.PlaceGroups.{AreRising, group_of, AreIndexed}
@@ -143,7 +144,7 @@ deal_indexed code owner to street on cards placed indexed =
     let index : ℕ = count_by (is_in_group to on) placed in
     let news : List Place = places_dealt to on late index (length placed) cards in
     let P : List Place → Type 0 = AreIndexed 0 in
-    subst P (sym (filter_append (is_in_group owner street) placed news))
+    subst P (sym (filter-append (is_in_group owner street) placed news))
     (indexed_append 0 (filter (is_in_group owner street) placed) (filter (is_in_group owner street) news) indexed
     (other_indexed owner to street on late index (0 + length (filter (is_in_group owner street) placed)) (length placed) cards (is_same_owner to owner && (on == street)) refl (λ here.
     let parts = and_parts (is_same_owner to owner) (on == street) here in

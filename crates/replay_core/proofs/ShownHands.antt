@@ -41,7 +41,7 @@ use Rattle.play_event.specs.Table.{places_of}
 use Rattle.play_event.specs.Trace.{has_unknown_card, is_contested, is_mucked, is_shown, streets_of, traced_places}
 use Rattle.play_laws.proofs.LegalPlaces.{legal_past}
 use Rattle.play_laws.proofs.PlaceGroups.{group_of}
-use Rattle.play_laws.proofs.SeatRanges.{filter_range, flat_same}
+use Rattle.list_laws.proofs.NumbersOfRange.{filter_range, flat_same}
 use Rattle.play_laws.proofs.UnknownOrder.{legal_sorted}
 use Rattle.showdown_laws.specs.ContestedEnd.{EndContested}
 use Rattle.showdown_laws.proofs.Different.{cards_differ}
