@@ -37,3 +37,4 @@ pub mod OtherRules
 pub mod LegalScripts
 pub mod DrawTables
 pub mod HeldFew
+pub mod InFull

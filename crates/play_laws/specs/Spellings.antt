@@ -1,14 +1,17 @@
--- An event with its actor named, and the target that a raise comes to after a past.
-use Rattle.std.specs.Prelude.{ℕ, Option, Some, unwrap_or}
+-- An event with its actor named, the target that a raise comes to after a past, and a script in full: with each actor named
+-- and each raise spelled by its target.
+use Rattle.std.specs.Prelude.{ℕ, List, [], ◌∷◌, Option, Some, unwrap_or}
 use Rattle.play_event.specs.Amounts.{raise_target}
 use Rattle.play_event.specs.Due.{turn}
 use Rattle.play_event.specs.MoveReasons.{actor_of}
 use Rattle.play_event.specs.Mover.{mover}
-use Rattle.play_event.specs.Openers.{InTurn}
+use Rattle.play_event.specs.Openers.{InTurn, NoSeat, TheSeat, Undecided}
 use Rattle.play_event.specs.Past.{Past, moves_of}
 use Rattle.play_event.specs.Said.{BringIn, Call, Fold, Raise, Said}
+use Rattle.play_event.specs.Scripts.{past_of}
 use Rattle.play_event.specs.Table.{up_cards}
 use Rattle.play_event.specs.declared.event.Spelled.{Spelled}
+use Rattle.play_event.specs.declared.event.Spelled.TheVariants as spelled
 use Rattle.play_event.specs.declared.setup.Setup.{Setup}
 
 -- an event with this seat as its actor, where it is a move that names none
@@ -28,3 +31,23 @@ in_turn_after setup past =
 abbrev pub target_after : Setup → Past → Option ℕ → Spelled → ℕ
 target_after setup past named amount =
     raise_target setup (moves_of past) (turn setup past).0 (actor_of named (in_turn_after setup past)) amount
+
+-- an event with the seat in turn as its actor, where it is a move that names none
+abbrev pub with_turn : InTurn → Said → Said
+with_turn (TheSeat seat) event = with_actor seat event
+with_turn NoSeat event = event
+with_turn Undecided event = event
+
+-- an event that says to how many chips of the street it goes, where it is a raise
+abbrev pub with_target : Setup → Past → Said → Said
+with_target setup past (Raise named amount) = Raise named (spelled.To (target_after setup past named amount))
+with_target setup past event = event
+
+-- an event in full, after a past
+abbrev pub in_full : Setup → Past → Said → Said
+in_full setup past event = with_target setup past (with_turn (in_turn_after setup past) event)
+
+-- events in full, the newest first
+abbrev pub all_in_full : Setup → List Said → List Said
+all_in_full setup [] = []
+all_in_full setup (event ∷ before) = in_full setup (past_of setup before) event ∷ all_in_full setup before

@@ -5,4 +5,4 @@ mod laws;
 mod spellings;
 
 pub use laws::{law_of_legal_pasts, law_of_legal_places, law_of_legal_scripts};
-pub use spellings::{law_of_actors, law_of_equal_targets};
+pub use spellings::{law_of_actors, law_of_equal_targets, law_of_full_spellings};

@@ -1,14 +1,14 @@
 // One play, however it is spelled.
-ghost use Rattle.std.specs.Prelude.{◌≡◌, ℕ, Option};
-ghost use Rattle.play_event.specs.Laws.{IsInTurn};
+ghost use Rattle.std.specs.Prelude.{◌≡◌, ◌↔◌, ℕ, List, Option};
+ghost use Rattle.play_event.specs.Laws.{AreLegal, IsInTurn};
 ghost use Rattle.play_event.specs.Past.{Past};
 ghost use Rattle.play_event.specs.Reasons.{why};
 ghost use Rattle.play_event.specs.Said.{Raise, Said};
-ghost use Rattle.play_event.specs.Scripts.{with_event};
+ghost use Rattle.play_event.specs.Scripts.{past_of, with_event};
 ghost use Rattle.play_event.specs.declared.event.Spelled.{Spelled};
 ghost use Rattle.play_event.specs.declared.setup.Rules.{Rules};
 ghost use Rattle.play_event.specs.declared.setup.Setup.{Setup};
-ghost use Rattle.play_laws.specs.Spellings.{target_after, with_actor};
+ghost use Rattle.play_laws.specs.Spellings.{all_in_full, target_after, with_actor};
 
 /// A move without actor is that of the seat in turn: to name this seat changes neither why the move is illegal nor
 /// what takes place. The function does nothing: its contract is a law.
@@ -32,4 +32,16 @@ pub fn law_of_equal_targets()
         → (amount other : Spelled)
         → target_after setup past named amount ≡ target_after setup past named other
         → with_event setup (Raise named amount) past ≡ with_event setup (Raise named other) past }
+{}
+
+/// A script in full names the seat of each move, and says of each raise to how many chips of the street it goes. It is
+/// legal exactly where the script is, and leaves its past; so two scripts that are one in full leave one past.
+pub fn law_of_full_spellings()
+    ensures legal { (setup : Setup) (rules : Rules) (events : List Said)
+        → AreLegal setup rules events ↔ AreLegal setup rules (all_in_full setup events) }
+    ensures past { (setup : Setup) (events : List Said)
+        → past_of setup (all_in_full setup events) ≡ past_of setup events }
+    ensures one_past { (setup : Setup) (events others : List Said)
+        → all_in_full setup events ≡ all_in_full setup others
+        → past_of setup events ≡ past_of setup others }
 {}
