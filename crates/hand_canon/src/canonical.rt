@@ -43,8 +43,9 @@ pub fn canon(alloc: Global, trace: &Trace) -> Result<Script, Memory>
 fn write_street(written: &mut Numbered, trace: &Trace, street: u8) -> Result<(), Memory>
     requires street { 1 ≤ street }
     requires tidy { HasTidyCards (core_said trace.now) }
-    ensures { OnOk result (words_of written.new ≡ words_of written.old ++ street_said trace.now.setup
-        (core_said trace.now).places (plain_moves (core_said trace.now).moves) street) }
+    ensures { OnOk result (words_of written.new ≡ words_of written.old
+        ++ street_said trace.now.setup (core_said trace.now).places
+        (plain_moves (core_said trace.now).moves) street) }
 {
     write_discards(written, trace, street)?;
     write_deals(written, trace, street)?;
@@ -55,8 +56,9 @@ fn write_street(written: &mut Numbered, trace: &Trace, street: u8) -> Result<(),
 fn write_discards(written: &mut Numbered, trace: &Trace, street: u8) -> Result<(), Memory>
     requires street { 1 ≤ street }
     requires tidy { HasTidyCards (core_said trace.now) }
-    ensures { OnOk result (words_of written.new ≡ words_of written.old ++ discards_said trace.now.setup
-        (core_said trace.now).places (plain_moves (core_said trace.now).moves) street) }
+    ensures { OnOk result (words_of written.new ≡ words_of written.old
+        ++ discards_said trace.now.setup (core_said trace.now).places
+        (plain_moves (core_said trace.now).moves) street) }
 {
     if !draws(trace.setup.code, street) {
         return Ok(());
@@ -80,8 +82,8 @@ fn write_each_discard(
     requires folded { folded.now.seats ≡ 10 }
     requires discards { discards.now.seats ≡ 10 }
     requires seats { seats ≤ 10 }
-    ensures { OnOk result (words_of written.new
-        ≡ words_of written.old ++ flat_map (discards_from folded.now discards.now) (seats_of seats)) }
+    ensures { OnOk result (words_of written.new ≡ words_of written.old
+        ++ flat_map (discards_from folded.now discards.now) (seats_of seats)) }
 {
     for index in 0..seats {
         write_discard(written, folded, discards, Seat { number: index + 1 })?;
@@ -202,8 +204,9 @@ fn kind_of(played: Move) -> Kind
 // Writes the showdown, if two seats are live at the end.
 fn write_showdown(written: &mut Numbered, trace: &Trace) -> Result<(), Memory>
     requires { HasTidyCards (core_said trace.now) }
-    ensures { OnOk result (words_of written.new ≡ words_of written.old ++ showdown_said trace.now.setup
-        (core_said trace.now).places (plain_moves (core_said trace.now).moves) (core_said trace.now).shown) }
+    ensures { OnOk result (words_of written.new ≡ words_of written.old
+        ++ showdown_said trace.now.setup (core_said trace.now).places
+        (plain_moves (core_said trace.now).moves) (core_said trace.now).shown) }
 {
     let seats = trace.setup.stacks.seats;
     let folded = folds(trace.moves.as_slice());

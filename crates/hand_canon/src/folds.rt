@@ -12,7 +12,8 @@ use play_event::{Act, Move};
 /// The seats, of ten, that fold before a street.
 pub(crate) fn folds_before(moves: &[Move], street: u8) -> LiveRow
     ensures seats { result.seats ≡ 10 }
-    ensures flags { (n : ℕ) → 1 ≤ n → flag_of result n ≡ list_any (is_fold_before street n) moves.now }
+    ensures flags { (n : ℕ)
+        → 1 ≤ n → flag_of result n ≡ list_any (is_fold_before street n) moves.now }
 {
     let mut folded = LiveRow::new(10);
     for played in moves {
