@@ -1,22 +1,20 @@
 -- Among some seats there is one before which no other opens.
-use Rattle.std.proofs.Common.{◌≡◌, ℕ, zero, suc, ◌<◌, ◌≤◌, Bool, true, false, ◌&&◌, ◌||◌, ◌==◌, not, nat_lt, if◌then◌else◌, inl, inr, ◌⊎◌, List, [], ◌∷◌, Option, Some, None, is_some, find, refl, sym, ap, subst, ◌∙◌, arith}
-use Rattle.std.specs.List.{list_any}
-use Rattle.std.proofs.lemmas.Bool.{true≢false, or_left, or_right, or_from, or_cases, and_parts, and_from, lt-ltb, ltb-true, le-ltb, eqb-true, eq-eqb, false_from_ne_true, and_right}
+use Rattle.std.proofs.Common.{◌≡◌, ℕ, ◌<◌, Bool, true, false, ◌&&◌, ◌||◌, ◌==◌, nat_lt, inl, inr, ◌⊎◌, List, [], ◌∷◌, refl, sym, ◌∙◌, arith}
+use Rattle.std.proofs.lemmas.Bool.{true≢false, or_left, or_right, or_from, or_cases, and_parts, and_from, lt-ltb, ltb-true, le-ltb, eqb-true, eq-eqb, and_right}
 use Rattle.card_set.specs.declared.card.Card.{Card}
 use Rattle.card_set.specs.Deck.{deck_place}
 use Rattle.card_set.specs.Ranks.{high_ace, low_ace, ranks_of}
 use Rattle.card_set.specs.UpCards.{up_high_class, low_class}
 use Rattle.play_event.specs.declared.limit.Opener.{Opener}
 use Rattle.play_event.specs.declared.limit.Opener.TheVariants.{Blinds, LowUp, HighUp}
-use Rattle.play_event.specs.Openers.{is_lower, is_weaker_up_high, is_weaker_low, is_opener_before, card_stands, razz_place}
-use Rattle.list_laws.proofs.Finding.{some_found}
+use Rattle.play_event.specs.Openers.{is_lower, is_opener_before, card_stands, razz_place}
 
 -- lists of heights
 lower_not : (xs : List ℕ) → is_lower xs xs ≡ false
 lower_not [] = refl
 lower_not (x ∷ xs) = or_from (nat_lt x x) ((x == x) && is_lower xs xs) (le-ltb x x (omega arith)) (and_right (x == x) (is_lower xs xs) (lower_not xs))
 
-lower_step : (x y z : ℕ) (p q r : Bool) → (p ≡ true → q ≡ true → r ≡ true) → ((nat_lt x y ≡ true) ⊎ (((x == y) && p) ≡ true)) → ((nat_lt y z ≡ true) ⊎ (((y == z) && q) ≡ true)) → (nat_lt x z || ((x == z) && r)) ≡ true
+pub lower_step : (x y z : ℕ) (p q r : Bool) → (p ≡ true → q ≡ true → r ≡ true) → ((nat_lt x y ≡ true) ⊎ (((x == y) && p) ≡ true)) → ((nat_lt y z ≡ true) ⊎ (((y == z) && q) ≡ true)) → (nat_lt x z || ((x == z) && r)) ≡ true
 lower_step x y z p q r trans (inl xy) (inl yz) = or_left (nat_lt x z) ((x == z) && r) (lt-ltb x z (let one : x < y = ltb-true x y xy in let two : y < z = ltb-true y z yz in omega (arith, one, two)))
 lower_step x y z p q r trans (inl xy) (inr yz) = or_left (nat_lt x z) ((x == z) && r) (lt-ltb x z (let one : x < y = ltb-true x y xy in let two : y ≡ z = eqb-true y z (and_parts (y == z) q yz).0 in omega (arith, one, two)))
 lower_step x y z p q r trans (inr xy) (inl yz) = or_left (nat_lt x z) ((x == z) && r) (lt-ltb x z (let one : x ≡ y = eqb-true x y (and_parts (x == y) p xy).0 in let two : y < z = ltb-true y z yz in omega (arith, one, two)))
@@ -53,7 +51,7 @@ worse_step ca cb cc l m n trans (inr x) (inr y) =
     let two = and_parts (cc == cb) m y in
     or_right (nat_lt ca cc) ((cc == ca) && n) (and_from (cc == ca) n (eq-eqb cc ca (eqb-true cc cb two.0 ∙ eqb-true cb ca one.0)) (trans one.1 two.1))
 
-worse_trans : (ca cb cc : ℕ) (l m n : Bool) → (l ≡ true → m ≡ true → n ≡ true) → (nat_lt ca cb || ((cb == ca) && l)) ≡ true → (nat_lt cb cc || ((cc == cb) && m)) ≡ true → (nat_lt ca cc || ((cc == ca) && n)) ≡ true
+pub worse_trans : (ca cb cc : ℕ) (l m n : Bool) → (l ≡ true → m ≡ true → n ≡ true) → (nat_lt ca cb || ((cb == ca) && l)) ≡ true → (nat_lt cb cc || ((cc == cb) && m)) ≡ true → (nat_lt ca cc || ((cc == ca) && n)) ≡ true
 worse_trans ca cb cc l m n trans p q = worse_step ca cb cc l m n trans (or_cases (nat_lt ca cb) ((cb == ca) && l) p) (or_cases (nat_lt cb cc) ((cc == cb) && m) q)
 
 -- who opens before one that opens before another opens before that one

@@ -1,2 +1,3 @@
--- To open before another is an order, so that some seat opens.
+-- To open before another is an order, so that some seat opens; and which up-cards open as early as others.
 pub mod FirstOpens
+pub mod Earlier

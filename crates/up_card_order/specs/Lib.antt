@@ -1,3 +1,4 @@
--- Heights in order, and the classes of up-cards.
+-- Heights in order, the classes of up-cards, and which open at least as early as others.
 pub mod HeightRow
 pub mod UpClass
+pub mod Earliest

@@ -1,5 +1,5 @@
 // Which up-cards open before others, whatever cards they are.
-ghost use Rattle.std.specs.Prelude.{◌≡◌, ℕ, ◌+◌, ◌*◌, ◌<◌, ◌≤◌, ◌++◌, length};
+ghost use Rattle.std.specs.Prelude.{false, ◌≡◌, ℕ, ◌+◌, ◌*◌, ◌<◌, ◌≤◌, ◌++◌, length};
 ghost use Rattle.std.specs.List.{list_any};
 ghost use Rattle.card_set.specs.Deck as deck;
 ghost use Rattle.card_set.specs.Ranks.{falling_heights, high_ace, low_ace, occurring, ranks_of, times};
@@ -7,9 +7,11 @@ ghost use Rattle.card_set.specs.Row.{cards_of, slots_of};
 ghost use Rattle.card_set.specs.UpCards as up_cards;
 ghost use Rattle.hand_order.specs.Height.{height_with};
 ghost use Rattle.play_event.specs.Openers as openers;
+ghost use Rattle.play_event.specs.declared.limit.Opener.TheVariants as openings;
 ghost use Rattle.play_event.specs.Openers.{card_stands, is_lower, razz_place};
 ghost use Rattle.card_set.specs.Known.{is_unknown, known_cards};
 ghost use Rattle.up_card_order.specs.HeightRow.{heights_in};
+ghost use Rattle.up_card_order.specs.Earliest as earliest;
 ghost use Rattle.up_card_order.specs.UpClass.{high_class_by, low_class_by};
 
 use crate::heights::Heights;
@@ -113,6 +115,32 @@ fn lower(a: &[u8], b: &[u8]) -> bool
     }
 }
 
+// At the first place where the heights differ the left one is higher, or it alone goes on.
+fn as_high(a: &[u8], b: &[u8]) -> bool
+    ensures { result ≡ earliest.is_as_high a.now b.now }
+{
+    match b {
+        [] => true,
+        [other, others @ ..] => match a {
+            [] => false,
+            [height, rest @ ..] => { other < height || (other == height && as_high(rest, others)) }
+        },
+    }
+}
+
+// At the first place where the heights differ the left one is lower, or it alone goes on.
+fn as_low(a: &[u8], b: &[u8]) -> bool
+    ensures { result ≡ earliest.is_as_low a.now b.now }
+{
+    match b {
+        [] => true,
+        [other, others @ ..] => match a {
+            [] => false,
+            [height, rest @ ..] => { height < other || (height == other && as_low(rest, others)) }
+        },
+    }
+}
+
 // The classes of high up-cards, from the best.
 fn high_class(fours: usize, threes: usize, pairs: usize) -> u8
     ensures { result ≡ high_class_by fours threes pairs }
@@ -199,6 +227,29 @@ fn worse_low(a: &CardRow, b: &CardRow) -> bool
     other < class || (class == other && lower(others.as_slice(), ranks.as_slice()))
 }
 
+// The up-cards are better than others, the ace high, or open before all that those open before.
+fn as_good_high(a: &CardRow, b: &CardRow) -> bool
+    ensures { result ≡ earliest.is_as_early openings.LowUp false (cards_of a.now) (cards_of b.now) }
+{
+    let class = high_class_of(a);
+    let other = high_class_of(b);
+    let ranks = heights_of(a, Ace::High);
+    let others = heights_of(b, Ace::High);
+    class < other || (other == class && as_high(ranks.as_slice(), others.as_slice()))
+}
+
+// The up-cards are better than others in razz, or open before all that those open before.
+fn as_good_low(a: &CardRow, b: &CardRow) -> bool
+    ensures { result
+        ≡ earliest.is_as_early openings.HighUp false (cards_of a.now) (cards_of b.now) }
+{
+    let class = low_class_of(a);
+    let other = low_class_of(b);
+    let ranks = heights_of(a, Ace::Low);
+    let others = heights_of(b, Ace::Low);
+    class < other || (other == class && as_low(ranks.as_slice(), others.as_slice()))
+}
+
 // Where the first card stands in the deck.
 fn deck_stand(cards: &CardRow) -> u8
     ensures { result ≡ card_stands deck.deck_place (cards_of cards.now) }
@@ -237,6 +288,30 @@ pub fn is_opener_before(opener: Opener, first: bool, a: &CardRow, b: &CardRow) -
                 razz_stand(b) < razz_stand(a)
             } else {
                 worse_low(b, a)
+            }
+        }
+    }
+}
+
+/// The up-cards of one seat open before all that those of another open before. Of all seats, one
+/// that is as early as each other opens before each seat before which some seat opens.
+pub fn is_as_early(opener: Opener, first: bool, a: &CardRow, b: &CardRow) -> bool
+    ensures { result ≡ earliest.is_as_early opener first (cards_of a.now) (cards_of b.now) }
+{
+    match opener {
+        Opener::Blinds => true,
+        Opener::LowUp => {
+            if first {
+                deck_stand(a) <= deck_stand(b)
+            } else {
+                as_good_high(a, b)
+            }
+        }
+        Opener::HighUp => {
+            if first {
+                razz_stand(b) <= razz_stand(a)
+            } else {
+                as_good_low(a, b)
             }
         }
     }
