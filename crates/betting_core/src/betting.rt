@@ -24,7 +24,7 @@ ghost use Rattle.street_laws.specs.Seats.{IsSeat};
 ghost use Rattle.betting_numbers.specs.UpTo.{StandsUpTo};
 ghost use Rattle.street_laws.specs.Done.{is_done};
 ghost use Rattle.street_laws.specs.Dues.{IsDueWithin, is_of_street, is_deal_or_draw, is_cards_due, is_before_moves};
-ghost use Rattle.betting_numbers.specs.Turn.{fits_due, IsDealtTo, IsSettledTo};
+ghost use Rattle.betting_numbers.specs.Turn.{may_come_at, IsDealtTo, IsSettledTo};
 ghost use Rattle.street_laws.specs.Walk.{street_cards};
 ghost use Rattle.play_event.specs.Reasons.{why};
 ghost use Rattle.play_event.specs.Said.{Said, said_of};
@@ -42,8 +42,8 @@ use variant_table::{Opener, Size, Variant};
 /// The betting of a hand of the game `V`, at some moment of the hand.
 ///
 /// What it answers is told by pasts: a past is any list of what took place in a hand, and
-/// `StandsFor` says that the state is what the rules make of that past. A state stands up to its due
-/// (`StandsUpTo`) where the deal, draw or show that it waits for is complete in the past, and
+/// `StandsFor` says that the state is what the rules make of that past. A state stands up to its
+/// due (`StandsUpTo`) where the deal, draw or show that it waits for is complete in the past, and
 /// [`dealt`](Betting::dealt) was not called yet.
 #[derive(Drop)]
 pub struct Betting<V: Variant> {
@@ -165,7 +165,7 @@ impl<V: Variant> Betting<V> {
     fn make(&mut self, seat: Seat, act: Act, target: u64)
         requires in_hand { seat.number ≤ self.old.table.setup.stacks.seats }
         requires reach { target ≤ all_in_seen self.old.table seat.number }
-        requires fits { fits_due (act_said act) self.old.table.due ≡ true }
+        requires fits { may_come_at (act_said act) self.old.table.due ≡ true }
         ensures stands { (past : Past) → StandsFor self.old.table past
             → is_bet_due self.old.table.due ≡ true
             → StandsFor self.new.table
@@ -301,7 +301,7 @@ impl<V: Variant> Betting<V> {
         requires in_hand { plan.seat.number ≤ self.old.table.setup.stacks.seats }
         requires reach { plan.target ≤ all_in_seen self.old.table plan.seat.number }
         requires due { is_bet_due self.old.table.due ≡ true }
-        requires fits { fits_due (act_said plan.act) self.old.table.due ≡ true }
+        requires fits { may_come_at (act_said plan.act) self.old.table.due ≡ true }
         ensures stands { (past : Past) (event : Said) → StandsFor self.old.table past
             → IsPlan self.old.table past event plan.seat.number (act_said plan.act) plan.target
             → StandsFor self.new.table (past_with self.old.table past event) }
@@ -320,10 +320,12 @@ impl<V: Variant> Betting<V> {
         moved
     }
 
-    /// Makes the move of a fold, a call, a raise or a bring-in, where it is legal, and gives it as the
-    /// trace keeps it. Else it gives the first reason that holds against the event, and nothing changes.
+    /// Makes the move of a fold, a call, a raise or a bring-in, where it is legal, and gives it as
+    /// the trace keeps it. Else it gives the first reason that holds against the event, and nothing
+    /// changes.
     ///
-    /// `up` has the up-cards of each seat. They are read in stud, where they decide who opens a street.
+    /// `up` has the up-cards of each seat. They are read in stud, where they decide who opens a
+    /// street.
     pub fn step(&mut self, up: &UpRow, event: &Event) -> Result<Moved, Illegal>
         requires row { up.now.seats ≡ self.old.table.setup.stacks.seats }
         requires kind { is_card_said (said_of event.now) ≡ false }
@@ -378,9 +380,9 @@ impl<V: Variant> Betting<V> {
         self.table.set_due(Due::Over);
     }
 
-    /// Ends the deal, the draw or the show that is due: the betting of the street begins, or what comes
-    /// behind it where nobody has to move, as the next street's deal. Where that is complete in the past
-    /// too it is ended by the next call; a showdown that is ended is over.
+    /// Ends the deal, the draw or the show that is due: the betting of the street begins, or what
+    /// comes behind it where nobody has to move, as the next street's deal. Where that is complete
+    /// in the past too it is ended by the next call; a showdown that is ended is over.
     pub fn dealt(&mut self)
         requires { is_cards_due self.old.table.due ≡ true }
         ensures stands { (past : Past) → StandsUpTo self.old.table past
@@ -402,7 +404,8 @@ impl<V: Variant> Betting<V> {
         }
     }
 
-    /// What is due: a deal, a draw, a bring-in, a move, the showdown, or nothing as the hand is over.
+    /// What is due: a deal, a draw, a bring-in, a move, the showdown, or nothing as the hand is
+    /// over.
     pub fn due(&self) -> Due
         ensures value { result ≡ self.now.table.due }
         ensures within { IsDueWithin V.STREETS result }
@@ -465,9 +468,9 @@ impl<V: Variant> Betting<V> {
         self.table.settled()
     }
 
-    /// Where the seat in turn may raise to: the least and the greatest legal target, and its all-in.
-    /// `None` where no move or bring-in is due, it is not known whose turn it is, or that seat may not
-    /// raise.
+    /// Where the seat in turn may raise to: the least and the greatest legal target, and its
+    /// all-in. `None` where no move or bring-in is due, it is not known whose turn it is, or that
+    /// seat may not raise.
     pub fn targets(&self, up: &UpRow) -> Option<Targets>
         requires row { up.now.seats ≡ self.now.table.setup.stacks.seats }
         ensures some { WhereUps self.now.table up.now

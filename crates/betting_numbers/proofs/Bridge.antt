@@ -18,7 +18,7 @@ use Rattle.play_event.specs.Openers.{InTurn, NoSeat, TheSeat, Undecided, in_turn
 use Rattle.play_event.specs.Mover.{mover_after, first_in_turn, next_in_turn}
 use Rattle.play_event.specs.Raising.{has_able_opponent}
 use Rattle.betting_numbers.specs.declared.table.Table.{Table}
-use Rattle.betting_numbers.specs.Seen.{left_seen, able_seen, price_seen, owed_seen, all_in_seen, live_count_seen, able_count_seen, to_move_seen, move_due_seen, bring_in_due_seen, opponent_seen, after_last, last_seen, mover_seen}
+use Rattle.betting_numbers.specs.Seen.{left_seen, is_able_seen, price_seen, owed_seen, all_in_seen, live_count_seen, able_count_seen, has_to_move_seen, is_move_due_seen, is_bring_in_due_seen, has_opponent_seen, after_last, last_seen, mover_seen}
 use Rattle.street_laws.specs.Seats.{IsSeat}
 use Rattle.betting_numbers.specs.Standing.{Standing, newest_seat}
 use Rattle.chip_ledger.proofs.SeatLists.{any_seats, count_seats}
@@ -59,7 +59,7 @@ module _ (b : Table) (moves : List Move) (st : Standing b.setup b.street b moves
   pub left_is : (seat : ℕ) → IsSeat b.setup seat → left_seen b seat ≡ chips_left b.setup moves seat
   left_is seat in_hand = ap (λ n. amount_of b.setup.stacks seat - n) (st.puts seat in_hand)
 
-  pub able_is : (seat : ℕ) → IsSeat b.setup seat → able_seen b seat ≡ is_able b.setup moves seat
+  pub able_is : (seat : ℕ) → IsSeat b.setup seat → is_able_seen b seat ≡ is_able b.setup moves seat
   able_is seat in_hand =
       ap (λ l. l && nat_lt 0 (left_seen b seat)) (st.live seat in_hand)
       ∙ ap (λ n. is_live moves seat && nat_lt 0 n) (left_is seat in_hand)
@@ -79,26 +79,26 @@ module _ (b : Table) (moves : List Move) (st : Standing b.setup b.street b moves
   live_count_is = count_seats (flag_of b.live) (is_live moves) b.setup.stacks.seats (λ k low high. st.live k (record { first = low; last = high }))
 
   pub able_count_is : able_count_seen b ≡ able_count b.setup moves
-  able_count_is = count_seats (able_seen b) (is_able b.setup moves) b.setup.stacks.seats (λ k low high. able_is k (record { first = low; last = high }))
+  able_count_is = count_seats (is_able_seen b) (is_able b.setup moves) b.setup.stacks.seats (λ k low high. able_is k (record { first = low; last = high }))
 
-  pub to_move_is : (seat : ℕ) → IsSeat b.setup seat → to_move_seen b seat ≡ has_to_move b.setup moves b.street seat
+  pub to_move_is : (seat : ℕ) → IsSeat b.setup seat → has_to_move_seen b seat ≡ has_to_move b.setup moves b.street seat
   to_move_is seat in_hand =
       ap (λ a. to_move_by a (flag_of b.since_rise seat) (owed_seen b seat) (able_count_seen b)) (able_is seat in_hand)
       ∙ ap (λ s. to_move_by (is_able b.setup moves seat) s (owed_seen b seat) (able_count_seen b)) (st.since_rise seat in_hand)
       ∙ ap (λ o. to_move_by (is_able b.setup moves seat) (has_moved_since_rise b.setup moves b.street seat) o (able_count_seen b)) (owed_is seat in_hand)
       ∙ ap (λ c. to_move_by (is_able b.setup moves seat) (has_moved_since_rise b.setup moves b.street seat) (owed b.setup moves b.street seat) c) able_count_is
 
-  pub move_due_is : move_due_seen b ≡ is_move_due b.setup moves b.street
-  move_due_is = any_seats (to_move_seen b) (has_to_move b.setup moves b.street) b.setup.stacks.seats (λ k low high. to_move_is k (record { first = low; last = high }))
+  pub move_due_is : is_move_due_seen b ≡ is_move_due b.setup moves b.street
+  move_due_is = any_seats (has_to_move_seen b) (has_to_move b.setup moves b.street) b.setup.stacks.seats (λ k low high. to_move_is k (record { first = low; last = high }))
 
-  pub bring_in_due_is : bring_in_due_seen b ≡ is_bring_in_due b.setup moves b.street
+  pub bring_in_due_is : is_bring_in_due_seen b ≡ is_bring_in_due b.setup moves b.street
   bring_in_due_is =
       ap (λ c. is_stud b.setup.code && (b.street == 1) && nat_le 2 c && not b.opened) able_count_is
       ∙ ap (λ o. is_stud b.setup.code && (b.street == 1) && nat_le 2 (able_count b.setup moves) && not o) st.opened
 
-  pub opponent_is : (seat : ℕ) → opponent_seen b seat ≡ has_able_opponent b.setup moves seat
+  pub opponent_is : (seat : ℕ) → has_opponent_seen b seat ≡ has_able_opponent b.setup moves seat
   opponent_is seat =
-      any_seats (λ other. able_seen b other && not (other == seat)) (λ other. is_able b.setup moves other && not (other == seat)) b.setup.stacks.seats
+      any_seats (λ other. is_able_seen b other && not (other == seat)) (λ other. is_able b.setup moves other && not (other == seat)) b.setup.stacks.seats
       (λ k low high. ap (λ a. a && not (k == seat)) (able_is k (record { first = low; last = high })))
 
   pub next_is : (opener : InTurn) → after_last (last_seen b) (seat_after b.setup) opener ≡ next_in_turn b.setup opener (moves_on b.street moves)
@@ -106,5 +106,5 @@ module _ (b : Table) (moves : List Move) (st : Standing b.setup b.street b moves
 
   pub mover_is : (opener : InTurn) → StartsIn b.setup (after_last (last_seen b) (seat_after b.setup) opener) → mover_seen b opener ≡ mover_after b.setup opener moves b.street
   mover_is opener starts =
-      first_same b.setup (to_move_seen b) (has_to_move b.setup moves b.street) to_move_is (after_last (last_seen b) (seat_after b.setup) opener) starts
+      first_same b.setup (has_to_move_seen b) (has_to_move b.setup moves b.street) to_move_is (after_last (last_seen b) (seat_after b.setup) opener) starts
       ∙ ap (first_in_turn b.setup (has_to_move b.setup moves b.street)) (next_is opener)

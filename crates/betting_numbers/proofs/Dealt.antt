@@ -18,7 +18,7 @@ use Rattle.play_event.specs.Showing.{is_show_due, has_to_show}
 use Rattle.play_event.specs.Due.{turn, due_on, showdown, is_bring_in_due, is_move_due, is_settled, has_able_seat_to_call, is_after_betting}
 use Rattle.play_event.specs.ValidSetup.{IsValid}
 use Rattle.betting_numbers.specs.declared.table.Table.{Table}
-use Rattle.betting_numbers.specs.Seen.{move_due_seen}
+use Rattle.betting_numbers.specs.Seen.{is_move_due_seen}
 use Rattle.betting_numbers.specs.Standing.{Standing, StandsFor}
 use Rattle.street_laws.specs.Walk.{street_cards, betting_turn}
 use Rattle.betting_numbers.specs.Turn.{with_due, IsDealtTo}
@@ -151,7 +151,7 @@ module _ (b next : Table) (past : Past) (up : StandsUpTo b past) (other : b.due 
   to_is : (next.street, next.due) ≡ betting_turn b.setup.code b.street (is_bring_in_due b.setup (moves_of past) b.street) (is_move_due b.setup (moves_of past) b.street)
   to_is =
       to.turn_is
-      ∙ ap (λ i. betting_turn b.setup.code b.street i (move_due_seen b)) (bring_in_due_is b (moves_of past) up.standing)
+      ∙ ap (λ i. betting_turn b.setup.code b.street i (is_move_due_seen b)) (bring_in_due_is b (moves_of past) up.standing)
       ∙ ap (betting_turn b.setup.code b.street (is_bring_in_due b.setup (moves_of past) b.street)) (move_due_is b (moves_of past) up.standing)
 
   walk : turn b.setup past ≡ walked b.setup.code b.street (is_bring_in_due b.setup (moves_of past) b.street) (is_move_due b.setup (moves_of past) b.street) (showdown b.setup past)

@@ -21,7 +21,7 @@ use Rattle.betting_numbers.specs.declared.table.Table.{Table}
 use Rattle.street_laws.specs.Dues.{is_move}
 use Rattle.play_event.specs.TurnTargets.{is_bet_due}
 use Rattle.betting_numbers.specs.SeatsSaid.{seat_said, turn_of}
-use Rattle.betting_numbers.specs.Seen.{after_last, last_seen, mover_seen, to_move_seen, move_due_seen}
+use Rattle.betting_numbers.specs.Seen.{after_last, last_seen, mover_seen, has_to_move_seen, is_move_due_seen}
 use Rattle.street_laws.specs.Seats.{IsSeat}
 use Rattle.betting_numbers.specs.Standing.{Standing, StandsFor}
 use Rattle.chip_ledger.specs.SeatRow.{amount_of}
@@ -35,7 +35,7 @@ use Rattle.play_event.specs.Scripts.{with_event, resolved_on, resolved_by}
 use Rattle.betting_numbers.specs.Seen.{owed_seen, all_in_seen}
 use Rattle.betting_numbers.specs.Planned.{IsPlan, IsTurn, move_of}
 use Rattle.betting_numbers.proofs.Bridge.{price_is, all_in_is}
-use Rattle.betting_numbers.specs.Why.{is_unable, unknown_why, bring_in_seen, bring_in_why, ceiling_seen, fulls_seen, greatest_by, greatest_seen, legal_seen, is_another, call_seen, stated_why, target_seen, may_raise_seen, raise_to_why, now_why, fold_why, call_why, raise_why, floor_by}
+use Rattle.betting_numbers.specs.Why.{is_unable, unknown_why, bring_in_seen, bring_in_why, ceiling_seen, fulls_seen, greatest_by, greatest_seen, is_legal_seen, is_another, call_seen, stated_why, target_seen, may_raise_seen, raise_to_why, now_why, fold_why, call_why, raise_why, floor_by}
 use Rattle.betting_numbers.proofs.WhyMove.{why_fold, why_call, why_bring_in, fold_undecided, call_undecided, bring_in_undecided, able_anywhere}
 use Rattle.betting_numbers.proofs.WhyRaise.{why_raise, raise_undecided, target_is}
 use Rattle.play_event.specs.declared.event.Spelled.{Spelled}
@@ -132,7 +132,7 @@ no_bring_in b past stands game due_is =
     true≢false (sym stud ∙ ap is_opened_by_up_cards game)
 
 -- somebody has to move where betting is due in a game with blinds
-bets_are_moves : (b : Table) (past : Past) → StandsFor b past → opener_of b.setup.code ≡ openers.Blinds → (due : Due) → b.due ≡ due → is_bet_due due ≡ true → move_due_seen b ≡ true
+bets_are_moves : (b : Table) (past : Past) → StandsFor b past → opener_of b.setup.code ≡ openers.Blinds → (due : Due) → b.due ≡ due → is_bet_due due ≡ true → is_move_due_seen b ≡ true
 bets_are_moves b past stands game dues.Move is bets = move_due_is b (moves_of past) stands.standing ∙ move_is_due b.setup past b.street (stands.turn_is ∙ ap (λ (d : Due). (b.street, d)) is)
 bets_are_moves b past stands game dues.BringIn is bets = absurd (no_bring_in b past stands game is)
 bets_are_moves b past stands game (dues.Deal street) is bets = absurd (true≢false (sym bets))
@@ -150,8 +150,8 @@ module _ (b : Table) (past : Past) (stands : StandsFor b past) (opener : ℕ) (i
   passed_to = passed b opener in_hand
 
   -- somebody has to move
-  pub somebody : move_due_seen b ≡ true → mover_seen b (TheSeat opener) ≡ NoSeat → ⊥
-  somebody some none = nobody_by b.setup (to_move_seen b) (after_last (last_seen b) (seat_after b.setup) (TheSeat opener)) passed_to.seat passed_to.is passed_to.in_hand some none
+  pub somebody : is_move_due_seen b ≡ true → mover_seen b (TheSeat opener) ≡ NoSeat → ⊥
+  somebody some none = nobody_by b.setup (has_to_move_seen b) (after_last (last_seen b) (seat_after b.setup) (TheSeat opener)) passed_to.seat passed_to.is passed_to.in_hand some none
 
   -- the seat that the numbers name is the mover of the rules
   pub mover_blinds : opener ≡ blinds_opener b.setup b.street → opener_of b.setup.code ≡ openers.Blinds → mover_seen b (TheSeat opener) ≡ mover b.setup (up_cards b.setup.code past) (moves_of past) b.street
@@ -208,7 +208,7 @@ pub raise_reach : (limit : Limit) (b : Table) (floor : ℕ) (named : Option ℕ)
 raise_reach limit b floor named amount m none =
     let most : target_seen b m amount ≤ greatest_seen limit b m =
     ltb-false (greatest_seen limit b m) (target_seen b m amount)
-    (reach_by (not (may_raise_seen limit b m)) (not (legal_seen limit b floor m (target_seen b m amount)) && nat_lt (target_seen b m amount) (greatest_seen limit b m)) (nat_lt (greatest_seen limit b m) (target_seen b m amount))
+    (reach_by (not (may_raise_seen limit b m)) (not (is_legal_seen limit b floor m (target_seen b m amount)) && nat_lt (target_seen b m amount) (greatest_seen limit b m)) (nat_lt (greatest_seen limit b m) (target_seen b m amount))
     (rest_by (is_another named m) (raise_to_why limit b floor m (target_seen b m amount)) (sym none))) in
     omega (arith, most, greatest_within limit (all_in_seen b m) (ceiling_seen b m) (fulls_seen b))
 

@@ -10,6 +10,7 @@ pub mod Carded
 pub mod WhyMove
 pub mod WhyRaise
 pub mod InTurn
+pub mod Leading
 pub mod UpOpener
 pub mod TargetEnds
 pub mod TraceLaws

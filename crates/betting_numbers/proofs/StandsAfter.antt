@@ -18,7 +18,7 @@ use Rattle.play_event.specs.Seats.{able_count}
 use Rattle.play_event.specs.Past.{moves_on}
 use Rattle.play_event.specs.Due.{has_opened_betting, turn, is_bring_in_due, is_move_due}
 use Rattle.betting_numbers.specs.declared.table.Table.{Table}
-use Rattle.betting_numbers.specs.Seen.{live_count_seen, move_due_seen}
+use Rattle.betting_numbers.specs.Seen.{live_count_seen, is_move_due_seen}
 use Rattle.betting_numbers.specs.Moving.{IsMoved, IsNextStreet}
 use Rattle.street_laws.specs.Seats.{IsSeat}
 use Rattle.betting_numbers.specs.Standing.{Standing, StandsFor}
@@ -26,7 +26,7 @@ use Rattle.street_laws.specs.Walk.{has_nothing_later}
 use Rattle.play_event.specs.ValidSetup.{IsValid}
 use Rattle.street_laws.specs.Dues.{is_move}
 use Rattle.play_event.specs.TurnTargets.{is_bet_due}
-use Rattle.betting_numbers.specs.Turn.{fits_due, with_due, IsSettledTo}
+use Rattle.betting_numbers.specs.Turn.{may_come_at, with_due, IsSettledTo}
 use Rattle.street_laws.specs.Walk.{street_cards, turn_after}
 use Rattle.betting_numbers.proofs.Bridge.{live_count_is, move_due_is}
 use Rattle.betting_numbers.proofs.AfterMove.{the_move, standing_after, on_street}
@@ -73,7 +73,7 @@ bring_in_closed_by stud first few many false opened less before = false_from_ne_
     let two : 2 ≤ few = leb-true 2 few inner.1 in
     true≢false (sym (and_from (stud && first && nat_le 2 many) (not opened) (and_from (stud && first) (nat_le 2 many) inner.0 (le-leb 2 many (omega (arith, two, less)))) parts.1) ∙ before refl))
 
-fits_move : (act : Act) (due : Due) → fits_due act due ≡ true → has_opened_betting act ≡ false → due ≡ dues.Move
+fits_move : (act : Act) (due : Due) → may_come_at act due ≡ true → has_opened_betting act ≡ false → due ≡ dues.Move
 fits_move act due fits none = by due (sym (ap (λ o. o || is_move due) none) ∙ fits)
   where
     by : (d : Due) → is_move d ≡ true → d ≡ dues.Move
@@ -108,7 +108,7 @@ street_after code street false true move = omega arith
 street_after code street false false true = omega arith
 street_after code street false false false = behind_by street (nat_lt street (street_count code)) (street_cards code (street + 1)) dues.Show
 
-module _ (b mid next : Table) (past : Past) (seat target unit : ℕ) (act : Act) (stands : StandsFor b past) (bets : is_bet_due b.due ≡ true) (in_hand : IsSeat b.setup seat) (mv : IsMoved b mid seat act target unit) (unit_is : unit ≡ streets.unit b.setup b.street) (from_one : 1 ≤ b.street) (within : b.street ≤ street_count b.setup.code) (fits : fits_due act b.due ≡ true) (to : IsSettledTo mid next) where
+module _ (b mid next : Table) (past : Past) (seat target unit : ℕ) (act : Act) (stands : StandsFor b past) (bets : is_bet_due b.due ≡ true) (in_hand : IsSeat b.setup seat) (mv : IsMoved b mid seat act target unit) (unit_is : unit ≡ streets.unit b.setup b.street) (from_one : 1 ≤ b.street) (within : b.street ≤ street_count b.setup.code) (fits : may_come_at act b.due ≡ true) (to : IsSettledTo mid next) where
   abbrev pub new_move : Move
   new_move = the_move b mid (moves_of past) seat target unit act stands.standing in_hand mv unit_is
 
@@ -170,7 +170,7 @@ module _ (b mid next : Table) (past : Past) (seat target unit : ℕ) (act : Act)
       ∙ ap (λ i. turn_after b.setup.code b.street (nat_le (live_count b.setup (new_move ∷ moves_of past)) 1) i (is_move_due b.setup (new_move ∷ moves_of past) b.street)) closed
       ∙ sym (
       to.turn_is
-      ∙ ap (λ n. turn_after mid.setup.code mid.street (nat_le n 1) false (move_due_seen mid)) (live_count_is mid (new_move ∷ moves_of past) mid_stands)
+      ∙ ap (λ n. turn_after mid.setup.code mid.street (nat_le n 1) false (is_move_due_seen mid)) (live_count_is mid (new_move ∷ moves_of past) mid_stands)
       ∙ ap (turn_after mid.setup.code mid.street (nat_le (live_count mid.setup (new_move ∷ moves_of past)) 1) false) (move_due_is mid (new_move ∷ moves_of past) mid_stands)
       ∙ ap (λ (s : Setup). turn_after s.code mid.street (nat_le (live_count s (new_move ∷ moves_of past)) 1) false (is_move_due s (new_move ∷ moves_of past) mid.street)) mv.setup
       ∙ ap (λ (n : ℕ). turn_after b.setup.code n (nat_le (live_count b.setup (new_move ∷ moves_of past)) 1) false (is_move_due b.setup (new_move ∷ moves_of past) n)) mv.street
@@ -178,8 +178,8 @@ module _ (b mid next : Table) (past : Past) (seat target unit : ℕ) (act : Act)
 
   later_street : b.street ≤ next.street
   later_street =
-      let up : mid.street ≤ (turn_after mid.setup.code mid.street (nat_le (live_count_seen mid) 1) false (move_due_seen mid)).0 = street_after mid.setup.code mid.street (nat_le (live_count_seen mid) 1) false (move_due_seen mid) in
-      let at : next.street ≡ (turn_after mid.setup.code mid.street (nat_le (live_count_seen mid) 1) false (move_due_seen mid)).0 = ap (λ (p : ℕ × Due). p.0) to.turn_is in
+      let up : mid.street ≤ (turn_after mid.setup.code mid.street (nat_le (live_count_seen mid) 1) false (is_move_due_seen mid)).0 = street_after mid.setup.code mid.street (nat_le (live_count_seen mid) 1) false (is_move_due_seen mid) in
+      let at : next.street ≡ (turn_after mid.setup.code mid.street (nat_le (live_count_seen mid) 1) false (is_move_due_seen mid)).0 = ap (λ (p : ℕ × Due). p.0) to.turn_is in
       omega (arith, up, at, mv.street)
 
   -- so the state stands for one move more

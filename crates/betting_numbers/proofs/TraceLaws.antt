@@ -15,8 +15,8 @@ use Rattle.betting_numbers.specs.Seen.{price_seen}
 use Rattle.street_laws.specs.Seats.{IsSeat}
 use Rattle.betting_numbers.specs.Standing.{Standing}
 use Rattle.betting_numbers.specs.Planned.{move_of}
-use Rattle.betting_numbers.specs.Traced.{closed_seen, unit_seen, traced_seen}
-use Rattle.betting_numbers.specs.Why.{legal_seen, floor_by}
+use Rattle.betting_numbers.specs.Traced.{is_closed_seen, unit_seen, traced_seen}
+use Rattle.betting_numbers.specs.Why.{is_legal_seen, floor_by}
 use Rattle.betting_numbers.proofs.Bridge.{price_is}
 use Rattle.betting_numbers.proofs.WhyRaise.{target_is, open_is, legal_is}
 
@@ -24,9 +24,9 @@ abbrev traced_by : ℕ → ℕ → Act → (from to the_price : ℕ) → Bool �
 traced_by street seat act from to the_price closed unit_to = record { street = street; seat = seat; act = act; from = from; to = to; price = the_price; closed = closed; unit_to = unit_to }
 
 module _ (b : Table) (moves : List Move) (st : Standing b.setup b.street b moves) (m : ℕ) (in_hand : IsSeat b.setup m) (limit : Limit) (limit_is : limit_of b.setup.code ≡ limit) where
-  closed_is : (target : ℕ) → closed_seen limit b m target ≡ is_closed b.setup moves b.street m target
+  closed_is : (target : ℕ) → is_closed_seen limit b m target ≡ is_closed b.setup moves b.street m target
   closed_is target =
-      ap (λ o. not o || not (legal_seen limit b (floor_by reopen.Full 0 b) m target)) (sym (open_is b moves st m in_hand limit limit_is reopen.Full))
+      ap (λ o. not o || not (is_legal_seen limit b (floor_by reopen.Full 0 b) m target)) (sym (open_is b moves st m in_hand limit limit_is reopen.Full))
       ∙ ap (λ l. not (is_reopened reopen.Full b.setup moves b.street m) || not l) (sym (legal_is b moves st m in_hand limit limit_is reopen.Full target))
 
   unit_by : (l : Limit) → unit_seen l b m ≡ unit_target_in l b.setup moves b.street m
@@ -36,8 +36,8 @@ module _ (b : Table) (moves : List Move) (st : Standing b.setup b.street b moves
 
   pub traced_is : (act : Act) (target : ℕ) → traced_seen limit b m act target ≡ traced_move b.setup (move_of b moves m act target) moves
   traced_is act target =
-      ap (λ f. traced_by b.street m act f target (price_seen b) (is_raise act && closed_seen limit b m target) (unit_seen limit b m)) (st.bets m in_hand)
-      ∙ ap (λ p. traced_by b.street m act (street_chips b.setup moves b.street m) target p (is_raise act && closed_seen limit b m target) (unit_seen limit b m)) (price_is b moves st)
+      ap (λ f. traced_by b.street m act f target (price_seen b) (is_raise act && is_closed_seen limit b m target) (unit_seen limit b m)) (st.bets m in_hand)
+      ∙ ap (λ p. traced_by b.street m act (street_chips b.setup moves b.street m) target p (is_raise act && is_closed_seen limit b m target) (unit_seen limit b m)) (price_is b moves st)
       ∙ ap (λ c. traced_by b.street m act (street_chips b.setup moves b.street m) target (price b.setup moves b.street) (is_raise act && c) (unit_seen limit b m)) (closed_is target)
       ∙ ap (λ u. traced_by b.street m act (street_chips b.setup moves b.street m) target (price b.setup moves b.street) (is_raise act && is_closed b.setup moves b.street m target) u) (unit_by limit)
       ∙ ap (λ l. traced_by b.street m act (street_chips b.setup moves b.street m) target (price b.setup moves b.street) (is_raise act && is_closed b.setup moves b.street m target) (unit_target_in l b.setup moves b.street m)) (sym limit_is)

@@ -22,12 +22,12 @@ use Rattle.play_event.specs.Mover.{mover, mover_after, first_in_turn}
 use Rattle.play_event.specs.Table.{up_cards}
 use Rattle.betting_numbers.specs.declared.table.Table.{Table}
 use Rattle.betting_numbers.specs.SeatsSaid.{seat_said, turn_of}
-use Rattle.betting_numbers.specs.Seen.{able_seen, owed_seen, able_count_seen, to_move_seen, move_due_seen, after_last, last_seen, mover_seen}
+use Rattle.betting_numbers.specs.Seen.{is_able_seen, owed_seen, able_count_seen, has_to_move_seen, is_move_due_seen, after_last, last_seen, mover_seen}
 use Rattle.street_laws.specs.Seats.{IsSeat}
 use Rattle.betting_numbers.specs.Standing.{StandsFor, newest_seat}
 use Rattle.betting_numbers.specs.Planned.{IsTurn}
 use Rattle.play_event.specs.TurnTargets.{is_bet_due}
-use Rattle.betting_numbers.specs.UpSeen.{HoldsUps, unknown_seen, some_unknown_seen, before_seen, opens_seen, up_opener_seen}
+use Rattle.betting_numbers.specs.UpSeen.{HoldsUps, has_unknown_seen, has_unknown_up_card_seen, is_before_seen, is_opener_seen, up_opener_seen}
 use Rattle.list_laws.proofs.Counting.{counted_some}
 use Rattle.betting_numbers.proofs.Bridge.{able_is, able_count_is, mover_is, move_due_is, StartsIn}
 use Rattle.list_laws.proofs.Earliest.{first_exists}
@@ -44,9 +44,9 @@ filtered_any : (p q : ℕ → Bool) (xs : List ℕ) → list_any q (filter p xs)
 filtered_any p q xs = list_any-filter q p xs
 
 module _ (b : Table) (past : Past) (stands : StandsFor b past) (up : UpRow) (holds : HoldsUps b.setup up past) where
-  unknown_is : some_unknown_seen b up ≡ has_unknown_up_card b.setup (up_cards b.setup.code past) (moves_of past)
+  unknown_is : has_unknown_up_card_seen b up ≡ has_unknown_up_card b.setup (up_cards b.setup.code past) (moves_of past)
   unknown_is =
-      any_seats (unknown_seen b up) (λ seat. is_able b.setup (moves_of past) seat && list_any is_unknown (up_cards b.setup.code past seat)) b.setup.stacks.seats
+      any_seats (has_unknown_seen b up) (λ seat. is_able b.setup (moves_of past) seat && list_any is_unknown (up_cards b.setup.code past seat)) b.setup.stacks.seats
       (λ k low high. ap (λ a. a && list_any is_unknown (ups_of up k)) (able_is b (moves_of past) stands.standing k (record { first = low; last = high })) ∙ ap (λ slots. is_able b.setup (moves_of past) k && list_any is_unknown slots) (holds k low high))
       ∙ sym (filtered_any (is_able b.setup (moves_of past)) (λ seat. list_any is_unknown (up_cards b.setup.code past seat)) (all_seats b.setup))
 
@@ -54,17 +54,17 @@ module _ (b : Table) (past : Past) (stands : StandsFor b past) (up : UpRow) (hol
   abbrev opens_earlier : Opener → (seat other : ℕ) → Bool
   opens_earlier opener seat other = is_opener_before opener (b.street == 1) (known_cards (up_cards b.setup.code past other)) (known_cards (up_cards b.setup.code past seat))
 
-  before_is : (opener : Opener) (k other : ℕ) → IsSeat b.setup k → IsSeat b.setup other → before_seen opener b up k other ≡ (is_able b.setup (moves_of past) other && opens_earlier opener k other)
+  before_is : (opener : Opener) (k other : ℕ) → IsSeat b.setup k → IsSeat b.setup other → is_before_seen opener b up k other ≡ (is_able b.setup (moves_of past) other && opens_earlier opener k other)
   before_is opener k other in_k in_other =
       ap (λ a. a && is_opener_before opener (b.street == 1) (known_cards (ups_of up other)) (known_cards (ups_of up k))) (able_is b (moves_of past) stands.standing other in_other)
       ∙ ap (λ slots. is_able b.setup (moves_of past) other && is_opener_before opener (b.street == 1) (known_cards slots) (known_cards (ups_of up k))) (holds other in_other.first in_other.last)
       ∙ ap (λ slots. is_able b.setup (moves_of past) other && is_opener_before opener (b.street == 1) (known_cards (up_cards b.setup.code past other)) (known_cards slots)) (holds k in_k.first in_k.last)
 
-  opens_is : (opener : Opener) (k : ℕ) → IsSeat b.setup k → opens_seen opener b up k ≡ (is_able b.setup (moves_of past) k && not (list_any (opens_earlier opener k) (able_seats b.setup (moves_of past))))
+  opens_is : (opener : Opener) (k : ℕ) → IsSeat b.setup k → is_opener_seen opener b up k ≡ (is_able b.setup (moves_of past) k && not (list_any (opens_earlier opener k) (able_seats b.setup (moves_of past))))
   opens_is opener k in_k =
-      ap (λ a. a && not (list_any (before_seen opener b up k) (all_seats b.setup))) (able_is b (moves_of past) stands.standing k in_k)
+      ap (λ a. a && not (list_any (is_before_seen opener b up k) (all_seats b.setup))) (able_is b (moves_of past) stands.standing k in_k)
       ∙ ap (λ o. is_able b.setup (moves_of past) k && not o) (
-      any_seats (before_seen opener b up k) (λ other. is_able b.setup (moves_of past) other && opens_earlier opener k other) b.setup.stacks.seats (λ other low high. before_is opener k other in_k (record { first = low; last = high }))
+      any_seats (is_before_seen opener b up k) (λ other. is_able b.setup (moves_of past) other && opens_earlier opener k other) b.setup.stacks.seats (λ other low high. before_is opener k other in_k (record { first = low; last = high }))
       ∙ sym (filtered_any (is_able b.setup (moves_of past)) (opens_earlier opener k) (all_seats b.setup))
       )
 
@@ -74,7 +74,7 @@ module _ (b : Table) (past : Past) (stands : StandsFor b past) (up : UpRow) (hol
 
   up_opener_is : (opener : Opener) → up_opener_seen opener b up ≡ opener_ruled opener
   up_opener_is opener =
-      find_agree (opens_seen opener b up) (λ seat. is_able b.setup (moves_of past) seat && not (list_any (opens_earlier opener seat) (able_seats b.setup (moves_of past)))) 1 b.setup.stacks.seats (λ k low high. opens_is opener k (record { first = low; last = omega (arith, high) }))
+      find_agree (is_opener_seen opener b up) (λ seat. is_able b.setup (moves_of past) seat && not (list_any (opens_earlier opener seat) (able_seats b.setup (moves_of past)))) 1 b.setup.stacks.seats (λ k low high. opens_is opener k (record { first = low; last = omega (arith, high) }))
       ∙ sym (find-filter (is_able b.setup (moves_of past)) (λ seat. not (list_any (opens_earlier opener seat) (able_seats b.setup (moves_of past)))) (all_seats b.setup))
 
   -- among some able seats one opens
@@ -93,15 +93,15 @@ module _ (b : Table) (past : Past) (stands : StandsFor b past) (up : UpRow) (hol
   weaken : (p q : ℕ → Bool) (xs : List ℕ) → list_any (λ x. p x && q x) xs ≡ true → list_any p xs ≡ true
   weaken p q xs some = list_any-weaker (λ x. p x && q x) p (λ x is. (and_parts (p x) (q x) is).0) xs some
 
-  some_able : move_due_seen b ≡ true → list_any (able_seen b) (all_seats b.setup) ≡ true
-  some_able some = weaken (able_seen b) (λ seat. if flag_of b.since_rise seat then false else (nat_lt 0 (owed_seen b seat) || nat_le 2 (able_count_seen b))) (all_seats b.setup) some
+  some_able : is_move_due_seen b ≡ true → list_any (is_able_seen b) (all_seats b.setup) ≡ true
+  some_able some = weaken (is_able_seen b) (λ seat. if flag_of b.since_rise seat then false else (nat_lt 0 (owed_seen b seat) || nat_le 2 (able_count_seen b))) (all_seats b.setup) some
 
-  one_opens : (opener : Opener) → move_due_seen b ≡ true → is_some (up_opener_seen opener b up) ≡ true
+  one_opens : (opener : Opener) → is_move_due_seen b ≡ true → is_some (up_opener_seen opener b up) ≡ true
   one_opens opener some =
       ap is_some (up_opener_is opener)
       ∙ one_opens_by opener (able_seats b.setup (moves_of past)) (
       filtered_any (is_able b.setup (moves_of past)) (λ x. true) (all_seats b.setup)
-      ∙ any_seats (λ x. is_able b.setup (moves_of past) x && true) (able_seen b) b.setup.stacks.seats (λ k low high. and_true (is_able b.setup (moves_of past) k) ∙ sym (able_is b (moves_of past) stands.standing k (record { first = low; last = high })))
+      ∙ any_seats (λ x. is_able b.setup (moves_of past) x && true) (is_able_seen b) b.setup.stacks.seats (λ k low high. and_true (is_able b.setup (moves_of past) k) ∙ sym (able_is b (moves_of past) stands.standing k (record { first = low; last = high })))
       ∙ some_able some
       )
 
@@ -126,7 +126,7 @@ all_true false x = refl
 
 module _ (b : Table) (past : Past) (stands : StandsFor b past) where
   -- where a bring-in is due and nobody moved, each able seat has to move
-  bring_in_moves : b.due ≡ dues.BringIn → b.last ≡ None → move_due_seen b ≡ true
+  bring_in_moves : b.due ≡ dues.BringIn → b.last ≡ None → is_move_due_seen b ≡ true
   bring_in_moves is last =
       let st = stands.standing in
       let due : is_bring_in_due b.setup (moves_of past) b.street ≡ true = bring_in_by b.street (is_bring_in_due b.setup (moves_of past) b.street) (is_move_due b.setup (moves_of past) b.street) (due_after_cards b.setup past b.street dues.BringIn (stands.turn_is ∙ ap (λ (d : Due). (b.street, d)) is) refl) in
@@ -134,15 +134,15 @@ module _ (b : Table) (past : Past) (stands : StandsFor b past) where
       let two : nat_le 2 (able_count_seen b) ≡ true = ap (nat_le 2) (able_count_is b (moves_of past) st) ∙ (and_parts (is_stud b.setup.code && (b.street == 1)) (nat_le 2 (able_count b.setup (moves_of past))) parts.0).1 in
       let empty : moves_on b.street (moves_of past) ≡ [] = no_moves (moves_on b.street (moves_of past)) (sym st.last ∙ ap (λ (o : Option Seat). seat_said o) last) in
       let enough : 2 ≤ able_count_seen b = leb-true 2 (able_count_seen b) two in
-      sym (any_seats (able_seen b) (to_move_seen b) b.setup.stacks.seats (λ k low high. sym (
-      ap (λ s. able_seen b k && (if s then false else (nat_lt 0 (owed_seen b k) || nat_le 2 (able_count_seen b)))) (st.since_rise k (record { first = low; last = high }) ∙ none_since_start b.setup (moves_of past) b.street k empty)
-      ∙ ap (λ t. able_seen b k && (nat_lt 0 (owed_seen b k) || t)) two
-      ∙ all_true (able_seen b k) (nat_lt 0 (owed_seen b k))
+      sym (any_seats (is_able_seen b) (has_to_move_seen b) b.setup.stacks.seats (λ k low high. sym (
+      ap (λ s. is_able_seen b k && (if s then false else (nat_lt 0 (owed_seen b k) || nat_le 2 (able_count_seen b)))) (st.since_rise k (record { first = low; last = high }) ∙ none_since_start b.setup (moves_of past) b.street k empty)
+      ∙ ap (λ t. is_able_seen b k && (nat_lt 0 (owed_seen b k) || t)) two
+      ∙ all_true (is_able_seen b k) (nat_lt 0 (owed_seen b k))
       )))
-      ∙ counted_some (able_seen b) (all_seats b.setup) (omega (arith, enough))
+      ∙ counted_some (is_able_seen b) (all_seats b.setup) (omega (arith, enough))
 
   -- somebody has to move where betting is due
-  pub bets_move : (due : Due) → b.due ≡ due → is_bet_due due ≡ true → (due ≡ dues.BringIn → b.last ≡ None) → move_due_seen b ≡ true
+  pub bets_move : (due : Due) → b.due ≡ due → is_bet_due due ≡ true → (due ≡ dues.BringIn → b.last ≡ None) → is_move_due_seen b ≡ true
   bets_move dues.Move is bets last = move_due_is b (moves_of past) stands.standing ∙ move_is_due b.setup past b.street (stands.turn_is ∙ ap (λ (d : Due). (b.street, d)) is)
   bets_move dues.BringIn is bets last = bring_in_moves is (last refl)
   bets_move (dues.Deal street) is bets last = absurd (true≢false (sym bets))
@@ -154,13 +154,13 @@ module _ (b : Table) (past : Past) (stands : StandsFor b past) where
   seen_turn : (opener : InTurn) → StartsIn b.setup (after_last (last_seen b) (seat_after b.setup) opener) → opener ≡ opener_by (opener_of b.setup.code) b.setup (up_cards b.setup.code past) (moves_of past) b.street → mover_seen b opener ≡ mover b.setup (up_cards b.setup.code past) (moves_of past) b.street
   seen_turn opener starts is = mover_is b (moves_of past) stands.standing opener starts ∙ ap (λ (o : InTurn). mover_after b.setup o (moves_of past) b.street) is
 
-  somebody_from : (opener : ℕ) → IsSeat b.setup opener → move_due_seen b ≡ true → mover_seen b (TheSeat opener) ≡ NoSeat → ⊥
+  somebody_from : (opener : ℕ) → IsSeat b.setup opener → is_move_due_seen b ≡ true → mover_seen b (TheSeat opener) ≡ NoSeat → ⊥
   somebody_from opener in_hand some none =
       let to : Passed b opener = passed b opener in_hand in
-      nobody_by b.setup (to_move_seen b) (after_last (last_seen b) (seat_after b.setup) (TheSeat opener)) to.seat to.is to.in_hand some none
+      nobody_by b.setup (has_to_move_seen b) (after_last (last_seen b) (seat_after b.setup) (TheSeat opener)) to.seat to.is to.in_hand some none
 
   -- after a move the opener does not count
-  pub turn_later : (last : Seat) → b.last ≡ Some last → (one : ℕ) → IsSeat b.setup one → (found : Option ℕ) → in_turn found ≡ mover_seen b (TheSeat one) → move_due_seen b ≡ true → IsTurn b past (turn_of found)
+  pub turn_later : (last : Seat) → b.last ≡ Some last → (one : ℕ) → IsSeat b.setup one → (found : Option ℕ) → in_turn found ≡ mover_seen b (TheSeat one) → is_move_due_seen b ≡ true → IsTurn b past (turn_of found)
   turn_later last is one in_hand found found_is some =
       let opener = opener_by (opener_of b.setup.code) b.setup (up_cards b.setup.code past) (moves_of past) b.street in
       let said : last_seen b ≡ Some last.number = ap (λ (o : Option Seat). seat_said o) is in
@@ -168,7 +168,7 @@ module _ (b : Table) (past : Past) (stands : StandsFor b past) where
       ap (λ (o : Option ℕ). after_last o (seat_after b.setup) (TheSeat one)) said ∙ sym (ap (λ (o : Option ℕ). after_last o (seat_after b.setup) opener) said) in
       let to : Passed b one = passed b one in_hand in
       found_turn found (mover_seen b (TheSeat one)) found_is (somebody_from one in_hand some)
-      ∙ ap (λ (t : InTurn). first_in_turn b.setup (to_move_seen b) t) same
+      ∙ ap (λ (t : InTurn). first_in_turn b.setup (has_to_move_seen b) t) same
       ∙ seen_turn opener (subst (StartsIn b.setup) same (subst (StartsIn b.setup) (sym to.is) to.in_hand)) refl
 
   module _ (up : UpRow) (holds : HoldsUps b.setup up past) (opener : Opener) (game : opener_of b.setup.code ≡ opener) where
@@ -191,18 +191,18 @@ module _ (b : Table) (past : Past) (stands : StandsFor b past) where
     unknown_by_cards openers.Blinds cards unknown = absurd (true≢false (sym cards))
 
     -- an up-card is unknown, and nobody moved
-    pub turn_unknown : is_opened_by_up_cards opener ≡ true → b.last ≡ None → true ≡ some_unknown_seen b up → IsTurn b past Undecided
+    pub turn_unknown : is_opened_by_up_cards opener ≡ true → b.last ≡ None → true ≡ has_unknown_up_card_seen b up → IsTurn b past Undecided
     turn_unknown cards last unknown =
         let said : last_seen b ≡ None = ap (λ (o : Option Seat). seat_said o) last in
         let at : after_last (last_seen b) (seat_after b.setup) Undecided ≡ Undecided = ap (λ (o : Option ℕ). after_last o (seat_after b.setup) Undecided) said in
-        sym (ap (λ (t : InTurn). first_in_turn b.setup (to_move_seen b) t) at)
+        sym (ap (λ (t : InTurn). first_in_turn b.setup (has_to_move_seen b) t) at)
         ∙ seen_turn Undecided (subst (StartsIn b.setup) (sym at) _) (
         sym (unknown_by_cards opener cards (sym (unknown ∙ unknown_is b past stands up holds)))
         ∙ ap ruled_by (sym game)
         )
 
     -- all are known, and this seat opens
-    pub turn_known : is_opened_by_up_cards opener ≡ true → false ≡ some_unknown_seen b up → (first : ℕ) → IsSeat b.setup first → Some first ≡ up_opener_seen opener b up → (found : Option ℕ) → in_turn found ≡ mover_seen b (TheSeat first) → move_due_seen b ≡ true → IsTurn b past (turn_of found)
+    pub turn_known : is_opened_by_up_cards opener ≡ true → false ≡ has_unknown_up_card_seen b up → (first : ℕ) → IsSeat b.setup first → Some first ≡ up_opener_seen opener b up → (found : Option ℕ) → in_turn found ≡ mover_seen b (TheSeat first) → is_move_due_seen b ≡ true → IsTurn b past (turn_of found)
     turn_known cards known first in_hand opens found found_is some =
         let to : Passed b first = passed b first in_hand in
         found_turn found (mover_seen b (TheSeat first)) found_is (somebody_from first in_hand some)
@@ -213,5 +213,5 @@ module _ (b : Table) (past : Past) (stands : StandsFor b past) where
         )
 
     -- some seat opens
-    pub turn_never : {A : Type 0} → None ≡ up_opener_seen opener b up → move_due_seen b ≡ true → A
+    pub turn_never : {A : Type 0} → None ≡ up_opener_seen opener b up → is_move_due_seen b ≡ true → A
     turn_never none some = absurd (true≢false (sym (one_opens b past stands up holds opener some) ∙ ap is_some (sym none)))

@@ -18,7 +18,7 @@ use Rattle.play_event.specs.Table.{up_cards}
 use Rattle.play_event.specs.MoveReasons.{actor_of, is_other_seat, is_undecided, chips_to_call}
 use Rattle.play_event.specs.Reasons.{why, first_reason, all_reasons}
 use Rattle.betting_numbers.specs.declared.table.Table.{Table}
-use Rattle.betting_numbers.specs.Seen.{able_seen, left_seen, all_in_seen}
+use Rattle.betting_numbers.specs.Seen.{is_able_seen, left_seen, all_in_seen}
 use Rattle.street_laws.specs.Seats.{IsSeat}
 use Rattle.betting_numbers.specs.Standing.{Standing, StandsFor}
 use Rattle.betting_numbers.specs.Why.{bring_in_why, is_another, fold_why, call_why, call_seen, stated_why}
@@ -87,7 +87,7 @@ module _ (b : Table) (past : Past) (stands : StandsFor b past) (due_is : b.due �
 
 -- a number that is no seat's is not that of an able seat; 0 reads as the first seat
 module _ (b : Table) (moves : List Move) (st : Standing b.setup b.street b moves) where
-  pub able_anywhere : (seat : ℕ) → 1 ≤ seat → able_seen b seat ≡ is_able b.setup moves seat
+  pub able_anywhere : (seat : ℕ) → 1 ≤ seat → is_able_seen b seat ≡ is_able b.setup moves seat
   able_anywhere seat some = elim (cases_lt b.setup.stacks.seats seat) [
     | inl past_last ↦ nobody (flag_of b.live seat) (is_live moves seat) (nothing (left_seen b seat) (no_stack seat past_last (amount_of b.puts seat))) (nothing (chips_left b.setup moves seat) (no_stack seat past_last (chips_put b.setup moves seat)))
     | inr in_hand ↦ able_is b moves st seat (record { first = some; last = in_hand })

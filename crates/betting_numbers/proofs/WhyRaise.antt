@@ -39,7 +39,7 @@ use Rattle.betting_numbers.specs.Seen.{price_seen, owed_seen, all_in_seen}
 use Rattle.street_laws.specs.Seats.{IsSeat}
 use Rattle.betting_numbers.specs.Standing.{Standing, StandsFor}
 use Rattle.betting_numbers.specs.Targeted.{least_by, least_seen}
-use Rattle.betting_numbers.specs.Why.{now_why, owes_by, ceiling_seen, fulls_by, fulls_seen, greatest_by, legal_seen, greatest_seen, is_another, target_seen, cap_by, open_by, may_raise_seen, floor_by, target_by, raise_to_why, raise_why}
+use Rattle.betting_numbers.specs.Why.{now_why, is_reopened_by, ceiling_seen, fulls_by, fulls_seen, greatest_by, is_legal_seen, greatest_seen, is_another, target_seen, is_within_cap_by, is_open_by, may_raise_seen, floor_by, is_legal_by, raise_to_why, raise_why}
 use Rattle.betting_numbers.proofs.Bridge.{price_is, owed_is, all_in_is, opponent_is}
 use Rattle.betting_numbers.proofs.WhyMove.{read_mover, other_is}
 
@@ -57,7 +57,7 @@ module _ (b : Table) (moves : List Move) (st : Standing b.setup b.street b moves
       )
 
   module _ (limit : Limit) (limit_is : limit_of b.setup.code ≡ limit) where
-    owes_is : (l : Limit) → is_full_raise_owed l b.setup moves b.street m ≡ owes_by l b.full_raise (unit b.setup b.street) (owed_seen b m)
+    owes_is : (l : Limit) → is_full_raise_owed l b.setup moves b.street m ≡ is_reopened_by l b.full_raise (unit b.setup b.street) (owed_seen b m)
     owes_is limits.No = sym (
         ap (λ f. nat_le f (owed_seen b m)) st.full_raise
         ∙ ap (λ o. nat_le (full_raise b.setup moves b.street) o) (owed_is b moves st m in_hand)
@@ -68,14 +68,14 @@ module _ (b : Table) (moves : List Move) (st : Standing b.setup b.street b moves
         )
     owes_is limits.Fixed = sym (ap (λ (o : ℕ). nat_le (unit b.setup b.street) (2 * o)) (owed_is b moves st m in_hand))
 
-    pub open_is : (r : Reopen) → is_reopened r b.setup moves b.street m ≡ open_by r limit (flag_of b.moved m) b.full_raise (unit b.setup b.street) (owed_seen b m)
+    pub open_is : (r : Reopen) → is_reopened r b.setup moves b.street m ≡ is_open_by r limit (flag_of b.moved m) b.full_raise (unit b.setup b.street) (owed_seen b m)
     open_is reopen.Always = refl
     open_is reopen.Full =
         ap (λ l. not (has_moved moves b.street m) || is_full_raise_owed l b.setup moves b.street m) limit_is
         ∙ ap (λ o. not (has_moved moves b.street m) || o) (owes_is limit)
-        ∙ ap (λ f. not f || owes_by limit b.full_raise (unit b.setup b.street) (owed_seen b m)) (sym (st.moved m in_hand))
+        ∙ ap (λ f. not f || is_reopened_by limit b.full_raise (unit b.setup b.street) (owed_seen b m)) (sym (st.moved m in_hand))
 
-    cap_is : (caps : Option (List ℕ)) → ((k : ℕ) → cap_at caps k ≤ most_raises) → is_within_cap caps moves b.street ≡ cap_by caps b.raises b.street
+    cap_is : (caps : Option (List ℕ)) → ((k : ℕ) → cap_at caps k ≤ most_raises) → is_within_cap caps moves b.street ≡ is_within_cap_by caps b.raises b.street
     cap_is None fit = refl
     cap_is (Some caps) fit = ap (λ c. nat_lt 4 b.street || c) (counts (raises_on moves b.street) b.raises (slice_index caps (b.street - 1)) st.raises (fit (b.street - 1)))
       where
@@ -87,10 +87,10 @@ module _ (b : Table) (moves : List Move) (st : Standing b.setup b.street b moves
 
     pub may_raise_is : may_raise b.setup b.rules moves b.street m ≡ may_raise_seen limit b m
     may_raise_is = sym (
-        ap (λ o. o && nat_lt (price_seen b) (all_in_seen b m) && cap_by b.rules.caps b.raises b.street && open_by b.rules.reopen limit (flag_of b.moved m) b.full_raise (unit b.setup b.street) (owed_seen b m)) (opponent_is b moves st m)
-        ∙ ap (λ p. has_able_opponent b.setup moves m && nat_lt p (all_in_seen b m) && cap_by b.rules.caps b.raises b.street && open_by b.rules.reopen limit (flag_of b.moved m) b.full_raise (unit b.setup b.street) (owed_seen b m)) (price_is b moves st)
-        ∙ ap (λ a. has_able_opponent b.setup moves m && nat_lt (price b.setup moves b.street) a && cap_by b.rules.caps b.raises b.street && open_by b.rules.reopen limit (flag_of b.moved m) b.full_raise (unit b.setup b.street) (owed_seen b m)) (all_in_is b moves st m in_hand)
-        ∙ ap (λ c. has_able_opponent b.setup moves m && nat_lt (price b.setup moves b.street) (all_in b.setup moves b.street m) && c && open_by b.rules.reopen limit (flag_of b.moved m) b.full_raise (unit b.setup b.street) (owed_seen b m)) (sym (cap_is b.rules.caps b.caps_fit))
+        ap (λ o. o && nat_lt (price_seen b) (all_in_seen b m) && is_within_cap_by b.rules.caps b.raises b.street && is_open_by b.rules.reopen limit (flag_of b.moved m) b.full_raise (unit b.setup b.street) (owed_seen b m)) (opponent_is b moves st m)
+        ∙ ap (λ p. has_able_opponent b.setup moves m && nat_lt p (all_in_seen b m) && is_within_cap_by b.rules.caps b.raises b.street && is_open_by b.rules.reopen limit (flag_of b.moved m) b.full_raise (unit b.setup b.street) (owed_seen b m)) (price_is b moves st)
+        ∙ ap (λ a. has_able_opponent b.setup moves m && nat_lt (price b.setup moves b.street) a && is_within_cap_by b.rules.caps b.raises b.street && is_open_by b.rules.reopen limit (flag_of b.moved m) b.full_raise (unit b.setup b.street) (owed_seen b m)) (all_in_is b moves st m in_hand)
+        ∙ ap (λ c. has_able_opponent b.setup moves m && nat_lt (price b.setup moves b.street) (all_in b.setup moves b.street m) && c && is_open_by b.rules.reopen limit (flag_of b.moved m) b.full_raise (unit b.setup b.street) (owed_seen b m)) (sym (cap_is b.rules.caps b.caps_fit))
         ∙ ap (λ o. has_able_opponent b.setup moves m && nat_lt (price b.setup moves b.street) (all_in b.setup moves b.street m) && is_within_cap b.rules.caps moves b.street && o) (sym (open_is b.rules.reopen))
         )
 
@@ -122,7 +122,7 @@ module _ (b : Table) (moves : List Move) (st : Standing b.setup b.street b moves
         ap (λ p. fulls_by p (unit b.setup b.street) b.full_bet) (price_is b moves st)
         ∙ ap (fulls_by (price b.setup moves b.street) (unit b.setup b.street)) st.full_bet
 
-    plain_target : (l : Limit) (r : Reopen) (target : ℕ) → is_target_in l r b.setup moves b.street m target ≡ target_by l (targets.floor r b.setup moves b.street) (price b.setup moves b.street + full_raise b.setup moves b.street) (all_in b.setup moves b.street m) (pot_ceiling b.setup moves b.street m) (full_targets b.setup moves b.street) target
+    plain_target : (l : Limit) (r : Reopen) (target : ℕ) → is_target_in l r b.setup moves b.street m target ≡ is_legal_by l (targets.floor r b.setup moves b.street) (price b.setup moves b.street + full_raise b.setup moves b.street) (all_in b.setup moves b.street m) (pot_ceiling b.setup moves b.street m) (full_targets b.setup moves b.street) target
     plain_target limits.No r target = refl
     plain_target limits.Pot r target = refl
     plain_target limits.Fixed r target = refl
@@ -137,15 +137,15 @@ module _ (b : Table) (moves : List Move) (st : Standing b.setup b.street b moves
     plain_greatest limits.Pot = refl
     plain_greatest limits.Fixed = refl
 
-    pub legal_is : (r : Reopen) (target : ℕ) → is_legal_target r b.setup moves b.street m target ≡ legal_seen limit b (floor_by r (starting_price b.setup b.street) b) m target
+    pub legal_is : (r : Reopen) (target : ℕ) → is_legal_target r b.setup moves b.street m target ≡ is_legal_seen limit b (floor_by r (starting_price b.setup b.street) b) m target
     legal_is r target =
         ap (λ l. is_target_in l r b.setup moves b.street m target) limit_is
         ∙ plain_target limit r target
-        ∙ ap (λ f. target_by limit f (price b.setup moves b.street + full_raise b.setup moves b.street) (all_in b.setup moves b.street m) (pot_ceiling b.setup moves b.street m) (full_targets b.setup moves b.street) target) (floor_is r)
-        ∙ ap (λ l. target_by limit (floor_by r (starting_price b.setup b.street) b) l (all_in b.setup moves b.street m) (pot_ceiling b.setup moves b.street m) (full_targets b.setup moves b.street) target) (sym least_is)
-        ∙ ap (λ a. target_by limit (floor_by r (starting_price b.setup b.street) b) (price_seen b + b.full_raise) a (pot_ceiling b.setup moves b.street m) (full_targets b.setup moves b.street) target) (sym (all_in_is b moves st m in_hand))
-        ∙ ap (λ c. target_by limit (floor_by r (starting_price b.setup b.street) b) (price_seen b + b.full_raise) (all_in_seen b m) c (full_targets b.setup moves b.street) target) (sym ceiling_is)
-        ∙ ap (λ fs. target_by limit (floor_by r (starting_price b.setup b.street) b) (price_seen b + b.full_raise) (all_in_seen b m) (ceiling_seen b m) fs target) (sym fulls_is)
+        ∙ ap (λ f. is_legal_by limit f (price b.setup moves b.street + full_raise b.setup moves b.street) (all_in b.setup moves b.street m) (pot_ceiling b.setup moves b.street m) (full_targets b.setup moves b.street) target) (floor_is r)
+        ∙ ap (λ l. is_legal_by limit (floor_by r (starting_price b.setup b.street) b) l (all_in b.setup moves b.street m) (pot_ceiling b.setup moves b.street m) (full_targets b.setup moves b.street) target) (sym least_is)
+        ∙ ap (λ a. is_legal_by limit (floor_by r (starting_price b.setup b.street) b) (price_seen b + b.full_raise) a (pot_ceiling b.setup moves b.street m) (full_targets b.setup moves b.street) target) (sym (all_in_is b moves st m in_hand))
+        ∙ ap (λ c. is_legal_by limit (floor_by r (starting_price b.setup b.street) b) (price_seen b + b.full_raise) (all_in_seen b m) c (full_targets b.setup moves b.street) target) (sym ceiling_is)
+        ∙ ap (λ fs. is_legal_by limit (floor_by r (starting_price b.setup b.street) b) (price_seen b + b.full_raise) (all_in_seen b m) (ceiling_seen b m) fs target) (sym fulls_is)
 
     pub least_target_is : (r : Reopen) → least_target r b.setup moves b.street m ≡ least_seen limit b (floor_by r (starting_price b.setup b.street) b) m
     least_target_is r =
@@ -183,7 +183,7 @@ module _ (b : Table) (moves : List Move) (st : Standing b.setup b.street b moves
         else if nat_lt (greatest_target b.setup moves b.street m) (target_seen b m amount) then Some reasons.RaiseTooBig
         else None) (legal_is b.rules.reopen (target_seen b m amount))
         ∙ ap (λ g. if not (may_raise_seen limit b m) then Some reasons.RaiseClosed
-        else if not (legal_seen limit b (floor_by b.rules.reopen (starting_price b.setup b.street) b) m (target_seen b m amount)) && nat_lt (target_seen b m amount) g then Some reasons.RaiseTooSmall
+        else if not (is_legal_seen limit b (floor_by b.rules.reopen (starting_price b.setup b.street) b) m (target_seen b m amount)) && nat_lt (target_seen b m amount) g then Some reasons.RaiseTooSmall
         else if nat_lt g (target_seen b m amount) then Some reasons.RaiseTooBig
         else None) greatest_is
 

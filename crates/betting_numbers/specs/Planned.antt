@@ -17,7 +17,7 @@ use Rattle.betting_numbers.specs.declared.table.Table.{Table}
 use Rattle.betting_numbers.specs.SeatsSaid.{seat_said, turn_of}
 use Rattle.betting_numbers.specs.Seen.{all_in_seen}
 use Rattle.betting_numbers.specs.Standing.{StandsFor}
-use Rattle.betting_numbers.specs.Turn.{fits_due}
+use Rattle.betting_numbers.specs.Turn.{may_come_at}
 use Rattle.betting_numbers.specs.UpSeen.{HoldsUps}
 
 -- a move of a seat to a target, after these moves
@@ -71,4 +71,4 @@ IsInReach b plan = plan.target ≤ all_in_seen b plan.seat.number
 
 -- it may come where this is due
 abbrev pub IsFit : Table → Plan → Type 0
-IsFit b plan = fits_due (act_said plan.act) b.due ≡ true
+IsFit b plan = may_come_at (act_said plan.act) b.due ≡ true

@@ -18,8 +18,8 @@ abbrev pub left_seen : Table → ℕ → ℕ
 left_seen b seat = amount_of b.setup.stacks seat - amount_of b.puts seat
 
 -- the seat is able to act
-abbrev pub able_seen : Table → ℕ → Bool
-able_seen b seat = flag_of b.live seat && nat_lt 0 (left_seen b seat)
+abbrev pub is_able_seen : Table → ℕ → Bool
+is_able_seen b seat = flag_of b.live seat && nat_lt 0 (left_seen b seat)
 
 -- the price of the street
 abbrev pub price_seen : Table → ℕ
@@ -39,24 +39,24 @@ live_count_seen b = count_by (flag_of b.live) (all_seats b.setup)
 
 -- how many seats are able
 abbrev pub able_count_seen : Table → ℕ
-able_count_seen b = count_by (able_seen b) (all_seats b.setup)
+able_count_seen b = count_by (is_able_seen b) (all_seats b.setup)
 
 -- a seat has a move to make
-abbrev pub to_move_seen : Table → ℕ → Bool
-to_move_seen b seat =
-    able_seen b seat && (if flag_of b.since_rise seat then false else (nat_lt 0 (owed_seen b seat) || nat_le 2 (able_count_seen b)))
+abbrev pub has_to_move_seen : Table → ℕ → Bool
+has_to_move_seen b seat =
+    is_able_seen b seat && (if flag_of b.since_rise seat then false else (nat_lt 0 (owed_seen b seat) || nat_le 2 (able_count_seen b)))
 
 -- some seat has a move to make
-abbrev pub move_due_seen : Table → Bool
-move_due_seen b = list_any (to_move_seen b) (all_seats b.setup)
+abbrev pub is_move_due_seen : Table → Bool
+is_move_due_seen b = list_any (has_to_move_seen b) (all_seats b.setup)
 
 -- a bring-in is due
-abbrev pub bring_in_due_seen : Table → Bool
-bring_in_due_seen b = is_stud b.setup.code && (b.street == 1) && nat_le 2 (able_count_seen b) && not b.opened
+abbrev pub is_bring_in_due_seen : Table → Bool
+is_bring_in_due_seen b = is_stud b.setup.code && (b.street == 1) && nat_le 2 (able_count_seen b) && not b.opened
 
 -- another seat is able
-abbrev pub opponent_seen : Table → ℕ → Bool
-opponent_seen b seat = list_any (λ other. able_seen b other && not (other == seat)) (all_seats b.setup)
+abbrev pub has_opponent_seen : Table → ℕ → Bool
+has_opponent_seen b seat = list_any (λ other. is_able_seen b other && not (other == seat)) (all_seats b.setup)
 
 -- where the turn is passed to: after a seat to the next one, and before any to the opener
 abbrev pub after_last : Option ℕ → (ℕ → ℕ) → InTurn → InTurn
@@ -69,12 +69,12 @@ last_seen b = option_map (λ (s : Seat). s.number) b.last
 
 -- whose turn it is, the opener being this
 abbrev pub mover_seen : Table → InTurn → InTurn
-mover_seen b opener = first_in_turn b.setup (to_move_seen b) (after_last (last_seen b) (seat_after b.setup) opener)
+mover_seen b opener = first_in_turn b.setup (has_to_move_seen b) (after_last (last_seen b) (seat_after b.setup) opener)
 
 -- an able seat owes chips
-abbrev pub able_owes_seen : Table → Bool
-able_owes_seen b = list_any (λ seat. able_seen b seat && nat_lt 0 (owed_seen b seat)) (all_seats b.setup)
+abbrev pub has_able_seat_to_call_seen : Table → Bool
+has_able_seat_to_call_seen b = list_any (λ seat. is_able_seen b seat && nat_lt 0 (owed_seen b seat)) (all_seats b.setup)
 
 -- the hand is settled
-abbrev pub settled_seen : Table → Bool
-settled_seen b = nat_le 2 (live_count_seen b) && (is_after_betting b.due || (nat_le (able_count_seen b) 1 && not (able_owes_seen b)))
+abbrev pub is_settled_seen : Table → Bool
+is_settled_seen b = nat_le 2 (live_count_seen b) && (is_after_betting b.due || (nat_le (able_count_seen b) 1 && not (has_able_seat_to_call_seen b)))

@@ -11,13 +11,13 @@ use Rattle.play_event.specs.Streets.{unit}
 use Rattle.play_event.specs.Trace.{TracedMove}
 use Rattle.betting_numbers.specs.declared.table.Table.{Table}
 use Rattle.betting_numbers.specs.Seen.{price_seen, owed_seen}
-use Rattle.betting_numbers.specs.Why.{open_by, legal_seen, floor_by, target_seen}
+use Rattle.betting_numbers.specs.Why.{is_open_by, is_legal_seen, floor_by, target_seen}
 
 -- a raise needs rules by which betting always reopens
-abbrev pub closed_seen : Limit → Table → (seat target : ℕ) → Bool
-closed_seen limit b seat target =
-    not (open_by reopen.Full limit (flag_of b.moved seat) b.full_raise (unit b.setup b.street) (owed_seen b seat))
-    || not (legal_seen limit b (floor_by reopen.Full 0 b) seat target)
+abbrev pub is_closed_seen : Limit → Table → (seat target : ℕ) → Bool
+is_closed_seen limit b seat target =
+    not (is_open_by reopen.Full limit (flag_of b.moved seat) b.full_raise (unit b.setup b.street) (owed_seen b seat))
+    || not (is_legal_seen limit b (floor_by reopen.Full 0 b) seat target)
 
 -- where a raise by the unit goes, in fixed limit
 abbrev pub unit_seen : Limit → Table → ℕ → ℕ
@@ -35,6 +35,6 @@ traced_seen limit b seat act target =
       from = amount_of b.bets seat;
       to = target;
       price = price_seen b;
-      closed = is_raise act && closed_seen limit b seat target;
+      closed = is_raise act && is_closed_seen limit b seat target;
       unit_to = unit_seen limit b seat;
     }

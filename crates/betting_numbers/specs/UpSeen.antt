@@ -1,5 +1,5 @@
 -- Who opens a street by up-cards, by the running numbers and a row of up-cards.
-use Rattle.std.specs.Prelude.{◌≡◌, ℕ, ◌≤◌, Bool, ◌&&◌, ◌==◌, not, find, Option}
+use Rattle.std.specs.Prelude.{◌≡◌, ℕ, ◌≤◌, true, Bool, ◌&&◌, ◌==◌, not, find, Option}
 use Rattle.std.specs.List.{list_any}
 use Rattle.play_event.specs.declared.card_rows.UpRow.{UpRow}
 use Rattle.play_event.specs.declared.setup.Setup.{Setup}
@@ -7,33 +7,43 @@ use Rattle.play_event.specs.declared.limit.Opener.{Opener}
 use Rattle.play_event.specs.Openers.{is_opener_before}
 use Rattle.card_set.specs.Known.{is_unknown, known_cards}
 use Rattle.play_event.specs.Past.{Past}
+use Rattle.up_card_order.specs.Earliest.{is_as_early}
 use Rattle.play_event.specs.SeatSlots.{ups_of}
 use Rattle.play_event.specs.Seats.{all_seats}
 use Rattle.play_event.specs.Table.{up_cards}
 use Rattle.betting_numbers.specs.declared.table.Table.{Table}
-use Rattle.betting_numbers.specs.Seen.{able_seen}
+use Rattle.betting_numbers.specs.Seen.{is_able_seen}
 
 -- a row holds the up-cards of a past
 abbrev pub HoldsUps : Setup → UpRow → Past → Type 0
 HoldsUps setup up past = (seat : ℕ) → 1 ≤ seat → seat ≤ setup.stacks.seats → ups_of up seat ≡ up_cards setup.code past seat
 
 -- an up-card of an able seat is unknown
-abbrev pub unknown_seen : Table → UpRow → ℕ → Bool
-unknown_seen b up seat = able_seen b seat && list_any is_unknown (ups_of up seat)
+abbrev pub has_unknown_seen : Table → UpRow → ℕ → Bool
+has_unknown_seen b up seat = is_able_seen b seat && list_any is_unknown (ups_of up seat)
 
 -- such a seat is there
-abbrev pub some_unknown_seen : Table → UpRow → Bool
-some_unknown_seen b up = list_any (unknown_seen b up) (all_seats b.setup)
+abbrev pub has_unknown_up_card_seen : Table → UpRow → Bool
+has_unknown_up_card_seen b up = list_any (has_unknown_seen b up) (all_seats b.setup)
 
 -- an able seat opens before this one
-abbrev pub before_seen : Opener → Table → UpRow → (seat other : ℕ) → Bool
-before_seen opener b up seat other =
-    able_seen b other && is_opener_before opener (b.street == 1) (known_cards (ups_of up other)) (known_cards (ups_of up seat))
+abbrev pub is_before_seen : Opener → Table → UpRow → (seat other : ℕ) → Bool
+is_before_seen opener b up seat other =
+    is_able_seen b other && is_opener_before opener (b.street == 1) (known_cards (ups_of up other)) (known_cards (ups_of up seat))
+
+-- a seat's up-cards open before all that another's open before
+abbrev pub is_as_early_seen : Opener → Table → UpRow → (seat other : ℕ) → Bool
+is_as_early_seen opener b up seat other = is_as_early opener (b.street == 1) (known_cards (ups_of up seat)) (known_cards (ups_of up other))
+
+-- a seat opens before each seat before which one of the first so many opens
+abbrev pub IsLeader : Opener → Table → UpRow → (count lead : ℕ) → Type 0
+IsLeader opener b up count lead =
+    (seat other : ℕ) → 1 ≤ other → other ≤ count → is_before_seen opener b up seat other ≡ true → is_before_seen opener b up seat lead ≡ true
 
 -- a seat is able, and no able seat opens before it
-abbrev pub opens_seen : Opener → Table → UpRow → ℕ → Bool
-opens_seen opener b up seat = able_seen b seat && not (list_any (before_seen opener b up seat) (all_seats b.setup))
+abbrev pub is_opener_seen : Opener → Table → UpRow → ℕ → Bool
+is_opener_seen opener b up seat = is_able_seen b seat && not (list_any (is_before_seen opener b up seat) (all_seats b.setup))
 
 -- the first able seat before which no other opens
 abbrev pub up_opener_seen : Opener → Table → UpRow → Option ℕ
-up_opener_seen opener b up = find (opens_seen opener b up) (all_seats b.setup)
+up_opener_seen opener b up = find (is_opener_seen opener b up) (all_seats b.setup)

@@ -18,7 +18,7 @@ use Rattle.chip_ledger.specs.Greatest.{greatest}
 use Rattle.play_event.specs.Streets.{unit}
 use Rattle.play_event.specs.Targets.{above_price}
 use Rattle.betting_numbers.specs.declared.table.Table.{Table}
-use Rattle.betting_numbers.specs.Seen.{price_seen, owed_seen, able_seen, all_in_seen, opponent_seen}
+use Rattle.betting_numbers.specs.Seen.{price_seen, owed_seen, is_able_seen, all_in_seen, has_opponent_seen}
 use Rattle.play_event.specs.Price.{starting_price}
 
 -- a seat is named whose turn it is not
@@ -55,26 +55,26 @@ target_seen b seat (spelled.HandTotal amount) = amount - (amount_of b.puts seat 
 target_seen b seat spelled.Unit = min (if nat_lt (price_seen b) (unit b.setup b.street) then unit b.setup b.street else price_seen b + unit b.setup b.street) (all_in_seen b seat)
 
 -- the raises are within the cap
-abbrev pub cap_by : Option (List ℕ) → ℕ → ℕ → Bool
-cap_by None raises street = true
-cap_by (Some caps) raises street = nat_lt 4 street || nat_lt raises (slice_index caps (street - 1))
+abbrev pub is_within_cap_by : Option (List ℕ) → ℕ → ℕ → Bool
+is_within_cap_by None raises street = true
+is_within_cap_by (Some caps) raises street = nat_lt 4 street || nat_lt raises (slice_index caps (street - 1))
 
 -- what a seat owes reopens the betting to it
-abbrev pub owes_by : Limit → (least size owes : ℕ) → Bool
-owes_by limits.No least size owes = nat_le least owes
-owes_by limits.Pot least size owes = nat_le least owes
-owes_by limits.Fixed least size owes = nat_le size (2 * owes)
+abbrev pub is_reopened_by : Limit → (least size owes : ℕ) → Bool
+is_reopened_by limits.No least size owes = nat_le least owes
+is_reopened_by limits.Pot least size owes = nat_le least owes
+is_reopened_by limits.Fixed least size owes = nat_le size (2 * owes)
 
 -- the betting is open to a seat
-abbrev pub open_by : Reopen → Limit → (moved : Bool) → (least size owes : ℕ) → Bool
-open_by reopen.Always limit moved least size owes = true
-open_by reopen.Full limit moved least size owes = not moved || owes_by limit least size owes
+abbrev pub is_open_by : Reopen → Limit → (moved : Bool) → (least size owes : ℕ) → Bool
+is_open_by reopen.Always limit moved least size owes = true
+is_open_by reopen.Full limit moved least size owes = not moved || is_reopened_by limit least size owes
 
 -- the seat may raise
 abbrev pub may_raise_seen : Limit → Table → ℕ → Bool
 may_raise_seen limit b seat =
-    opponent_seen b seat && nat_lt (price_seen b) (all_in_seen b seat) && cap_by b.rules.caps b.raises b.street
-    && open_by b.rules.reopen limit (flag_of b.moved seat) b.full_raise (unit b.setup b.street) (owed_seen b seat)
+    has_opponent_seen b seat && nat_lt (price_seen b) (all_in_seen b seat) && is_within_cap_by b.rules.caps b.raises b.street
+    && is_open_by b.rules.reopen limit (flag_of b.moved seat) b.full_raise (unit b.setup b.street) (owed_seen b seat)
 
 -- the least raise that is not all-in, in no limit, where the street started at this price
 abbrev pub floor_by : Reopen → (start : ℕ) → Table → ℕ
@@ -98,10 +98,10 @@ abbrev pub fulls_seen : Table → List ℕ
 fulls_seen b = fulls_by (price_seen b) (unit b.setup b.street) b.full_bet
 
 -- a target is legal
-abbrev pub target_by : Limit → (floor least all_in ceiling : ℕ) → (fulls : List ℕ) → (target : ℕ) → Bool
-target_by limits.No floor least all_in ceiling fulls target = (nat_le floor target && nat_le target all_in) || (target == all_in)
-target_by limits.Pot floor least all_in ceiling fulls target = (nat_le least target && nat_le target (min all_in ceiling)) || ((target == all_in) && nat_le target ceiling)
-target_by limits.Fixed floor least all_in ceiling fulls target = (list_any (λ full. target == full) fulls && nat_le target all_in) || ((target == all_in) && nat_lt target (greatest fulls))
+abbrev pub is_legal_by : Limit → (floor least all_in ceiling : ℕ) → (fulls : List ℕ) → (target : ℕ) → Bool
+is_legal_by limits.No floor least all_in ceiling fulls target = (nat_le floor target && nat_le target all_in) || (target == all_in)
+is_legal_by limits.Pot floor least all_in ceiling fulls target = (nat_le least target && nat_le target (min all_in ceiling)) || ((target == all_in) && nat_le target ceiling)
+is_legal_by limits.Fixed floor least all_in ceiling fulls target = (list_any (λ full. target == full) fulls && nat_le target all_in) || ((target == all_in) && nat_lt target (greatest fulls))
 
 -- the greatest legal target
 abbrev pub greatest_by : Limit → (all_in ceiling : ℕ) → (fulls : List ℕ) → ℕ
@@ -110,8 +110,8 @@ greatest_by limits.Pot all_in ceiling fulls = min all_in ceiling
 greatest_by limits.Fixed all_in ceiling fulls = min all_in (greatest fulls)
 
 -- a target of a seat is legal, where the floor is this
-abbrev pub legal_seen : Limit → Table → (floor seat target : ℕ) → Bool
-legal_seen limit b floor seat target = target_by limit floor (price_seen b + b.full_raise) (all_in_seen b seat) (ceiling_seen b seat) (fulls_seen b) target
+abbrev pub is_legal_seen : Limit → Table → (floor seat target : ℕ) → Bool
+is_legal_seen limit b floor seat target = is_legal_by limit floor (price_seen b + b.full_raise) (all_in_seen b seat) (ceiling_seen b seat) (fulls_seen b) target
 
 -- the greatest legal target of a seat
 abbrev pub greatest_seen : Limit → Table → ℕ → ℕ
@@ -121,7 +121,7 @@ greatest_seen limit b seat = greatest_by limit (all_in_seen b seat) (ceiling_see
 abbrev pub raise_to_why : Limit → Table → (floor mover target : ℕ) → Option Illegal
 raise_to_why limit b floor mover target =
     if not (may_raise_seen limit b mover) then Some reasons.RaiseClosed
-    else if not (legal_seen limit b floor mover target) && nat_lt target (greatest_seen limit b mover) then Some reasons.RaiseTooSmall
+    else if not (is_legal_seen limit b floor mover target) && nat_lt target (greatest_seen limit b mover) then Some reasons.RaiseTooSmall
     else if nat_lt (greatest_seen limit b mover) target then Some reasons.RaiseTooBig
     else None
 
@@ -142,7 +142,7 @@ now_why at_move at_bring_in dues.Show = Some reasons.WrongKind
 -- the seat that is named is not able
 abbrev pub is_unable : Table → Option ℕ → Bool
 is_unable b None = false
-is_unable b (Some seat) = not (able_seen b seat)
+is_unable b (Some seat) = not (is_able_seen b seat)
 
 -- why a move is refused where it is not known whose turn it is
 abbrev pub unknown_why : Table → Option ℕ → Illegal

@@ -9,6 +9,7 @@ mod planning;
 mod raising;
 mod starting;
 mod table;
+mod tally;
 mod targeting;
 mod tracing;
 mod turns;

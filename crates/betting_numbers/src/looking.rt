@@ -2,9 +2,10 @@
 ghost use Rattle.std.specs.Prelude.{◌≡◌, ◌≤◌, ◌<◌};
 ghost use Rattle.chip_ledger.specs.declared.rows.TheConstants.{MOST_AMOUNT};
 ghost use Rattle.play_event.specs.Streets.{is_stud};
-ghost use Rattle.betting_numbers.specs.Seen.{able_count_seen, able_seen, all_in_seen, bring_in_due_seen, left_seen, live_count_seen, move_due_seen, opponent_seen, owed_seen, price_seen, to_move_seen};
+ghost use Rattle.betting_numbers.specs.Seen.{able_count_seen, is_able_seen, all_in_seen, is_bring_in_due_seen, left_seen, live_count_seen, is_move_due_seen, has_opponent_seen, owed_seen, price_seen, has_to_move_seen};
 
 use crate::table::Table;
+use crate::tally::Tally;
 use chip_ledger::Seat;
 
 impl Table {
@@ -22,7 +23,7 @@ impl Table {
     /// The seat is live and has chips left.
     pub fn able(&self, seat: Seat) -> bool
         requires { seat.number ≤ self.now.setup.stacks.seats }
-        ensures { result ≡ able_seen self.now seat.number }
+        ensures { result ≡ is_able_seen self.now seat.number }
     {
         self.live.get(seat) && 0 < self.left(seat)
     }
@@ -41,12 +42,21 @@ impl Table {
         most
     }
 
+    /// What the seat owes, where this is the price.
+    pub fn owed_at(&self, price: u64, seat: Seat) -> u64
+        requires in_hand { seat.number ≤ self.now.setup.stacks.seats }
+        requires price { price ≡ price_seen self.now }
+        ensures { result ≡ owed_seen self.now seat.number }
+    {
+        price.saturating_sub(self.bets.get(seat))
+    }
+
     /// What the seat owes.
     pub fn owed(&self, seat: Seat) -> u64
         requires { seat.number ≤ self.now.setup.stacks.seats }
         ensures { result ≡ owed_seen self.now seat.number }
     {
-        self.price().saturating_sub(self.bets.get(seat))
+        self.owed_at(self.price(), seat)
     }
 
     /// The street's chips of the seat where it puts all it has left.
@@ -89,25 +99,39 @@ impl Table {
         count
     }
 
-    /// The seat has a move to make.
-    pub fn to_move(&self, seat: Seat) -> bool
-        requires { seat.number ≤ self.now.setup.stacks.seats }
-        ensures { result ≡ to_move_seen self.now seat.number }
+    /// What the seats' turns depend on: it is counted once, before a walk over the seats.
+    pub fn tally(&self) -> Tally
+        ensures price { result.price ≡ price_seen self.now }
+        ensures able { result.able ≡ able_count_seen self.now }
+    {
+        Tally {
+            price: self.price(),
+            able: self.able_count(),
+        }
+    }
+
+    /// The seat has a move to make, where this was counted.
+    pub fn to_move(&self, tally: Tally, seat: Seat) -> bool
+        requires in_hand { seat.number ≤ self.now.setup.stacks.seats }
+        requires price { tally.price ≡ price_seen self.now }
+        requires able { tally.able ≡ able_count_seen self.now }
+        ensures { result ≡ has_to_move_seen self.now seat.number }
     {
         self.able(seat)
             && !self.since_rise.get(seat)
-            && (0 < self.owed(seat) || 2 <= self.able_count())
+            && (0 < self.owed_at(tally.price, seat) || 2 <= tally.able)
     }
 
     /// Some seat has a move to make.
     #[tactic(auto, using(chip_ledger::proofs::SeatLists::any_more))]
     pub fn is_move_due(&self) -> bool
-        ensures { result ≡ move_due_seen self.now }
+        ensures { result ≡ is_move_due_seen self.now }
     {
+        let tally = self.tally();
         let mut found = false;
         for index in 0..self.setup.stacks.seats {
             let seat = Seat { number: index + 1 };
-            found = found || self.to_move(seat);
+            found = found || self.to_move(tally, seat);
         }
         found
     }
@@ -115,7 +139,7 @@ impl Table {
     /// Another seat is able.
     #[tactic(auto, using(chip_ledger::proofs::SeatLists::any_more))]
     pub fn has_opponent(&self, seat: Seat) -> bool
-        ensures { result ≡ opponent_seen self.now seat.number }
+        ensures { result ≡ has_opponent_seen self.now seat.number }
     {
         let mut found = false;
         for index in 0..self.setup.stacks.seats {
@@ -128,7 +152,7 @@ impl Table {
     /// A bring-in is due, in a game of stud or another.
     pub fn is_bring_in_due(&self, stud: bool) -> bool
         requires { stud ≡ is_stud self.now.setup.code }
-        ensures { result ≡ bring_in_due_seen self.now }
+        ensures { result ≡ is_bring_in_due_seen self.now }
     {
         stud && self.street == 1 && 2 <= self.able_count() && !self.opened
     }

@@ -9,14 +9,15 @@ ghost use Rattle.betting_numbers.specs.SeatsSaid.{seat_said, turn_of};
 ghost use Rattle.betting_numbers.specs.Seen.{all_in_seen};
 ghost use Rattle.betting_numbers.specs.Standing.{StandsFor};
 ghost use Rattle.betting_numbers.specs.Planned.{IsPlan, IsTurn, IsRefused, IsPlanned, IsOfHand, IsInReach, IsFit, WhereTurn};
-ghost use Rattle.betting_numbers.specs.Turn.{fits_due};
+ghost use Rattle.betting_numbers.specs.Turn.{may_come_at};
 ghost use Rattle.betting_numbers.specs.Why.{is_unable, now_why, unknown_why};
 
 use crate::table::Table;
 use chip_ledger::Seat;
 use play_event::{Act, Due, Illegal, Limit, Spelled};
 
-/// A legal move before it is made: the seat, what it does, and the chips of the street that it has then.
+/// A legal move before it is made: the seat, what it does, and the chips of the street that it has
+/// then.
 #[derive(Clone, Copy, Debug, PartialEq, Eq)]
 pub struct Plan {
     pub seat: Seat,

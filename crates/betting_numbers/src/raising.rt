@@ -7,7 +7,7 @@ ghost use Rattle.play_event.specs.Streets.{unit};
 ghost use Rattle.play_event.specs.Chips.{blind_posted, street_chips};
 ghost use Rattle.play_event.specs.Price as prices;
 ghost use Rattle.betting_numbers.specs.Seen.{all_in_seen, owed_seen, price_seen};
-ghost use Rattle.betting_numbers.specs.Why.{bring_in_seen, bring_in_why, call_seen, call_why, cap_by, floor_by, fold_why, is_another, may_raise_seen, ceiling_seen, fulls_list, fulls_seen, greatest_seen, legal_seen, owes_by, raise_to_why, raise_why, stated_why, target_by, target_seen, greatest_by};
+ghost use Rattle.betting_numbers.specs.Why.{bring_in_seen, bring_in_why, call_seen, call_why, is_within_cap_by, floor_by, fold_why, is_another, may_raise_seen, ceiling_seen, fulls_list, fulls_seen, greatest_seen, is_legal_seen, is_reopened_by, raise_to_why, raise_why, stated_why, is_legal_by, target_seen, greatest_by};
 ghost use Rattle.std.specs.List.{list_any};
 ghost use Rattle.chip_ledger.specs.Greatest.{greatest};
 ghost use Rattle.betting_numbers.specs.SeatsSaid.{seat_said};
@@ -132,7 +132,7 @@ impl Table {
     /// The raises are within the cap.
     pub fn is_within_cap(&self) -> bool
         requires { 1 ≤ self.now.street }
-        ensures { result ≡ cap_by self.now.rules.caps self.now.raises self.now.street }
+        ensures { result ≡ is_within_cap_by self.now.rules.caps self.now.raises self.now.street }
     {
         match self.rules.caps {
             None => true,
@@ -143,7 +143,8 @@ impl Table {
     // What the seat owes reopens the betting to it, where bets have this size.
     pub fn owes_enough(&self, limit: Limit, size: u64, seat: Seat) -> bool
         requires { seat.number ≤ self.now.setup.stacks.seats }
-        ensures { result ≡ owes_by limit self.now.full_raise size (owed_seen self.now seat.number) }
+        ensures { result
+            ≡ is_reopened_by limit self.now.full_raise size (owed_seen self.now seat.number) }
     {
         let owed = self.owed(seat);
         match limit {
@@ -206,7 +207,7 @@ impl Table {
 
     // Whether a target is legal, and the greatest that is, in fixed limit.
     fn judge_fixed(fulls: (u128, Option<u128>), all_in: u128, target: u128) -> (bool, u128)
-        ensures legal { result.0 ≡ target_by limits.Fixed 0 0 all_in 0 (fulls_list fulls) target }
+        ensures legal { result.0 ≡ is_legal_by limits.Fixed 0 0 all_in 0 (fulls_list fulls) target }
         ensures greatest { result.1 ≡ greatest_by limits.Fixed all_in 0 (fulls_list fulls) }
     {
         let (first, other) = fulls;
@@ -234,7 +235,7 @@ impl Table {
     ) -> (bool, u128)
         requires in_hand { mover.number ≤ self.now.setup.stacks.seats }
         requires size { size ≡ unit self.now.setup self.now.street }
-        ensures legal { result.0 ≡ legal_seen limit self.now floor mover.number target }
+        ensures legal { result.0 ≡ is_legal_seen limit self.now floor mover.number target }
         ensures greatest { result.1 ≡ greatest_seen limit self.now mover.number }
     {
         let all_in = u128::from(self.all_in(mover));

@@ -10,11 +10,11 @@ use chip_ledger::{LiveRow, Seat, SeatRow};
 use play_event::{Due, Rules, Setup};
 
 /// The betting as it stands: a few rows and numbers, which each move changes, in place of the moves
-/// themselves. Whatever is cheap to compute from them is not kept: the price, what a seat owes, who is
-/// able, whose turn it is.
+/// themselves. Whatever is cheap to compute from them is not kept: the price, what a seat owes, who
+/// is able, whose turn it is.
 ///
-/// The fields are public since the contracts of the machine speak of them; the facts below them keep
-/// sums from wrapping and seats in the hand, whatever is done with them.
+/// The fields are public since the contracts of the machine speak of them; the facts below them
+/// keep sums from wrapping and seats in the hand, whatever is done with them.
 #[derive(Clone, Copy, Debug, PartialEq, Eq)]
 pub struct Table {
     /// What stood before the first card.
@@ -42,8 +42,8 @@ pub struct Table {
     pub full_raise: u64,
     /// The last full bet of fixed limit.
     pub full_bet: u64,
-    /// The greatest of twice the target less the price before it, over the raises of the street: the
-    /// least raise where betting always reopens.
+    /// The greatest of twice the target less the price before it, over the raises of the street:
+    /// the least raise where betting always reopens.
     pub doubled: u64,
     /// Whether a bring-in or a raise came on this street.
     pub opened: bool,

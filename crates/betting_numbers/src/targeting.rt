@@ -18,8 +18,8 @@ use crate::table::Table;
 use chip_ledger::Seat;
 use play_event::Limit;
 
-/// Where a seat may raise to, in chips of the street: its least and its greatest legal target, and the
-/// target at which it is all-in. Not every amount between the ends is legal.
+/// Where a seat may raise to, in chips of the street: its least and its greatest legal target, and
+/// the target at which it is all-in. Not every amount between the ends is legal.
 #[derive(Clone, Copy, Debug, PartialEq, Eq)]
 pub struct Targets {
     pub least: u64,

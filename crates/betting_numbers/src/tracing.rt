@@ -7,7 +7,7 @@ ghost use Rattle.play_event.specs.Trace.{traced_move};
 ghost use Rattle.street_laws.specs.Seats.{IsSeat};
 ghost use Rattle.betting_numbers.specs.Standing.{Standing};
 ghost use Rattle.betting_numbers.specs.Planned.{move_of};
-ghost use Rattle.betting_numbers.specs.Traced.{closed_seen, traced_seen, unit_seen};
+ghost use Rattle.betting_numbers.specs.Traced.{is_closed_seen, traced_seen, unit_seen};
 
 use crate::moving::raises;
 use crate::table::Table;
@@ -19,7 +19,7 @@ impl Table {
     fn closed(&self, limit: Limit, size: u64, seat: Seat, target: u64) -> bool
         requires in_hand { seat.number ≤ self.now.setup.stacks.seats }
         requires size { size ≡ unit self.now.setup self.now.street }
-        ensures { result ≡ closed_seen limit self.now seat.number target }
+        ensures { result ≡ is_closed_seen limit self.now seat.number target }
     {
         let floor = self.price() + self.full_raise;
         let (legal, _) = self.judge(limit, floor, size, seat, u128::from(target));

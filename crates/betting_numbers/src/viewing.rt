@@ -1,7 +1,7 @@
 // What is seen of the betting from outside: the chips left, and whether the hand is settled.
 ghost use Rattle.std.specs.Prelude.{◌≡◌, ◌≤◌, ℕ};
 ghost use Rattle.chip_ledger.specs.SeatRow.{amount_of};
-ghost use Rattle.betting_numbers.specs.Seen.{able_owes_seen, left_seen, settled_seen};
+ghost use Rattle.betting_numbers.specs.Seen.{has_able_seat_to_call_seen, left_seen, is_settled_seen};
 ghost use Rattle.play_event.specs.Due.{is_after_betting};
 
 use crate::table::Table;
@@ -36,19 +36,20 @@ impl Table {
     // An able seat owes chips.
     #[tactic(auto, using(chip_ledger::proofs::SeatLists::any_more))]
     fn able_owes(&self) -> bool
-        ensures { result ≡ able_owes_seen self.now }
+        ensures { result ≡ has_able_seat_to_call_seen self.now }
     {
+        let price = self.price();
         let mut found = false;
         for index in 0..self.setup.stacks.seats {
             let seat = Seat { number: index + 1 };
-            found = found || (self.able(seat) && 0 < self.owed(seat));
+            found = found || (self.able(seat) && 0 < self.owed_at(price, seat));
         }
         found
     }
 
     /// The hand is settled.
     pub fn settled(&self) -> bool
-        ensures { result ≡ settled_seen self.now }
+        ensures { result ≡ is_settled_seen self.now }
     {
         2 <= self.live_count()
             && (after_betting(self.due) || (self.able_count() <= 1 && !self.able_owes()))
