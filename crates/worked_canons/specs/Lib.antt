@@ -1,5 +1,11 @@
--- Hands whose canonical scripts are computed, and traces as numbers.
+-- Hands whose traces and canonical scripts are computed, traces as numbers, notes, stated facts and plays.
 pub mod TraceNumbers
 pub mod Setups
 pub mod Scripts
 pub mod Outcomes
+pub mod TraceRows
+pub mod Traces
+pub mod WrongTraces
+pub mod StatedFacts
+pub mod WrittenNotes
+pub mod Plays

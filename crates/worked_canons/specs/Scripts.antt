@@ -57,3 +57,26 @@ badugi_hand =
     ∷ stand_pat 1 ∷ discard 2 (codes "??") ∷ deal 2 (codes "9c") ∷ raises ∷ calls
     ∷ stand_pat 1 ∷ stand_pat 2 ∷ calls ∷ calls
     ∷ show 2 (codes "9cTh7d8s") ∷ show 1 (codes "4s3h2dAc") ∷ []
+
+-- short deck: all-in before the flop, and shows before and after the river
+abbrev pub short_deck_hand : List Said
+short_deck_hand =
+    deal 3 (codes "6c") ∷ deal 1 (codes "????") ∷ deal 2 (codes "AsKs") ∷ deal 3 (codes "7h")
+    ∷ call 3 ∷ call 1 ∷ raise 2 100 ∷ fold 3 ∷ call 1
+    ∷ board (codes "KhKdQs") ∷ show 2 (codes "AsKs") ∷ board (codes "Qc") ∷ board (codes "Js")
+    ∷ show 1 (codes "JhJd") ∷ []
+
+-- a match: after a short all-in p3 raises again, which only rules allow by which betting always reopens
+abbrev pub reopened_hand : List Said
+reopened_hand =
+    deal 1 (codes "????") ∷ deal 2 (codes "????") ∷ deal 3 (codes "????")
+    ∷ raise 3 10 ∷ raise 1 14 ∷ call 2 ∷ raise 3 50 ∷ fold 2
+    ∷ board (codes "2c3c4d") ∷ board (codes "9h") ∷ board (codes "Ts") ∷ show 3 (codes "AhAd") ∷ muck 1 ∷ []
+
+-- a match of fixed limit with its caps: three raises on the first street and four on the second
+abbrev pub capped_hand : List Said
+capped_hand =
+    deal 2 (codes "KdTc") ∷ deal 1 (codes "9s8h") ∷ raises ∷ raises ∷ raises ∷ calls
+    ∷ board (codes "8c8d3d") ∷ raises ∷ raises ∷ raises ∷ raises ∷ calls
+    ∷ board (codes "3s") ∷ calls ∷ calls ∷ board (codes "3h") ∷ raises ∷ calls
+    ∷ show 2 (codes "KdTc") ∷ show 1 (codes "9s8h") ∷ []
