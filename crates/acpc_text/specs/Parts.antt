@@ -1,0 +1,33 @@
+-- Texts that are cut at a sign: a file at newlines, a line at colons, a field at bars and strokes, numbers at spaces.
+use Rattle.std.specs.Prelude.{ℕ, ◌-◌, ◌==◌, Bool, nat_lt, bytes_eq, if◌then◌else◌, List, [], ◌∷◌, length, take, map, filter, slice_index}
+use Rattle.std.specs.List.{slice_split}
+
+-- the parts of a text that a sign divides
+abbrev pub parts_of : ℕ → List ℕ → List (List ℕ)
+parts_of sign text = slice_split (λ b. b == sign) text
+
+-- a line without the carriage return at its end, if there is one
+abbrev pub without_return : List ℕ → List ℕ
+without_return line = if slice_index line (length line - 1) == 13 then take (length line - 1) line else line
+
+-- parts, without the last one if it is empty
+abbrev pub without_empty_end : List (List ℕ) → List (List ℕ)
+without_empty_end [] = []
+without_empty_end (part ∷ []) = if length part == 0 then [] else part ∷ []
+without_empty_end (part ∷ next ∷ more) = part ∷ without_empty_end (next ∷ more)
+
+-- the lines of a text, each of which ends with a newline or with the text
+abbrev pub lines_of : List ℕ → List (List ℕ)
+lines_of text = map without_return (without_empty_end (parts_of 10 text))
+
+-- a text begins with these bytes
+abbrev pub begins_with : List ℕ → List ℕ → Bool
+begins_with front text = bytes_eq (take (length front) text) front
+
+-- the sign that divides words: a space
+abbrev pub divides : ℕ → Bool
+divides sign = sign == 32
+
+-- the words of a text
+abbrev pub words_of : List ℕ → List (List ℕ)
+words_of text = filter (λ part. nat_lt 0 (length part)) (slice_split divides text)

@@ -1,0 +1,109 @@
+//! A fault of a log or a game file names its line, and the byte of it that shows the fault.
+ghost use Rattle.std.specs.Prelude.{◌≡◌, min};
+ghost use Rattle.acpc_text.specs.Faults.{fault_in_line as fault_in_line_said, fault_of, kept as kept_said};
+
+use hand_canon::Quantity;
+
+/// What is wrong with a line.
+#[derive(Clone, Copy, Debug, PartialEq, Eq)]
+pub enum What {
+    /// A line of a log is no state, has another number of fields, no number of a hand, or a name that is no text.
+    LineShape,
+    BadBetting,
+    BadCards,
+    BadValue,
+    /// Hole cards, values or names are not as many as the players.
+    SeatCount,
+    /// A game file, or a line of it, has another form.
+    GameShape,
+    /// A game that is not played here.
+    UnsupportedGame,
+    /// A number that is too great.
+    AmountLimit,
+    TooMany(Quantity),
+}
+
+/// What is wrong with a line, and the byte of it that shows it, from 1.
+#[derive(Clone, Copy, Debug, PartialEq, Eq)]
+pub struct LineFault {
+    pub what: What,
+    pub byte: u64,
+}
+
+/// Why a log or a game file is not read. Lines, and the bytes of a line, are counted from 1; a number that is
+/// greater than 4294967295 is told as 4294967295.
+#[derive(Clone, Copy, Debug, PartialEq, Eq)]
+pub enum AcpcFault {
+    LineShape {
+        line: u32,
+        byte: u32,
+    },
+    BadBetting {
+        line: u32,
+        byte: u32,
+    },
+    BadCards {
+        line: u32,
+        byte: u32,
+    },
+    BadValue {
+        line: u32,
+        byte: u32,
+    },
+    SeatCount {
+        line: u32,
+        byte: u32,
+    },
+    GameShape {
+        line: u32,
+        byte: u32,
+    },
+    UnsupportedGame {
+        line: u32,
+        byte: u32,
+    },
+    AmountLimit {
+        line: u32,
+        byte: u32,
+    },
+    TooMany {
+        quantity: Quantity,
+        line: u32,
+        byte: u32,
+    },
+    Memory,
+}
+
+/// The number, or the greatest that a fault tells.
+pub fn kept(number: u64) -> u32
+    ensures { result ≡ kept_said number }
+{
+    if number > 4_294_967_295 {
+        4_294_967_295
+    } else {
+        number as u32
+    }
+}
+
+/// The fault of a line with this number.
+pub fn fault_in_line(line: u64, fault: LineFault) -> AcpcFault
+    ensures { result ≡ fault_in_line_said line fault }
+{
+    let byte = kept(fault.byte);
+    let line = kept(line);
+    match fault.what {
+        What::LineShape => AcpcFault::LineShape { line, byte },
+        What::BadBetting => AcpcFault::BadBetting { line, byte },
+        What::BadCards => AcpcFault::BadCards { line, byte },
+        What::BadValue => AcpcFault::BadValue { line, byte },
+        What::SeatCount => AcpcFault::SeatCount { line, byte },
+        What::GameShape => AcpcFault::GameShape { line, byte },
+        What::UnsupportedGame => AcpcFault::UnsupportedGame { line, byte },
+        What::AmountLimit => AcpcFault::AmountLimit { line, byte },
+        What::TooMany(quantity) => AcpcFault::TooMany {
+            quantity,
+            line,
+            byte,
+        },
+    }
+}

@@ -1,0 +1,10 @@
+//! What logs and game files share: lines and their parts, digits behind letters, and faults with their line and byte.
+#![tactic(auto)]
+
+mod fault;
+mod letters;
+mod parts;
+
+pub use fault::{AcpcFault, LineFault, What, fault_in_line, kept};
+pub use letters::{cut_digits, cut_first};
+pub use parts::{count_parts, cut_at, has_prefix, next_line, next_word};
