@@ -1,23 +1,19 @@
--- The points of a badugi hand do not depend on the order of its cards.
-use Rattle.std.proofs.Common.{◌≡◌, ◌-◌, ◌^◌, ◌&&◌, ◌||◌, ◌==◌, ℕ, not, Bool, true, false, cond, List, [], ◌∷◌, ◌++◌, length, Option, Some, None, ◌⊎◌, inl, inr, refl, sym, ◌∙◌, ap, subst, arith, eqb-true, eq-eqb}
+-- The points of a choice do not depend on the order of its cards.
+use Rattle.std.proofs.Common.{◌≡◌, ◌-◌, ◌^◌, ◌&&◌, ◌||◌, ◌==◌, ℕ, not, Bool, true, false, cond, List, [], ◌∷◌, length, Some, None, ◌⊎◌, inl, inr, refl, sym, ◌∙◌, ap, subst, eqb-true, eq-eqb}
 use Rattle.std.specs.List.{list_all}
 use Rattle.std.proofs.lemmas.Bool.{and_parts, or_cases}
 use Rattle.card_set.specs.declared.card.Card.{Card}
-use Rattle.card_set.specs.declared.set.CardSet.{CardSet}
-use Rattle.card_set.specs.CardSet.{AreSameCards, count_of, is_one_of, listed, IsListing}
+use Rattle.card_set.specs.CardSet.{AreSameCards, is_one_of}
 use Rattle.card_set.specs.Deck.{is_same_card, suits_before}
 use Rattle.card_set.specs.Different.{AllDifferent}
 use Rattle.card_set.specs.Ranks.{low_ace, ranks_of}
 use Rattle.card_set.proofs.DeckLaws.{is_same_card-self, is_same_card-true}
-use Rattle.card_set.proofs.Listing.{count_of-listing, listed_listing, lacks_one_of, ranks_of-same, same_listings}
-use Rattle.hand_order.specs.Choices.{choices, AreAlike, CanChoose}
+use Rattle.card_set.proofs.Listing.{lacks_one_of, ranks_of-same}
+use Rattle.hand_order.specs.Choices.{AreAlike}
 use Rattle.hand_order.specs.Digits.{class_above}
-use Rattle.hand_order.specs.Points.{better, greatest}
 use Rattle.hand_order.proofs.Alike.{Passes, all_every, both_ways, every_all, every_map}
-use Rattle.hand_order.proofs.Greatest.{greatest-append}
-use Rattle.hand_order.proofs.SameChoices.{every_one_of, greatest-same, one_of_every}
-use Rattle.hand_order.proofs.SetChoices.{only_choice}
-use Rattle.badugi_rank.specs.Badugi.{candidates, choice_points, has_in_common, has_nothing_in_common, points}
+use Rattle.hand_order.proofs.SameChoices.{every_one_of, one_of_every}
+use Rattle.badugi_rank.specs.Badugi.{choice_points, has_in_common, has_nothing_in_common}
 use Rattle.list_laws.proofs.Tests.{passes_or_not}
 
 -- cards that have something in common are one
@@ -97,28 +93,3 @@ choice_alike n a b held_a held_b same =
     ap (λ (t : Bool). cond t (Some (16 ^ 6 - class_above (4 - length a) (ranks_of low_ace a))) None) (both_ways (has_nothing_in_common a) (has_nothing_in_common b) (nothing_same a b held_b.1 same) (nothing_same b a held_a.1 (λ card. sym (same card))))
     ∙ ap (λ (k : ℕ). cond (has_nothing_in_common b) (Some (16 ^ 6 - class_above (4 - k) (ranks_of low_ace a))) None) (held_a.0 ∙ sym held_b.0)
     ∙ ap (λ (l : List ℕ). cond (has_nothing_in_common b) (Some (16 ^ 6 - class_above (4 - length b) l)) None) (ranks_of-same low_ace a b held_a.1 held_b.1 same)
-
--- the points of a hand
-pub points_same : (a b : List Card) → AllDifferent a → AllDifferent b → AreSameCards a b → points a ≡ points b
-unfolding candidates
-points_same a b different_a different_b same =
-    let each = λ (n : ℕ). greatest-same choice_points n a b different_a different_b same (choice_alike n) in
-    greatest-append choice_points (choices 4 a) (choices 3 a ++ (choices 2 a ++ choices 1 a))
-    ∙ ap (λ (o : Option ℕ). better (greatest choice_points (choices 4 a)) o) (greatest-append choice_points (choices 3 a) (choices 2 a ++ choices 1 a) ∙ ap (λ (o : Option ℕ). better (greatest choice_points (choices 3 a)) o) (greatest-append choice_points (choices 2 a) (choices 1 a)))
-    ∙ ap (λ (o : Option ℕ). better o (better (greatest choice_points (choices 3 a)) (better (greatest choice_points (choices 2 a)) (greatest choice_points (choices 1 a))))) (each 4)
-    ∙ ap (λ (o : Option ℕ). better (greatest choice_points (choices 4 b)) (better o (better (greatest choice_points (choices 2 a)) (greatest choice_points (choices 1 a))))) (each 3)
-    ∙ ap (λ (o : Option ℕ). better (greatest choice_points (choices 4 b)) (better (greatest choice_points (choices 3 b)) (better o (greatest choice_points (choices 1 a))))) (each 2)
-    ∙ ap (λ (o : Option ℕ). better (greatest choice_points (choices 4 b)) (better (greatest choice_points (choices 3 b)) (better (greatest choice_points (choices 2 b)) o))) (each 1)
-    ∙ sym (greatest-append choice_points (choices 4 b) (choices 3 b ++ (choices 2 b ++ choices 1 b))
-    ∙ ap (λ (o : Option ℕ). better (greatest choice_points (choices 4 b)) o) (greatest-append choice_points (choices 3 b) (choices 2 b ++ choices 1 b) ∙ ap (λ (o : Option ℕ). better (greatest choice_points (choices 3 b)) o) (greatest-append choice_points (choices 2 b) (choices 1 b))))
-
--- the points of four cards in the order of the deck are those of the only choice of each list
-pub set_points : (set : CardSet) (seen listing : List Card) → CanChoose 4 (count_of set) → seen ≡ listed set → IsListing set listing → points seen ≡ greatest points (choices 4 listing)
-set_points set seen listing can is lists =
-    ap points is
-    ∙ points_same (listed set) listing (listed_listing set).different lists.different (same_listings set (listed set) listing (listed_listing set) lists)
-    ∙ sym (only_choice points 4 listing (sym (count_of-listing set listing lists) ∙ four can))
-  where
-    four : CanChoose 4 (count_of set) → count_of set ≡ 4
-    four (inl five) = absurd (omega (arith, five.0))
-    four (inr all) = all

@@ -1,2 +1,7 @@
-pub mod BadugiAlike
-pub mod ChoiceNumber
+mod BadugiAlike
+mod BestRainbow
+mod RainbowCards
+mod RainbowRanks
+mod SuitRanks
+mod TakenRanks
+mod Taking

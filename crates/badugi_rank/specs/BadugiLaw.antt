@@ -38,7 +38,7 @@ lacks_rank card (other ∷ rest) lacks =
     omega (arith, times-cons low_ace other rest (low_ace card.rank), none, lacks_rank card rest parts.1)
 
 -- no rank occurs twice where all differ
-once_each : (chosen : List Card) → has_nothing_in_common chosen ≡ true → (h : ℕ) → times low_ace chosen h ≤ 1
+pub once_each : (chosen : List Card) → has_nothing_in_common chosen ≡ true → (h : ℕ) → times low_ace chosen h ≤ 1
 once_each [] differ h = omega (arith, times-none low_ace h)
 once_each (card ∷ rest) differ h =
     let parts = and_parts (list_all (λ other. not (has_in_common card other)) rest) (has_nothing_in_common rest) differ in
@@ -84,7 +84,7 @@ rainbow_ranked chosen few differ =
       digits = AreDigits-ranks_of low_ace chosen;
     }
 
-choice_value : (chosen : List Card) (value : ℕ) → choice_points chosen ≡ Some value → (has_nothing_in_common chosen ≡ true) × (16 ^ 6 - class_above (4 - length chosen) (ranks_of low_ace chosen) ≡ value)
+pub choice_value : (chosen : List Card) (value : ℕ) → choice_points chosen ≡ Some value → (has_nothing_in_common chosen ≡ true) × (16 ^ 6 - class_above (4 - length chosen) (ranks_of low_ace chosen) ≡ value)
 choice_value chosen value is = cond_some (has_nothing_in_common chosen) (16 ^ 6 - class_above (4 - length chosen) (ranks_of low_ace chosen)) value is
 
 points_there : (test : Bool) (value : ℕ) → IsSome (cond test (Some value) None) ↔ (test ≡ true)
@@ -137,7 +137,7 @@ one_chosen card rest =
     (IsAmong-right (card ∷ []) (choices 3 (card ∷ rest)) (choices 2 (card ∷ rest) ++ choices 1 (card ∷ rest))
     (IsAmong-right (card ∷ []) (choices 2 (card ∷ rest)) (choices 1 (card ∷ rest)) (inl refl)))
 
-some_points : (cards : List Card) (most : Option ℕ) → AreHeld 4 cards → points cards ≡ most → IsSome most
+pub some_points : (cards : List Card) (most : Option ℕ) → AreHeld 4 cards → points cards ≡ most → IsSome most
 some_points cards (Some value) held is = refl
 some_points [] None held is = absurd (omega (arith, held.0))
 some_points (card ∷ rest) None held is =

@@ -1,2 +1,3 @@
 pub mod Badugi
 pub mod BadugiLaw
+pub mod Rainbow

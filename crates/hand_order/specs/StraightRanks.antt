@@ -1,5 +1,5 @@
 -- Straights by the heights that occur, and among the bits of a mask.
-use Rattle.std.specs.Prelude.{◌≡◌, ◌<◌, ◌≤◌, ◌==◌, ◌⊎◌, ℕ, ◌+◌, ◌-◌, [], ◌∷◌, if◌then◌else◌}
+use Rattle.std.specs.Prelude.{◌≡◌, ◌<◌, ◌≤◌, ◌==◌, ◌&&◌, ◌⊎◌, ℕ, ◌+◌, ◌-◌, Bool, [], ◌∷◌, if◌then◌else◌}
 use Rattle.std.specs.Int.{bit_at}
 use Rattle.hand_order.specs.Digits.{class_above}
 use Rattle.hand_order.specs.declared.straights.LowStraight.{LowStraight}
@@ -12,6 +12,10 @@ IsRunFrom mask k = (bit_at mask k ≡ 1) × (bit_at mask (k + 1) ≡ 1) × (bit_
 -- five heights in a row occur, down from this one
 abbrev pub HasRun : (ℕ → ℕ) → ℕ → Type 0
 HasRun T top = (6 ≤ top) × (0 < T top) × (0 < T (top - 1)) × (0 < T (top - 2)) × (0 < T (top - 3)) × (0 < T (top - 4))
+
+-- the bit of the ace is set, and four in a row from this one up
+abbrev pub has_ace_and_four : ℕ → ℕ → Bool
+has_ace_and_four mask least = bit_at mask 12 == 1 && bit_at mask least == 1 && bit_at mask (least + 1) == 1 && bit_at mask (least + 2) == 1 && bit_at mask (least + 3) == 1
 
 -- the heights of the straight that the ace begins occur, and this is its top
 abbrev pub HasLow : LowStraight → (ℕ → ℕ) → ℕ → Type 0

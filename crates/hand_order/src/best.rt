@@ -30,7 +30,8 @@ pub enum Pick {
 pub fn best_of<O: HandOrder>(hole: &CardRow, board: &CardRow, pick: Pick) -> Option<Score>
     requires usable { CanPick O.HELD pick (cards_of hole.now) (cards_of board.now) }
     requires different { AllDifferent (cards_of hole.now ++ cards_of board.now) }
-    ensures none { IfNone result (HasNoHand O.is_hand (allowed pick (cards_of hole.now) (cards_of board.now))) }
+    ensures none { IfNone result
+        (HasNoHand O.is_hand (allowed pick (cards_of hole.now) (cards_of board.now))) }
     ensures best { IfSome result (λ score. IsPointsOfBest O.is_hand O.is_weaker O.points
         (allowed pick (cards_of hole.now) (cards_of board.now)) score.points) }
 {
@@ -120,7 +121,8 @@ pub fn best_choice<J: Judge>(
     need: u8,
 ) -> Option<Score>
     requires room { chosen.len + need ≤ 7 }
-    requires accepted { (more : List Card) → IsAmong more (choices need (drop from (cards_of cards.now)))
+    requires accepted { (more : List Card)
+        → IsAmong more (choices need (drop from (cards_of cards.now)))
         → J.accepts judge.now (cards_of chosen ++ more) }
     ensures { option_map (λ s. s.points) result
         ≡ greatest (λ more. J.points judge.now (cards_of chosen ++ more))
@@ -193,7 +195,8 @@ struct WithBoard<O: HandOrder> {
 impl<O: HandOrder> Judge for WithBoard<O> {
     ghost accepts = { λ judge cards. CanJoin O.HELD cards (cards_of judge.board) };
 
-    ghost points = { λ judge cards. greatest (λ more. O.points (cards ++ more)) (choices 3 (cards_of judge.board)) };
+    ghost points = { λ judge cards.
+        greatest (λ more. O.points (cards ++ more)) (choices 3 (cards_of judge.board)) };
 
     fn judge(&self, chosen: &CardRow) -> Option<Score> {
         let judge = ByOrder::<O> { order: PhantomData };

@@ -30,7 +30,8 @@ use card_set::{CardRow, CardSet, Suit};
 pub fn best_high(cards: &CardSet, low: LowStraight, flush: FlushPlace) -> u32
     requires { 5 ≤ count_of cards.now }
     ensures { (listing : List Card) → IsListing cards.now listing
-        → greatest (λ choice. Some (ladder_points flush low choice)) (choices 5 listing) ≡ Some result }
+        → greatest (λ choice. Some (ladder_points flush low choice)) (choices 5 listing)
+        ≡ Some result }
 {
     let clubs = cards.rank_mask(Suit::C);
     let diamonds = cards.rank_mask(Suit::D);

@@ -15,6 +15,7 @@ mod straights;
 pub use best::{Judge, Pick, best_choice, best_listed, best_of, better_score};
 pub use high::{best_high, hand_points};
 pub use ladder::FlushPlace;
+pub use mask::{clear, top};
 pub use order::{HandOrder, Score};
 pub use ranks::{Ace, class_above, count_of_ranks, height_of, ranks_of};
 pub use row::RankRow;

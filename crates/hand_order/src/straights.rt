@@ -1,7 +1,7 @@
 // Straights by the mask of the ranks that occur: five bits in a row, or those of the straight that the ace begins.
 ghost use Rattle.std.specs.Prelude.{◌≡◌, ◌≤◌, ◌<◌, ◌==◌, ◌&&◌, ◌⊎◌, ◌↔◌, ◌+◌, ◌^◌, ℕ};
 ghost use Rattle.std.specs.Int.{bit_at};
-ghost use Rattle.hand_order.specs.StraightRanks.{HasLow, HasRun, HasStraight, IsRunFrom};
+ghost use Rattle.hand_order.specs.StraightRanks.{HasLow, HasRun, HasStraight, IsRunFrom, has_ace_and_four};
 ghost use Rattle.hand_order.specs.Tops.{Shows};
 
 use crate::mask::top;
@@ -60,8 +60,7 @@ fn top_low(mask: u16, low: LowStraight) -> u8
 // Whether the ace is set, and the four bits from one up.
 fn has_ace_and_four(mask: u16, least: u32) -> bool
     requires { least ≤ 8 }
-    ensures { result ≡ (bit_at mask 12 == 1 && bit_at mask least == 1 && bit_at mask (least + 1) == 1
-        && bit_at mask (least + 2) == 1 && bit_at mask (least + 3) == 1) }
+    ensures { result ≡ has_ace_and_four mask least }
 {
     has(mask, 12)
         && has(mask, least)

@@ -15,7 +15,8 @@ use hand_order::{Ace, Score, class_above, count_of_ranks, ranks_of};
 pub fn up_high(cards: &CardRow) -> Score
     requires { AreUpCards (cards_of cards.now) }
     ensures points { result.points ≡ up_high_points (cards_of cards.now) }
-    ensures ordered { (other : List Card) → AreUpCards other → length other ≡ length (cards_of cards.now)
+    ensures ordered { (other : List Card) → AreUpCards other
+        → length other ≡ length (cards_of cards.now)
         → ((up_high_points other < result.points) ↔ IsWeakerUpHigh other (cards_of cards.now)) }
 {
     let fours = count_of_ranks(cards, Ace::High, 4);

@@ -32,8 +32,9 @@ pub fn best_eight(cards: &CardSet) -> Option<Score>
     })
 }
 
-// So many of the lowest ranks of a mask among as many heights from one on, the greatest first.
-fn lowest_ranks(mask: u16, heights: u8, from: u8, need: u8) -> RankRow
+/// So many of the lowest ranks of a mask among as many heights from one on, the greatest first.
+/// A mask has the two as bit 0 and the ace as bit 12; the ace has the height 1.
+pub fn lowest_ranks(mask: u16, heights: u8, from: u8, need: u8) -> RankRow
     requires first { 1 ≤ from }
     requires last { from + heights ≤ 14 }
     requires few { need ≤ 5 }
