@@ -2,6 +2,7 @@
 use Rattle.std.proofs.Common.{◌≡◌, ℕ, zero, suc, ◌+◌, ◌-◌, ◌^◌, ◌<◌, ◌≤◌, ◌==◌, Bool, true, false, cond, List, [], ◌∷◌, ◌++◌, length, filter, Some, None, inl, inr, refl, sym, ◌∙◌, ap, arith, append-nil, length-append, eq-eqb}
 use Rattle.std.specs.Int.{bit_at}
 use Rattle.std.proofs.lemmas.Bool.{cases_lt, ne_eqb}
+use Rattle.std.proofs.lemmas.List.Elements.{filter-append}
 use Rattle.card_set.specs.declared.card.Card.{Card}
 use Rattle.card_set.specs.declared.card.Rank.{Rank}
 use Rattle.card_set.specs.declared.card.Rank.TheVariants as ranks
@@ -22,23 +23,15 @@ abbrev heights_from : ℕ → ℕ → List ℕ
 heights_from zero from = []
 heights_from (suc heights) from = heights_from heights (from + 1) ++ from ∷ []
 
-filter-last : (has : ℕ → Bool) (xs : List ℕ) (x : ℕ) → filter has (xs ++ x ∷ []) ≡ filter has xs ++ cond (has x) (x ∷ []) []
-filter-last has [] x = refl
-filter-last has (y ∷ ys) x = by_test (has y) (filter-last has ys x)
-  where
-    by_test : (b : Bool) → filter has (ys ++ x ∷ []) ≡ filter has ys ++ cond (has x) (x ∷ []) [] → cond b (y ∷ filter has (ys ++ x ∷ [])) (filter has (ys ++ x ∷ [])) ≡ cond b (y ∷ filter has ys) (filter has ys) ++ cond (has x) (x ∷ []) []
-    by_test true rest = ap (λ (l : List ℕ). y ∷ l) rest
-    by_test false rest = rest
-
 -- where enough are asked for, the lowest heights that pass are all that pass
 lowest_all : (has : ℕ → Bool) (heights from need : ℕ) → length (filter has (heights_from heights from)) ≤ need → lowest has heights from need ≡ filter has (heights_from heights from)
 lowest_all has zero from need few = refl
 lowest_all has (suc heights) from zero few = sym (empty_of (filter has (heights_from (suc heights) from)) (omega arith))
 lowest_all has (suc heights) from (suc m) few =
-    lowest_some has heights from m ∙ by_test (has from) (few_or few) (lowest_all has heights (from + 1) m) (lowest_all has heights (from + 1) (suc m)) ∙ sym (filter-last has (heights_from heights (from + 1)) from)
+    lowest_some has heights from m ∙ by_test (has from) (few_or few) (lowest_all has heights (from + 1) m) (lowest_all has heights (from + 1) (suc m)) ∙ sym (filter-append has (heights_from heights (from + 1)) (from ∷ []))
   where
     few_or : length (filter has (heights_from heights (from + 1) ++ from ∷ [])) ≤ suc m → length (filter has (heights_from heights (from + 1)) ++ cond (has from) (from ∷ []) []) ≤ suc m
-    few_or few = let long = ap (length {A = ℕ}) (filter-last has (heights_from heights (from + 1)) from) in omega arith
+    few_or few = let long = ap (length {A = ℕ}) (filter-append has (heights_from heights (from + 1)) (from ∷ [])) in omega arith
 
     by_test : (b : Bool) → length (filter has (heights_from heights (from + 1)) ++ cond b (from ∷ []) []) ≤ suc m
         → (length (filter has (heights_from heights (from + 1))) ≤ m → lowest has heights (from + 1) m ≡ filter has (heights_from heights (from + 1)))

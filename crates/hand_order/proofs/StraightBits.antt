@@ -6,7 +6,7 @@ use Rattle.std.proofs.lemmas.Nat.Bits.{bit_at_and, bit_at-lt}
 use Rattle.hand_order.specs.declared.straights.LowStraight.{LowStraight}
 use Rattle.hand_order.specs.declared.straights.LowStraight.TheVariants as straights
 use Rattle.hand_order.specs.Picks.{without, Fits, pattern}
-use Rattle.hand_order.specs.StraightRanks.{HasLow, HasRun, HasStraight, IsRunFrom}
+use Rattle.hand_order.specs.StraightRanks.{HasLow, HasRun, HasStraight, IsRunFrom, has_ace_and_four}
 use Rattle.hand_order.specs.Straights.{is_run, is_low_straight, straight_top}
 use Rattle.hand_order.specs.Tops.{Shows}
 use Rattle.hand_order.proofs.FallingRanks.{FallingFrom, fits_below}
@@ -195,11 +195,8 @@ run_found mask runs T place shows bits set =
       height_of mask T place (place + 6 - 4) shows (omega arith) run.0,
     )
 
--- the ace and four bits in a row
-abbrev pub ace_and_four : ℕ → ℕ → Bool
-ace_and_four mask least = bit_at mask 12 == 1 && bit_at mask least == 1 && bit_at mask (least + 1) == 1 && bit_at mask (least + 2) == 1 && bit_at mask (least + 3) == 1
-
-low_bits : (mask : ℕ) (T : ℕ → ℕ) (least : ℕ) → Shows mask 1 T → (0 < T 14) × (0 < T (least + 5)) × (0 < T (least + 4)) × (0 < T (least + 3)) × (0 < T (least + 2)) → ace_and_four mask least ≡ true
+-- the bits of the straight that the ace begins are those of its heights
+low_bits : (mask : ℕ) (T : ℕ → ℕ) (least : ℕ) → Shows mask 1 T → (0 < T 14) × (0 < T (least + 5)) × (0 < T (least + 4)) × (0 < T (least + 3)) × (0 < T (least + 2)) → has_ace_and_four mask least ≡ true
 low_bits mask T least shows occur =
     all_five _ _ _ _ _
     (eq-eqb (bit_at mask 12) 1 (bit_of mask T 12 14 shows refl occur.0))
@@ -208,7 +205,7 @@ low_bits mask T least shows occur =
     (eq-eqb (bit_at mask (least + 2)) 1 (bit_of mask T (least + 2) (least + 4) shows (omega arith) occur.2))
     (eq-eqb (bit_at mask (least + 3)) 1 (bit_of mask T (least + 3) (least + 5) shows (omega arith) occur.1))
 
-low_heights : (mask : ℕ) (T : ℕ → ℕ) (least : ℕ) → Shows mask 1 T → ace_and_four mask least ≡ true → (0 < T 14) × (0 < T (least + 5)) × (0 < T (least + 4)) × (0 < T (least + 3)) × (0 < T (least + 2))
+low_heights : (mask : ℕ) (T : ℕ → ℕ) (least : ℕ) → Shows mask 1 T → has_ace_and_four mask least ≡ true → (0 < T 14) × (0 < T (least + 5)) × (0 < T (least + 4)) × (0 < T (least + 3)) × (0 < T (least + 2))
 low_heights mask T least shows set =
     let parts = five_all (bit_at mask 12 == 1) (bit_at mask least == 1) (bit_at mask (least + 1) == 1) (bit_at mask (least + 2) == 1) (bit_at mask (least + 3) == 1) set in (
       height_of mask T 12 14 shows refl (eqb-true (bit_at mask 12) 1 parts.0),
@@ -218,16 +215,16 @@ low_heights mask T least shows set =
       height_of mask T least (least + 2) shows refl (eqb-true (bit_at mask least) 1 parts.1),
     )
 
-pub five_bits : (mask : ℕ) (T : ℕ → ℕ) (top : ℕ) → Shows mask 1 T → HasLow straights.FiveHigh T top → ace_and_four mask 0 ≡ true
+pub five_bits : (mask : ℕ) (T : ℕ → ℕ) (top : ℕ) → Shows mask 1 T → HasLow straights.FiveHigh T top → has_ace_and_four mask 0 ≡ true
 five_bits mask T top shows has = low_bits mask T 0 shows (has.1, has.2, has.3, has.4, has.5)
 
-pub five_heights : (mask : ℕ) (T : ℕ → ℕ) → Shows mask 1 T → ace_and_four mask 0 ≡ true → HasLow straights.FiveHigh T 5
+pub five_heights : (mask : ℕ) (T : ℕ → ℕ) → Shows mask 1 T → has_ace_and_four mask 0 ≡ true → HasLow straights.FiveHigh T 5
 five_heights mask T shows set = let occur = low_heights mask T 0 shows set in (refl, occur.0, occur.1, occur.2, occur.3, occur.4)
 
-pub nine_bits : (mask : ℕ) (T : ℕ → ℕ) (top : ℕ) → Shows mask 1 T → HasLow straights.NineHigh T top → ace_and_four mask 4 ≡ true
+pub nine_bits : (mask : ℕ) (T : ℕ → ℕ) (top : ℕ) → Shows mask 1 T → HasLow straights.NineHigh T top → has_ace_and_four mask 4 ≡ true
 nine_bits mask T top shows has = low_bits mask T 4 shows (has.1, has.2, has.3, has.4, has.5)
 
-pub nine_heights : (mask : ℕ) (T : ℕ → ℕ) → Shows mask 1 T → ace_and_four mask 4 ≡ true → HasLow straights.NineHigh T 9
+pub nine_heights : (mask : ℕ) (T : ℕ → ℕ) → Shows mask 1 T → has_ace_and_four mask 4 ≡ true → HasLow straights.NineHigh T 9
 nine_heights mask T shows set = let occur = low_heights mask T 4 shows set in (refl, occur.0, occur.1, occur.2, occur.3, occur.4)
 
 -- the greater of two tops
