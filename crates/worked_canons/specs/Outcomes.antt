@@ -27,7 +27,9 @@ HasCompleteCanon setup script = has_early_end setup (canon_of setup script) ≡ 
 -- the canonical script leaves the trace of the script
 abbrev pub HasSameTrace : Setup → List Said → Type 0
 HasSameTrace setup script =
-    are_same (trace_numbers (core_after setup (canon_of setup script))) (trace_numbers (core_after setup script))
+    are_same
+    (trace_numbers (core_after setup (canon_of setup script)))
+    (trace_numbers (core_after setup script))
     ≡ true
 
 -- the whole trace of a script is this one

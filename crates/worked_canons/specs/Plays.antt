@@ -23,9 +23,12 @@ play_of hand trace = record { hand = hand; trace = trace }
 
 -- the hand without its last fold
 abbrev pub cut_short : List Said
-cut_short = deal 1 (codes "????") ∷ deal 2 (codes "Ks7d") ∷ deal 3 (codes "AcAd") ∷ raise 3 6 ∷ fold 1 ∷ []
+cut_short =
+    deal 1 (codes "????") ∷ deal 2 (codes "Ks7d") ∷ deal 3 (codes "AcAd") ∷ raise 3 6 ∷ fold 1
+    ∷ []
 
 -- the hand with the raise before the last deal
 abbrev pub early_raise : List Said
 early_raise =
-    deal 1 (codes "????") ∷ deal 2 (codes "Ks7d") ∷ raise 3 6 ∷ deal 3 (codes "AcAd") ∷ fold 1 ∷ fold 2 ∷ []
+    deal 1 (codes "????") ∷ deal 2 (codes "Ks7d") ∷ raise 3 6 ∷ deal 3 (codes "AcAd") ∷ fold 1
+    ∷ fold 2 ∷ []

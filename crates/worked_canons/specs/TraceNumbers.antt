@@ -27,11 +27,14 @@ act_number BroughtIn = 3
 
 -- a place
 abbrev pub place_numbers : TracedPlace → List ℕ
-place_numbers place = owner_number place.owner ∷ place.street ∷ slot_number place.slot ∷ place.discarded ∷ []
+place_numbers place =
+    owner_number place.owner ∷ place.street ∷ slot_number place.slot ∷ place.discarded ∷ []
 
 -- a move
 abbrev pub move_numbers : TracedMove → List ℕ
-move_numbers move = move.street ∷ move.seat ∷ act_number move.act ∷ move.from ∷ move.to ∷ move.price ∷ (if move.closed then 1 else 0) ∷ move.unit_to ∷ []
+move_numbers move =
+    move.street ∷ move.seat ∷ act_number move.act ∷ move.from ∷ move.to
+    ∷ move.price ∷ (if move.closed then 1 else 0) ∷ move.unit_to ∷ []
 
 -- a pot
 abbrev pub pot_numbers : PlainPot → List ℕ

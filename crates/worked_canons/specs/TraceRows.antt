@@ -13,13 +13,15 @@ use Rattle.chip_ledger.specs.Fillers.{index-replicate, no_amounts, no_pot}
 use Rattle.hand_canon.specs.declared.record.NetRow.{NetRow}
 
 -- an entry behind a list is the filler
-pub behind : {X : Type 0} (xs : List X) (n : ℕ) (x : X) (k : ℕ) → length xs ≤ k → slice_index_or (xs ++ replicate n x) k x ≡ x
+pub behind : {X : Type 0} (xs : List X) (n : ℕ) (x : X) (k : ℕ)
+    → length xs ≤ k → slice_index_or (xs ++ replicate n x) k x ≡ x
 behind [] n x k late = index-replicate n x k
 behind (y ∷ xs) n x zero late = absurd (omega (arith, late))
 behind (y ∷ xs) n x (suc k) late = behind xs n x k (omega (arith, late))
 
 -- as long as fillers reach
-pub filler_at : {X : Type 0} (xs : List X) (n : ℕ) (x : X) (k : ℕ) → length xs ≤ k → k < length xs + n → slice_get (xs ++ replicate n x) k ≡ Some x
+pub filler_at : {X : Type 0} (xs : List X) (n : ℕ) (x : X) (k : ℕ)
+    → length xs ≤ k → k < length xs + n → slice_get (xs ++ replicate n x) k ≡ Some x
 filler_at [] zero x k late early = absurd (omega (arith, early))
 filler_at [] (suc n) x zero late early = refl
 filler_at [] (suc n) x (suc k) late early = filler_at [] n x k (omega arith) (omega (arith, early))
@@ -27,8 +29,10 @@ filler_at (y ∷ xs) n x zero late early = absurd (omega (arith, late))
 filler_at (y ∷ xs) n x (suc k) late early = filler_at xs n x k (omega (arith, late)) (omega (arith, early))
 
 -- a list and its fillers are so many
-pub filled_to : {X : Type 0} (xs : List X) (most : ℕ) (x : X) → length xs ≤ most → length (xs ++ replicate (most - length xs) x) ≡ most
-filled_to xs most x few = omega (arith, few, length-append xs (replicate (most - length xs) x), length-replicate {A = _} (most - length xs) x)
+pub filled_to : {X : Type 0} (xs : List X) (most : ℕ) (x : X)
+    → length xs ≤ most → length (xs ++ replicate (most - length xs) x) ≡ most
+filled_to xs most x few =
+    omega (arith, few, length-append xs (replicate (most - length xs) x), length-replicate {A = _} (most - length xs) x)
 
 -- two to ten flags
 abbrev pub is_flags : List Bool → Bool

@@ -25,7 +25,8 @@ p3 = seat_of 3 refl
 
 -- the cards of a text, dealt to a seat on the first street
 abbrev pub dealt_to : Seat → List ℕ → List Place
-dealt_to seat cards = map (λ slot. record { owner = Some seat; street = 1; slot = slot; gone = 0 }) (slots_named cards)
+dealt_to seat cards =
+    map (λ slot. record { owner = Some seat; street = 1; slot = slot; gone = 0 }) (slots_named cards)
 
 -- what a seat did on a street: the chips of the street that it had put before and after, and the price before
 abbrev pub moved : ℕ → Seat → Act → (from to price : ℕ) → Move
@@ -34,7 +35,9 @@ moved street seat act from to price =
 
 -- three seats of no-limit hold'em: p3 raises from 2 to 6, and both blinds fold
 abbrev pub steal : List Said
-steal = deal 1 (codes "????") ∷ deal 2 (codes "Ks7d") ∷ deal 3 (codes "AcAd") ∷ raise 3 6 ∷ fold 1 ∷ fold 2 ∷ []
+steal =
+    deal 1 (codes "????") ∷ deal 2 (codes "Ks7d") ∷ deal 3 (codes "AcAd") ∷ raise 3 6 ∷ fold 1
+    ∷ fold 2 ∷ []
 
 -- its trace: p3 gets 4 chips back, and the pot of 5
 abbrev pub steal_trace : Trace
@@ -42,7 +45,9 @@ steal_trace =
     record {
       setup = no_limit;
       places = dealt_to p1 (codes "????") ++ (dealt_to p2 (codes "Ks7d") ++ dealt_to p3 (codes "AcAd"));
-      moves = moved 1 p3 acts.Raise 0 6 2 ∷ moved 1 p1 acts.Fold 1 1 6 ∷ moved 1 p2 acts.Fold 2 2 6 ∷ [];
+      moves =
+          moved 1 p3 acts.Raise 0 6 2 ∷ moved 1 p1 acts.Fold 1 1 6 ∷ moved 1 p2 acts.Fold 2 2 6
+          ∷ [];
       shown = flags_of (false ∷ false ∷ false ∷ []) refl;
       mucked = flags_of (false ∷ false ∷ false ∷ []) refl;
       pots = pots_of (pot_of 5 (false ∷ false ∷ true ∷ []) refl ∷ []) (row_of (0 ∷ 0 ∷ 4 ∷ []) refl) refl;
@@ -62,7 +67,9 @@ checked_trace =
     record {
       setup = single_draw;
       places = dealt_to p1 (codes "2c3d4h5s7c") ++ dealt_to p2 (codes "??????????");
-      moves = moved 1 p2 acts.Call 1 2 2 ∷ moved 1 p1 acts.Call 2 2 2 ∷ moved 2 p1 acts.Call 0 0 0 ∷ moved 2 p2 acts.Call 0 0 0 ∷ [];
+      moves =
+          moved 1 p2 acts.Call 1 2 2 ∷ moved 1 p1 acts.Call 2 2 2 ∷ moved 2 p1 acts.Call 0 0 0
+          ∷ moved 2 p2 acts.Call 0 0 0 ∷ [];
       shown = flags_of (true ∷ false ∷ []) refl;
       mucked = flags_of (false ∷ true ∷ []) refl;
       pots = pots_of (pot_of 4 (true ∷ true ∷ []) refl ∷ []) (row_of (0 ∷ 0 ∷ []) refl) refl;

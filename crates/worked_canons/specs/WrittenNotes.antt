@@ -26,11 +26,13 @@ at_table text = record no_notes { table = Some text }
 
 -- the first two seats and the fourth have these names
 abbrev pub named : (first second fourth : Option (List ℕ)) → Notes
-named first second fourth = record no_notes { names = first ∷ second ∷ None ∷ fourth ∷ replicate 6 None }
+named first second fourth =
+    record no_notes { names = first ∷ second ∷ None ∷ fourth ∷ replicate 6 None }
 
 -- three seats have these numbers at the table
 abbrev pub numbered : (first second third : ℕ) → Notes
-numbered first second third = record no_notes { seats = Some (first ∷ second ∷ third ∷ replicate 7 0) }
+numbered first second third =
+    record no_notes { seats = Some (first ∷ second ∷ third ∷ replicate 7 0) }
 
 -- the table has so many seats
 abbrev pub seated : ℕ → Notes

@@ -5,10 +5,10 @@ ghost use Rattle.play_event.specs.declared.reason.Illegal.TheVariants as reasons
 ghost use Rattle.canonical_play.specs.CanonScript.{canon_of};
 ghost use Rattle.worked_hands.specs.Outcomes.{AllLegal, AllLegalBy, IllegalAt, closed_after};
 ghost use Rattle.worked_hands.specs.Setups.{first_short, fixed_limit};
-ghost use Rattle.worked_hands.specs.Words.{board, call, deal, fold, match_rules, raise, show, uncapped};
+ghost use Rattle.worked_hands.specs.Words.{board, call, deal, fold, raise, show, uncapped};
 ghost use Rattle.worked_canons.specs.Outcomes.{HasCompleteCanon, HasLegalCanon, HasLegalCanonBy, HasSameTrace};
 ghost use Rattle.worked_canons.specs.Scripts.{capped_hand, reopened_hand, short_deck_hand};
-ghost use Rattle.worked_canons.specs.Setups.{short_deck};
+ghost use Rattle.worked_canons.specs.Setups.{four_raises, short_deck};
 
 /// After an all-in before the flop the board is dealt street by street, and both seats show at the end.
 pub fn short_deck_hands()
@@ -35,8 +35,8 @@ pub fn reopened_hands()
 
 /// As many raises as the caps of a match allow.
 pub fn capped_hands()
-    ensures the_hand_is_legal { AllLegalBy (match_rules (Some (3 ∷ 4 ∷ 4 ∷ 4 ∷ []))) fixed_limit capped_hand }
-    ensures its_canon_is_legal { HasLegalCanonBy (match_rules (Some (3 ∷ 4 ∷ 4 ∷ 4 ∷ []))) fixed_limit capped_hand }
+    ensures the_hand_is_legal { AllLegalBy four_raises fixed_limit capped_hand }
+    ensures its_canon_is_legal { HasLegalCanonBy four_raises fixed_limit capped_hand }
     ensures it_is_complete { HasCompleteCanon fixed_limit capped_hand }
     ensures it_has_the_trace { HasSameTrace fixed_limit capped_hand }
 {}

@@ -15,7 +15,8 @@ ghost use Rattle.worked_canons.specs.WrongTraces.{chip_from_p2};
 pub fn sound_plays()
     ensures without_notes { (hand : Record) → SaysHand no_limit history_rules steal no_notes hand
         → IsSound (play_of hand steal_trace) }
-    ensures with_a_table { (hand : Record) → SaysHand no_limit history_rules steal (at_table (codes "7")) hand
+    ensures with_a_table { (hand : Record)
+        → SaysHand no_limit history_rules steal (at_table (codes "7")) hand
         → IsSound (play_of hand steal_trace) }
 {}
 
