@@ -1,5 +1,5 @@
 -- A past has as many moves as its script says.
-use Rattle.std.proofs.Common.{◌≡◌, ◌≤◌, Bool, List, [], ◌∷◌, length, count_by, reverse, refl, ap, arith}
+use Rattle.std.proofs.Common.{◌≡◌, ◌≤◌, List, [], ◌∷◌, length, count_by, reverse, refl, arith}
 use Rattle.list_laws.proofs.Counting.{count_by-cons}
 use Rattle.list_laws.proofs.CountsReversed.{count_reversed}
 use Rattle.play_event.specs.Past.{moves_of}
