@@ -7,7 +7,6 @@ use Rattle.card_set.specs.declared.card.Slot.{Slot}
 use Rattle.play_event.specs.declared.reason.Due.TheVariants as dues
 use Rattle.play_event.specs.declared.setup.Setup.{Setup}
 use Rattle.play_event.specs.declared.setup.Rules.{Rules}
-use Rattle.play_event.specs.Games.{hole_cards_on, board_cards_on}
 use Rattle.play_laws.proofs.DrawTables.{IsDrawStreet}
 use Rattle.play_event.specs.Streets.{has_draw}
 use Rattle.play_event.specs.Said as said

@@ -1,5 +1,5 @@
 -- Events in full are legal as the events are, and leave their past.
-use Rattle.std.proofs.Common.{◌≡◌, ◌↔◌, Option, None, List, [], ◌∷◌, refl, sym, ◌∙◌, ap}
+use Rattle.std.proofs.Common.{◌≡◌, ◌↔◌, List, [], ◌∷◌, refl, sym, ◌∙◌, ap}
 use Rattle.play_event.specs.Laws.{AreLegal}
 use Rattle.play_event.specs.Openers.{InTurn, NoSeat, TheSeat, Undecided}
 use Rattle.play_event.specs.Past.{Past}
