@@ -1,0 +1,9 @@
+-- Laws of what the fields of a hand say.
+pub mod Lists
+pub mod SetEach
+pub mod Zeros
+pub mod Taken
+pub mod Games
+pub mod Calendar
+pub mod Usual
+pub mod NoRakes

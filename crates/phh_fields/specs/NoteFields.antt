@@ -1,0 +1,176 @@
+-- The notes that the fields of a hand say, examined in this order. A note that equals its default is none.
+use Rattle.std.specs.Prelude.{ℕ, ◌==◌, Bool, true, nat_le, ◌&&◌, ◌||◌, bytes_eq, if◌then◌else◌, List, [], length, take, replicate, Option, Some, None, option_map, Result, Ok}
+use Rattle.std.specs.Fmt.{decimal, signed_decimal}
+use Rattle.std.specs.List.{range_with_len}
+use Rattle.toml.specs.Data.{Data, string, integer, datetime, Members}
+use Rattle.toml_datetime.specs.declared.datetime.Date.{Date}
+use Rattle.toml_datetime.specs.declared.datetime.Offset.{Offset}
+use Rattle.toml_datetime.specs.declared.datetime.Time.{Time}
+use Rattle.hand_canon.specs.declared.limits.TheConstants.{MOST_TEXT_BYTES}
+use Rattle.hand_canon.specs.declared.limits.Quantity.TheVariants as quantities
+use Rattle.hand_canon.specs.declared.notes.Clock.{Clock}
+use Rattle.hand_canon.specs.declared.notes.Notes.{Notes}
+use Rattle.hand_canon.specs.AllowedNotes.{default_name, days_in_month}
+use Rattle.first_fault.specs.Reading.{◌>>=◌, each_from, read_if}
+use Rattle.phh_fields.specs.declared.fault.Key.TheVariants as keys
+use Rattle.phh_fields.specs.declared.fault.What.TheVariants as whats
+use Rattle.phh_fields.specs.declared.fault.Place.{Place}
+use Rattle.phh_fields.specs.declared.fault.Fault.{Fault}
+use Rattle.phh_fields.specs.declared.date.Day.{Day}
+use Rattle.phh_fields.specs.declared.labels.Labels.{Labels}
+use Rattle.phh_fields.specs.declared.seating.Seating.{Seating}
+use Rattle.phh_fields.specs.Fields.{at_key, at_item, wrong, field, text_said, items_said, number_said}
+
+-- who sits where, with plain lists
+pub record PlainSeating : Type 0 where
+  pub names : List (Option (List ℕ))
+  pub seats : Option (List ℕ)
+  pub seat_count : Option ℕ
+
+-- where a hand was played
+pub record PlainLabels : Type 0 where
+  pub hand : Option (List ℕ)
+  pub table : Option (List ℕ)
+  pub venue : Option (List ℕ)
+  pub currency : Option (List ℕ)
+
+-- what is said of where a hand was played
+abbrev pub plain_labels : Labels → PlainLabels
+plain_labels labels = record { hand = labels.hand; table = labels.table; venue = labels.venue; currency = labels.currency }
+
+-- who sits where at a table with so many seats
+abbrev pub plain_seating : ℕ → Seating → PlainSeating
+plain_seating count seating = record { names = take count seating.names; seats = option_map (take count) seating.seats; seat_count = seating.seat_count }
+
+-- the notes of a hand with plain lists
+pub record PlainNotes : Type 0 where
+  pub seating : PlainSeating
+  pub labels : PlainLabels
+  pub day : Day
+  pub time : Option Clock
+  pub zone : Option (List ℕ)
+
+-- the notes of a hand with so many seats
+abbrev pub plain_notes : ℕ → Notes → PlainNotes
+plain_notes count notes =
+    record {
+      seating = record { names = take count notes.names; seats = option_map (take count) notes.seats; seat_count = notes.seat_count };
+      labels = record { hand = notes.hand; table = notes.table; venue = notes.venue; currency = notes.currency };
+      day = record { year = notes.year; month = notes.month; day = notes.day };
+      time = notes.time;
+      zone = notes.zone;
+    }
+
+-- a note that equals its default is none, and an empty text is none
+abbrev pub noted : List ℕ → List ℕ → Option (List ℕ)
+noted default text = if (length text == 0) || bytes_eq text default then None else Some text
+
+-- the text of a note with this default; it is of at most 255 bytes
+unfoldable pub note_said : List ℕ → Place → List ℕ → Result (Option (List ℕ)) Fault
+note_said default place text =
+    if nat_le (length text) MOST_TEXT_BYTES then Ok (noted default text) else wrong (whats.TooMany quantities.TextBytes) place
+
+-- a text with this default
+unfoldable pub text_note_said : List ℕ → Place → Data → Result (Option (List ℕ)) Fault
+text_note_said default place value = text_said place value >>= note_said default place
+
+-- a text with this default, or a whole number that stands for its decimal text
+unfoldable pub label_said : List ℕ → Place → Data → Result (Option (List ℕ)) Fault
+label_said default place (string text) = note_said default place text
+label_said default place (integer number) = note_said default place (signed_decimal number)
+label_said default place _ = wrong whats.WrongType place
+
+-- a note that may lack
+abbrev pub or_none : {A : Type 0} → (Data → Result (Option A) Fault) → Option Data → Result (Option A) Fault
+or_none form None = Ok None
+or_none form (Some value) = form value
+
+-- the names of the players of so many seats
+abbrev pub names_from : List Data → Result (List (Option (List ℕ))) Fault
+names_from items = each_from (λ n value. text_note_said (default_name n) (at_item keys.Players n) value) 1 items
+
+unfoldable pub names_said : ℕ → Option Data → Result (List (Option (List ℕ))) Fault
+names_said count None = Ok (replicate count None)
+names_said count (Some value) = items_said count keys.Players value >>= names_from
+
+-- the numbers of so many seats
+abbrev pub numbers_from : List Data → Result (List ℕ) Fault
+numbers_from items = each_from (λ n value. number_said 1 255 (at_item keys.Seats n) value) 1 items
+
+abbrev pub unless_usual : ℕ → List ℕ → Option (List ℕ)
+unless_usual count numbers = if bytes_eq numbers (range_with_len 1 count) then None else Some numbers
+
+unfoldable pub seats_said : ℕ → Data → Result (Option (List ℕ)) Fault
+seats_said count value = items_said count keys.Seats value >>= numbers_from >>= λ numbers. Ok (unless_usual count numbers)
+
+-- how many seats the table has
+unfoldable pub seat_count_said : ℕ → Data → Result (Option ℕ) Fault
+seat_count_said count value = number_said 1 255 (at_key keys.SeatCount) value >>= λ number. Ok (if number == count then None else Some number)
+
+-- who sits where
+unfoldable pub seating_said : ℕ → Members → Result PlainSeating Fault
+seating_said count members = do
+  names ← names_said count (field keys.Players members)
+  seats ← or_none (seats_said count) (field keys.Seats members)
+  seat_count ← or_none (seat_count_said count) (field keys.SeatCount members)
+  Ok (record { names = names; seats = seats; seat_count = seat_count })
+
+-- where the hand was played; place is the hand's place in its file, from 0
+unfoldable pub labels_said : ℕ → Members → Result PlainLabels Fault
+labels_said place members = do
+  hand ← or_none (label_said (decimal place) (at_key keys.Hand)) (field keys.Hand members)
+  table ← or_none (label_said [] (at_key keys.Table)) (field keys.Table members)
+  venue ← or_none (text_note_said [] (at_key keys.Venue)) (field keys.Venue members)
+  currency ← or_none (text_note_said [] (at_key keys.Currency)) (field keys.Currency members)
+  Ok (record { hand = hand; table = table; venue = venue; currency = currency })
+
+-- year, month and day are a day of the calendar where all three stand
+abbrev pub is_in_calendar : Option ℕ → Option ℕ → Option ℕ → Bool
+is_in_calendar (Some year) (Some month) (Some day) = nat_le day (days_in_month year month)
+is_in_calendar _ _ _ = true
+
+-- when the hand was played
+unfoldable pub day_said : Members → Result Day Fault
+day_said members = do
+  year ← read_if (number_said 1 9999 (at_key keys.Year)) (field keys.Year members)
+  month ← read_if (number_said 1 12 (at_key keys.Month)) (field keys.Month members)
+  day ← read_if (number_said 1 31 (at_key keys.Day)) (field keys.Day members)
+  if is_in_calendar year month day then Ok (record { year = year; month = month; day = day }) else wrong whats.WrongType (at_key keys.Day)
+
+-- the local time that a date-time is, if it has no day and no zone
+abbrev pub time_alone : Option Date → Option Time → Option Offset → Option Time
+time_alone None (Some time) None = Some time
+time_alone _ _ _ = None
+
+-- what is said, or 0
+abbrev pub or_zero : Option ℕ → ℕ
+or_zero (Some number) = number
+or_zero None = 0
+
+-- a time of a day; a second or a fraction that is not said is 0
+abbrev pub clock_of : Time → Clock
+clock_of time = record { hour = time.hour; minute = time.minute; second = or_zero time.second; nano = or_zero time.nanosecond }
+
+-- a day has the time
+abbrev pub is_clock : Clock → Bool
+is_clock clock = (nat_le clock.hour 23 && nat_le clock.minute 59) && (nat_le clock.second 59 && nat_le clock.nano 999999999)
+
+-- the time of a day that a local time says
+unfoldable pub clock_said : Option Time → Result Clock Fault
+clock_said None = wrong whats.WrongType (at_key keys.Time)
+clock_said (Some time) = if is_clock (clock_of time) then Ok (clock_of time) else wrong whats.WrongType (at_key keys.Time)
+
+-- the time of the day: a local time
+unfoldable pub time_said : Data → Result Clock Fault
+time_said (datetime said) = clock_said (time_alone said.date said.time said.offset)
+time_said _ = wrong whats.WrongType (at_key keys.Time)
+
+-- the notes
+unfoldable pub notes_said : ℕ → ℕ → Members → Result PlainNotes Fault
+notes_said place count members = do
+  seating ← seating_said count members
+  labels ← labels_said place members
+  day ← day_said members
+  time ← read_if time_said (field keys.Time members)
+  zone ← or_none (text_note_said [] (at_key keys.TimeZone)) (field keys.TimeZone members)
+  Ok (record { seating = seating; labels = labels; day = day; time = time; zone = zone })

@@ -1,0 +1,59 @@
+-- Lists of amounts: one for each seat, or one for each pot.
+use Rattle.std.specs.Prelude.{ℕ, ◌-◌, nat_le, ◌&&◌, min, max, if◌then◌else◌, List, [], ◌∷◌, ◌++◌, length, take, replicate, slice_index, Result, Ok}
+use Rattle.toml.specs.Data.{Data}
+use Rattle.chip_ledger.specs.declared.rows.SeatRow.{SeatRow}
+use Rattle.chip_ledger.specs.declared.numbers.TheConstants.{MOST_CHIPS}
+use Rattle.chip_ledger.specs.declared.rows.TheConstants.{MOST_AMOUNT}
+use Rattle.first_fault.specs.Reading.{◌>>=◌, each_from}
+use Rattle.phh_fields.specs.declared.fault.Key.{Key}
+use Rattle.phh_fields.specs.declared.fault.Key.TheVariants as keys
+use Rattle.phh_fields.specs.declared.fault.What.TheVariants as whats
+use Rattle.phh_fields.specs.declared.fault.Place.{Place}
+use Rattle.phh_fields.specs.declared.fault.Fault.{Fault}
+use Rattle.phh_fields.specs.Fields.{at_key, at_item, wrong, list_said, items_said, amount_said}
+
+-- the amounts of a row, the first seat's first
+abbrev pub amounts_in : SeatRow → List ℕ
+amounts_in row = take row.seats row.amounts
+
+-- amounts from least to most
+abbrev pub amounts_said : ℕ → ℕ → Key → List Data → Result (List ℕ) Fault
+amounts_said least most key items = each_from (λ n value. amount_said least most (at_item key n) value) 1 items
+
+-- an amount of up to so many chips for each of so many seats
+unfoldable pub row_said : ℕ → ℕ → Key → Data → Result (List ℕ) Fault
+row_said seats most key value = items_said seats key value >>= amounts_said 0 most key
+
+-- the starting stacks, of two seats to the most of the game
+unfoldable pub stacks_said : ℕ → Data → Result (List ℕ) Fault
+stacks_said most_seats value = do
+  items ← list_said (at_key keys.StartingStacks) value
+  if nat_le 2 (length items) && nat_le (length items) most_seats
+      then amounts_said 1 MOST_CHIPS keys.StartingStacks items
+      else wrong whats.SeatCount (at_key keys.StartingStacks)
+
+-- the ante of a seat with this stack, held as the lesser of what is named and the stack
+unfoldable pub ante_said : ℕ → Place → Data → Result ℕ Fault
+ante_said stack place value = amount_said 0 MOST_CHIPS place value >>= λ ante. Ok (min ante stack)
+
+-- the antes of seats with these stacks
+abbrev pub antes_from : List ℕ → List Data → Result (List ℕ) Fault
+antes_from stacks items = each_from (λ n value. ante_said (slice_index stacks (n - 1)) (at_item keys.Antes n) value) 1 items
+
+unfoldable pub antes_said : List ℕ → Data → Result (List ℕ) Fault
+antes_said stacks value = items_said (length stacks) keys.Antes value >>= antes_from stacks
+
+-- of two blinds the greater is the first seat's
+abbrev pub posted : List ℕ → List ℕ
+posted (first ∷ second ∷ []) = max first second ∷ min first second ∷ []
+posted blinds = blinds
+
+-- the rakes of so many pots, the lowest pot's first; a pot past the last one has 0
+unfoldable pub rakes_from : List Data → Result (List ℕ) Fault
+rakes_from items = amounts_said 0 MOST_AMOUNT keys.Rakes items >>= λ rakes. Ok (rakes ++ replicate (11 - length rakes) 0)
+
+-- the rakes of eleven pots at most
+unfoldable pub rakes_said : Data → Result (List ℕ) Fault
+rakes_said value = do
+  items ← list_said (at_key keys.Rakes) value
+  if nat_le (length items) 11 then rakes_from items else wrong whats.ListLength (at_key keys.Rakes)

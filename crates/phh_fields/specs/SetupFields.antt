@@ -1,0 +1,92 @@
+-- The setup that the fields of a hand say, examined in this order.
+use Rattle.std.specs.Prelude.{ℕ, Bool, false, ◌&&◌, not, nat_lt, bytes_eq, if◌then◌else◌, List, [], ◌∷◌, length, replicate, Option, find, Result, Ok}
+use Rattle.std.specs.List.{list_any}
+use Rattle.std.specs.Option.{option_map_or}
+use Rattle.toml.specs.Data.{Data, Members}
+use Rattle.chip_ledger.specs.declared.numbers.TheConstants.{MOST_CHIPS}
+use Rattle.play_event.specs.declared.code.Code.{Code}
+use Rattle.play_event.specs.declared.code.Code.TheVariants as games
+use Rattle.play_event.specs.declared.setup.Setup.{Setup}
+use Rattle.play_event.specs.Code.{code_text}
+use Rattle.play_event.specs.Games.{game_of}
+use Rattle.play_event.specs.Streets.{limit_of, is_stud}
+use Rattle.play_event.specs.ValidSetup.{is_fixed}
+use Rattle.first_fault.specs.Reading.{◌>>=◌, read_if}
+use Rattle.phh_fields.specs.declared.fault.Key.{Key}
+use Rattle.phh_fields.specs.declared.fault.Key.TheVariants as keys
+use Rattle.phh_fields.specs.declared.fault.What.TheVariants as whats
+use Rattle.phh_fields.specs.declared.fault.Fault.{Fault}
+use Rattle.phh_fields.specs.declared.sizes.Sizes.{Sizes}
+use Rattle.phh_fields.specs.Fields.{at_key, or_wrong, field, needed, text_said, flag_said, amount_said}
+use Rattle.phh_fields.specs.Rows.{amounts_in, row_said, stacks_said, antes_said, posted}
+
+-- a setup with plain lists, but for its rakes
+pub record PlainSetup : Type 0 where
+  pub code : Code
+  pub stacks : List ℕ
+  pub antes : List ℕ
+  pub dead_antes : Bool
+  pub blinds : List ℕ
+  pub sizes : Sizes
+
+abbrev pub plain_setup : Setup → PlainSetup
+plain_setup setup =
+    record {
+      code = setup.code;
+      stacks = amounts_in setup.stacks;
+      antes = amounts_in setup.antes;
+      dead_antes = setup.dead_antes;
+      blinds = amounts_in setup.blinds;
+      sizes = record { bring_in = setup.bring_in; small_bet = setup.small_bet; big_bet = setup.big_bet; min_bet = setup.min_bet };
+    }
+
+-- the eleven games
+abbrev pub all_games : List Code
+all_games =
+    games.FT ∷ games.NT ∷ games.NS ∷ games.PO ∷ games.FO8 ∷ games.F7S ∷ games.F7S8 ∷ games.FR ∷ games.N2L1D ∷ games.F2L3D ∷ games.FB ∷ []
+
+-- the game whose code the text is, if it is one of the eleven
+unfoldable pub game_named : List ℕ → Option Code
+game_named text = find (λ code. bytes_eq text (code_text code)) all_games
+
+-- the variant
+unfoldable pub variant_said : Data → Result Code Fault
+variant_said value = text_said (at_key keys.Variant) value >>= λ text. or_wrong whats.UnknownVariant (at_key keys.Variant) (game_named text)
+
+-- the antes are trimmed: they are not dead
+unfoldable pub trimming_said : Members → Result Bool Fault
+trimming_said members = read_if (flag_said (at_key keys.AnteTrimmingStatus)) (field keys.AnteTrimmingStatus members) >>= λ said. Ok (option_map_or (λ trimmed. trimmed) said false)
+
+-- antes are dead where they are not trimmed and some seat posts one
+abbrev pub are_dead : Bool → List ℕ → Bool
+are_dead trimmed antes = not trimmed && list_any (λ ante. nat_lt 0 ante) antes
+
+-- the blinds; stud has none
+unfoldable pub blinds_said : Code → ℕ → Members → Result (List ℕ) Fault
+blinds_said code seats members =
+    if is_stud code then Ok (replicate seats 0)
+    else (needed keys.BlindsOrStraddles members >>= row_said seats MOST_CHIPS keys.BlindsOrStraddles >>= λ blinds. Ok (posted blinds))
+
+-- a size that the game uses; a size that it does not use is 0
+unfoldable pub size_said : Bool → Key → Members → Result ℕ Fault
+size_said used key members = if used then (needed key members >>= amount_said 1 MOST_CHIPS (at_key key)) else Ok 0
+
+-- the bring-in of stud, the bets of fixed limit, and the least bet of the other limits
+unfoldable pub sizes_said : Code → Members → Result Sizes Fault
+sizes_said code members = do
+  bring_in ← size_said (is_stud code) keys.BringIn members
+  small_bet ← size_said (is_fixed (limit_of code)) keys.SmallBet members
+  big_bet ← size_said (is_fixed (limit_of code)) keys.BigBet members
+  min_bet ← size_said (not (is_fixed (limit_of code))) keys.MinBet members
+  Ok (record { bring_in = bring_in; small_bet = small_bet; big_bet = big_bet; min_bet = min_bet })
+
+-- the setup
+unfoldable pub setup_said : Members → Result PlainSetup Fault
+setup_said members = do
+  code ← needed keys.Variant members >>= variant_said
+  stacks ← needed keys.StartingStacks members >>= stacks_said (game_of code).seats
+  antes ← needed keys.Antes members >>= antes_said stacks
+  trimmed ← trimming_said members
+  blinds ← blinds_said code (length stacks) members
+  sizes ← sizes_said code members
+  Ok (record { code = code; stacks = stacks; antes = antes; dead_antes = are_dead trimmed antes; blinds = blinds; sizes = sizes })

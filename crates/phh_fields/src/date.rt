@@ -1,0 +1,189 @@
+//! When a hand was played is read from its fields: a day of the calendar, and a time of the day.
+ghost use Rattle.std.specs.Prelude.{◌≡◌, ◌≤◌, Option, Some, None, nat_le, true, IfOk, IfSome, IsTrue, option_map, pos, ◌↔◌};
+ghost use Rattle.toml.specs.View.{table_view, view};
+ghost use Rattle.hand_canon.specs.AllowedNotes.{IsTime, IsWithin, days_in_month};
+ghost use Rattle.jiff.specs.Words.{IsDate};
+ghost use Rattle.first_fault.specs.Reading.{Gives, read_if};
+ghost use Rattle.phh_fields.specs.declared.fault.Key.TheVariants as keys;
+ghost use Rattle.phh_fields.specs.Fields.{at_key, field as field_said, number_said};
+ghost use Rattle.phh_fields.specs.NoteFields.{clock_of as clock_of_said, clock_said, day_said, is_clock as is_clock_said, is_in_calendar as is_in_calendar_said, time_alone as time_alone_said, time_said};
+
+use crate::fault::{Fault, Key, Place, What};
+use crate::values::{field, read_number, wrong};
+use first_fault::Stop;
+use hand_canon::Clock;
+use jiff::civil::Date;
+use toml::value::{Datetime, Time};
+use toml::{Table, Value};
+
+/// The day on which a hand was played, as far as it is said.
+#[derive(Clone, Copy, Debug, PartialEq, Eq)]
+pub struct Day {
+    pub year: Option<u16>,
+    pub month: Option<u8>,
+    pub day: Option<u8>,
+}
+
+// Whether the numbers are a date.
+fn is_date(year: u16, month: u8, day: u8) -> bool
+    requires year { year ≤ 9999 }
+    requires month { month ≤ 12 }
+    requires day { day ≤ 31 }
+    ensures { IsTrue result ↔ IsDate (pos year) (pos month) (pos day) }
+{
+    Date::new(year as i16, month as i8, day as i8).is_ok()
+}
+
+// Whether the calendar has the day.
+fn has_day(year: u16, month: u8, day: u8) -> bool
+    requires year { IsWithin 1 9999 year }
+    requires month { IsWithin 1 12 month }
+    requires day { IsWithin 1 31 day }
+    ensures { result ≡ nat_le day (days_in_month year month) }
+{
+    is_date(year, month, day)
+}
+
+// Whether year, month and day are a day of the calendar where all three stand.
+fn is_in_calendar(date: Day) -> bool
+    requires year { IfSome date.year (IsWithin 1 9999) }
+    requires month { IfSome date.month (IsWithin 1 12) }
+    requires day { IfSome date.day (IsWithin 1 31) }
+    ensures { result ≡ is_in_calendar_said date.year date.month date.day }
+{
+    match (date.year, date.month, date.day) {
+        (Some(year), Some(month), Some(day)) => has_day(year, month, day),
+        _ => true,
+    }
+}
+
+// The year at its key, if there is one.
+fn read_year(table: &Table) -> Result<Option<u16>, Stop<Fault>>
+    ensures said { Gives (λ year. year) result
+        (read_if (number_said 1 9999 (at_key keys.Year))
+        (field_said keys.Year (table_view table.now))) }
+    ensures within { IfOk result (λ year. IfSome year (IsWithin 1 9999)) }
+{
+    match field(table, Key::Year) {
+        Some(value) => {
+            let year = read_number(value, 1, 9999, Place::at_key(Key::Year))?;
+            Ok(Some(year as u16))
+        }
+        None => Ok(None),
+    }
+}
+
+// The number from 1 to `most` at a key, if there is one.
+fn read_part(table: &Table, key: Key, most: u8) -> Result<Option<u8>, Stop<Fault>>
+    ensures said { Gives (λ part. part) result
+        (read_if (number_said 1 most (at_key key)) (field_said key (table_view table.now))) }
+    ensures within { IfOk result (λ part. IfSome part (IsWithin 1 most)) }
+{
+    match field(table, key) {
+        Some(value) => {
+            let part = read_number(value, 1, u64::from(most), Place::at_key(key))?;
+            Ok(Some(part as u8))
+        }
+        None => Ok(None),
+    }
+}
+
+/// The day on which the hand was played.
+#[tactic(auto, unfolding(crate::specs::NoteFields::day_said))]
+pub fn read_day(table: &Table) -> Result<Day, Stop<Fault>>
+    ensures said { Gives (λ day. day) result (day_said (table_view table.now)) }
+    ensures year { IfOk result (λ date. IfSome date.year (IsWithin 1 9999)) }
+    ensures month { IfOk result (λ date. IfSome date.month (IsWithin 1 12)) }
+    ensures day { IfOk result (λ date. IfSome date.day (IsWithin 1 31)) }
+    ensures civil { IfOk result (λ date.
+        is_in_calendar_said date.year date.month date.day ≡ true) }
+{
+    let year = read_year(table)?;
+    let month = read_part(table, Key::Month, 12)?;
+    let day = read_part(table, Key::Day, 31)?;
+    let date = Day { year, month, day };
+    if is_in_calendar(date) {
+        Ok(date)
+    } else {
+        Err(wrong(What::WrongType, Place::at_key(Key::Day)))
+    }
+}
+
+// The local time that a date-time is, if it has no day and no zone.
+fn time_alone(said: &Datetime) -> Option<Time>
+    ensures { result ≡ time_alone_said said.now.date said.now.time said.now.offset }
+{
+    match (said.date, said.time, said.offset) {
+        (None, Some(time), None) => Some(time),
+        _ => None,
+    }
+}
+
+// A time of a day; a second or a fraction that is not said is 0.
+fn clock_of(time: Time) -> Clock
+    ensures { result ≡ clock_of_said time }
+{
+    Clock {
+        hour: time.hour,
+        minute: time.minute,
+        second: match time.second {
+            Some(second) => second,
+            None => 0,
+        },
+        nano: match time.nanosecond {
+            Some(nano) => nano,
+            None => 0,
+        },
+    }
+}
+
+// Whether a day has the time.
+fn is_clock(clock: Clock) -> bool
+    ensures { result ≡ is_clock_said clock }
+{
+    (clock.hour <= 23 && clock.minute <= 59) && (clock.second <= 59 && clock.nano <= 999_999_999)
+}
+
+// The time of a day that a local time says.
+#[tactic(auto, unfolding(crate::specs::NoteFields::clock_said))]
+fn read_clock(time: Option<Time>) -> Result<Clock, Stop<Fault>>
+    ensures said { Gives (λ clock. clock) result (clock_said time) }
+    ensures allowed { IfOk result IsTime }
+{
+    let place = Place::at_key(Key::Time);
+    match time {
+        None => Err(wrong(What::WrongType, place)),
+        Some(time) => {
+            let clock = clock_of(time);
+            if is_clock(clock) {
+                Ok(clock)
+            } else {
+                Err(wrong(What::WrongType, place))
+            }
+        }
+    }
+}
+
+// The time of the day.
+#[tactic(auto, unfolding(crate::specs::NoteFields::time_said))]
+fn read_time(value: &Value) -> Result<Clock, Stop<Fault>>
+    ensures said { Gives (λ clock. clock) result (time_said (view value.now)) }
+    ensures allowed { IfOk result IsTime }
+{
+    match value {
+        Value::Datetime(said) => read_clock(time_alone(said)),
+        _ => Err(wrong(What::WrongType, Place::at_key(Key::Time))),
+    }
+}
+
+/// The time of the day, if it is said.
+pub fn read_time_at(table: &Table) -> Result<Option<Clock>, Stop<Fault>>
+    ensures said { Gives (λ clock. clock) result
+        (read_if time_said (field_said keys.Time (table_view table.now))) }
+    ensures allowed { IfOk result (λ clock. IfSome clock IsTime) }
+{
+    match field(table, Key::Time) {
+        Some(value) => Ok(Some(read_time(value)?)),
+        None => Ok(None),
+    }
+}

@@ -1,0 +1,76 @@
+//! Where a hand was played is read from its fields.
+ghost use Rattle.std.specs.Prelude.{◌≡◌, ◌≢◌, ◌<◌, ◌^◌, [], IfOk, IfSome, option_map};
+ghost use Rattle.std.specs.Fmt.{decimal};
+ghost use Rattle.toml.specs.View.{table_view, view};
+ghost use Rattle.hand_canon.specs.AllowedNotes.{IsNoteText};
+ghost use Rattle.first_fault.specs.Reading.{Gives};
+ghost use Rattle.phh_fields.specs.Fields.{at_key, field as field_said};
+ghost use Rattle.phh_fields.specs.NoteFields.{label_said, labels_said, or_none, plain_labels, text_note_said};
+
+use crate::fault::{Fault, Key, Place};
+use crate::texts::{read_label, read_text_note};
+use crate::values::field;
+use first_fault::Stop;
+use hand_canon::Text;
+use std::alloc::Global;
+use toml::{Table, Value};
+
+/// Where a hand was played: its name, its table, and the rest.
+#[derive(Debug, Drop)]
+pub struct Labels {
+    pub hand: Option<Text>,
+    pub table: Option<Text>,
+    pub venue: Option<Text>,
+    pub currency: Option<Text>,
+}
+
+// The label at a key, with this default, if there is one.
+fn label_at(
+    alloc: Global,
+    table: &Table,
+    key: Key,
+    default: &str,
+) -> Result<Option<Text>, Stop<Fault>>
+    ensures said { Gives (λ note. note) result
+        (or_none (label_said default.now (at_key key)) (field_said key (table_view table.now))) }
+    ensures allowed { IfOk result (λ note. IfSome note IsNoteText) }
+{
+    match field(table, key) {
+        Some(value) => read_label(alloc, value, default, Place::at_key(key)),
+        None => Ok(None),
+    }
+}
+
+/// The text at a key, if there is one that is not empty.
+pub fn text_at(alloc: Global, table: &Table, key: Key) -> Result<Option<Text>, Stop<Fault>>
+    ensures said { Gives (λ note. note) result
+        (or_none (text_note_said [] (at_key key)) (field_said key (table_view table.now))) }
+    ensures allowed { IfOk result (λ note. IfSome note IsNoteText) }
+{
+    match field(table, key) {
+        Some(value) => read_text_note(alloc, value, "", Place::at_key(key)),
+        None => Ok(None),
+    }
+}
+
+/// The labels of the hand at this place of its file, from 0.
+#[tactic(auto, unfolding(crate::specs::NoteFields::labels_said))]
+pub fn read_labels(alloc: Global, table: &Table, place: u32) -> Result<Labels, Stop<Fault>>
+    ensures said { Gives plain_labels result (labels_said place (table_view table.now)) }
+    ensures hand { IfOk result (λ labels. IfSome labels.hand IsNoteText) }
+    ensures table { IfOk result (λ labels. IfSome labels.table IsNoteText) }
+    ensures venue { IfOk result (λ labels. IfSome labels.venue IsNoteText) }
+    ensures currency { IfOk result (λ labels. IfSome labels.currency IsNoteText) }
+{
+    let usual = place.to_string(alloc)?;
+    let hand = label_at(alloc, table, Key::Hand, usual.as_str())?;
+    let label = label_at(alloc, table, Key::Table, "")?;
+    let venue = text_at(alloc, table, Key::Venue)?;
+    let currency = text_at(alloc, table, Key::Currency)?;
+    Ok(Labels {
+        hand,
+        table: label,
+        venue,
+        currency,
+    })
+}

@@ -1,0 +1,56 @@
+//! The notes of a hand are read from its fields, and are allowed.
+ghost use Rattle.std.specs.Prelude.{◌≡◌, ◌≤◌, IfOk};
+ghost use Rattle.toml.specs.View.{table_view};
+ghost use Rattle.hand_canon.specs.AllowedNotes.{AreAllowed};
+ghost use Rattle.first_fault.specs.Reading.{Gives};
+ghost use Rattle.phh_fields.specs.NoteFields.{notes_said, plain_notes};
+
+use crate::date::{Day, read_day, read_time_at};
+use crate::fault::{Fault, Key};
+use crate::labels::{Labels, read_labels, text_at};
+use crate::seating::{Seating, read_seating};
+use first_fault::Stop;
+use hand_canon::Notes;
+use std::alloc::Global;
+use toml::Table;
+
+/// The notes of a hand with so many seats, at this place of its file, from 0.
+#[tactic(auto, unfolding(crate::specs::NoteFields::notes_said))]
+pub fn read_notes(alloc: Global, table: &Table, place: u32, seats: u8) -> Result<Notes, Stop<Fault>>
+    requires { seats ≤ 10 }
+    ensures said { Gives (plain_notes seats) result
+        (notes_said place seats (table_view table.now)) }
+    ensures allowed { IfOk result (AreAllowed seats) }
+{
+    let seating = read_seating(alloc, table, seats)?;
+    let labels = read_labels(alloc, table, place)?;
+    let date = read_day(table)?;
+    let time = read_time_at(table)?;
+    let zone = text_at(alloc, table, Key::TimeZone)?;
+    let Seating {
+        names,
+        seats: numbers,
+        seat_count,
+    } = seating;
+    let Labels {
+        hand,
+        table: label,
+        venue,
+        currency,
+    } = labels;
+    let Day { year, month, day } = date;
+    Ok(Notes {
+        names,
+        seats: numbers,
+        seat_count,
+        hand,
+        table: label,
+        venue,
+        currency,
+        year,
+        month,
+        day,
+        time,
+        zone,
+    })
+}

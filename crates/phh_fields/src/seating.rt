@@ -1,0 +1,197 @@
+//! Who sits where is read from the fields of a hand.
+ghost use Rattle.std.specs.Prelude.{◌≡◌, ◌≢◌, ℕ, ◌+◌, ◌-◌, ◌≤◌, ◌<◌, None, length, map, replicate, take, slice_index, slice_index_or, bytes_eq, IfOk, IfSome, option_map};
+ghost use Rattle.std.specs.List.{range_with_len};
+ghost use Rattle.toml.specs.View.{table_view, view};
+ghost use Rattle.hand_canon.specs.AllowedNotes.{AreSeatNumbers, IsName, IsNoteText, IsSeatCount, IsWithin, default_name, default_numbers};
+ghost use Rattle.first_fault.specs.Reading.{Gives};
+ghost use Rattle.phh_fields.specs.declared.fault.Key.TheVariants as keys;
+ghost use Rattle.phh_fields.specs.Fields.{at_item, field as field_said};
+ghost use Rattle.phh_fields.specs.NoteFields.{names_from, names_said, numbers_from, or_none, plain_seating, seat_count_said, seating_said, seats_said, text_note_said, unless_usual as unless_usual_said};
+
+use crate::fault::{Fault, Key, Place};
+use crate::texts::read_text_note;
+use crate::values::{field, read_items, read_number};
+use first_fault::Stop;
+use hand_canon::Text;
+use std::alloc::Global;
+use toml::{Table, Value};
+
+/// Who sits where, as the notes of a hand have it.
+#[derive(Debug, Drop)]
+pub struct Seating {
+    pub names: [Option<Text>; 10],
+    pub seats: Option<[u8; 10]>,
+    pub seat_count: Option<u8>,
+}
+
+// The numbers of ten seats where none are said.
+const USUAL: [u8; 10] = [1, 2, 3, 4, 5, 6, 7, 8, 9, 10];
+
+// The name of a seat's player.
+fn read_name(alloc: Global, value: &Value, seat: u8) -> Result<Option<Text>, Stop<Fault>>
+    ensures said { Gives (λ name. name) result
+        (text_note_said (default_name seat) (at_item keys.Players seat) (view value.now)) }
+    ensures allowed { IfOk result (λ name. IfSome name (IsName seat)) }
+{
+    let place = Place {
+        key: Key::Players,
+        item: u64::from(seat),
+    };
+    let usual = format!(in alloc; "p{seat}")?;
+    read_text_note(alloc, value, usual.as_str(), place)
+}
+
+// No names, of which the first are those of so many seats.
+fn no_names(seats: u8) -> [Option<Text>; 10]
+    requires { seats ≤ 10 }
+    ensures none { (index : ℕ) → slice_index_or result index None ≡ None }
+    ensures seats { take seats result ≡ replicate seats None }
+    ensures ten { length result ≡ 10 }
+{
+    [None, None, None, None, None, None, None, None, None, None]
+}
+
+// The names of as many players as there are values.
+fn fill_names(alloc: Global, values: &[Value]) -> Result<[Option<Text>; 10], Stop<Fault>>
+    requires { length values.now ≤ 10 }
+    ensures said { Gives (take (length values.now)) result
+        (names_from (map view values.now)) }
+    ensures each { IfOk result (λ names. (seat : ℕ) → 1 ≤ seat → seat ≤ length values.now
+        → IfSome (slice_index_or names (seat - 1) None) (IsName seat)) }
+    ensures no_more { IfOk result (λ names. (index : ℕ) → length values.now ≤ index
+        → slice_index_or names index None ≡ None) }
+{
+    let mut names = no_names(10);
+    for (index, value) in values.iter().enumerate() {
+        names[index] = read_name(alloc, value, index as u8 + 1)?;
+    }
+    Ok(names)
+}
+
+// The names of the players of so many seats.
+#[tactic(auto, unfolding(crate::specs::NoteFields::names_said))]
+fn read_names(alloc: Global, table: &Table, seats: u8) -> Result<[Option<Text>; 10], Stop<Fault>>
+    requires { seats ≤ 10 }
+    ensures said { Gives (take seats) result
+        (names_said seats (field_said keys.Players (table_view table.now))) }
+    ensures each { IfOk result (λ names. (seat : ℕ) → 1 ≤ seat → seat ≤ seats
+        → IfSome (slice_index_or names (seat - 1) None) (IsName seat)) }
+    ensures no_more { IfOk result (λ names. (index : ℕ) → seats ≤ index
+        → slice_index_or names index None ≡ None) }
+{
+    match field(table, Key::Players) {
+        None => Ok(no_names(seats)),
+        Some(value) => {
+            let values = read_items(value, seats, Key::Players)?;
+            fill_names(alloc, values)
+        }
+    }
+}
+
+// The numbers of as many seats as there are values.
+fn fill_numbers(values: &[Value]) -> Result<[u8; 10], Stop<Fault>>
+    requires { length values.now ≤ 10 }
+    ensures said { Gives (take (length values.now)) result
+        (numbers_from (map view values.now)) }
+    ensures each { IfOk result (λ numbers. (k : ℕ) → k < length values.now
+        → IsWithin 1 255 (slice_index numbers k)) }
+    ensures no_more { IfOk result (λ numbers. (k : ℕ) → length values.now ≤ k
+        → slice_index numbers k ≡ 0) }
+{
+    let mut numbers = [0; 10];
+    for (index, value) in values.iter().enumerate() {
+        let place = Place {
+            key: Key::Seats,
+            item: index as u64 + 1,
+        };
+        numbers[index] = read_number(value, 1, 255, place)? as u8;
+    }
+    Ok(numbers)
+}
+
+// Whether the first numbers, so many of them, are those of seats where none are said.
+fn are_usual(numbers: [u8; 10], seats: u8) -> bool
+    requires { seats ≤ 10 }
+    ensures { result ≡ bytes_eq (take seats numbers) (range_with_len 1 seats) }
+{
+    let (said, _fillers) = numbers.split_at(seats as usize);
+    let (usual, _others) = USUAL.split_at(seats as usize);
+    said == usual
+}
+
+// The numbers of so many seats, unless they are the usual ones.
+#[tactic(auto, unfolding(crate::specs::NoteFields::seats_said))]
+fn read_seats(value: &Value, seats: u8) -> Result<Option<[u8; 10]>, Stop<Fault>>
+    requires { seats ≤ 10 }
+    ensures said { Gives (option_map (take seats)) result (seats_said seats (view value.now)) }
+    ensures allowed { IfOk result (λ numbers. IfSome numbers (AreSeatNumbers seats)) }
+{
+    let values = read_items(value, seats, Key::Seats)?;
+    let numbers = fill_numbers(values)?;
+    if are_usual(numbers, seats) {
+        Ok(None)
+    } else {
+        Ok(Some(numbers))
+    }
+}
+
+// The numbers of the seats, if they are said.
+fn read_seats_at(table: &Table, seats: u8) -> Result<Option<[u8; 10]>, Stop<Fault>>
+    requires { seats ≤ 10 }
+    ensures said { Gives (option_map (take seats)) result
+        (or_none (seats_said seats) (field_said keys.Seats (table_view table.now))) }
+    ensures allowed { IfOk result (λ numbers. IfSome numbers (AreSeatNumbers seats)) }
+{
+    match field(table, Key::Seats) {
+        Some(value) => read_seats(value, seats),
+        None => Ok(None),
+    }
+}
+
+// How many seats the table has.
+#[tactic(auto, unfolding(crate::specs::NoteFields::seat_count_said))]
+fn read_seat_count(value: &Value, seats: u8) -> Result<Option<u8>, Stop<Fault>>
+    ensures said { Gives (λ count. count) result (seat_count_said seats (view value.now)) }
+    ensures allowed { IfOk result (λ count. IfSome count (IsSeatCount seats)) }
+{
+    let count = read_number(value, 1, 255, Place::at_key(Key::SeatCount))? as u8;
+    if count == seats {
+        Ok(None)
+    } else {
+        Ok(Some(count))
+    }
+}
+
+// How many seats the table has, if that is said.
+fn read_seat_count_at(table: &Table, seats: u8) -> Result<Option<u8>, Stop<Fault>>
+    ensures said { Gives (λ count. count) result
+        (or_none (seat_count_said seats) (field_said keys.SeatCount (table_view table.now))) }
+    ensures allowed { IfOk result (λ count. IfSome count (IsSeatCount seats)) }
+{
+    match field(table, Key::SeatCount) {
+        Some(value) => read_seat_count(value, seats),
+        None => Ok(None),
+    }
+}
+
+/// Who sits where in a hand with so many seats.
+#[tactic(auto, unfolding(crate::specs::NoteFields::seating_said))]
+pub fn read_seating(alloc: Global, table: &Table, seats: u8) -> Result<Seating, Stop<Fault>>
+    requires { seats ≤ 10 }
+    ensures said { Gives (plain_seating seats) result (seating_said seats (table_view table.now)) }
+    ensures each { IfOk result (λ seating. (seat : ℕ) → 1 ≤ seat → seat ≤ seats
+        → IfSome (slice_index_or seating.names (seat - 1) None) (IsName seat)) }
+    ensures no_more { IfOk result (λ seating. (index : ℕ) → seats ≤ index
+        → slice_index_or seating.names index None ≡ None) }
+    ensures seats { IfOk result (λ seating. IfSome seating.seats (AreSeatNumbers seats)) }
+    ensures seat_count { IfOk result (λ seating. IfSome seating.seat_count (IsSeatCount seats)) }
+{
+    let names = read_names(alloc, table, seats)?;
+    let numbers = read_seats_at(table, seats)?;
+    let seat_count = read_seat_count_at(table, seats)?;
+    Ok(Seating {
+        names,
+        seats: numbers,
+        seat_count,
+    })
+}

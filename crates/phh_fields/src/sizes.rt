@@ -1,0 +1,92 @@
+//! The sizes of a hand's bets are those that its game uses.
+ghost use Rattle.std.specs.Prelude.{◌≡◌, not, IfOk};
+ghost use Rattle.toml.specs.View.{table_view};
+ghost use Rattle.play_event.specs.Games.{game_of};
+ghost use Rattle.play_event.specs.Streets.{is_stud as is_stud_said, limit_of};
+ghost use Rattle.play_event.specs.ValidSetup.{IsSizeWhere, is_fixed as is_fixed_said};
+ghost use Rattle.first_fault.specs.Reading.{Gives};
+ghost use Rattle.phh_fields.specs.SetupFields.{size_said, sizes_said};
+
+use crate::fault::{Fault, Key, Place};
+use crate::values::{needed, read_amount};
+use chip_ledger::MOST_CHIPS;
+use first_fault::Stop;
+use play_event::Code;
+use toml::Table;
+
+/// The sizes of bets, in chips. A size that the game does not use is 0.
+#[derive(Clone, Copy, Debug, PartialEq, Eq)]
+pub struct Sizes {
+    pub bring_in: u64,
+    pub small_bet: u64,
+    pub big_bet: u64,
+    pub min_bet: u64,
+}
+
+/// The most seats of the game.
+pub fn most_seats(code: Code) -> u8
+    ensures { result ≡ (game_of code).seats }
+{
+    match code {
+        Code::FT | Code::NT | Code::NS | Code::PO | Code::FO8 => 10,
+        Code::F7S | Code::F7S8 | Code::FR => 7,
+        Code::N2L1D | Code::F2L3D | Code::FB => 6,
+    }
+}
+
+/// Whether the game is a stud game.
+pub fn is_stud(code: Code) -> bool
+    ensures { result ≡ is_stud_said code }
+{
+    match code {
+        Code::F7S | Code::F7S8 | Code::FR => true,
+        _ => false,
+    }
+}
+
+// Whether the game is played in fixed limit.
+fn is_fixed(code: Code) -> bool
+    ensures { result ≡ is_fixed_said (limit_of code) }
+{
+    match code {
+        Code::NT | Code::NS | Code::PO | Code::N2L1D => false,
+        _ => true,
+    }
+}
+
+// A size that the game uses or does not.
+#[tactic(auto, unfolding(crate::specs::SetupFields::size_said))]
+fn read_size(table: &Table, used: bool, key: Key) -> Result<u64, Stop<Fault>>
+    ensures said { Gives (λ size. size) result (size_said used key (table_view table.now)) }
+    ensures within { IfOk result (IsSizeWhere used) }
+{
+    if !used {
+        return Ok(0);
+    }
+    read_amount(needed(table, key)?, 1, MOST_CHIPS, Place::at_key(key))
+}
+
+/// The sizes of the game's bets.
+#[tactic(auto, unfolding(crate::specs::SetupFields::sizes_said))]
+pub fn read_sizes(table: &Table, code: Code) -> Result<Sizes, Stop<Fault>>
+    ensures said { Gives (λ sizes. sizes) result (sizes_said code (table_view table.now)) }
+    ensures bring_in { IfOk result (λ sizes. IsSizeWhere (is_stud_said code) sizes.bring_in) }
+    ensures small_bet { IfOk result (λ sizes.
+        IsSizeWhere (is_fixed_said (limit_of code)) sizes.small_bet) }
+    ensures big_bet { IfOk result (λ sizes.
+        IsSizeWhere (is_fixed_said (limit_of code)) sizes.big_bet) }
+    ensures min_bet { IfOk result (λ sizes.
+        IsSizeWhere (not (is_fixed_said (limit_of code))) sizes.min_bet) }
+{
+    let fixed = is_fixed(code);
+    let bring_in = read_size(table, is_stud(code), Key::BringIn)?;
+    let small_bet = read_size(table, fixed, Key::SmallBet)?;
+    let big_bet = read_size(table, fixed, Key::BigBet)?;
+    let min_bet = read_size(table, !fixed, Key::MinBet)?;
+    Ok(Sizes {
+        bring_in,
+        small_bet,
+        big_bet,
+        min_bet,
+    })
+}
