@@ -1,5 +1,5 @@
 -- Where a contested hand ends, each live seat has a whole hand.
-use Rattle.std.proofs.Common.{◌≡◌, ℕ, zero, suc, ◌+◌, ◌-◌, ◌≤◌, Bool, true, false, ◌&&◌, ◌||◌, not, nat_lt, Option, Some, None, is_some, is_none, List, [], ◌∷◌, filter, length, slice_get, refl, sym, ap, ◌∙◌, arith}
+use Rattle.std.proofs.Common.{◌≡◌, ℕ, zero, suc, ◌+◌, ◌-◌, ◌≤◌, Bool, true, false, ◌&&◌, ◌||◌, not, nat_lt, Option, Some, None, is_some, is_none, List, filter, length, slice_get, refl, sym, ap, ◌∙◌, arith}
 use Rattle.std.specs.Option.{option_map_or}
 use Rattle.std.specs.List.{list_any}
 use Rattle.std.proofs.lemmas.Bool.{and_left, and_right, le-ltb, lt-ltb, ltb-false, not_from_true, or_parts}
@@ -15,7 +15,6 @@ use Rattle.play_event.specs.declared.setup.Setup.{Setup}
 use Rattle.play_event.specs.Dealing.{cards_discarded, hole_cards_dealt, is_draw_due, next_to_draw, replacements_owed}
 use Rattle.play_event.specs.Games.{game_of, hole_cards_on, street_count}
 use Rattle.play_event.specs.declared.street.Street.{Street}
-use Rattle.play_event.specs.Laws.{IsAmong}
 use Rattle.play_event.specs.Past.{Move, Past, moves_of}
 use Rattle.play_event.specs.Places.{Place, is_held_by, is_in_group, is_same_owner}
 use Rattle.play_event.specs.Said.{Said}
