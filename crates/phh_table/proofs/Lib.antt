@@ -1,0 +1,6 @@
+pub mod Bounds
+pub mod CanonWords
+pub mod Puts
+pub mod Shape
+pub mod Spelt
+pub mod Tidied

@@ -1,0 +1,104 @@
+-- Laws of members that are put one after the other, and of the table of fields.
+use Rattle.std.proofs.Common.{◌≡◌, ℕ, ◌≤◌, List, [], ◌∷◌, Option, Some, None, String, Global, Ordering, Less, Equal, Greater, string_bytes, string_cmp, nat_cmp, is_eq, cond, Bool, true, false, bytes_eq, true≢false, refl, sym, ap, ◌∙◌, arith}
+use Rattle.std.proofs.lemmas.Cmp.{nat_list_cmp_total, tied_itself}
+use Rattle.std.proofs.lemmas.Map.Text.{is_eq-slice_cmp}
+use Rattle.std.proofs.lemmas.Slice.Eq.{bytes_eq-Decides}
+use Rattle.std.specs.Cmp.Lexicographic.{slice_cmp}
+use Rattle.std.specs.List.{AllByRecursion}
+use Rattle.std.specs.Ordering.{match_ordering}
+use Rattle.std.specs.BTreeMap.{insert_entry}
+use Rattle.toml.specs.Data.{Data, Members, no_members, member, get_member, depth, members_depth}
+use Rattle.toml.specs.View.{view, members_view}
+use Rattle.toml.specs.declared.value.Value.{Value}
+use Rattle.phh_table.specs.Members.{put, Field, table_of}
+
+abbrev pub Entry : Type 0
+Entry = String Global × Value
+
+members_view-match_ordering : (o : Ordering) (a b c : List Entry) → members_view (match_ordering o a b c) ≡ match_ordering o (members_view a) (members_view b) (members_view c)
+members_view-match_ordering Less a b c = refl
+members_view-match_ordering Equal a b c = refl
+members_view-match_ordering Greater a b c = refl
+
+-- what a map's insert does to the members
+pub members_view-insert_entry : (es : List Entry) (k : String Global) (v : Value) → members_view (insert_entry string_cmp es k v) ≡ put (string_bytes k) (view v) (members_view es)
+members_view-insert_entry [] k v = refl
+members_view-insert_entry (e ∷ es) k v = members_view-match_ordering (string_cmp k e.0) _ _ _ ∙ rw (members_view-insert_entry es k v)
+
+same_text : (xs : List ℕ) → slice_cmp nat_cmp xs xs ≡ Equal
+same_text xs = tied_itself nat_list_cmp_total xs
+
+get_member-put_at : (o : Ordering) (k l : List ℕ) (d e : Data) (ms : Members) → slice_cmp nat_cmp k l ≡ o → get_member k (put k d ms) ≡ Some d
+    → get_member k (match_ordering o (member k d (member l e ms)) (member l d ms) (member l e (put k d ms))) ≡ Some d
+get_member-put_at Less k l d e ms is later = rw same_text
+get_member-put_at Equal k l d e ms is later = rw is
+get_member-put_at Greater k l d e ms is later = rw is later
+
+-- what was put at a name is found there
+pub get_member-put : (k : List ℕ) (d : Data) (ms : Members) → get_member k (put k d ms) ≡ Some d
+get_member-put k d no_members = rw same_text
+get_member-put k d (member l e ms) = get_member-put_at _ k l d e ms refl (get_member-put k d ms)
+
+either : (o : Ordering) (a b : Option Data) → is_eq o ≡ false → match_ordering o a b a ≡ a
+either Less a b e = refl
+either Equal a b e = absurd (true≢false e)
+either Greater a b e = refl
+
+differ : (xs ys : List ℕ) (b : Bool) → bytes_eq xs ys ≡ b → (xs ≡ ys → ⊥) → b ≡ false
+differ xs ys true e other = absurd (other ((bytes_eq-Decides xs ys).0 e))
+differ xs ys false e other = refl
+
+skips : (q k : List ℕ) (d : Data) (ms : Members) → (q ≡ k → ⊥) → get_member q (member k d ms) ≡ get_member q ms
+skips q k d ms other = either (slice_cmp nat_cmp q k) _ _ (is_eq-slice_cmp q k ∙ differ q k _ refl other)
+
+get_member-put_other_at : (o : Ordering) (q k l : List ℕ) (d e : Data) (ms : Members) → slice_cmp nat_cmp k l ≡ o → (q ≡ k → ⊥) → get_member q (put k d ms) ≡ get_member q ms
+    → get_member q (match_ordering o (member k d (member l e ms)) (member l d ms) (member l e (put k d ms))) ≡ get_member q (member l e ms)
+get_member-put_other_at Less q k l d e ms is other later = skips q k d (member l e ms) other
+get_member-put_other_at Equal q k l d e ms is other later =
+    let same : k ≡ l = (bytes_eq-Decides k l).0 (sym (is_eq-slice_cmp k l) ∙ ap is_eq is) in
+    let apart = λ (h : q ≡ l). other (h ∙ sym same) in
+    skips q l d ms apart ∙ sym (skips q l e ms apart)
+get_member-put_other_at Greater q k l d e ms is other later = ap (λ r. match_ordering (slice_cmp nat_cmp q l) r (Some e) r) later
+
+-- the other names keep their values
+pub get_member-put_other : (q k : List ℕ) (d : Data) (ms : Members) → (q ≡ k → ⊥) → get_member q (put k d ms) ≡ get_member q ms
+get_member-put_other q k d no_members other = skips q k d no_members other
+get_member-put_other q k d (member l e ms) other = get_member-put_other_at _ q k l d e ms refl other (get_member-put_other q k d ms other)
+
+-- the value at a key in fields: the first that stands
+abbrev pub field_at : List ℕ → List Field → Option Data
+field_at q [] = None
+field_at q (field ∷ fields) = here q field.0 field.1 (field_at q fields)
+  where
+    here : List ℕ → List ℕ → Option Data → Option Data → Option Data
+    here q k None later = later
+    here q k (Some d) later = cond (bytes_eq q k) (Some d) later
+
+put_there : (q k : List ℕ) (d : Data) (ms : Members) (same : Bool) → bytes_eq q k ≡ same → get_member q (put k d ms) ≡ cond same (Some d) (get_member q ms)
+put_there q k d ms true is = let e : q ≡ k = (bytes_eq-Decides q k).0 is in rw e (get_member-put k d ms)
+put_there q k d ms false is = get_member-put_other q k d ms (λ e. true≢false (sym ((bytes_eq-Decides q k).1 e) ∙ is))
+
+pub get_member-table_of : (q : List ℕ) (fields : List Field) → get_member q (table_of fields) ≡ field_at q fields
+get_member-table_of q [] = refl
+get_member-table_of q ((k, None) ∷ fields) = get_member-table_of q fields
+get_member-table_of q ((k, Some d) ∷ fields) = put_there q k d (table_of fields) (bytes_eq q k) refl ∙ rw (get_member-table_of q fields) refl
+
+-- how deep members nest
+depth_at : (o : Ordering) (k l : List ℕ) (d e : Data) (ms more : Members) (most : ℕ) → depth d ≤ most → depth e ≤ most → members_depth ms ≤ most → members_depth more ≤ most
+    → members_depth (match_ordering o (member k d (member l e ms)) (member l d ms) (member l e more)) ≤ most
+depth_at Less k l d e ms more most a b c h = omega arith
+depth_at Equal k l d e ms more most a b c h = omega arith
+depth_at Greater k l d e ms more most a b c h = omega arith
+
+pub depth-put : (k : List ℕ) (d : Data) (ms : Members) (most : ℕ) → depth d ≤ most → members_depth ms ≤ most → members_depth (put k d ms) ≤ most
+depth-put k d no_members most a b = omega arith
+depth-put k d (member l e ms) most a b = depth_at (slice_cmp nat_cmp k l) k l d e ms (put k d ms) most a (omega (arith, b)) (omega (arith, b)) (depth-put k d ms most a (omega (arith, b)))
+
+abbrev pub IsAtMost : ℕ → Option Data → Type 0
+IsAtMost most None = Unit {0}
+IsAtMost most (Some d) = depth d ≤ most
+
+pub depth-table_of : (most : ℕ) (fields : List Field) → AllByRecursion (λ field. IsAtMost most field.1) fields → members_depth (table_of fields) ≤ most
+depth-table_of most [] each = omega arith
+depth-table_of most ((k, None) ∷ fields) each = depth-table_of most fields each.1
+depth-table_of most ((k, Some d) ∷ fields) each = depth-put k d (table_of fields) most each.0 (depth-table_of most fields each.1)

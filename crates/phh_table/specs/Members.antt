@@ -1,0 +1,32 @@
+-- A table is made of fields, each a key and, where the field stands, its value.
+use Rattle.std.specs.Prelude.{ℕ, List, [], ◌∷◌, Option, Some, None}
+use Rattle.std.specs.Ordering.{nat_cmp, match_ordering}
+use Rattle.std.specs.Cmp.Lexicographic.{slice_cmp}
+use Rattle.toml.specs.Data.{Data, Members, no_members, member}
+
+-- the members of a table, in the order of their keys, with this value at this key
+abbrev pub put : List ℕ → Data → Members → Members
+put key value no_members = member key value no_members
+put key value (member next other rest) =
+    match_ordering (slice_cmp nat_cmp key next)
+    (member key value (member next other rest))
+    (member next value rest)
+    (member next other (put key value rest))
+
+-- the same, where there is a value
+abbrev pub put_if : List ℕ → Option Data → Members → Members
+put_if key None members = members
+put_if key (Some value) members = put key value members
+
+-- a key, and its value where the field stands
+abbrev pub Field : Type 0
+Field = List ℕ × Option Data
+
+-- a table with these fields besides
+abbrev pub with_fields : List Field → Members → Members
+with_fields [] members = members
+with_fields (field ∷ fields) members = put_if field.0 field.1 (with_fields fields members)
+
+-- the table of fields
+abbrev pub table_of : List Field → Members
+table_of fields = with_fields fields no_members

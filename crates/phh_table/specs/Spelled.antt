@@ -1,0 +1,27 @@
+-- Which plays the format spells, and the first play that it does not.
+use Rattle.std.specs.Prelude.{ℕ, ◌+◌, if◌then◌else◌, List, [], ◌∷◌, Option, Some, None}
+use Rattle.std.specs.List.{list_any}
+use Rattle.hand_canon.specs.declared.trace.Play.{Play}
+use Rattle.hand_canon.specs.declared.writing.Unspelled.{Unspelled}
+use Rattle.hand_canon.specs.declared.writing.Unspelled.TheVariants as facts
+use Rattle.hand_canon.specs.declared.writing.WriteRefusal.{WriteRefusal}
+use Rattle.hand_canon.specs.declared.writing.WriteRefusal.TheVariants as refusals
+
+-- The fact of a play that has no spelling: the format lets a seat raise again only after a full raise, so a raise that is
+-- closed under that rule has none. Every other fact is spelled, and every note.
+unfoldable pub unspelled : Play → Option Unspelled
+unspelled play = if list_any (λ move. move.closed) play.trace.moves then Some facts.ReopenedShort else None
+
+-- the refusal of the hand with this number, or of the first one behind it
+abbrev pub refused_at : ℕ → Option Unspelled → Option WriteRefusal → Option WriteRefusal
+refused_at number (Some fact) behind = Some (refusals.Unspelled number fact)
+refused_at number None behind = behind
+
+-- the first refusal of plays, of which the first has this number
+abbrev pub refusal_from : ℕ → List Play → Option WriteRefusal
+refusal_from number [] = None
+refusal_from number (play ∷ rest) = refused_at number (unspelled play) (refusal_from (number + 1) rest)
+
+-- the first refusal of plays; the first hand has the number 1
+abbrev pub first_refusal : List Play → Option WriteRefusal
+first_refusal plays = refusal_from 1 plays
