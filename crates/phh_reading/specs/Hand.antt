@@ -1,0 +1,66 @@
+-- A hand: its fields are examined in this order.
+use Rattle.std.specs.Prelude.{ℕ, List, map, length, replicate, Option, Some, None, option_map, Result, Ok}
+use Rattle.toml.specs.Data.{Members}
+use Rattle.chip_ledger.specs.declared.rows.TheConstants.{MOST_AMOUNT}
+use Rattle.hand_canon.specs.declared.record.Record.{Record}
+use Rattle.hand_canon.specs.declared.record.NetRow.{NetRow}
+use Rattle.chip_ledger.specs.declared.rows.SeatRow.{SeatRow}
+use Rattle.play_event.specs.declared.setup.Rules.{Rules}
+use Rattle.play_event.specs.HistoryRules.{history_rules}
+use Rattle.play_event.specs.Said.{Numbered, numbered}
+use Rattle.first_fault.specs.Reading.{◌>>=◌, read_if}
+use Rattle.phh_fields.specs.declared.fault.Key.TheVariants as keys
+use Rattle.phh_fields.specs.declared.fault.Fault.{Fault}
+use Rattle.phh_fields.specs.Fields.{at_key, field, needed, list_said}
+use Rattle.phh_fields.specs.Rows.{amounts_in, row_said, rakes_said}
+use Rattle.phh_fields.specs.SetupFields.{PlainSetup, plain_setup, setup_said}
+use Rattle.phh_fields.specs.NoteFields.{PlainNotes, plain_notes, notes_said}
+use Rattle.phh_reading.specs.Events.{counts_after, events_said}
+
+-- what is stated of a hand's end
+pub record PlainStated : Type 0 where
+  pub finish : Option (List ℕ)
+  pub wins : Option SeatRow
+  pub pot_total : Option ℕ
+  pub values : Option NetRow
+
+-- a hand with plain lists
+pub record PlainHand : Type 0 where
+  pub setup : PlainSetup
+  pub rakes : List ℕ
+  pub rules : Rules
+  pub script : List Numbered
+  pub stated : PlainStated
+  pub notes : PlainNotes
+
+-- what a record says
+abbrev pub plain : Record → PlainHand
+plain hand =
+    record {
+      setup = plain_setup hand.setup;
+      rakes = hand.setup.rakes.rakes;
+      rules = hand.rules;
+      script = map numbered hand.script;
+      stated = record { finish = option_map amounts_in hand.stated.finish; wins = hand.stated.wins; pot_total = hand.stated.pot_total; values = hand.stated.values };
+      notes = plain_notes hand.setup.stacks.seats hand.notes;
+    }
+
+-- finishing stacks are all that is stated
+abbrev pub finish_stated : Option (List ℕ) → PlainStated
+finish_stated finish = record { finish = finish; wins = None; pot_total = None; values = None }
+
+-- the rakes, or none where they are not said
+unfoldable pub rakes_at : Members → Result (List ℕ) Fault
+rakes_at members = elim (field keys.Rakes members) [ Some value ↦ rakes_said value | None ↦ Ok (replicate 11 0) ]
+
+-- the hand at this place of its file, from 0, after so many moves of the file; and the moves of the file after it
+unfoldable pub hand_said : ℕ → ℕ → Members → Result (PlainHand × ℕ) Fault
+hand_said file_moves place members = do
+  setup ← setup_said members
+  actions ← needed keys.Actions members >>= list_said (at_key keys.Actions)
+  events ← events_said (length setup.stacks) (counts_after file_moves) actions
+  finish ← read_if (row_said (length setup.stacks) MOST_AMOUNT keys.FinishingStacks) (field keys.FinishingStacks members)
+  rakes ← rakes_at members
+  notes ← notes_said place (length setup.stacks) members
+  let hand : PlainHand = record { setup = setup; rakes = rakes; rules = history_rules; script = events.0; stated = finish_stated finish; notes = notes }
+  Ok (hand, events.1.file_moves)

@@ -1,0 +1,109 @@
+-- The records that bytes say, or their first fault.
+use Rattle.std.specs.Prelude.{◌≡◌, ℕ, ◌-◌, nat_lt, if◌then◌else◌, List, [], ◌∷◌, map, count_by, Option, Some, None, is_some, IfSome, Result, Ok, Err}
+use Rattle.std.specs.Str.{is_utf8}
+use Rattle.toml.specs.Data.{Members}
+use Rattle.toml.specs.Parse.{parse_document}
+use Rattle.hand_canon.specs.declared.limits.Quantity.TheVariants as quantities
+use Rattle.hand_canon.specs.declared.limits.TheConstants.{MOST_HANDS}
+use Rattle.hand_canon.specs.declared.record.Record.{Record}
+use Rattle.canonical_play.specs.PlayedScript.{is_move}
+use Rattle.hand_canon.specs.Sound.{script_said}
+use Rattle.hand_canon.specs.SoundRecord.{IsSoundRecord}
+use Rattle.play_event.specs.HistoryRules.{history_rules}
+use Rattle.first_fault.specs.Reading.{◌>>=◌, thread_from}
+use Rattle.phh_fields.specs.declared.fault.Key.TheVariants as keys
+use Rattle.phh_fields.specs.declared.fault.What.{What}
+use Rattle.phh_fields.specs.declared.fault.What.TheVariants as whats
+use Rattle.phh_fields.specs.declared.fault.Fault.{Fault}
+use Rattle.phh_fields.specs.Fields.{at_key, field, place_text}
+use Rattle.phh_reading.specs.declared.fault.HandFault.{HandFault}
+use Rattle.phh_reading.specs.declared.fault.PhhFault.{PhhFault}
+use Rattle.phh_reading.specs.declared.fault.PhhFault.TheVariants as faults
+use Rattle.phh_reading.specs.Hand.{PlainHand, plain, hand_said}
+use Rattle.phh_reading.specs.Order.{are_hands, in_order}
+
+-- a fault of the hand with this number
+abbrev pub in_hand : {A : Type 0} → ℕ → Result A Fault → Result A HandFault
+in_hand number (Ok x) = Ok x
+in_hand number (Err fault) = Err (record { hand = number; fault = fault })
+
+-- a fault at a hand's variant
+abbrev pub at_variant : {A : Type 0} → ℕ → What → Result A HandFault
+at_variant number what = Err (record { hand = number; fault = record { what = what; place = at_key keys.Variant } })
+
+-- the hand with this number, from 1, after so many moves of the file; and the moves of the file after it
+unfoldable pub numbered_hand : ℕ → ℕ → Members → Result (List PlainHand × ℕ) HandFault
+numbered_hand file_moves number members =
+    if nat_lt MOST_HANDS number then at_variant number (whats.TooMany quantities.Hands)
+    else (in_hand number (hand_said file_moves (number - 1) members) >>= λ found. Ok (found.0 ∷ [], found.1))
+
+-- the hands of a document: one where it has a variant, those under its numbers, or none where nothing is in it
+unfoldable pub hands_of : Members → Option (List Members)
+hands_of members =
+    if is_some (field keys.Variant members) then Some (members ∷ [])
+    else if are_hands members then Some (in_order members)
+    else None
+
+-- the hands of tables, in order, and the moves of the file after them
+abbrev pub hands_said : List Members → Result (List PlainHand × ℕ) HandFault
+hands_said hands = thread_from numbered_hand 0 1 hands
+
+-- the records of hands
+abbrev pub records_said : List Members → Result (List PlainHand) HandFault
+records_said hands = hands_said hands >>= λ found. Ok found.0
+
+-- the hands of a document that has some or none, and any other document lacks the variant of its first hand
+abbrev pub those_said : Option (List Members) → Result (List PlainHand) HandFault
+those_said (Some hands) = records_said hands
+those_said None = at_variant 1 whats.MissingField
+
+-- what is wrong with bytes: they are no document, or a hand of it has a fault at a key
+pub data Wrong : Type 0 where
+  NoDocument : Wrong
+  InHand : ℕ → List ℕ → What → Wrong
+
+-- a fault with its key as it is spelled
+abbrev pub spelled_fault : {A : Type 0} → Result A HandFault → Result A Wrong
+spelled_fault (Ok x) = Ok x
+spelled_fault (Err found) = Err (InHand found.hand (place_text found.fault.place) found.fault.what)
+
+-- the document that the bytes are
+abbrev pub document_of : List ℕ → Option Members
+document_of bytes = if is_utf8 bytes then parse_document bytes else None
+
+-- the records of what is a document or is none
+abbrev pub document_said : Option Members → Result (List PlainHand) Wrong
+document_said None = Err NoDocument
+document_said (Some members) = spelled_fault (those_said (hands_of members))
+
+-- the records that bytes say, or their first fault
+unfoldable pub reading : List ℕ → Result (List PlainHand) Wrong
+reading bytes = document_said (document_of bytes)
+
+-- what a fault says, but for want of memory
+abbrev pub wrong_of : PhhFault → Option Wrong
+wrong_of faults.Text = Some NoDocument
+wrong_of (faults.MissingField hand key) = Some (InHand hand key whats.MissingField)
+wrong_of (faults.WrongType hand key) = Some (InHand hand key whats.WrongType)
+wrong_of (faults.AmountNotWhole hand key) = Some (InHand hand key whats.AmountNotWhole)
+wrong_of (faults.AmountLimit hand key) = Some (InHand hand key whats.AmountLimit)
+wrong_of (faults.UnknownVariant hand key) = Some (InHand hand key whats.UnknownVariant)
+wrong_of (faults.SeatCount hand key) = Some (InHand hand key whats.SeatCount)
+wrong_of (faults.ListLength hand key) = Some (InHand hand key whats.ListLength)
+wrong_of (faults.BadAction hand key) = Some (InHand hand key whats.BadAction)
+wrong_of (faults.TooMany hand key quantity) = Some (InHand hand key (whats.TooMany quantity))
+wrong_of faults.Memory = None
+
+-- an answer is what is read: the records that it holds, or the fault that it names; want of memory says nothing
+abbrev pub Reads : Result (List Record) PhhFault → Result (List PlainHand) Wrong → Type 0
+Reads (Ok records) read = read ≡ Ok (map plain records)
+Reads (Err fault) read = IfSome (wrong_of fault) (λ wrong. read ≡ Err wrong)
+
+-- what is read of a hand is sound, and under the rules of hand histories
+pub record IsHistory (hand : Record) : Type 0 where
+  pub sound : IsSoundRecord hand
+  pub rules : hand.rules ≡ history_rules
+
+-- the moves of a hand
+abbrev pub moves_of : Record → ℕ
+moves_of hand = count_by is_move (script_said hand)

@@ -1,0 +1,178 @@
+//! Actions are read as events, counted, with the numbers of their actions.
+ghost use Rattle.std.specs.Prelude.{◌≡◌, ◌≤◌, ◌+◌, ◌++◌, ℕ, min, map, List, [], ◌∷◌, count_by, IfOk, OnOk, option_map};
+ghost use Rattle.std.specs.Option.{option_map_or};
+ghost use Rattle.toml.specs.View.{view};
+ghost use Rattle.hand_canon.specs.declared.limits.TheConstants.{MOST_FILE_MOVES};
+ghost use Rattle.canonical_play.specs.PlayedScript.{is_move as is_move_said};
+ghost use Rattle.play_event.specs.Said.{kind_said, numbered, said_of};
+ghost use Rattle.first_fault.specs.Reading.{Gives};
+ghost use Rattle.phh_words.specs.Action.{action_said};
+ghost use Rattle.phh_reading.specs.Events.{AreCounted, AreFew, IsAfter, IsOneMore, action_fault, at_place, counted, counts_after, event_said, events_said, kept_number, listed_event, one_event};
+
+use card_set::Memory;
+use first_fault::Stop;
+use hand_canon::{MOST_FILE_MOVES, MOST_MOVES, MOST_OTHER_EVENTS, Quantity};
+use phh_fields::fault::{Fault, Key, Place, What};
+use phh_fields::values::{read_text, wrong};
+use phh_words::{ActionFault, read_action};
+use play_event::{Event, Kind, Script};
+use std::alloc::Global;
+use toml::Value;
+
+/// How many moves and other events were read of a hand, and how many moves of the file.
+#[derive(Clone, Copy, Debug, PartialEq, Eq)]
+pub struct Counts {
+    pub moves: usize,
+    pub other_events: usize,
+    pub file_moves: usize,
+}
+
+// Whether it is a move.
+fn is_move(kind: Kind) -> bool
+    ensures { result ≡ is_move_said (kind_said kind) }
+{
+    match kind {
+        Kind::Fold { .. } | Kind::Call { .. } | Kind::Raise { .. } | Kind::BringIn { .. } => true,
+        _ => false,
+    }
+}
+
+// A fault of a quantity that passes its limit.
+fn too_many(quantity: Quantity, place: Place) -> Stop<Fault>
+    ensures { result ≡ Stop.At (record { what = What.TooMany quantity; place = place }) }
+{
+    wrong(What::TooMany { quantity }, place)
+}
+
+// The counts after one more event, each within its limit.
+#[tactic(auto, unfolding(crate::specs::Events::counted))]
+fn count(counts: Counts, place: Place, moves: bool) -> Result<Counts, Stop<Fault>>
+    ensures said { Gives (λ next. next) result (counted counts place moves) }
+    ensures few { AreFew counts → IfOk result AreFew }
+    ensures one_more { IfOk result (IsOneMore counts moves) }
+{
+    if moves {
+        if counts.moves >= MOST_MOVES {
+            return Err(too_many(Quantity::Moves, place));
+        }
+        if counts.file_moves >= MOST_FILE_MOVES {
+            return Err(too_many(Quantity::FileMoves, place));
+        }
+        Ok(Counts {
+            moves: counts.moves + 1,
+            other_events: counts.other_events,
+            file_moves: counts.file_moves + 1,
+        })
+    } else {
+        if counts.other_events >= MOST_OTHER_EVENTS {
+            return Err(too_many(Quantity::OtherEvents, place));
+        }
+        Ok(Counts {
+            moves: counts.moves,
+            other_events: counts.other_events + 1,
+            file_moves: counts.file_moves,
+        })
+    }
+}
+
+// The number of an action as it is kept.
+fn kept(number: u64) -> u32
+    ensures { result ≡ kept_number number }
+{
+    if number > 4_294_967_295 {
+        4_294_967_295
+    } else {
+        number as u32
+    }
+}
+
+// What is wrong with an action.
+fn fault_of(fault: ActionFault) -> What
+    ensures { result ≡ action_fault fault }
+{
+    match fault {
+        ActionFault::BadAction => What::BadAction,
+        ActionFault::AmountNotWhole => What::AmountNotWhole,
+        ActionFault::AmountLimit => What::AmountLimit,
+    }
+}
+
+// What the text of an action says.
+fn read_kind(text: &str, seats: u8, place: Place) -> Result<Option<Kind>, Stop<Fault>>
+    requires { seats ≤ 10 }
+    ensures { Gives (option_map kind_said) result (at_place place (action_said seats text.now)) }
+{
+    match read_action(text, seats) {
+        Ok(kind) => Ok(kind),
+        Err(fault) => Err(wrong(fault_of(fault), place)),
+    }
+}
+
+// An action.
+#[tactic(auto, unfolding(crate::specs::Events::event_said, crate::specs::Events::added))]
+fn read_event(
+    seats: u8,
+    counts: Counts,
+    number: u64,
+    value: &Value,
+) -> Result<(Option<Event>, Counts), Stop<Fault>>
+    requires { seats ≤ 10 }
+    ensures said { Gives (λ found. (listed_event found.0, found.1)) result
+        (event_said seats counts number (view value.now)) }
+    ensures few { AreFew counts → IfOk result (λ found. AreFew found.1) }
+    ensures after { IfOk result (λ found. IsAfter counts found.0 found.1) }
+{
+    let place = Place {
+        key: Key::Actions,
+        item: number,
+    };
+    let text = read_text(value, place)?;
+    match read_kind(text, seats, place)? {
+        None => Ok((None, counts)),
+        Some(kind) => {
+            let next = count(counts, place, is_move(kind))?;
+            let at = kept(number);
+            Ok((Some(Event { at, kind }), next))
+        }
+    }
+}
+
+// The script with one more event, if there is one.
+fn push_if(script: &mut Script, event: Option<Event>) -> Result<(), Memory>
+    ensures events { OnOk result (script.new ≡ script.old ++ one_event event) }
+    ensures numbered { OnOk result (map numbered script.new
+        ≡ map numbered script.old ++ listed_event event) }
+{
+    match event {
+        Some(event) => script.push(event),
+        None => Ok(()),
+    }
+}
+
+/// The events of the actions of a hand with so many seats, after so many moves of the file; and the counts after them.
+pub fn read_events(
+    alloc: Global,
+    seats: u8,
+    file_moves: usize,
+    actions: &[Value],
+) -> Result<(Script, Counts), Stop<Fault>>
+    requires seats { seats ≤ 10 }
+    requires few { file_moves ≤ MOST_FILE_MOVES }
+    ensures said { Gives (λ found. (map numbered found.0, found.1)) result
+        (events_said seats (counts_after file_moves) (map view actions.now)) }
+    ensures few { IfOk result (λ found. AreFew found.1) }
+    ensures counted { IfOk result (λ found. AreCounted file_moves found.0 found.1) }
+{
+    let mut script = Script::new(alloc);
+    let mut counts = Counts {
+        moves: 0,
+        other_events: 0,
+        file_moves,
+    };
+    for (index, value) in actions.iter().enumerate() {
+        let (event, next) = read_event(seats, counts, index as u64 + 1, value)?;
+        push_if(&mut script, event)?;
+        counts = next;
+    }
+    Ok((script, counts))
+}

@@ -1,0 +1,67 @@
+//! Why bytes are no hands in the Poker Hand History format: their first fault, with its hand and its key.
+use hand_canon::{Quantity, Text};
+use phh_fields::fault::{Fault, What};
+
+/// The first fault of bytes, in the order in which fields are examined. `hand` counts from 1 in the order of reading.
+/// `key` is the key of the field, and for an item of a list the key, a space and the number of the item from 1.
+#[derive(Debug, Drop)]
+pub enum PhhFault {
+    /// The bytes are no TOML document.
+    Text,
+    /// A field that is needed lacks.
+    MissingField {
+        hand: u32,
+        key: Text,
+    },
+    /// A field is of another kind, or a day is none of the calendar.
+    WrongType {
+        hand: u32,
+        key: Text,
+    },
+    /// An amount has a fraction.
+    AmountNotWhole {
+        hand: u32,
+        key: Text,
+    },
+    /// A number is out of its range.
+    AmountLimit {
+        hand: u32,
+        key: Text,
+    },
+    /// The variant is none of the eleven.
+    UnknownVariant {
+        hand: u32,
+        key: Text,
+    },
+    /// The game is not played by so many seats.
+    SeatCount {
+        hand: u32,
+        key: Text,
+    },
+    /// A list has not one item for each seat, or more rakes than a hand has pots.
+    ListLength {
+        hand: u32,
+        key: Text,
+    },
+    /// An action has none of the forms.
+    BadAction {
+        hand: u32,
+        key: Text,
+    },
+    /// There is more than the limit of the quantity allows.
+    TooMany {
+        hand: u32,
+        key: Text,
+        quantity: Quantity,
+    },
+    /// There was not enough memory.
+    Memory,
+}
+
+/// A fault of a hand of a file.
+#[derive(Clone, Copy, Debug, PartialEq, Eq)]
+pub struct HandFault {
+    /// The number of the hand, from 1 in the order of reading.
+    pub hand: u32,
+    pub fault: Fault,
+}

@@ -1,0 +1,113 @@
+//! The hands of a document are read in order: one where it has a variant, else those under its numbers.
+ghost use Rattle.std.specs.Prelude.{◌≡◌, ◌≤◌, ◌+◌, map, sum_by, length, [], ◌∷◌, IfOk};
+ghost use Rattle.std.specs.List.{AllByRecursion};
+ghost use Rattle.toml.specs.View.{table_view};
+ghost use Rattle.hand_canon.specs.declared.limits.TheConstants.{MOST_FILE_MOVES, MOST_HANDS};
+ghost use Rattle.first_fault.specs.Reading.{Gives};
+ghost use Rattle.phh_fields.specs.declared.fault.Key.TheVariants as keys;
+ghost use Rattle.phh_fields.specs.Fields.{at_key};
+ghost use Rattle.phh_reading.specs.Hand.{plain};
+ghost use Rattle.phh_reading.specs.Reading.{IsHistory, hands_of, hands_said, moves_of, numbered_hand, records_said, those_said};
+
+use crate::fault::HandFault;
+use crate::hand::read_hand;
+use crate::order::{are_hands, tables_in_order};
+use first_fault::Stop;
+use hand_canon::{MOST_HANDS, Quantity, Record, Records};
+use phh_fields::fault::{Fault, Key, Place, What};
+use phh_fields::values::field;
+use std::alloc::Global;
+use toml::Table;
+
+// What is wrong at a hand's variant.
+fn at_variant(hand: u32, what: What) -> Stop<HandFault>
+    ensures { result ≡ Stop.At (record {
+      hand = hand;
+      fault = record { what = what; place = at_key keys.Variant };
+    }) }
+{
+    let place = Place::at_key(Key::Variant);
+    Stop::At(HandFault {
+        hand,
+        fault: Fault { what, place },
+    })
+}
+
+// The hand with this number, from 1, after so many moves of the file.
+#[tactic(auto, unfolding(crate::specs::Reading::numbered_hand))]
+fn read_numbered(
+    alloc: Global,
+    table: &Table,
+    number: u32,
+    file_moves: usize,
+) -> Result<(Record, usize), Stop<HandFault>>
+    requires first { 1 ≤ number }
+    requires few { file_moves ≤ MOST_FILE_MOVES }
+    ensures said { Gives (λ found. (plain found.0 ∷ [], found.1)) result
+        (numbered_hand file_moves number (table_view table.now)) }
+    ensures sound { IfOk result (λ found. IsHistory found.0) }
+    ensures moves { IfOk result (λ found. found.1 ≡ file_moves + moves_of found.0) }
+    ensures few { IfOk result (λ found. found.1 ≤ MOST_FILE_MOVES) }
+    ensures number { IfOk result (λ found. number ≤ MOST_HANDS) }
+{
+    if number as usize > MOST_HANDS {
+        let quantity = Quantity::Hands;
+        return Err(at_variant(number, What::TooMany { quantity }));
+    }
+    match read_hand(alloc, table, number - 1, file_moves) {
+        Ok(found) => Ok(found),
+        Err(Stop::Memory) => Err(Stop::Memory),
+        Err(Stop::At(fault)) => Err(Stop::At(HandFault {
+            hand: number,
+            fault,
+        })),
+    }
+}
+
+// The hands of tables, in order, and the moves of the file after them.
+fn read_tables(alloc: Global, tables: &[&Table]) -> Result<(Records, usize), Stop<HandFault>>
+    ensures said { Gives (λ found. (map plain found.0, found.1)) result
+        (hands_said (map (λ hand. table_view hand.now) tables.now)) }
+    ensures sound { IfOk result (λ found. AllByRecursion IsHistory found.0) }
+    ensures few { IfOk result (λ found. length found.0 ≤ MOST_HANDS) }
+    ensures moves { IfOk result (λ found. sum_by moves_of found.0 ≤ MOST_FILE_MOVES) }
+{
+    let mut records = Records::new(alloc);
+    let mut file_moves = 0;
+    for (index, hand) in tables.iter().enumerate() {
+        let (record, moves) = read_numbered(alloc, hand, index as u32 + 1, file_moves)?;
+        records.push(record)?;
+        file_moves = moves;
+    }
+    Ok((records, file_moves))
+}
+
+// The hands of tables, in order.
+fn read_records(alloc: Global, tables: &[&Table]) -> Result<Records, Stop<HandFault>>
+    ensures said { Gives (map plain) result
+        (records_said (map (λ hand. table_view hand.now) tables.now)) }
+    ensures sound { IfOk result (AllByRecursion IsHistory) }
+    ensures few { IfOk result (λ records. length records ≤ MOST_HANDS) }
+    ensures moves { IfOk result (λ records. sum_by moves_of records ≤ MOST_FILE_MOVES) }
+{
+    let (records, _moves) = read_tables(alloc, tables)?;
+    Ok(records)
+}
+
+/// The hands of a document.
+#[tactic(auto, unfolding(crate::specs::Reading::hands_of))]
+pub fn read_hands(alloc: Global, table: &Table) -> Result<Records, Stop<HandFault>>
+    ensures said { Gives (map plain) result (those_said (hands_of (table_view table.now))) }
+    ensures sound { IfOk result (AllByRecursion IsHistory) }
+    ensures few { IfOk result (λ records. length records ≤ MOST_HANDS) }
+    ensures moves { IfOk result (λ records. sum_by moves_of records ≤ MOST_FILE_MOVES) }
+{
+    if field(table, Key::Variant).is_some() {
+        return read_records(alloc, &[table]);
+    }
+    if !are_hands(table) {
+        return Err(at_variant(1, What::MissingField));
+    }
+    let tables = tables_in_order(alloc, table)?;
+    read_records(alloc, tables.as_slice())
+}

@@ -1,0 +1,98 @@
+//! The fields of a table are read as the record of one hand.
+ghost use Rattle.std.specs.Prelude.{◌≡◌, ◌≤◌, ◌+◌, ℕ, IfOk, option_map};
+ghost use Rattle.std.specs.Option.{ForSome};
+ghost use Rattle.toml.specs.View.{table_view};
+ghost use Rattle.chip_ledger.specs.declared.rows.TheConstants.{MOST_AMOUNT};
+ghost use Rattle.chip_ledger.specs.RakeRow.{rake_of};
+ghost use Rattle.hand_canon.specs.declared.limits.TheConstants.{MOST_FILE_MOVES};
+ghost use Rattle.first_fault.specs.Reading.{Gives, read_if};
+ghost use Rattle.phh_fields.specs.declared.fault.Key.TheVariants as keys;
+ghost use Rattle.phh_fields.specs.Fields.{field as field_said};
+ghost use Rattle.phh_fields.specs.Rows.{amounts_in, row_said};
+ghost use Rattle.phh_reading.specs.Hand.{hand_said, plain, rakes_at};
+ghost use Rattle.phh_reading.specs.Reading.{IsHistory, moves_of};
+
+use crate::events::read_events;
+use chip_ledger::{MOST_AMOUNT, RakeRow, SeatRow};
+use first_fault::Stop;
+use hand_canon::{Record, Stated};
+use phh_fields::fault::{Fault, Key, Place};
+use phh_fields::notes::read_notes;
+use phh_fields::rows::{read_rakes, read_row};
+use phh_fields::setup::read_setup;
+use phh_fields::values::{field, needed, read_list};
+use play_event::{Reopen, Rules, Setup};
+use std::alloc::Global;
+use toml::Table;
+
+// The finishing stacks of so many seats, if they are stated.
+fn read_finish(table: &Table, seats: u8) -> Result<Option<SeatRow>, Stop<Fault>>
+    requires some { 2 ≤ seats }
+    requires few { seats ≤ 10 }
+    ensures said { Gives (option_map amounts_in) result
+        (read_if (row_said seats MOST_AMOUNT keys.FinishingStacks)
+        (field_said keys.FinishingStacks (table_view table.now))) }
+    ensures seats { IfOk result (λ finish. ForSome finish (λ row. row.seats ≡ seats)) }
+{
+    match field(table, Key::FinishingStacks) {
+        Some(value) => {
+            let finish = read_row(value, seats, MOST_AMOUNT, Key::FinishingStacks)?;
+            Ok(Some(finish))
+        }
+        None => Ok(None),
+    }
+}
+
+// The rakes, or none.
+#[tactic(auto, unfolding(crate::specs::Hand::rakes_at))]
+fn read_rakes_at(table: &Table) -> Result<RakeRow, Stop<Fault>>
+    ensures said { Gives (λ row. row.rakes) result (rakes_at (table_view table.now)) }
+    ensures most { IfOk result (λ row. (pot : ℕ) → rake_of row pot ≤ MOST_AMOUNT) }
+{
+    match field(table, Key::Rakes) {
+        Some(value) => read_rakes(value),
+        None => Ok(RakeRow::none()),
+    }
+}
+
+/// The hand of a table at this place of its file, from 0, after so many moves of the file; and the moves of the file
+/// after it.
+#[tactic(auto, unfolding(crate::specs::Hand::hand_said))]
+pub fn read_hand(
+    alloc: Global,
+    table: &Table,
+    place: u32,
+    file_moves: usize,
+) -> Result<(Record, usize), Stop<Fault>>
+    requires { file_moves ≤ MOST_FILE_MOVES }
+    ensures said { Gives (λ found. (plain found.0, found.1)) result
+        (hand_said file_moves place (table_view table.now)) }
+    ensures sound { IfOk result (λ found. IsHistory found.0) }
+    ensures moves { IfOk result (λ found. found.1 ≡ file_moves + moves_of found.0) }
+    ensures few { IfOk result (λ found. found.1 ≤ MOST_FILE_MOVES) }
+{
+    let setup = read_setup(table)?;
+    let seats = setup.stacks.seats;
+    let actions = read_list(needed(table, Key::Actions)?, Place::at_key(Key::Actions))?;
+    let (script, counts) = read_events(alloc, seats, file_moves, actions)?;
+    let finish = read_finish(table, seats)?;
+    let rakes = read_rakes_at(table)?;
+    let notes = read_notes(alloc, table, place, seats)?;
+    let hand = Record {
+        setup: Setup { rakes, ..setup },
+        rules: Rules {
+            reopen: Reopen::Full,
+            free_fold: true,
+            caps: None,
+        },
+        script,
+        stated: Stated {
+            finish,
+            wins: None,
+            pot_total: None,
+            values: None,
+        },
+        notes,
+    };
+    Ok((hand, counts.file_moves))
+}

@@ -1,0 +1,113 @@
+//! The tables of a document whose keys are numbers come in the order of the numbers, and then of the texts.
+ghost use Rattle.std.specs.Prelude.{◌≡◌, ◌==◌, List, [], ◌∷◌, ◌++◌, map, IfOk, IsTrue, OnOk};
+ghost use Rattle.std.specs.List.{prefix_len};
+ghost use Rattle.toml.specs.View.{table_view, view};
+ghost use Rattle.first_fault.specs.Digits.{are_digits as are_digits_said};
+ghost use Rattle.phh_reading.specs.Order.{are_hands as are_hands_said, in_order, is_table as is_table_said, tables_among};
+ghost use Rattle.phh_reading.specs.Stripped.{number_digits};
+
+use card_set::Memory;
+use first_fault::are_digits;
+use std::alloc::Global;
+use std::collections::BTreeMap;
+use toml::{Table, Value};
+
+// Values by the length of the number of their key, the digits of the number, and the key: the longer number is the
+// greater.
+type Numbered<'a> = BTreeMap<(usize, &'a [u8], &'a [u8]), &'a Value>;
+
+// How many zeros stand in front.
+fn zeros(key: &[u8]) -> usize
+    ensures { result ≡ prefix_len (λ digit. digit == 48) key.now }
+{
+    for (index, digit) in key.iter().enumerate() {
+        if *digit != b'0' {
+            return index;
+        }
+    }
+    key.len()
+}
+
+// The digits without the zeros in front.
+fn without_zeros(key: &[u8]) -> &[u8]
+    ensures { result.now ≡ number_digits key.now }
+{
+    let len = zeros(key);
+    let (_zeros, digits) = key.split_at(len);
+    digits
+}
+
+// Whether the value is a table.
+fn is_table(value: &Value) -> bool
+    ensures { result ≡ is_table_said (view value.now) }
+{
+    match value {
+        Value::Table(_) => true,
+        _ => false,
+    }
+}
+
+// Whether the text is a number.
+fn is_number(key: &str) -> bool
+    ensures { result ≡ are_digits_said key.now }
+{
+    are_digits(key.as_bytes())
+}
+
+/// Whether each key is a number and each value a table.
+pub fn are_hands(table: &Table) -> bool
+    ensures { result ≡ are_hands_said (table_view table.now) }
+{
+    for (key, value) in table.iter() {
+        if !(is_number(key.as_str()) && is_table(value)) {
+            return false;
+        }
+    }
+    true
+}
+
+// The values in the order of the numbers of their keys.
+#[tactic(auto, using(crate::proofs::Placing::tables_placed))]
+fn values_in_order<'a>(alloc: Global, table: &'a Table) -> Result<Numbered<'a>, Memory>
+    requires { IsTrue (are_hands_said (table_view table.now)) }
+    ensures { IfOk result (λ hands. tables_among (map (λ e. view e.1.now) hands.entries)
+        ≡ in_order (table_view table.now)) }
+{
+    let mut hands = Numbered::new(alloc);
+    for (key, value) in table.iter() {
+        let text = key.as_str().as_bytes();
+        let digits = without_zeros(text);
+        hands.insert((digits.len(), digits, text), value)?;
+    }
+    Ok(hands)
+}
+
+// The tables with one more value, if it is a table.
+fn push_table<'a>(tables: &mut Vec<&'a Table>, value: &'a Value) -> Result<(), Memory>
+    ensures { OnOk result (map (λ hand. table_view hand.now) tables.new.items
+        ≡ map (λ hand. table_view hand.now) tables.old.items
+        ++ tables_among (view value.now ∷ [])) }
+{
+    match value {
+        Value::Table(hand) => {
+            tables.push(hand)?;
+            Ok(())
+        }
+        _ => Ok(()),
+    }
+}
+
+/// The tables in the order of the numbers of their keys. Ask first that they are hands.
+pub fn tables_in_order<'a>(alloc: Global, table: &'a Table) -> Result<Vec<&'a Table>, Memory>
+    requires { IsTrue (are_hands_said (table_view table.now)) }
+    ensures { IfOk result (λ tables. map (λ hand. table_view hand.now) tables.items
+        ≡ in_order (table_view table.now)) }
+{
+    let hands = values_in_order(alloc, table)?;
+    let mut tables = Vec::new(alloc);
+    for (key, value) in hands.iter() {
+        let _number = key.0;
+        push_table(&mut tables, *value)?;
+    }
+    Ok(tables)
+}

@@ -1,0 +1,96 @@
+//! Bytes are read as the records that they say, or refused with their first fault.
+ghost use Rattle.std.specs.Prelude.{◌≡◌, ◌≤◌, Some, sum_by, length, IfOk, IfSome};
+ghost use Rattle.std.specs.List.{AllByRecursion};
+ghost use Rattle.toml.specs.View.{table_view};
+ghost use Rattle.hand_canon.specs.declared.limits.TheConstants.{MOST_FILE_MOVES, MOST_HANDS};
+ghost use Rattle.phh_fields.specs.Fields.{place_text as place_text_said};
+ghost use Rattle.phh_reading.specs.Reading.{InHand, IsHistory, Reads, document_said, moves_of, reading, wrong_of};
+
+use crate::fault::{HandFault, PhhFault};
+use crate::file::read_hands;
+use card_set::Memory;
+use first_fault::Stop;
+use hand_canon::{Records, Text};
+use phh_fields::fault::{Place, What};
+use std::alloc::Global;
+use toml::Table;
+
+// How a place is spelled: the key, and for an item a space and its number.
+fn place_text(alloc: Global, place: Place) -> Result<Text, Memory>
+    ensures { IfOk result (λ text. text ≡ place_text_said place) }
+{
+    let key = place.key.text();
+    if place.item == 0 {
+        return Text::new(alloc, key);
+    }
+    let item = place.item;
+    let text = format!(in alloc; "{key} {item}")?;
+    Text::new(alloc, text.as_str())
+}
+
+// What is wrong at a key of a hand.
+fn wrong_at(hand: u32, key: Text, what: What) -> PhhFault
+    ensures { wrong_of result ≡ Some (InHand hand key what) }
+{
+    match what {
+        What::MissingField => PhhFault::MissingField { hand, key },
+        What::WrongType => PhhFault::WrongType { hand, key },
+        What::AmountNotWhole => PhhFault::AmountNotWhole { hand, key },
+        What::AmountLimit => PhhFault::AmountLimit { hand, key },
+        What::UnknownVariant => PhhFault::UnknownVariant { hand, key },
+        What::SeatCount => PhhFault::SeatCount { hand, key },
+        What::ListLength => PhhFault::ListLength { hand, key },
+        What::BadAction => PhhFault::BadAction { hand, key },
+        What::TooMany { quantity } => PhhFault::TooMany {
+            hand,
+            key,
+            quantity,
+        },
+    }
+}
+
+// A fault with its key as it is spelled.
+fn spelled(alloc: Global, found: HandFault) -> PhhFault
+    ensures { IfSome (wrong_of result) (λ wrong.
+        wrong ≡ InHand found.hand (place_text_said found.fault.place) found.fault.what) }
+{
+    match place_text(alloc, found.fault.place) {
+        Ok(key) => wrong_at(found.hand, key, found.fault.what),
+        Err(_) => PhhFault::Memory,
+    }
+}
+
+// The records that a document says.
+fn read_document(alloc: Global, table: &Table) -> Result<Records, PhhFault>
+    ensures reads { Reads result (document_said (Some (table_view table.now))) }
+    ensures sound { IfOk result (AllByRecursion IsHistory) }
+    ensures few { IfOk result (λ records. length records ≤ MOST_HANDS) }
+    ensures moves { IfOk result (λ records. sum_by moves_of records ≤ MOST_FILE_MOVES) }
+{
+    match read_hands(alloc, table) {
+        Ok(records) => Ok(records),
+        Err(Stop::Memory) => Err(PhhFault::Memory),
+        Err(Stop::At(found)) => Err(spelled(alloc, found)),
+    }
+}
+
+/// The records that bytes in the Poker Hand History format say, one for each hand in the order of reading; or their
+/// first fault. Each record is sound, and under the rules of hand histories.
+#[tactic(auto, using(crate::proofs::Documents::no_document), unfolding(crate::specs::Reading::reading))]
+pub fn read(alloc: Global, bytes: &[u8]) -> Result<Records, PhhFault>
+    ensures reads { Reads result (reading bytes.now) }
+    ensures sound { IfOk result (AllByRecursion IsHistory) }
+    ensures few { IfOk result (λ records. length records ≤ MOST_HANDS) }
+    ensures moves { IfOk result (λ records. sum_by moves_of records ≤ MOST_FILE_MOVES) }
+{
+    match toml::table_from_slice(alloc, bytes) {
+        Ok(table) => read_document(alloc, &table),
+        Err(error) => {
+            if error.is_memory() {
+                Err(PhhFault::Memory)
+            } else {
+                Err(PhhFault::Text)
+            }
+        }
+    }
+}
