@@ -1,5 +1,5 @@
 -- A script that was played to its end: what the machines say is what the rules say of its past.
-use Rattle.std.proofs.Common.{◌≡◌, ℕ, ◌+◌, ◌≤◌, false, Some, List, reverse, sym, ap, subst, ◌∙◌, arith}
+use Rattle.std.proofs.Common.{◌≡◌, ℕ, ◌≤◌, false, Some, List, reverse, sym, ap, subst, ◌∙◌, arith}
 use Rattle.betting_numbers.specs.declared.table.Table.{Table}
 use Rattle.betting_numbers.specs.Standing as betting
 use Rattle.card_places.specs.declared.card_state.CardState.{CardState}
@@ -14,7 +14,7 @@ use Rattle.deal_core.specs.Board.{board_cards}
 use Rattle.deal_core.specs.Standing as cards
 use Rattle.deal_core.specs.Standing.{IsSeatOf}
 use Rattle.canonical_play.specs.PlayedScript.{IsPlayed}
-use Rattle.hand_play.specs.Together.{StandTogether}
+use Rattle.replay_core.specs.Together.{StandTogether}
 use Rattle.play_event.specs.declared.card_rows.HandRow.{HandRow}
 use Rattle.play_event.specs.declared.code.Code.{Code}
 use Rattle.play_event.specs.declared.reason.Due.{Due}
@@ -31,32 +31,25 @@ use Rattle.play_event.specs.Seats.{is_live}
 use Rattle.play_event.specs.Showing.{has_mucked}
 use Rattle.play_event.specs.Table.{places_of}
 use Rattle.play_event.specs.Trace.{has_unknown_card}
-use Rattle.play_event.specs.ValidSetup.{IsValid}
-use Rattle.play_event.proofs.ChipLaws.{put_and_left, puts_within}
 use Rattle.street_laws.specs.Seats.{IsSeat}
+use Rattle.replay_core.specs.AtEnd.{StandAtEnd}
 use Rattle.replay_core.specs.EndRows.{shown_by}
 use Rattle.replay_core.proofs.EndTrace.{at_end}
 use Rattle.replay_core.proofs.ShownHands.{IsEnd}
 
--- the machines stand at the end of the script
-pub record IsEnded (setup : Setup) (rules : Rules) (script : List Said) (b : Table) (t : CardState) : Type 0 where
-  pub same_setup : b.setup ≡ setup
-  pub legal : AreLegal setup rules (reverse script)
-  pub stands : StandTogether b t (past_at_end setup script)
-  pub finished : is_unfinished (turn setup (past_at_end setup script)).1 ≡ false
-
+-- after all events of a script, where it may end there, the machines stand at its end
 pub ended : (setup : Setup) (rules : Rules) (script : List Said) (first b : Table) (t : CardState) (due : Due) → first.setup ≡ setup → first.rules ≡ rules → b.setup ≡ first.setup
-    → AreLegal first.setup first.rules (reverse script) → StandTogether b t (past_at_end first.setup script) → ((past : Past) → betting.StandsFor b past → due ≡ (turn b.setup past).1) → is_unfinished due ≡ false → IsEnded setup rules script b t
+    → AreLegal first.setup first.rules (reverse script) → StandTogether b t (past_at_end first.setup script) → ((past : Past) → StandTogether b t past → due ≡ (turn b.setup past).1) → is_unfinished due ≡ false → StandAtEnd setup rules script b t
 ended setup rules script first b t due start same_rules kept legal stands due_is finished =
     let together : StandTogether b t (past_at_end setup script) = subst (λ (s : Setup). StandTogether b t (past_at_end s script)) start stands in
     record {
       same_setup = kept ∙ start;
       legal = subst (λ (r : Rules). AreLegal setup r (reverse script)) same_rules (subst (λ (s : Setup). AreLegal s first.rules (reverse script)) start legal);
       stands = together;
-      finished = sym (ap is_unfinished (due_is (past_at_end setup script) together.betting ∙ ap (λ (s : Setup). (turn s (past_at_end setup script)).1) (kept ∙ start))) ∙ finished;
+      finished = sym (ap is_unfinished (due_is (past_at_end setup script) together ∙ ap (λ (s : Setup). (turn s (past_at_end setup script)).1) (kept ∙ start))) ∙ finished;
     }
 
-module _ (setup : Setup) (rules : Rules) (script : List Said) (b : Table) (t : CardState) (ends : IsEnded setup rules script b t) where
+module _ (setup : Setup) (rules : Rules) (script : List Said) (b : Table) (t : CardState) (ends : StandAtEnd setup rules script b t) where
   abbrev past : Past
   past = past_at_end setup script
 
@@ -82,18 +75,6 @@ module _ (setup : Setup) (rules : Rules) (script : List Said) (b : Table) (t : C
 
   pub lives_as : (live : LiveRow) → ((p : Past) → betting.StandsFor b p → (seat : ℕ) → IsSeat b.setup seat → flag_of live seat ≡ is_live (moves_of p) seat) → (seat : ℕ) → 1 ≤ seat → seat ≤ setup.stacks.seats → flag_of live seat ≡ is_live (moves_of past) seat
   lives_as live told seat low high = told past ends.stands.betting seat (seat_of seat low high)
-
-  pub put_within : (puts : SeatRow) → IsValid setup → ((seat : ℕ) → 1 ≤ seat → seat ≤ setup.stacks.seats → amount_of puts seat ≡ chips_put setup (moves_of past) seat) → (seat : ℕ) → 1 ≤ seat → seat ≤ setup.stacks.seats → amount_of puts seat ≤ amount_of setup.stacks seat
-  put_within puts valid told seat low high = omega (arith, told seat low high, puts_within setup rules (reverse script) valid.antes ends.legal seat)
-
-  pub ante_within : (puts : SeatRow) → ((seat : ℕ) → 1 ≤ seat → seat ≤ setup.stacks.seats → amount_of puts seat ≡ chips_put setup (moves_of past) seat) → (seat : ℕ) → 1 ≤ seat → seat ≤ setup.stacks.seats → amount_of setup.antes seat ≤ amount_of puts seat
-  ante_within puts told seat low high =
-      let posts : amount_of setup.antes seat ≤ chips_put setup (moves_of past) seat = omega arith in
-      omega (arith, told seat low high, posts)
-
-  pub whole_stack : (puts left : SeatRow) → IsValid setup → ((seat : ℕ) → 1 ≤ seat → seat ≤ setup.stacks.seats → amount_of puts seat ≡ chips_put setup (moves_of past) seat) → ((seat : ℕ) → 1 ≤ seat → seat ≤ setup.stacks.seats → amount_of left seat ≡ chips_left setup (moves_of past) seat) → (seat : ℕ) → 1 ≤ seat → seat ≤ setup.stacks.seats → amount_of puts seat + amount_of left seat ≡ amount_of setup.stacks seat
-  whole_stack puts left valid put_is left_is seat low high =
-      ap (λ n. n + amount_of left seat) (put_is seat low high) ∙ ap (λ n. chips_put setup (moves_of past) seat + n) (left_is seat low high) ∙ put_and_left setup rules (reverse script) valid.antes ends.legal seat
 
   pub is_end : (code : Code) (live mucked unknown shown : LiveRow) (hands : HandRow) (board : CardRow) → setup.code ≡ code → live.seats ≡ b.setup.stacks.seats → shown.seats ≡ live.seats
       → ((p : Past) → betting.StandsFor b p → (seat : ℕ) → IsSeat b.setup seat → flag_of live seat ≡ is_live (moves_of p) seat)

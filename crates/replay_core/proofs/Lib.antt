@@ -1,4 +1,6 @@
--- What joins the events of a script, and the rows of its end.
+-- What joins betting and cards, the events of a script, and the rows of its end.
+pub mod Joined
+pub mod Moves
 pub mod SoFar
 pub mod Counted
 pub mod TracedPlaces
@@ -7,3 +9,5 @@ pub mod ShownHands
 pub mod FinishBound
 pub mod EndTrace
 pub mod Ended
+pub mod EndChips
+pub mod TraceAtEnd

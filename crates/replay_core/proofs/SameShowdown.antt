@@ -14,14 +14,8 @@ use Rattle.showdown_split.specs.Alike.{AreAlike}
 use Rattle.showdown_split.proofs.Compared.{same_contested}
 use Rattle.variant_table.specs.Orders.{award_of, second_of}
 use Rattle.variant_table.specs.Plain.{pick_of}
+use Rattle.replay_core.specs.Showdowns.{ShowTheSame}
 use Rattle.variant_table.specs.Shares.{AllShared, AreContested, AreOfOne, AreSharesOf, HasHand, Showdown, choices_for, is_contender, first_unshown, first_unshown_from, is_unshown, ranking_of}
-
--- two showdowns show the same
-pub record ShowTheSame (a b : Showdown) : Type 0 where
-  pub seats : a.seats ≡ b.seats
-  pub shown : (seat : ℕ) → 1 ≤ seat → seat ≤ a.seats → a.shown seat ≡ b.shown seat
-  pub holding : (seat : ℕ) → 1 ≤ seat → seat ≤ a.seats → a.shown seat ≡ true → a.holding seat ≡ b.holding seat
-  pub board : a.board ≡ b.board
 
 -- who may win a pot is a seat of the hand
 abbrev pub IsOfSeats : ℕ → PlainPot → Type 0

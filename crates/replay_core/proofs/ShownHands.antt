@@ -54,7 +54,7 @@ use Rattle.showdown_split.proofs.Flagged.{is_flagged-flag}
 use Rattle.chip_ledger.proofs.SeatLists.{count_seats}
 use Rattle.variant_table.specs.Variants.{IsUsable}
 use Rattle.replay_core.specs.EndRows.{flag_count, mucked_by, shown_by}
-use Rattle.replay_core.proofs.SameShowdown.{ShowTheSame}
+use Rattle.replay_core.specs.Showdowns.{ShowTheSame}
 
 -- a hand is played to its end, and the rows have what they say of it
 pub record IsEnd (setup : Setup) (rules : Rules) (events : List Said) (live mucked unknown shown : LiveRow) (hands : HandRow) (board : CardRow) : Type 0 where

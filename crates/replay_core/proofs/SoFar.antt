@@ -6,7 +6,7 @@ use Rattle.std.proofs.lemmas.List.{drop_more, drop_all, take_more, take_all, rev
 use Rattle.std.proofs.lemmas.Option.{get_or_from_slice_get, slice_get-get_or, slice_get-map, slice_get_within}
 use Rattle.betting_numbers.specs.declared.table.Table.{Table}
 use Rattle.card_places.specs.declared.card_state.CardState.{CardState}
-use Rattle.hand_play.specs.Together.{StandTogether}
+use Rattle.replay_core.specs.Together.{StandTogether}
 use Rattle.play_event.specs.declared.event.Event.{Event}
 use Rattle.play_event.specs.declared.played.Move as rows
 use Rattle.play_event.specs.declared.reason.Illegal.{Illegal}

@@ -1,14 +1,17 @@
 -- Rows of the end of a hand: what they say of its past.
 use Rattle.std.specs.Prelude.{◌≡◌, ℕ, ◌≤◌, ◌&&◌, Bool, not, nat_le, count_by, List}
+use Rattle.chip_ledger.specs.declared.pots.PotRow.{PotRow}
 use Rattle.chip_ledger.specs.declared.rows.LiveRow.{LiveRow}
 use Rattle.chip_ledger.specs.declared.rows.SeatRow.{SeatRow}
 use Rattle.chip_ledger.specs.LiveRow.{flag_of}
+use Rattle.chip_ledger.specs.PotRow.{plain_pots}
 use Rattle.chip_ledger.specs.Seat.{seats_of}
 use Rattle.chip_ledger.specs.SeatRow.{amount_of}
 use Rattle.play_event.specs.declared.setup.Setup.{Setup}
 use Rattle.play_event.specs.Chips.{chips_put}
-use Rattle.play_event.specs.Past.{Move}
+use Rattle.play_event.specs.Past.{Move, Past, moves_of}
 use Rattle.play_event.specs.Seats.{is_live}
+use Rattle.play_event.specs.Stakes.{pots_after, returned_after}
 
 -- how many seats of a row are flagged
 abbrev pub flag_count : LiveRow → ℕ
@@ -26,3 +29,8 @@ mucked_by live shown seat = nat_le 2 (flag_count live) && flag_of live seat && n
 pub record AreRowsOf (setup : Setup) (moves : List Move) (put : SeatRow) (live : LiveRow) : Type 0 where
   pub puts : (seat : ℕ) → 1 ≤ seat → seat ≤ setup.stacks.seats → amount_of put seat ≡ chips_put setup moves seat
   pub lives : (seat : ℕ) → 1 ≤ seat → seat ≤ setup.stacks.seats → flag_of live seat ≡ is_live moves seat
+
+-- a row has the pots of the rules after a past, and what is returned to each seat
+pub record ArePotsOf (setup : Setup) (past : Past) (row : PotRow) : Type 0 where
+  pub pots : plain_pots row ≡ pots_after setup (moves_of past)
+  pub returned : (seat : ℕ) → 1 ≤ seat → seat ≤ setup.stacks.seats → amount_of row.returned seat ≡ returned_after setup (moves_of past) seat

@@ -1,4 +1,10 @@
--- What a replay answers.
+-- For which pasts the betting and the cards of a hand stand together, what a step tells, and what a replay answers.
+pub mod Together
+pub mod Told
 pub mod Events
-pub mod Faults
 pub mod EndRows
+pub mod Showdowns
+pub mod AtEnd
+pub mod Conserved
+pub mod Replayed
+pub mod Faults

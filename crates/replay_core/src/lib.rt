@@ -1,8 +1,11 @@
 //! A script is replayed event by event, to its trace or to what is wrong with it.
 #![tactic(auto)]
 
+mod ending;
 mod fault;
 mod finish;
+mod hand_in_play;
+pub mod laws;
 mod places;
 mod playing;
 mod replaying;
@@ -10,4 +13,5 @@ mod rows;
 mod stakes;
 
 pub use fault::ReplayFault;
+pub use hand_in_play::HandInPlay;
 pub use replaying::replay;

@@ -1,19 +1,26 @@
 // The events of a script, one after the other.
 ghost use Rattle.std.specs.Prelude.{◌≡◌, ◌<◌, ◌^◌, ◌++◌, [], length, map, reverse, None, IfErr, IfOk, OnOk};
 ghost use Rattle.betting_numbers.specs.Planned.{past_with, reason_after};
-ghost use Rattle.hand_play.specs.Together.{StandTogether};
-ghost use Rattle.hand_play.specs.Told.{WhereTogether, moves_told};
+ghost use Rattle.replay_core.specs.Together.{IsUpRowOf, StandTogether};
+ghost use Rattle.replay_core.specs.Told.{WhereTogether, moves_told};
+ghost use Rattle.canonical_play.specs.PlayedScript.{IsPlayed, IsWithinLimits};
+ghost use Rattle.play_event.specs.Due as dues;
 ghost use Rattle.play_event.specs.Laws.{AreLegal};
 ghost use Rattle.play_event.specs.Played.{move_said};
 ghost use Rattle.play_event.specs.Said.{said_of};
 ghost use Rattle.play_event.specs.Scripts.{past_at_end};
+ghost use Rattle.play_event.specs.ValidSetup.{IsValid};
+ghost use Rattle.replay_core.specs.AtEnd.{IsAtEnd};
 ghost use Rattle.replay_core.specs.Events.{AreMovesOf, AreRefused, IsRefusedEvent, said_by};
+ghost use Rattle.replay_core.specs.Faults.{IsFaultOf};
 
+use crate::ending::{HandAtEnd, at_end};
 use crate::fault::ReplayFault;
+use crate::hand_in_play::HandInPlay;
 use card_set::Memory;
 use hand_canon::Moves;
-use hand_play::Play;
-use play_event::{Event, Move, Script};
+use play_event::{Due, Event, Move, Rules, Script, Setup};
+use std::alloc::Global;
 use variant_table::Variant;
 
 // Puts a move that is told after the others.
@@ -28,29 +35,31 @@ fn tell(moves: &mut Moves, told: Option<Move>) -> Result<(), Memory>
 
 // Plays one event more, the one with this number.
 fn play_event<V: Variant>(
-    play: &mut Play<V>,
+    hand: &mut HandInPlay<V>,
     moves: &mut Moves,
     event: &Event,
     number: u32,
 ) -> Result<(), ReplayFault>
-    requires { play.old.betting.table.setup.stacks.seats ≡ play.old.cards.state.seats }
-    ensures fault { WhereTogether play.old.betting.table play.old.cards.state
-        (λ past. IfErr result (IsRefusedEvent play.old.betting.table event.now number past)) }
-    ensures legal { WhereTogether play.old.betting.table play.old.cards.state
+    requires seats { hand.old.betting.table.setup.stacks.seats ≡ hand.old.cards.state.seats }
+    requires up { IsUpRowOf V.CODE hand.old.cards.state hand.old.up }
+    ensures fault { WhereTogether hand.old.betting.table hand.old.cards.state
+        (λ past. IfErr result (IsRefusedEvent hand.old.betting.table event.now number past)) }
+    ensures legal { WhereTogether hand.old.betting.table hand.old.cards.state
         (λ past. OnOk result
-        (reason_after play.old.betting.table past (said_of event.now) ≡ None)) }
-    ensures stands { WhereTogether play.old.betting.table play.old.cards.state
-        (λ past. OnOk result (StandTogether play.new.betting.table play.new.cards.state
-        (past_with play.old.betting.table past (said_of event.now)))) }
-    ensures moves { WhereTogether play.old.betting.table play.old.cards.state
-        (λ past. AreMovesOf play.old.betting.table.setup past moves.old
-        → OnOk result (AreMovesOf play.old.betting.table.setup
-        (past_with play.old.betting.table past (said_of event.now)) moves.new)) }
-    ensures seats { play.new.cards.state.seats ≡ play.old.cards.state.seats }
-    ensures setup { play.new.betting.table.setup ≡ play.old.betting.table.setup }
-    ensures rules { play.new.betting.table.rules ≡ play.old.betting.table.rules }
+        (reason_after hand.old.betting.table past (said_of event.now) ≡ None)) }
+    ensures stands { WhereTogether hand.old.betting.table hand.old.cards.state
+        (λ past. OnOk result (StandTogether hand.new.betting.table hand.new.cards.state
+        (past_with hand.old.betting.table past (said_of event.now)))) }
+    ensures moves { WhereTogether hand.old.betting.table hand.old.cards.state
+        (λ past. AreMovesOf hand.old.betting.table.setup past moves.old
+        → OnOk result (AreMovesOf hand.old.betting.table.setup
+        (past_with hand.old.betting.table past (said_of event.now)) moves.new)) }
+    ensures up { IsUpRowOf V.CODE hand.new.cards.state hand.new.up }
+    ensures seats { hand.new.cards.state.seats ≡ hand.old.cards.state.seats }
+    ensures setup { hand.new.betting.table.setup ≡ hand.old.betting.table.setup }
+    ensures rules { hand.new.betting.table.rules ≡ hand.old.betting.table.rules }
 {
-    match play.advance(event) {
+    match hand.advance(event) {
         Ok(told) => match tell(moves, told) {
             Ok(()) => Ok(()),
             Err(_) => Err(ReplayFault::Memory),
@@ -64,35 +73,76 @@ fn play_event<V: Variant>(
 }
 
 // Plays the events of a script from the first to the last, and counts them.
-pub fn play_events<V: Variant>(
-    play: &mut Play<V>,
+fn play_events<V: Variant>(
+    hand: &mut HandInPlay<V>,
     moves: &mut Moves,
     script: &Script,
 ) -> Result<u32, ReplayFault>
-    requires seats { play.old.betting.table.setup.stacks.seats ≡ play.old.cards.state.seats }
-    requires start { StandTogether play.old.betting.table play.old.cards.state [] }
+    requires seats { hand.old.betting.table.setup.stacks.seats ≡ hand.old.cards.state.seats }
+    requires up { IsUpRowOf V.CODE hand.old.cards.state hand.old.up }
+    requires start { StandTogether hand.old.betting.table hand.old.cards.state [] }
     requires none { moves.old ≡ [] }
     requires few { length script.now < 2 ^ 32 }
     ensures fault { IfErr result
-        (AreRefused play.old.betting.table.setup play.old.betting.table.rules script.now) }
-    ensures legal { OnOk result (AreLegal play.old.betting.table.setup
-        play.old.betting.table.rules (reverse (said_by script.now))) }
+        (AreRefused hand.old.betting.table.setup hand.old.betting.table.rules script.now) }
+    ensures legal { OnOk result (AreLegal hand.old.betting.table.setup
+        hand.old.betting.table.rules (reverse (said_by script.now))) }
     ensures count { IfOk result (λ count. count ≡ length script.now) }
-    ensures stands { OnOk result (StandTogether play.new.betting.table play.new.cards.state
-        (past_at_end play.old.betting.table.setup (said_by script.now))) }
-    ensures moves { OnOk result (AreMovesOf play.old.betting.table.setup
-        (past_at_end play.old.betting.table.setup (said_by script.now)) moves.new) }
-    ensures seats { play.new.cards.state.seats ≡ play.old.cards.state.seats }
-    ensures setup { play.new.betting.table.setup ≡ play.old.betting.table.setup }
+    ensures stands { OnOk result (StandTogether hand.new.betting.table hand.new.cards.state
+        (past_at_end hand.old.betting.table.setup (said_by script.now))) }
+    ensures moves { OnOk result (AreMovesOf hand.old.betting.table.setup
+        (past_at_end hand.old.betting.table.setup (said_by script.now)) moves.new) }
+    ensures up { IsUpRowOf V.CODE hand.new.cards.state hand.new.up }
+    ensures seats { hand.new.cards.state.seats ≡ hand.old.cards.state.seats }
+    ensures setup { hand.new.betting.table.setup ≡ hand.old.betting.table.setup }
 {
     let mut cursor = script.cursor();
     let mut count: u32 = 0;
     while let Some(event) = cursor.next() {
-        match play_event(play, moves, &event, count + 1) {
+        match play_event(hand, moves, &event, count + 1) {
             Ok(()) => {}
             Err(fault) => return Err(fault),
         }
         count += 1;
     }
     Ok(count)
+}
+
+// A script may not end while this is due.
+fn is_unfinished(due: Due) -> bool
+    ensures { result ≡ dues.is_unfinished due }
+{
+    match due {
+        Due::Deal(_) | Due::Draw(_) | Due::BringIn | Due::Move => true,
+        Due::Show | Due::Over => false,
+    }
+}
+
+/// Plays a script to its end, or tells what keeps it from that.
+pub fn play_out<V: Variant>(
+    alloc: Global,
+    setup: &Setup,
+    rules: &Rules,
+    script: &Script,
+) -> Result<HandAtEnd, ReplayFault>
+    requires valid { IsValid setup.now }
+    requires code { setup.now.code ≡ V.CODE }
+    requires within { IsWithinLimits (said_by script.now) }
+    ensures fault { IfErr result (IsFaultOf setup.now rules.now script.now) }
+    ensures played { OnOk result (IsPlayed setup.now rules.now (said_by script.now)) }
+    ensures ended { IfOk result (IsAtEnd setup.now (past_at_end setup.now (said_by script.now))) }
+{
+    let mut hand = HandInPlay::<V>::start(setup, rules);
+    let mut moves = Moves::new(alloc);
+    let events = match play_events(&mut hand, &mut moves, script) {
+        Ok(events) => events,
+        Err(fault) => return Err(fault),
+    };
+    if is_unfinished(hand.due()) {
+        return Err(ReplayFault::EndsEarly { events });
+    }
+    match at_end(alloc, &hand, moves) {
+        Ok(ended) => Ok(ended),
+        Err(_) => Err(ReplayFault::Memory),
+    }
 }

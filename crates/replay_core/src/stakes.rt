@@ -1,14 +1,14 @@
 // The pots of a hand, from what its seats put.
-ghost use Rattle.std.specs.Prelude.{◌≡◌, ◌≢◌, ◌+◌, ◌≤◌, ℕ, [], List, All, sum_by};
+ghost use Rattle.std.specs.Prelude.{◌≡◌, ◌≢◌, ◌+◌, ◌≤◌, ℕ, [], All, sum_by};
 ghost use Rattle.chip_ledger.specs.LiveRow.{flagged};
-ghost use Rattle.chip_ledger.specs.PotRow.{plain_pots, pots_in};
+ghost use Rattle.chip_ledger.specs.PotRow.{pots_in};
 ghost use Rattle.chip_ledger.specs.Pots.{counted};
 ghost use Rattle.chip_ledger.specs.SeatRow.{amount_of, total_of};
 ghost use Rattle.chip_ledger.specs.declared.rows.TheConstants.{MOST_AMOUNT};
-ghost use Rattle.play_event.specs.Past.{Move};
-ghost use Rattle.play_event.specs.Stakes.{dead_antes_of, pots_after, returned_after};
+ghost use Rattle.play_event.specs.Past.{Past, moves_of};
+ghost use Rattle.play_event.specs.Stakes.{dead_antes_of};
 ghost use Rattle.play_event.specs.ValidSetup.{IsValid};
-ghost use Rattle.replay_core.specs.EndRows.{AreRowsOf};
+ghost use Rattle.replay_core.specs.EndRows.{ArePotsOf, AreRowsOf};
 
 use chip_ledger::{LiveRow, PotRow, Seat, SeatRow, total};
 use play_event::Setup;
@@ -68,11 +68,8 @@ pub fn pots_of(setup: &Setup, puts: &SeatRow, live: &LiveRow) -> PotRow
         → amount_of setup.now.antes n ≤ amount_of puts.now n }
 
     // The rule, exactly.
-    ensures pots { (moves : List Move) → AreRowsOf setup.now moves puts.now live.now
-        → plain_pots result ≡ pots_after setup.now moves }
-    ensures returned { (moves : List Move) (n : ℕ) → AreRowsOf setup.now moves puts.now live.now
-        → 1 ≤ n → n ≤ setup.now.stacks.seats
-        → amount_of result.returned n ≡ returned_after setup.now moves n }
+    ensures pots { (past : Past) → AreRowsOf setup.now (moves_of past) puts.now live.now
+        → ArePotsOf setup.now past result }
 
     // What follows from it.
     ensures conserved { sum_by (λ pot. pot.chips) (pots_in result) + total_of result.returned

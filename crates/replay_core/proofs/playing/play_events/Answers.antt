@@ -1,6 +1,6 @@
 -- Each event is played behind those so far, and in the end all are played.
 use Rattle.std.proofs.Common.{◌≡◌, ℕ, None, List, sym, ap, subst, ◌∙◌, arith}
-use Rattle.hand_play.specs.Together.{StandTogether}
+use Rattle.replay_core.specs.Together.{StandTogether}
 use Rattle.play_event.specs.declared.setup.Rules.{Rules}
 use Rattle.play_event.specs.declared.setup.Setup.{Setup}
 use Rattle.play_event.specs.Laws.{AreLegal}
@@ -14,22 +14,22 @@ use Rattle.replay_core.proofs.playing.play_events.Goals as goal
 
 pub returns-in-Err-clause-fault : goal.returns-in-Err-clause-fault
 returns-in-Err-clause-fault g c =
-    let first = c.args.play.now.betting.table in
+    let first = c.args.hand.now.betting.table in
     let script = c.args.script.now in
     let count : ℕ = c.loop-event.count in
     let inv = c.loop-event.invariant in
     let next = is_next script count c.in-Some.event c.next.new.self (sym c.in-Some.ensures.first ∙ inv.left) in
-    refused_at first.setup first.rules script count c.in-Some.event c.next.new.self c.loop-event.play.betting.table c.loop-event.play.cards.state c.loop-event.moves c.in-Err.fault next inv.played inv.setup inv.rules
+    refused_at first.setup first.rules script count c.in-Some.event c.next.new.self c.loop-event.hand.betting.table c.loop-event.hand.cards.state c.loop-event.moves c.in-Err.fault next inv.played inv.setup inv.rules
     (c.in-Err.ensures.fault (past_of first.setup (so_far script count)) inv.played.stands)
 
 pub loop-event-preserved : goal.loop-event-preserved
 loop-event-preserved g c =
-    let first = c.args.play.now.betting.table in
+    let first = c.args.hand.now.betting.table in
     let script = c.args.script.now in
     let count : ℕ = c.loop-event.count in
     let inv = c.loop-event.invariant in
-    let b = c.loop-event.play.betting.table in
-    let new = c.play_event.new.play in
+    let b = c.loop-event.hand.betting.table in
+    let new = c.play_event.new.hand in
     let event : Said = said_of c.in-Some.event in
     let past : Past = past_of first.setup (so_far script count) in
     let next = is_next script count c.in-Some.event c.next.new.self (sym c.in-Some.ensures.first ∙ inv.left) in
@@ -41,15 +41,16 @@ loop-event-preserved g c =
     record {
       left = next.left;
       within = omega (arith, next.within);
-      played = one_more first.setup first.rules script count c.in-Some.event c.next.new.self b new.betting.table c.loop-event.play.cards.state new.cards.state c.loop-event.moves c.play_event.new.moves next inv.played legal stands moves;
+      played = one_more first.setup first.rules script count c.in-Some.event c.next.new.self b new.betting.table c.loop-event.hand.cards.state new.cards.state c.loop-event.moves c.play_event.new.moves next inv.played legal stands moves;
       setup = c.in-Ok.ensures.setup ∙ inv.setup;
       rules = c.in-Ok.ensures.rules ∙ inv.rules;
+      up = c.in-Ok.ensures.up;
       seats = c.in-Ok.ensures.seats ∙ inv.seats;
     }
 
 pub returns-clause-legal : goal.returns-clause-legal
 returns-clause-legal g c =
-    let first = c.args.play.now.betting.table in
+    let first = c.args.hand.now.betting.table in
     let inv = c.loop-event.invariant in
     let all = all_played c.args.script.now c.loop-event.count (none_left c.args.script.now c.loop-event.count (sym c.in_default.ensures.end.0 ∙ inv.left)) in
     subst (λ (events : List Said). AreLegal first.setup first.rules events) all inv.played.legal
@@ -61,14 +62,14 @@ returns-clause-count g c =
 
 pub returns-clause-stands : goal.returns-clause-stands
 returns-clause-stands g c =
-    let first = c.args.play.now.betting.table in
+    let first = c.args.hand.now.betting.table in
     let inv = c.loop-event.invariant in
     let all = all_played c.args.script.now c.loop-event.count (none_left c.args.script.now c.loop-event.count (sym c.in_default.ensures.end.0 ∙ inv.left)) in
-    subst (λ (events : List Said). StandTogether c.loop-event.play.betting.table c.loop-event.play.cards.state (past_of first.setup events)) all inv.played.stands
+    subst (λ (events : List Said). StandTogether c.loop-event.hand.betting.table c.loop-event.hand.cards.state (past_of first.setup events)) all inv.played.stands
 
 pub returns-clause-moves : goal.returns-clause-moves
 returns-clause-moves g c =
-    let first = c.args.play.now.betting.table in
+    let first = c.args.hand.now.betting.table in
     let inv = c.loop-event.invariant in
     let all = all_played c.args.script.now c.loop-event.count (none_left c.args.script.now c.loop-event.count (sym c.in_default.ensures.end.0 ∙ inv.left)) in
     subst (λ (events : List Said). AreMovesOf first.setup (past_of first.setup events) c.loop-event.moves) all inv.played.moves

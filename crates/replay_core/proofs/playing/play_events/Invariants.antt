@@ -1,19 +1,21 @@
 -- The events so far were played, and those that are left are behind them.
 use Rattle.std.proofs.Common.{◌≡◌, ◌≤◌, length, drop}
+use Rattle.replay_core.specs.Together.{IsUpRowOf}
 use Rattle.replay_core.proofs.SoFar.{IsPlayedTo}
 use Rattle.replay_core.proofs.playing.play_events.Given as goal
 
 abbrev pub invariant-loop-event : goal.invariant-loop-event
 invariant-loop-event g l =
-    let first = l.initial.play.betting.table in
-    let b = l.play.betting.table in
+    let first = l.initial.hand.betting.table in
+    let b = l.hand.betting.table in
     record {
       left : l.cursor ≡ drop l.count l.script;
       within : l.count ≤ length l.script;
-      played : IsPlayedTo first.setup first.rules l.script l.count b l.play.cards.state l.moves;
+      played : IsPlayedTo first.setup first.rules l.script l.count b l.hand.cards.state l.moves;
       setup : b.setup ≡ first.setup;
       rules : b.rules ≡ first.rules;
-      seats : l.play.cards.state.seats ≡ l.initial.play.cards.state.seats;
+      up : IsUpRowOf g.V.Variant.CODE l.hand.cards.state l.hand.up;
+      seats : l.hand.cards.state.seats ≡ l.initial.hand.cards.state.seats;
     }
 
 abbrev pub decreases-loop-event : goal.decreases-loop-event

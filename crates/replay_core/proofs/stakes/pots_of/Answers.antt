@@ -2,6 +2,7 @@
 use Rattle.std.proofs.Common.{List, ap, ◌∙◌, arith}
 use Rattle.chip_ledger.specs.PotRow.{stake_of}
 use Rattle.chip_ledger.specs.Pots.{Stake, pots_of, returned}
+use Rattle.play_event.specs.Past.{moves_of}
 use Rattle.play_event.specs.Stakes.{stakes_after}
 use Rattle.replay_core.proofs.Counted.{all_counted, all_within, stake_is, stakes_are}
 use Rattle.replay_core.proofs.stakes.pots_of.Goals as goal
@@ -14,21 +15,20 @@ pots-requires-clause-bounded c =
     omega (arith, all, all_within setup puts c.requires.puts setup.stacks.greatest (λ n from to. omega (arith, c.requires.within n from to, (c.requires.valid.stacks n from to).1)))
 
 pub returns-clause-pots : goal.returns-clause-pots
-returns-clause-pots c = λ moves rows.
+returns-clause-pots c = λ past rows.
     let setup = c.args.setup.now in
-    let same = stakes_are setup moves c.args.puts.now c.counted_row-counted.result c.args.live.now rows c.requires.puts c.counted_row-counted.ensures.seats c.counted_row-counted.ensures.amounts in
-    c.pots.ensures.pots
-    ∙ ap (λ (stakes : List Stake). pots_of stakes c.dead_antes-dead.result) same
-    ∙ ap (pots_of (stakes_after setup moves)) c.dead_antes-dead.ensures
-
-pub returns-clause-returned : goal.returns-clause-returned
-returns-clause-returned c = λ moves n rows low high.
-    let setup = c.args.setup.now in
+    let moves = moves_of past in
     let counted = c.counted_row-counted.result in
     let same = stakes_are setup moves c.args.puts.now counted c.args.live.now rows c.requires.puts c.counted_row-counted.ensures.seats c.counted_row-counted.ensures.amounts in
-    c.pots.ensures.returned n low (omega (arith, high, c.requires.puts, c.counted_row-counted.ensures.seats))
-    ∙ ap (λ (stakes : List Stake). returned stakes (stake_of counted c.args.live.now n)) same
-    ∙ ap (returned (stakes_after setup moves)) (stake_is setup moves c.args.puts.now counted c.args.live.now rows c.requires.puts c.counted_row-counted.ensures.amounts n low high)
+    record {
+      pots = c.pots.ensures.pots
+          ∙ ap (λ (stakes : List Stake). pots_of stakes c.dead_antes-dead.result) same
+          ∙ ap (pots_of (stakes_after setup moves)) c.dead_antes-dead.ensures;
+      returned = λ n low high.
+          c.pots.ensures.returned n low (omega (arith, high, c.requires.puts, c.counted_row-counted.ensures.seats))
+          ∙ ap (λ (stakes : List Stake). returned stakes (stake_of counted c.args.live.now n)) same
+          ∙ ap (returned (stakes_after setup moves)) (stake_is setup moves c.args.puts.now counted c.args.live.now rows c.requires.puts c.counted_row-counted.ensures.amounts n low high);
+    }
 
 pub returns-clause-conserved : goal.returns-clause-conserved
 returns-clause-conserved c =

@@ -8,22 +8,24 @@ use Rattle.play_event.specs.Due.{turn}
 use Rattle.play_event.specs.Games.{street_count}
 use Rattle.play_event.specs.Past.{Past, moves_of}
 use Rattle.play_event.specs.Reasons.{why}
-use Rattle.play_event.specs.Said as said
 use Rattle.play_event.specs.Said.{Said}
 use Rattle.play_event.specs.Scripts.{with_event}
 use Rattle.play_event.specs.Seats.{is_live}
 use Rattle.betting_numbers.specs.declared.table.Table.{Table}
+use Rattle.betting_numbers.specs.UpSeen.{HoldsUps}
+use Rattle.play_event.specs.declared.card_rows.UpRow.{UpRow}
+use Rattle.play_event.specs.declared.code.Code.{Code}
+use Rattle.play_event.specs.Table.{up_cards}
 use Rattle.betting_numbers.specs.Standing.{StandsFor}
 use Rattle.betting_numbers.specs.UpTo.{StandsUpTo}
 use Rattle.betting_numbers.proofs.LegalCards.{card_kept, card_ended}
 use Rattle.card_places.specs.declared.card_state.CardState.{CardState}
-use Rattle.card_places.specs.CardEvents.{is_deal, is_discard}
 use Rattle.deal_core.specs.Standing.{IsNow}
 use Rattle.deal_core.specs.Standing as cards
-use Rattle.street_laws.specs.CardEvents.{is_card_said, is_showing}
+use Rattle.street_laws.specs.CardEvents.{is_card_said}
 use Rattle.street_laws.specs.Done.{is_done}
 use Rattle.street_laws.specs.Seats.{IsSeat}
-use Rattle.hand_play.specs.Together.{StandTogether, StandUpToDue}
+use Rattle.replay_core.specs.Together.{IsUpRowOf, StandTogether, StandUpToDue}
 
 -- what the cards ask of a past, by the views of the betting
 pub now_of : (b : Table) (t : CardState) (live : LiveRow) (past : Past) → StandTogether b t past → ((seat : ℕ) → IsSeat b.setup seat → flag_of live seat ≡ is_live (moves_of past) seat) → IsNow t b.due live b.setup past
@@ -34,6 +36,12 @@ now_of b t live past both lives = record {
   due_is = ap (λ (p : ℕ × Due). p.1) both.betting.turn_is;
   lives = λ seat in_hand. lives seat (record { first = in_hand.first; last = subst (λ (n : ℕ). seat ≤ n) (sym both.seats) in_hand.last });
 }
+
+-- the row of up-cards is that of the past
+pub ups_of_past : (code : Code) (b : Table) (t : CardState) (up : UpRow) (past : Past) → b.setup.code ≡ code → StandTogether b t past → IsUpRowOf code t up → HoldsUps b.setup up past
+ups_of_past code b t up past code_is both row = λ seat low high.
+    row.ups past seat both.cards (record { first = low; last = subst (λ (n : ℕ). seat ≤ n) both.seats high })
+    ∙ ap (λ game. up_cards game past seat) (sym code_is)
 
 -- the same, where this is the due that the betting tells
 pub now_at : (b : Table) (t : CardState) (due : Due) (live : LiveRow) (past : Past) → StandTogether b t past → due ≡ b.due → ((seat : ℕ) → IsSeat b.setup seat → flag_of live seat ≡ is_live (moves_of past) seat) → IsNow t due live b.setup past
@@ -70,40 +78,6 @@ up_to_after b past event t next both card legal from_one within same_code same_s
   kept = card_kept b b.rules past event both.betting card legal from_one within;
   ended = card_ended b b.rules past event both.betting card legal from_one within;
 }
-
--- deals, discards, shows and mucks are events of cards
-pub deal_said : (event : Said) → is_deal event ≡ true → is_card_said event ≡ true
-deal_said (said.Hole seat cards) is = refl
-deal_said (said.Board cards) is = refl
-deal_said (said.Discard seat cards) is = refl
-deal_said (said.Show seat cards) is = refl
-deal_said (said.Muck seat) is = refl
-deal_said (said.Fold named) is = is
-deal_said (said.Call named stated) is = is
-deal_said (said.Raise named amount) is = is
-deal_said (said.BringIn named) is = is
-
-pub discard_said : (event : Said) → is_discard event ≡ true → is_card_said event ≡ true
-discard_said (said.Hole seat cards) is = refl
-discard_said (said.Board cards) is = refl
-discard_said (said.Discard seat cards) is = refl
-discard_said (said.Show seat cards) is = refl
-discard_said (said.Muck seat) is = refl
-discard_said (said.Fold named) is = is
-discard_said (said.Call named stated) is = is
-discard_said (said.Raise named amount) is = is
-discard_said (said.BringIn named) is = is
-
-pub showing_said : (event : Said) → is_showing event ≡ true → is_card_said event ≡ true
-showing_said (said.Hole seat cards) is = refl
-showing_said (said.Board cards) is = refl
-showing_said (said.Discard seat cards) is = refl
-showing_said (said.Show seat cards) is = refl
-showing_said (said.Muck seat) is = refl
-showing_said (said.Fold named) is = is
-showing_said (said.Call named stated) is = is
-showing_said (said.Raise named amount) is = is
-showing_said (said.BringIn named) is = is
 
 -- where the hand is over, both stand
 both_over : (b : Table) (t : CardState) (past : Past) → StandUpToDue b t past → b.due ≡ dues.Over → StandTogether b t past

@@ -23,7 +23,7 @@ use Rattle.deal_core.proofs.StandsMove.{move_kept}
 use Rattle.street_laws.specs.CardEvents.{is_card_said}
 use Rattle.street_laws.proofs.CardTurns.{moves_kept}
 use Rattle.street_laws.proofs.LegalCards.{card_resolved}
-use Rattle.hand_play.specs.Told.{IsToldOf}
+use Rattle.replay_core.specs.Told.{IsToldOf}
 
 -- an event that is no event of cards takes place as a move
 pub record IsMove (setup : Setup) (past : Past) (event : Said) : Type 0 where

@@ -3,7 +3,7 @@ use Rattle.std.specs.Prelude.{◌≡◌, List, [], ◌∷◌, ◌++◌, Option, 
 use Rattle.betting_numbers.specs.declared.table.Table.{Table}
 use Rattle.betting_numbers.specs.Planned.{past_with}
 use Rattle.card_places.specs.declared.card_state.CardState.{CardState}
-use Rattle.hand_play.specs.Together.{StandTogether}
+use Rattle.replay_core.specs.Together.{StandTogether}
 use Rattle.play_event.specs.declared.played.Move as rows
 use Rattle.play_event.specs.Past.{Past, moves_of}
 use Rattle.play_event.specs.Played.{move_said}

@@ -1,6 +1,6 @@
 -- What is complete behind what was ended is the showdown, and behind that nothing is due.
-use Rattle.hand_play.proofs.Joined.{end_by}
-use Rattle.hand_play.proofs.play.Play.end.Goals as goal
+use Rattle.replay_core.proofs.Joined.{end_by}
+use Rattle.replay_core.proofs.hand_in_play.HandInPlay.end.Goals as goal
 
 pub returns-then-end_one-clause-stands : goal.returns-then-end_one-clause-stands
 returns-then-end_one-clause-stands g c =

@@ -3,8 +3,8 @@ use Rattle.std.proofs.Common.{◌≡◌, true, false, sym, ap, ◌∙◌}
 use Rattle.play_event.specs.declared.setup.Setup.{Setup}
 use Rattle.play_event.specs.Due.{turn}
 use Rattle.street_laws.specs.Done.{is_done}
-use Rattle.hand_play.proofs.Joined.{now_up_to}
-use Rattle.hand_play.proofs.play.Play.end_one.Goals as goal
+use Rattle.replay_core.proofs.Joined.{now_up_to}
+use Rattle.replay_core.proofs.hand_in_play.HandInPlay.end_one.Goals as goal
 
 pub returns-then-done-clause-up_to : goal.returns-then-done-clause-up_to
 returns-then-done-clause-up_to g c =

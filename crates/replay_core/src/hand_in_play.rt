@@ -1,30 +1,43 @@
 // The betting and the cards of a hand, and one event more of it.
-ghost use Rattle.std.specs.Prelude.{◌≡◌, [], true, false, None, Some, IfErr, IfOk, OnErr, OnOk};
+ghost use Rattle.std.specs.Prelude.{◌≡◌, ◌≢◌, [], ℕ, true, false, None, Some, IfErr, IfOk, OnErr, OnOk};
 ghost use Rattle.betting_numbers.specs.Planned.{past_with, reason_after};
-ghost use Rattle.betting_numbers.specs.UpSeen.{HoldsUps};
-ghost use Rattle.card_places.specs.CardEvents.{is_deal, is_discard};
-ghost use Rattle.play_event.specs.Past.{Past, is_fold};
+ghost use Rattle.chip_ledger.specs.LiveRow.{flag_of};
+ghost use Rattle.chip_ledger.specs.SeatRow.{amount_of};
+ghost use Rattle.deal_core.specs.Standing.{IsNow};
+ghost use Rattle.deal_core.specs.Standing as cards_stand;
+ghost use Rattle.play_event.specs.Chips.{chips_left, chips_put};
+ghost use Rattle.play_event.specs.Due.{is_settled, turn};
+ghost use Rattle.play_event.specs.Past.{Past, is_fold, moves_of};
 ghost use Rattle.play_event.specs.Played.{act_said};
+ghost use Rattle.play_event.specs.Reasons.{why};
 ghost use Rattle.play_event.specs.Said.{said_of};
+ghost use Rattle.play_event.specs.Scripts.{with_event};
+ghost use Rattle.play_event.specs.Seats.{is_live};
 ghost use Rattle.play_event.specs.ValidSetup.{IsValid};
 ghost use Rattle.play_event.specs.declared.reason.Due.TheVariants as dues;
-ghost use Rattle.street_laws.specs.CardEvents.{is_card_said, is_showing};
+ghost use Rattle.play_event.specs.declared.setup.Rules.{Rules as RulesNow};
+ghost use Rattle.play_event.specs.declared.setup.Setup.{Setup as SetupNow};
+ghost use Rattle.street_laws.specs.CardEvents.{is_card_said};
 ghost use Rattle.street_laws.specs.Done.{is_done};
-ghost use Rattle.hand_play.specs.Together.{StandTogether, StandUpToDue};
-ghost use Rattle.hand_play.specs.Told.{IsToldOf, WhereTogether};
+ghost use Rattle.street_laws.specs.Dues.{IsDueWithin};
+ghost use Rattle.street_laws.specs.Seats.{IsSeat};
+ghost use Rattle.replay_core.specs.Together.{IsUpRowOf, StandTogether, StandUpToDue};
+ghost use Rattle.replay_core.specs.Told.{IsToldOf, WhereTogether};
 
-use betting_core::{Betting, Moved};
+use betting_core::Betting;
+use chip_ledger::{LiveRow, SeatRow};
 use deal_core::Cards;
-use play_event::{Act, Event, Illegal, Kind, Rules, Setup, UpRow};
+use play_event::{Act, Due, Event, Illegal, Kind, Move, Rules, Setup, UpRow};
 use variant_table::Variant;
 
-/// A hand of the game `V` at some moment: its betting and its cards.
+/// A hand of the game `V` at some moment: its betting, its cards, and a row of the up-cards among them.
 ///
-/// What the calls say of the past holds for every past for which both stand (`StandTogether`).
+/// What the calls say of the past holds for every past for which betting and cards stand (`StandTogether`).
 #[derive(Drop)]
-pub struct Play<V: Variant> {
+pub struct HandInPlay<V: Variant> {
     pub betting: Betting<V>,
     pub cards: Cards<V>,
+    pub up: UpRow,
 }
 
 // The act is a fold.
@@ -37,35 +50,108 @@ fn folds(act: Act) -> bool
     }
 }
 
-impl<V: Variant> Play<V> {
+// Puts an event of cards to the cards: a deal, a discard, a show or a muck.
+fn lay<V: Variant>(
+    cards: &mut Cards<V>,
+    due: Due,
+    live: &LiveRow,
+    settled: bool,
+    event: &Event,
+) -> Result<(), Illegal>
+    requires kind { is_card_said (said_of event.now) ≡ true }
+    requires due { IsDueWithin V.STREETS due }
+    requires live { live.now.seats ≡ cards.old.state.seats }
+    ensures legal { (setup : SetupNow) (rules : RulesNow) (past : Past)
+        → IsNow cards.old.state due live.now setup past
+        → is_settled setup (moves_of past) (turn setup past) ≡ settled
+        → OnOk result (why setup rules past (said_of event.now) ≡ None) }
+    ensures illegal { (setup : SetupNow) (rules : RulesNow) (past : Past)
+        → IsNow cards.old.state due live.now setup past
+        → is_settled setup (moves_of past) (turn setup past) ≡ settled
+        → IfErr result (λ reason. why setup rules past (said_of event.now) ≡ Some reason) }
+    ensures stands { (setup : SetupNow) (past : Past)
+        → IsNow cards.old.state due live.now setup past
+        → OnOk result (cards_stand.StandsFor cards.new.state
+        (with_event setup (said_of event.now) past)) }
+    ensures unchanged { OnErr result (cards.new ≡ cards.old) }
+    ensures seats { cards.new.state.seats ≡ cards.old.state.seats }
+{
+    match event.kind {
+        Kind::Hole { seat: _, cards: _ } | Kind::Board { cards: _ } => {
+            cards.deal(due, live, event)
+        }
+        Kind::Discard { seat: _, cards: _ } => cards.discard(due, live, event),
+        Kind::Show { seat: _, cards: _ } | Kind::Muck { seat: _ } => {
+            cards.show(due, live, settled, event)
+        }
+        // The condition leaves no other kind.
+        _ => Err(Illegal::WrongKind),
+    }
+}
+
+impl<V: Variant> HandInPlay<V> {
     /// The hand before its first card.
     pub fn start(setup: &Setup, rules: &Rules) -> Self
         requires valid { IsValid setup.now }
         requires code { setup.now.code ≡ V.CODE }
         ensures stands { StandTogether result.betting.table result.cards.state [] }
+        ensures up { IsUpRowOf V.CODE result.cards.state result.up }
         ensures setup { result.betting.table.setup ≡ setup.now }
         ensures rules { result.betting.table.rules ≡ rules.now }
         ensures seats { result.cards.state.seats ≡ setup.now.stacks.seats }
     {
-        Play {
+        let cards = Cards::<V>::start(setup.stacks.seats);
+        HandInPlay {
             betting: Betting::<V>::start(setup, rules),
-            cards: Cards::<V>::start(setup.stacks.seats),
+            up: cards.up(),
+            cards,
         }
     }
 
-    // The up-cards of each seat.
-    fn up(&self) -> UpRow
-        requires seats { self.now.betting.table.setup.stacks.seats ≡ self.now.cards.state.seats }
-        ensures seats { result.seats ≡ self.now.betting.table.setup.stacks.seats }
-        ensures ups { WhereTogether self.now.betting.table self.now.cards.state
-            (HoldsUps self.now.betting.table.setup result) }
+    /// What is due.
+    pub fn due(&self) -> Due
+        ensures { WhereTogether self.now.betting.table self.now.cards.state
+            (λ past. result ≡ (turn self.now.betting.table.setup past).1) }
     {
-        self.cards.up()
+        self.betting.due()
+    }
+
+    /// Which seats are live: those that have not folded.
+    pub fn live(&self) -> LiveRow
+        ensures seats { result.seats ≡ self.now.betting.table.setup.stacks.seats }
+        ensures lives { WhereTogether self.now.betting.table self.now.cards.state
+            (λ past. (seat : ℕ) → IsSeat self.now.betting.table.setup seat
+            → flag_of result seat ≡ is_live (moves_of past) seat) }
+    {
+        self.betting.live()
+    }
+
+    /// The chips that each seat has put in this hand, antes included.
+    pub fn puts(&self) -> SeatRow
+        ensures seats { result.seats ≡ self.now.betting.table.setup.stacks.seats }
+        ensures puts { WhereTogether self.now.betting.table self.now.cards.state
+            (λ past. (seat : ℕ) → IsSeat self.now.betting.table.setup seat
+            → amount_of result seat
+            ≡ chips_put self.now.betting.table.setup (moves_of past) seat) }
+    {
+        self.betting.puts()
+    }
+
+    /// The chips that each seat has left.
+    pub fn stacks(&self) -> SeatRow
+        ensures seats { result.seats ≡ self.now.betting.table.setup.stacks.seats }
+        ensures left { WhereTogether self.now.betting.table self.now.cards.state
+            (λ past. (seat : ℕ) → IsSeat self.now.betting.table.setup seat
+            → amount_of result seat
+            ≡ chips_left self.now.betting.table.setup (moves_of past) seat) }
+    {
+        self.betting.stacks()
     }
 
     // A move, and for a fold what it does to the cards.
-    fn bet(&mut self, event: &Event) -> Result<Moved, Illegal>
+    fn bet(&mut self, event: &Event) -> Result<Option<Move>, Illegal>
         requires seats { self.old.betting.table.setup.stacks.seats ≡ self.old.cards.state.seats }
+        requires up { IsUpRowOf V.CODE self.old.cards.state self.old.up }
         requires kind { is_card_said (said_of event.now) ≡ false }
         ensures refused { WhereTogether self.old.betting.table self.old.cards.state
             (λ past. IfErr result (λ reason.
@@ -78,22 +164,23 @@ impl<V: Variant> Play<V> {
             (StandTogether self.new.betting.table self.new.cards.state
             (past_with self.old.betting.table past (said_of event.now)))) }
         ensures told { WhereTogether self.old.betting.table self.old.cards.state
-            (λ past. IfOk result (λ moved.
-            IsToldOf self.old.betting.table (said_of event.now) past (Some moved))) }
+            (λ past. IfOk result
+            (IsToldOf self.old.betting.table (said_of event.now) past)) }
+        ensures up { IsUpRowOf V.CODE self.new.cards.state self.new.up }
         ensures unchanged { OnErr result (self.new ≡ self.old) }
         ensures seats { self.new.cards.state.seats ≡ self.old.cards.state.seats }
         ensures setup { self.new.betting.table.setup ≡ self.old.betting.table.setup }
         ensures rules { self.new.betting.table.rules ≡ self.old.betting.table.rules }
     {
-        let up = self.up();
-        let moved = match self.betting.step(&up, event) {
+        let moved = match self.betting.step(&self.up, event) {
             Ok(moved) => moved,
             Err(reason) => return Err(reason),
         };
         if folds(moved.act) {
             self.cards.folded(moved.seat);
+            self.up = self.cards.up();
         }
-        Ok(moved)
+        Ok(Some(moved))
     }
 
     // Ends the deal, the draw or the show that is due, if it is complete.
@@ -143,110 +230,11 @@ impl<V: Variant> Play<V> {
         }
     }
 
-    // A deal.
-    fn deal(&mut self, event: &Event) -> Result<(), Illegal>
+    // An event of cards, and the end of what it completes.
+    fn take_cards(&mut self, event: &Event) -> Result<Option<Move>, Illegal>
         requires seats { self.old.betting.table.setup.stacks.seats ≡ self.old.cards.state.seats }
-        requires kind { is_deal (said_of event.now) ≡ true }
-        ensures refused { WhereTogether self.old.betting.table self.old.cards.state
-            (λ past. IfErr result (λ reason.
-            reason_after self.old.betting.table past (said_of event.now) ≡ Some reason)) }
-        ensures legal { WhereTogether self.old.betting.table self.old.cards.state
-            (λ past. OnOk result
-            (reason_after self.old.betting.table past (said_of event.now) ≡ None)) }
-        ensures stands { WhereTogether self.old.betting.table self.old.cards.state
-            (λ past. OnOk result
-            (StandTogether self.new.betting.table self.new.cards.state
-            (past_with self.old.betting.table past (said_of event.now)))) }
-        ensures told { WhereTogether self.old.betting.table self.old.cards.state
-            (λ past. OnOk result
-            (IsToldOf self.old.betting.table (said_of event.now) past None)) }
-        ensures unchanged { OnErr result (self.new ≡ self.old) }
-        ensures seats { self.new.cards.state.seats ≡ self.old.cards.state.seats }
-        ensures setup { self.new.betting.table.setup ≡ self.old.betting.table.setup }
-        ensures rules { self.new.betting.table.rules ≡ self.old.betting.table.rules }
-    {
-        let due = self.betting.due();
-        let live = self.betting.live();
-        match self.cards.deal(due, &live, event) {
-            Ok(()) => {
-                self.end();
-                Ok(())
-            }
-            Err(reason) => Err(reason),
-        }
-    }
-
-    // A discard.
-    fn discard(&mut self, event: &Event) -> Result<(), Illegal>
-        requires seats { self.old.betting.table.setup.stacks.seats ≡ self.old.cards.state.seats }
-        requires kind { is_discard (said_of event.now) ≡ true }
-        ensures refused { WhereTogether self.old.betting.table self.old.cards.state
-            (λ past. IfErr result (λ reason.
-            reason_after self.old.betting.table past (said_of event.now) ≡ Some reason)) }
-        ensures legal { WhereTogether self.old.betting.table self.old.cards.state
-            (λ past. OnOk result
-            (reason_after self.old.betting.table past (said_of event.now) ≡ None)) }
-        ensures stands { WhereTogether self.old.betting.table self.old.cards.state
-            (λ past. OnOk result
-            (StandTogether self.new.betting.table self.new.cards.state
-            (past_with self.old.betting.table past (said_of event.now)))) }
-        ensures told { WhereTogether self.old.betting.table self.old.cards.state
-            (λ past. OnOk result
-            (IsToldOf self.old.betting.table (said_of event.now) past None)) }
-        ensures unchanged { OnErr result (self.new ≡ self.old) }
-        ensures seats { self.new.cards.state.seats ≡ self.old.cards.state.seats }
-        ensures setup { self.new.betting.table.setup ≡ self.old.betting.table.setup }
-        ensures rules { self.new.betting.table.rules ≡ self.old.betting.table.rules }
-    {
-        let due = self.betting.due();
-        let live = self.betting.live();
-        match self.cards.discard(due, &live, event) {
-            Ok(()) => {
-                self.end();
-                Ok(())
-            }
-            Err(reason) => Err(reason),
-        }
-    }
-
-    // A show or a muck.
-    fn show(&mut self, event: &Event) -> Result<(), Illegal>
-        requires seats { self.old.betting.table.setup.stacks.seats ≡ self.old.cards.state.seats }
-        requires kind { is_showing (said_of event.now) ≡ true }
-        ensures refused { WhereTogether self.old.betting.table self.old.cards.state
-            (λ past. IfErr result (λ reason.
-            reason_after self.old.betting.table past (said_of event.now) ≡ Some reason)) }
-        ensures legal { WhereTogether self.old.betting.table self.old.cards.state
-            (λ past. OnOk result
-            (reason_after self.old.betting.table past (said_of event.now) ≡ None)) }
-        ensures stands { WhereTogether self.old.betting.table self.old.cards.state
-            (λ past. OnOk result
-            (StandTogether self.new.betting.table self.new.cards.state
-            (past_with self.old.betting.table past (said_of event.now)))) }
-        ensures told { WhereTogether self.old.betting.table self.old.cards.state
-            (λ past. OnOk result
-            (IsToldOf self.old.betting.table (said_of event.now) past None)) }
-        ensures unchanged { OnErr result (self.new ≡ self.old) }
-        ensures seats { self.new.cards.state.seats ≡ self.old.cards.state.seats }
-        ensures setup { self.new.betting.table.setup ≡ self.old.betting.table.setup }
-        ensures rules { self.new.betting.table.rules ≡ self.old.betting.table.rules }
-    {
-        let due = self.betting.due();
-        let live = self.betting.live();
-        let settled = self.betting.settled();
-        match self.cards.show(due, &live, settled, event) {
-            Ok(()) => {
-                self.end();
-                Ok(())
-            }
-            Err(reason) => Err(reason),
-        }
-    }
-
-    /// One event more. It is illegal exactly by the rules, and the hand is then as it was. A fold, a call, a raise or a
-    /// bring-in is told as the trace keeps it, and of other events nothing is told.
-    pub fn advance(&mut self, event: &Event) -> Result<Option<Moved>, Illegal>
-        requires seats { self.old.betting.table.setup.stacks.seats ≡ self.old.cards.state.seats }
+        requires up { IsUpRowOf V.CODE self.old.cards.state self.old.up }
+        requires kind { is_card_said (said_of event.now) ≡ true }
         ensures refused { WhereTogether self.old.betting.table self.old.cards.state
             (λ past. IfErr result (λ reason.
             reason_after self.old.betting.table past (said_of event.now) ≡ Some reason)) }
@@ -260,6 +248,44 @@ impl<V: Variant> Play<V> {
         ensures told { WhereTogether self.old.betting.table self.old.cards.state
             (λ past. IfOk result
             (IsToldOf self.old.betting.table (said_of event.now) past)) }
+        ensures up { IsUpRowOf V.CODE self.new.cards.state self.new.up }
+        ensures unchanged { OnErr result (self.new ≡ self.old) }
+        ensures seats { self.new.cards.state.seats ≡ self.old.cards.state.seats }
+        ensures setup { self.new.betting.table.setup ≡ self.old.betting.table.setup }
+        ensures rules { self.new.betting.table.rules ≡ self.old.betting.table.rules }
+    {
+        let due = self.betting.due();
+        let live = self.betting.live();
+        let settled = self.betting.settled();
+        match lay(&mut self.cards, due, &live, settled, event) {
+            Ok(()) => {
+                self.end();
+                self.up = self.cards.up();
+                Ok(None)
+            }
+            Err(reason) => Err(reason),
+        }
+    }
+
+    /// One event more. It is illegal exactly by the rules, and the hand is then as it was. A fold, a call, a raise or a
+    /// bring-in is told as the trace keeps it, and of other events nothing is told.
+    pub fn advance(&mut self, event: &Event) -> Result<Option<Move>, Illegal>
+        requires seats { self.old.betting.table.setup.stacks.seats ≡ self.old.cards.state.seats }
+        requires up { IsUpRowOf V.CODE self.old.cards.state self.old.up }
+        ensures refused { WhereTogether self.old.betting.table self.old.cards.state
+            (λ past. IfErr result (λ reason.
+            reason_after self.old.betting.table past (said_of event.now) ≡ Some reason)) }
+        ensures legal { WhereTogether self.old.betting.table self.old.cards.state
+            (λ past. OnOk result
+            (reason_after self.old.betting.table past (said_of event.now) ≡ None)) }
+        ensures stands { WhereTogether self.old.betting.table self.old.cards.state
+            (λ past. OnOk result
+            (StandTogether self.new.betting.table self.new.cards.state
+            (past_with self.old.betting.table past (said_of event.now)))) }
+        ensures told { WhereTogether self.old.betting.table self.old.cards.state
+            (λ past. IfOk result
+            (IsToldOf self.old.betting.table (said_of event.now) past)) }
+        ensures up { IsUpRowOf V.CODE self.new.cards.state self.new.up }
         ensures unchanged { OnErr result (self.new ≡ self.old) }
         ensures seats { self.new.cards.state.seats ≡ self.old.cards.state.seats }
         ensures setup { self.new.betting.table.setup ≡ self.old.betting.table.setup }
@@ -275,22 +301,12 @@ impl<V: Variant> Play<V> {
                 actor: _,
                 amount: _,
             }
-            | Kind::BringIn { actor: _ } => match self.bet(event) {
-                Ok(moved) => Ok(Some(moved)),
-                Err(reason) => Err(reason),
-            },
-            Kind::Hole { seat: _, cards: _ } | Kind::Board { cards: _ } => match self.deal(event) {
-                Ok(()) => Ok(None),
-                Err(reason) => Err(reason),
-            },
-            Kind::Discard { seat: _, cards: _ } => match self.discard(event) {
-                Ok(()) => Ok(None),
-                Err(reason) => Err(reason),
-            },
-            Kind::Show { seat: _, cards: _ } | Kind::Muck { seat: _ } => match self.show(event) {
-                Ok(()) => Ok(None),
-                Err(reason) => Err(reason),
-            },
+            | Kind::BringIn { actor: _ } => self.bet(event),
+            Kind::Hole { seat: _, cards: _ }
+            | Kind::Board { cards: _ }
+            | Kind::Discard { seat: _, cards: _ }
+            | Kind::Show { seat: _, cards: _ }
+            | Kind::Muck { seat: _ } => self.take_cards(event),
         }
     }
 }
