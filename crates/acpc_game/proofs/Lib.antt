@@ -1,0 +1,7 @@
+-- Laws of words, lines and games.
+pub mod Words
+pub mod Steps
+pub mod Bounds
+pub mod Played
+pub mod Forms
+pub mod Built

@@ -1,0 +1,11 @@
+use Rattle.std.proofs.Common.{◌≡◌, ℕ, ◌≤◌, length, take, slice_index}
+use Rattle.acpc_game.proofs.reading.row_of.Given as goal
+
+-- the amounts so far are written, and zeros stand behind them
+abbrev pub invariant-loop-index : goal.invariant-loop-index
+invariant-loop-index l = record {
+  ten : length l.amounts ≡ 10;
+  bounded : (k : ℕ) → slice_index l.amounts k ≤ 10000000000000;
+  zeros : (k : ℕ) → l.index ≤ k → slice_index l.amounts k ≡ 0;
+  written : take l.index l.amounts ≡ take l.index l.numbers;
+}

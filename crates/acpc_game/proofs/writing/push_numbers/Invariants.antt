@@ -1,0 +1,7 @@
+use Rattle.std.proofs.Common.{◌≡◌, ◌++◌, take}
+use Rattle.acpc_game.specs.GameText.{spaced}
+use Rattle.acpc_game.proofs.writing.push_numbers.Given as goal
+
+-- the numbers so far are written
+abbrev pub invariant-loop-number : goal.invariant-loop-number
+invariant-loop-number l = l.out.items ≡ l.fn.out.items ++ spaced (take l.number-index l.numbers)

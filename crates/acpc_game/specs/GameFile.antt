@@ -1,0 +1,229 @@
+-- What a game file says: its entries, line by line, and the game that they come to, or the first fault.
+use Rattle.std.specs.Prelude.{ℕ, ◌+◌, ◌==◌, Bool, true, false, not, nat_lt, nat_le, max, ◌&&◌, ◌||◌, if◌then◌else◌, List, [], ◌∷◌, ◌++◌, length, replicate, find, slice_index, Option, Some, None, Result, Ok, Err}
+use Rattle.std.specs.List.{list_all, list_any}
+use Rattle.std.specs.Option.{option_map, option_map_or}
+use Rattle.chip_ledger.specs.Greatest.{greatest}
+use Rattle.first_fault.specs.Reading.{◌>>=◌}
+use Rattle.first_fault.specs.Digits.{number_of}
+use Rattle.acpc_text.specs.declared.fault.AcpcFault.{AcpcFault}
+use Rattle.acpc_text.specs.declared.fault.AcpcFault.TheVariants as faults
+use Rattle.acpc_text.specs.Faults.{kept}
+use Rattle.acpc_text.specs.Parts.{lines_of}
+use Rattle.acpc_game.specs.declared.key.Key.{Key}
+use Rattle.acpc_game.specs.declared.key.Key.TheVariants as keys
+use Rattle.acpc_game.specs.Keys.{key_place, most_of, or_else}
+use Rattle.acpc_game.specs.Forms.{Form, form_of, is_passed_over}
+
+-- ---- the entries
+
+-- a line with a key: the key, the number of the line, and its numbers
+pub record EntrySaid : Type 0 where
+  pub key : Key
+  pub line : ℕ
+  pub numbers : List ℕ
+
+-- a line has another form than a line there may have
+abbrev pub bad_shape : {A : Type 0} → ℕ → Result A AcpcFault
+bad_shape line = Err (faults.GameShape (kept line) 1)
+
+-- a number of a line is too great
+abbrev pub too_great : {A : Type 0} → ℕ → Result A AcpcFault
+too_great line = Err (faults.AmountLimit (kept line) 1)
+
+-- an entry has this key; limit and nolimit count as one
+abbrev pub is_of : Key → EntrySaid → Bool
+is_of key entry = key_place entry.key == key_place key
+
+-- the entry with a key, if one stands
+abbrev pub found : Key → List EntrySaid → Option EntrySaid
+found key entries = find (is_of key) entries
+
+abbrev pub stands : Key → List EntrySaid → Bool
+stands key entries = list_any (is_of key) entries
+
+-- a key may stand after these entries: GAMEDEF before all others, and each other key once, until END GAMEDEF
+abbrev pub may_stand : Key → List EntrySaid → Bool
+may_stand keys.Begin entries = length entries == 0
+may_stand key entries = nat_lt 0 (length entries) && (not (stands keys.End entries) && not (stands key entries))
+
+-- the number that a word says, if it is not too great for its key
+unfoldable pub number_said : ℕ → ℕ → List ℕ → Result ℕ AcpcFault
+number_said line most word = option_map_or Ok (number_of most word) (too_great line)
+
+-- these numbers, and those of the words behind them
+unfoldable pub numbers_after : ℕ → ℕ → List ℕ → List (List ℕ) → Result (List ℕ) AcpcFault
+numbers_after line most numbers [] = Ok numbers
+numbers_after line most numbers (word ∷ words) = number_said line most word >>= λ number. numbers_after line most (numbers ++ number ∷ []) words
+
+-- the entries with one more, if its key may stand there
+unfoldable pub entries_with : List EntrySaid → ℕ → Option Form → Result (List EntrySaid) AcpcFault
+entries_with entries line None = bad_shape line
+entries_with entries line (Some (key, words)) =
+    if may_stand key entries
+    then (numbers_after line (most_of key) [] words >>= λ numbers. Ok (entries ++ (record { key = key; line = line; numbers = numbers }) ∷ []))
+    else bad_shape line
+
+-- the entries after one more line
+unfoldable pub entries_after_line : List EntrySaid → ℕ → List ℕ → Result (List EntrySaid) AcpcFault
+entries_after_line entries line text = if is_passed_over text then Ok entries else entries_with entries line (form_of text)
+
+-- the entries after more lines, the first of which has this number
+unfoldable pub entries_after : List EntrySaid → ℕ → List (List ℕ) → Result (List EntrySaid) AcpcFault
+entries_after entries line [] = Ok entries
+entries_after entries line (text ∷ texts) = entries_after_line entries line text >>= λ more. entries_after more (line + 1) texts
+
+-- the entries of a file, and how many lines it has
+abbrev pub entries_said : List ℕ → Result (List EntrySaid × ℕ) AcpcFault
+entries_said bytes = entries_after [] 1 (lines_of bytes) >>= λ entries. Ok (entries, length (lines_of bytes))
+
+-- ---- what they say
+
+-- the numbers behind a key, and none where it does not stand
+abbrev pub numbers_at : Key → List EntrySaid → List ℕ
+numbers_at key entries = option_map_or (λ entry. entry.numbers) (found key entries) []
+
+-- the one number behind a key
+abbrev pub number_at : Key → List EntrySaid → ℕ
+number_at key entries = slice_index (numbers_at key entries) 0
+
+-- the line of a key
+abbrev pub line_at : Key → List EntrySaid → ℕ
+line_at key entries = option_map_or (λ entry. entry.line) (found key entries) 0
+
+-- a key says that the game has no limit
+abbrev pub says_no_limit : Key → Bool
+says_no_limit keys.NoLimit = true
+says_no_limit _ = false
+
+abbrev pub has_no_limit : List EntrySaid → Bool
+has_no_limit entries = option_map_or (λ entry. says_no_limit entry.key) (found keys.Limit entries) false
+
+-- the keys that every game file has
+abbrev pub needed : List Key
+needed =
+    keys.Begin ∷ keys.Limit ∷ keys.NumPlayers ∷ keys.NumRounds ∷ keys.Blind ∷ keys.FirstPlayer
+    ∷ keys.NumSuits ∷ keys.NumRanks ∷ keys.NumHoleCards ∷ keys.NumBoardCards ∷ keys.End ∷ []
+
+-- the numbers behind a key are as many as the players
+abbrev pub is_for_all : Key → List EntrySaid → Bool
+is_for_all key entries = length (numbers_at key entries) == number_at keys.NumPlayers entries
+
+-- nothing is missing: in no limit the stacks are needed, in a limit game the sizes of raises, and stacks may stand
+unfoldable pub is_whole : List EntrySaid → Bool
+is_whole entries =
+    list_all (λ key. stands key entries) needed
+    && (stands (if has_no_limit entries then keys.Stack else keys.RaiseSize) entries
+    && (is_for_all keys.Blind entries && (not (stands keys.Stack entries) || is_for_all keys.Stack entries)))
+
+-- the line that a fault of the whole names, in a file with so many lines: that of END GAMEDEF, or the last one, or 1
+abbrev pub end_line : ℕ → List EntrySaid → ℕ
+end_line count entries = option_map_or (λ entry. entry.line) (found keys.End entries) (max 1 count)
+
+-- ---- the games that are played
+
+-- the stack of each player where none are said
+abbrev pub default_stack : ℕ
+default_stack = 2147483647
+
+abbrev pub stacks_at : List EntrySaid → List ℕ
+stacks_at entries = if stands keys.Stack entries then numbers_at keys.Stack entries else replicate (length (numbers_at keys.Blind entries)) default_stack
+
+-- the numbers are these four
+abbrev pub are_four : ℕ → ℕ → ℕ → ℕ → List ℕ → Bool
+are_four a b c d (w ∷ x ∷ y ∷ z ∷ []) = (w == a && x == b) && (y == c && z == d)
+are_four a b c d _ = false
+
+-- some stack is 0, or below its blind
+abbrev pub has_short_stack : List ℕ → List ℕ → Bool
+has_short_stack [] blinds = false
+has_short_stack (stack ∷ stacks) [] = false
+has_short_stack (stack ∷ stacks) (blind ∷ blinds) = (stack == 0 || nat_lt stack blind) || has_short_stack stacks blinds
+
+-- there are two players, and the second blind is above the first
+abbrev pub is_reversed : List ℕ → Bool
+is_reversed (first ∷ second ∷ []) = nat_lt first second
+is_reversed _ = false
+
+-- the last place, from 1, at which a number stands in a list, or 0
+abbrev pub last_place : ℕ → List ℕ → ℕ
+last_place number [] = 0
+last_place number (n ∷ rest) = if nat_lt 0 (last_place number rest) then last_place number rest + 1 else if n == number then 1 else 0
+
+-- the seat that opens the first round: the one after the last of the greatest blinds, and with two seats the second
+abbrev pub opener_of : List ℕ → ℕ
+opener_of blinds =
+    if length blinds == 2 then 2
+    else if last_place (greatest blinds) blinds == length blinds then 1
+    else last_place (greatest blinds) blinds + 1
+
+-- sizes of raises are s s b b, with s and b at least 1
+abbrev pub are_sizes : List ℕ → Bool
+are_sizes (s ∷ t ∷ b ∷ c ∷ []) = (nat_le 1 s && s == t) && (nat_le 1 b && b == c)
+are_sizes _ = false
+
+-- the first whose condition holds
+abbrev pub first_where : List (Bool × Key) → Option Key
+first_where [] = None
+first_where ((condition, key) ∷ rest) = if condition then Some key else first_where rest
+
+-- a number of players, rounds or cards that is not played; each with the key that shows it
+abbrev pub other_cards : List EntrySaid → List (Bool × Key)
+other_cards entries =
+    (not (nat_le 2 (number_at keys.NumPlayers entries) && nat_le (number_at keys.NumPlayers entries) 10), keys.NumPlayers)
+    ∷ (not (number_at keys.NumRounds entries == 4), keys.NumRounds)
+    ∷ (not (number_at keys.NumSuits entries == 4), keys.NumSuits)
+    ∷ (not (number_at keys.NumRanks entries == 13), keys.NumRanks)
+    ∷ (not (number_at keys.NumHoleCards entries == 2), keys.NumHoleCards)
+    ∷ (not (are_four 0 3 1 1 (numbers_at keys.NumBoardCards entries)), keys.NumBoardCards)
+    ∷ []
+
+-- chips that are not played; each with the key that shows them
+abbrev pub other_chips : List EntrySaid → List (Bool × Key)
+other_chips entries =
+    (has_short_stack (stacks_at entries) (numbers_at keys.Blind entries), if stands keys.Stack entries then keys.Stack else keys.Blind)
+    ∷ (is_reversed (numbers_at keys.Blind entries), keys.Blind)
+    ∷ (not (are_four (opener_of (numbers_at keys.Blind entries)) 1 1 1 (numbers_at keys.FirstPlayer entries)), keys.FirstPlayer)
+    ∷ (has_no_limit entries && greatest (numbers_at keys.Blind entries) == 0, keys.Blind)
+    ∷ (not (has_no_limit entries) && not (are_sizes (numbers_at keys.RaiseSize entries)), keys.RaiseSize)
+    ∷ (not (has_no_limit entries) && (nat_lt 0 (greatest (numbers_at keys.Blind entries)) && nat_lt (greatest (numbers_at keys.Blind entries)) (slice_index (numbers_at keys.RaiseSize entries) 0)), keys.RaiseSize)
+    ∷ []
+
+-- the key that shows that the game is not played
+unfoldable pub first_unsupported : List EntrySaid → Option Key
+first_unsupported entries = or_else (first_where (other_cards entries)) (first_where (other_chips entries))
+
+-- ---- the game
+
+-- a game with its numbers as lists
+pub record GameSaid : Type 0 where
+  pub no_limit : Bool
+  pub stacks : List ℕ
+  pub blinds : List ℕ
+  pub small_raise : ℕ
+  pub big_raise : ℕ
+  pub caps : Option (List ℕ)
+
+-- the size of a raise at a place of the four, in a limit game; else 0
+abbrev pub size_at : ℕ → List EntrySaid → ℕ
+size_at place entries = if has_no_limit entries then 0 else slice_index (numbers_at keys.RaiseSize entries) place
+
+abbrev pub game_by : List EntrySaid → GameSaid
+game_by entries = record {
+  no_limit = has_no_limit entries;
+  stacks = stacks_at entries;
+  blinds = numbers_at keys.Blind entries;
+  small_raise = size_at 0 entries;
+  big_raise = size_at 2 entries;
+  caps = option_map (λ entry. entry.numbers) (found keys.MaxRaises entries);
+}
+
+-- the game that the entries of a file with so many lines come to, or what is wrong with the whole
+unfoldable pub game_at_end : ℕ → List EntrySaid → Result GameSaid AcpcFault
+game_at_end count entries =
+    if is_whole entries
+    then option_map_or (λ key. Err (faults.UnsupportedGame (kept (line_at key entries)) 1)) (first_unsupported entries) (Ok (game_by entries))
+    else bad_shape (end_line count entries)
+
+-- what the bytes of a game file say: the one game, or the first fault
+unfoldable pub game_said : List ℕ → Result GameSaid AcpcFault
+game_said bytes = entries_said bytes >>= λ found. game_at_end found.1 found.0

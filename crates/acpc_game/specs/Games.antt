@@ -1,0 +1,23 @@
+-- Games that some game file says, and the one spelling of each.
+use Rattle.std.specs.Prelude.{ℕ, ◌==◌, Bool, true, false, nat_lt, nat_le, ◌&&◌, ◌||◌, List, take}
+use Rattle.std.specs.List.{list_all}
+use Rattle.chip_ledger.specs.declared.numbers.TheConstants.{MOST_CHIPS}
+use Rattle.chip_ledger.specs.declared.rows.SeatRow.{SeatRow}
+
+-- the amounts of the seats of a row
+abbrev pub amounts_in : SeatRow → List ℕ
+amounts_in row = take row.seats row.amounts
+
+-- each amount is one that may be stated
+abbrev pub are_chips : List ℕ → Bool
+are_chips amounts = list_all (λ chips. nat_le chips MOST_CHIPS) amounts
+
+-- a size of a raise
+abbrev pub is_size : ℕ → Bool
+is_size chips = nat_le 1 chips && nat_le chips MOST_CHIPS
+
+-- The sizes of raises fit the greatest blind: in no limit there is a blind and no size; in a limit game there are two
+-- sizes, and a blind is no less than the first of them.
+abbrev pub fit_blinds : Bool → ℕ → ℕ → ℕ → Bool
+fit_blinds true blind small big = nat_lt 0 blind && (small == 0 && big == 0)
+fit_blinds false blind small big = is_size small && (is_size big && (blind == 0 || nat_le small blind))

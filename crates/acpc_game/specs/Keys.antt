@@ -1,0 +1,81 @@
+-- The keys of a game file, and how many numbers stand behind them.
+use Rattle.std.specs.Prelude.{ℕ, ◌==◌, Bool, nat_lt, bytes_eq, if◌then◌else◌, List, map, codes, Option, Some, None}
+use Rattle.std.specs.Char.{to_ascii_lowercase}
+use Rattle.chip_ledger.specs.declared.numbers.TheConstants.{MOST_CHIPS}
+use Rattle.acpc_game.specs.declared.key.Key.{Key}
+use Rattle.acpc_game.specs.declared.key.Key.TheVariants as keys
+
+-- a text is this word, in any case
+unfoldable pub is_word : List ℕ → List ℕ → Bool
+is_word name text = bytes_eq (map to_ascii_lowercase text) (map to_ascii_lowercase name)
+
+-- a key that was found, or else another
+abbrev pub or_else : Option Key → Option Key → Option Key
+or_else (Some key) other = Some key
+or_else None other = other
+
+-- the key of one number, or of the cards of the board, that a word names
+unfoldable pub card_key_named : List ℕ → Option Key
+card_key_named word =
+    if is_word (codes "numPlayers") word then Some keys.NumPlayers
+    else if is_word (codes "numRounds") word then Some keys.NumRounds
+    else if is_word (codes "numSuits") word then Some keys.NumSuits
+    else if is_word (codes "numRanks") word then Some keys.NumRanks
+    else if is_word (codes "numHoleCards") word then Some keys.NumHoleCards
+    else if is_word (codes "numBoardCards") word then Some keys.NumBoardCards
+    else None
+
+-- the key of chips or turns that a word names
+unfoldable pub chip_key_named : List ℕ → Option Key
+chip_key_named word =
+    if is_word (codes "stack") word then Some keys.Stack
+    else if is_word (codes "blind") word then Some keys.Blind
+    else if is_word (codes "raiseSize") word then Some keys.RaiseSize
+    else if is_word (codes "firstPlayer") word then Some keys.FirstPlayer
+    else if is_word (codes "maxRaises") word then Some keys.MaxRaises
+    else None
+
+-- the key with numbers that a word names
+abbrev pub key_named : List ℕ → Option Key
+key_named word = or_else (card_key_named word) (chip_key_named word)
+
+-- where a key stands in the one spelling; limit and nolimit have one place
+abbrev pub key_place : Key → ℕ
+key_place keys.Begin = 0
+key_place keys.Limit = 1
+key_place keys.NoLimit = 1
+key_place keys.NumPlayers = 2
+key_place keys.NumRounds = 3
+key_place keys.Stack = 4
+key_place keys.Blind = 5
+key_place keys.RaiseSize = 6
+key_place keys.FirstPlayer = 7
+key_place keys.MaxRaises = 8
+key_place keys.NumSuits = 9
+key_place keys.NumRanks = 10
+key_place keys.NumHoleCards = 11
+key_place keys.NumBoardCards = 12
+key_place keys.End = 13
+
+-- the greatest number that may stand behind a key: a cap has 32 bits, any other number is an amount
+abbrev pub most_of : Key → ℕ
+most_of keys.MaxRaises = 4294967295
+most_of _ = MOST_CHIPS
+
+-- a key has so many numbers behind it; stacks and blinds are compared with the players later
+abbrev pub has_count : Key → ℕ → Bool
+has_count keys.Begin count = count == 0
+has_count keys.End count = count == 0
+has_count keys.Limit count = count == 0
+has_count keys.NoLimit count = count == 0
+has_count keys.Stack count = nat_lt 0 count
+has_count keys.Blind count = nat_lt 0 count
+has_count keys.RaiseSize count = count == 4
+has_count keys.FirstPlayer count = count == 4
+has_count keys.MaxRaises count = count == 4
+has_count keys.NumBoardCards count = count == 4
+has_count keys.NumPlayers count = count == 1
+has_count keys.NumRounds count = count == 1
+has_count keys.NumSuits count = count == 1
+has_count keys.NumRanks count = count == 1
+has_count keys.NumHoleCards count = count == 1

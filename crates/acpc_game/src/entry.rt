@@ -1,0 +1,16 @@
+//! An entry of a game file is a key with its line and its numbers, and none of them is too great for the key.
+ghost use Rattle.std.specs.Prelude.{◌≡◌, true, nat_le, length};
+ghost use Rattle.std.specs.List.{list_all};
+ghost use Rattle.acpc_game.specs.Keys.{has_count, most_of};
+
+use crate::key::Key;
+
+/// A line with a key.
+#[derive(Debug, Drop)]
+pub struct Entry {
+    pub key: Key,
+    pub line: u64,
+    pub numbers: Vec<u64>,
+    pub ghost bounded: { list_all (λ number. nat_le number (most_of key)) numbers.items ≡ true },
+    pub ghost counted: { has_count key (length numbers.items) ≡ true },
+}

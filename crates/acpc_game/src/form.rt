@@ -1,0 +1,134 @@
+//! A line of a game file is a key alone, or a key, `=`, and numbers divided by spaces.
+ghost use Rattle.std.specs.Prelude.{◌≡◌, ◌∷◌, ◌-◌, length, slice_index, option_map, true, IfSome, if◌then◌else◌, Some, None};
+ghost use Rattle.std.specs.List.{list_all};
+ghost use Rattle.acpc_text.specs.Parts.{divides, parts_of, words_of};
+ghost use Rattle.first_fault.specs.Digits.{are_digits as are_digits_said};
+ghost use Rattle.acpc_game.specs.Keys.{has_count};
+ghost use Rattle.acpc_game.specs.Forms.{form_of, is_passed_over as is_passed_over_said, key_and_numbers, key_before as key_before_said, numbers_behind};
+
+use crate::key::{Key, is_word, key_named};
+use acpc_text::{cut_at, next_word};
+use first_fault::are_digits;
+
+// Whether the line is empty or begins with `#`.
+pub fn is_passed_over(line: &[u8]) -> bool
+    ensures { result ≡ is_passed_over_said line.now }
+{
+    line.is_empty() || line[0] == b'#'
+}
+
+// Whether the text begins with a space.
+fn begins_with_space(text: &[u8]) -> bool
+    ensures { result ≡ divides (slice_index text.now 0) }
+{
+    !text.is_empty() && text[0] == b' '
+}
+
+// Whether the text ends with a space.
+fn ends_with_space(text: &[u8]) -> bool
+    ensures { result ≡ divides (slice_index text.now (length text.now - 1)) }
+{
+    !text.is_empty() && text[text.len() - 1] == b' '
+}
+
+// The key in front of `=`.
+#[tactic(auto, unfolding(crate::specs::Forms::key_before))]
+fn key_before(front: &[u8]) -> Option<Key>
+    ensures { result ≡ key_before_said front.now }
+{
+    if begins_with_space(front) {
+        return None;
+    }
+    let (word, rest) = next_word(front)?;
+    match next_word(rest) {
+        None => key_named(word),
+        Some(_) => None,
+    }
+}
+
+// How many words there are, where all of them are digits.
+fn count_numbers(text: &[u8]) -> Option<usize>
+    ensures digits { IfSome result (λ count. list_all are_digits_said (words_of text.now) ≡ true) }
+    ensures words { IfSome result (λ count. count ≡ length (words_of text.now)) }
+    ensures count { result ≡ (if list_all are_digits_said (words_of text.now) then Some (length (words_of text.now)) else None) }
+{
+    let mut count = 0;
+    let mut rest = text;
+    while let Some((word, behind)) = next_word(rest) {
+        if !are_digits(word) {
+            return None;
+        }
+        count += 1;
+        rest = behind;
+    }
+    Some(count)
+}
+
+// The numbers behind `=`, as many as the key has.
+#[tactic(auto, unfolding(crate::specs::Forms::numbers_behind))]
+fn numbers_of(key: Key, behind: &[u8]) -> Option<(Key, &[u8])>
+    ensures fits { IfSome result (λ found. (list_all are_digits_said (words_of found.1.now) ≡ true)
+        × (has_count found.0 (length (words_of found.1.now)) ≡ true)) }
+    ensures form { option_map (λ found. (found.0, words_of found.1.now)) result ≡ numbers_behind key behind.now }
+{
+    if ends_with_space(behind) {
+        return None;
+    }
+    let count = count_numbers(behind)?;
+    if key.has_count(count) {
+        Some((key, behind))
+    } else {
+        None
+    }
+}
+
+// A key, and the numbers behind `=`, in which no second `=` stands.
+#[tactic(auto, using(crate::proofs::Forms::no_third_part))]
+fn read_behind<'a>(front: &[u8], rest: &'a [u8]) -> Option<(Key, &'a [u8])>
+    ensures fits { IfSome result (λ found. (list_all are_digits_said (words_of found.1.now) ≡ true)
+        × (has_count found.0 (length (words_of found.1.now)) ≡ true)) }
+    ensures form { option_map (λ found. (found.0, words_of found.1.now)) result
+        ≡ key_and_numbers (front.now ∷ parts_of 61 rest.now) }
+{
+    let (behind, more) = cut_at(rest, b'=');
+    match more {
+        Some(_) => None,
+        None => {
+            let key = key_before(front)?;
+            numbers_of(key, behind)
+        }
+    }
+}
+
+// A key, `=`, and numbers.
+fn read_numbered(line: &[u8]) -> Option<(Key, &[u8])>
+    ensures fits { IfSome result (λ found. (list_all are_digits_said (words_of found.1.now) ≡ true)
+        × (has_count found.0 (length (words_of found.1.now)) ≡ true)) }
+    ensures form { option_map (λ found. (found.0, words_of found.1.now)) result ≡ key_and_numbers (parts_of 61 line.now) }
+{
+    let (front, rest) = cut_at(line, b'=');
+    match rest {
+        Some(rest) => read_behind(front, rest),
+        None => None,
+    }
+}
+
+/// The key of a line, and the text of its numbers, where the line has the form of one.
+#[tactic(auto, unfolding(crate::specs::Forms::form_of))]
+pub fn read_form(line: &[u8]) -> Option<(Key, &[u8])>
+    ensures fits { IfSome result (λ found. (list_all are_digits_said (words_of found.1.now) ≡ true)
+        × (has_count found.0 (length (words_of found.1.now)) ≡ true)) }
+    ensures form { option_map (λ found. (found.0, words_of found.1.now)) result ≡ form_of line.now }
+{
+    if line == b"GAMEDEF".as_slice() {
+        Some((Key::Begin, &[]))
+    } else if line == b"END GAMEDEF".as_slice() {
+        Some((Key::End, &[]))
+    } else if is_word("limit", line) {
+        Some((Key::Limit, &[]))
+    } else if is_word("nolimit", line) {
+        Some((Key::NoLimit, &[]))
+    } else {
+        read_numbered(line)
+    }
+}

@@ -1,0 +1,17 @@
+//! A game file is read as the one game that it says, or its first fault is named; a game is written in one spelling.
+#![tactic(auto)]
+
+mod entry;
+mod form;
+mod found;
+mod game;
+mod key;
+mod lines;
+mod reading;
+mod supported;
+mod writing;
+
+pub use game::Game;
+pub use reading::read_game;
+pub use supported::greatest;
+pub use writing::write_game;

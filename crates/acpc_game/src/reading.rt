@@ -1,0 +1,153 @@
+//! A game file is read as the one game that it says, or its first fault is named.
+ghost use Rattle.std.specs.Prelude.{◌≡◌, ◌≤◌, if◌then◌else◌, true, nat_le, None, length, map, option_map, slice_index, IfOk, IfErr};
+ghost use Rattle.std.specs.List.{list_all};
+ghost use Rattle.first_fault.specs.Reading.{Gives};
+ghost use Rattle.acpc_text.specs.Faults.{Answers};
+ghost use Rattle.acpc_game.specs.declared.key.Key.TheVariants as keys;
+ghost use Rattle.acpc_game.specs.Entries.{entry_said};
+ghost use Rattle.acpc_game.specs.GameFile.{found, game_at_end, game_by, game_said, is_whole as is_whole_said, stacks_at};
+ghost use Rattle.acpc_game.specs.GameView.{game_in};
+ghost use Rattle.acpc_game.specs.Games.{amounts_in, are_chips};
+ghost use Rattle.acpc_game.specs.Playable.{IsPlayable};
+
+use crate::entry::Entry;
+use crate::found::{find_entry, line_at, numbers_at, stands};
+use crate::game::Game;
+use crate::key::Key;
+use crate::lines::{read_entries, wrong};
+use crate::supported::{end_line, first_unsupported, has_no_limit, is_whole};
+use acpc_text::{AcpcFault, What};
+use chip_ledger::SeatRow;
+use first_fault::Stop;
+use std::alloc::Global;
+
+/// The stack of each player of a limit game that says none.
+const DEFAULT_STACK: u64 = 2_147_483_647;
+
+// The stacks of the players.
+#[tactic(auto, using(crate::proofs::Bounds::same_stacks))]
+fn stacks_of(alloc: Global, entries: &[Entry]) -> Result<Vec<u64>, Stop<AcpcFault>>
+    ensures stacks { IfOk result (λ stacks. stacks.items ≡ stacks_at (map entry_said entries.now)) }
+    ensures few { IfOk result (λ stacks. are_chips stacks.items ≡ true) }
+    ensures memory { IfErr result (λ stop. stop ≡ Stop.Memory) }
+{
+    if stands(entries, Key::Stack) {
+        Ok(Vec::from_slice(alloc, numbers_at(entries, Key::Stack))?)
+    } else {
+        let count = numbers_at(entries, Key::Blind).len();
+        Ok(vec![in alloc; DEFAULT_STACK; count]?)
+    }
+}
+
+// A row of these amounts.
+fn row_of(numbers: &[u64]) -> SeatRow
+    requires least { 2 ≤ length numbers.now }
+    requires greatest { length numbers.now ≤ 10 }
+    requires few { are_chips numbers.now ≡ true }
+    ensures amounts { amounts_in result ≡ numbers.now }
+    ensures seats { result.seats ≡ length numbers.now }
+{
+    let mut amounts = [0; 10];
+    for (index, number) in numbers.iter().enumerate() {
+        amounts[index] = *number;
+    }
+    SeatRow {
+        seats: numbers.len() as u8,
+        amounts,
+    }
+}
+
+// The size of a raise at a place of the four, in a limit game; else 0.
+fn size_at(no_limit: bool, sizes: &[u64], place: usize) -> u64
+    ensures { result ≡ (if no_limit then 0 else slice_index sizes.now place) }
+{
+    if no_limit || place >= sizes.len() {
+        0
+    } else {
+        sizes[place]
+    }
+}
+
+// Four caps.
+fn four_caps(numbers: &[u64]) -> [u32; 4]
+    requires four { length numbers.now ≡ 4 }
+    requires small { list_all (λ number. nat_le number 4294967295) numbers.now ≡ true }
+    ensures { result ≡ numbers.now }
+{
+    match numbers {
+        [a, b, c, d] => [*a as u32, *b as u32, *c as u32, *d as u32],
+        _ => [0; 4],
+    }
+}
+
+// The most raises of each round, if there is a most.
+#[tactic(auto, using(crate::proofs::Bounds::caps_small, crate::proofs::Bounds::caps_four))]
+fn caps_of(entries: &[Entry]) -> Option<[u32; 4]>
+    ensures { result ≡ option_map (λ entry. entry.numbers) (found keys.MaxRaises (map entry_said entries.now)) }
+{
+    match find_entry(entries, Key::MaxRaises) {
+        None => None,
+        Some(entry) => Some(four_caps(entry.numbers.as_slice())),
+    }
+}
+
+// The game of entries from which nothing is missing, and whose game is played.
+#[tactic(auto, using(crate::proofs::Built::counted, crate::proofs::Built::sizes_fit))]
+fn build(entries: &[Entry], stacks: &[u64]) -> Game
+    requires whole { is_whole_said (map entry_said entries.now) ≡ true }
+    requires playable { IsPlayable (map entry_said entries.now) }
+    requires stacks { stacks.now ≡ stacks_at (map entry_said entries.now) }
+    requires few { are_chips stacks.now ≡ true }
+    ensures { game_in result ≡ game_by (map entry_said entries.now) }
+{
+    let blinds = numbers_at(entries, Key::Blind);
+    let sizes = numbers_at(entries, Key::RaiseSize);
+    let no_limit = has_no_limit(entries);
+    let small_raise = size_at(no_limit, sizes, 0);
+    let big_raise = size_at(no_limit, sizes, 2);
+    let caps = caps_of(entries);
+    Game {
+        no_limit,
+        stacks: row_of(stacks),
+        blinds: row_of(blinds),
+        small_raise,
+        big_raise,
+        caps,
+    }
+}
+
+// The game that the entries of a file with so many lines come to.
+#[tactic(auto, unfolding(crate::specs::GameFile::game_at_end))]
+fn game_by_end(alloc: Global, entries: &[Entry], count: u64) -> Result<Game, Stop<AcpcFault>>
+    ensures { Gives game_in result (game_at_end count (map entry_said entries.now)) }
+{
+    if !is_whole(entries) {
+        return Err(wrong(What::GameShape, end_line(entries, count)));
+    }
+    let stacks = stacks_of(alloc, entries)?;
+    match first_unsupported(entries, stacks.as_slice()) {
+        Some(key) => Err(wrong(What::UnsupportedGame, line_at(entries, key))),
+        None => Ok(build(entries, stacks.as_slice())),
+    }
+}
+
+// The game of a file.
+#[tactic(auto, unfolding(crate::specs::GameFile::game_said))]
+fn read(alloc: Global, bytes: &[u8]) -> Result<Game, Stop<AcpcFault>>
+    ensures { Gives game_in result (game_said bytes.now) }
+{
+    let (entries, count) = read_entries(alloc, bytes)?;
+    game_by_end(alloc, entries.as_slice(), count)
+}
+
+/// The game that a game file says. Of its faults those of single lines come first, in the order of the lines, then
+/// those of the whole, and last that the game is not played here. The byte of a fault is always 1.
+pub fn read_game(alloc: Global, bytes: &[u8]) -> Result<Game, AcpcFault>
+    ensures { Answers game_in result (game_said bytes.now) }
+{
+    match read(alloc, bytes) {
+        Ok(game) => Ok(game),
+        Err(Stop::Memory) => Err(AcpcFault::Memory),
+        Err(Stop::At(fault)) => Err(fault),
+    }
+}

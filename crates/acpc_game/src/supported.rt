@@ -1,0 +1,245 @@
+//! Of a game file whose lines are right, what is wrong with the whole is named, or why the game is not played.
+ghost use Rattle.std.specs.Prelude.{◌≡◌, ◌≤◌, ◌&&◌, nat_lt, length, map, slice_index};
+ghost use Rattle.std.specs.List.{list_all};
+ghost use Rattle.chip_ledger.specs.Greatest.{greatest as greatest_said};
+ghost use Rattle.acpc_game.specs.Entries.{entry_said};
+ghost use Rattle.acpc_game.specs.GameFile.{are_four as are_four_said, are_sizes as are_sizes_said, end_line as end_line_said, first_unsupported as first_unsupported_said, first_where, has_no_limit as has_no_limit_said, has_short_stack as has_short_stack_said, is_reversed as is_reversed_said, is_whole as is_whole_said, last_place as last_place_said, needed, opener_of as opener_of_said, other_cards as other_cards_said, other_chips as other_chips_said, stacks_at, stands as stands_said};
+
+use crate::entry::Entry;
+use crate::found::{find_entry, is_for_all, number_at, numbers_at, stands};
+use crate::key::Key;
+
+/// Whether the game has no limit.
+pub fn has_no_limit(entries: &[Entry]) -> bool
+    ensures { result ≡ has_no_limit_said (map entry_said entries.now) }
+{
+    match find_entry(entries, Key::Limit) {
+        Some(entry) => match entry.key {
+            Key::NoLimit => true,
+            _ => false,
+        },
+        None => false,
+    }
+}
+
+// Whether each key stands that every game file has.
+fn has_needed(entries: &[Entry]) -> bool
+    ensures { result ≡ list_all (λ key. stands_said key (map entry_said entries.now)) needed }
+{
+    stands(entries, Key::Begin)
+        && stands(entries, Key::Limit)
+        && stands(entries, Key::NumPlayers)
+        && stands(entries, Key::NumRounds)
+        && stands(entries, Key::Blind)
+        && stands(entries, Key::FirstPlayer)
+        && stands(entries, Key::NumSuits)
+        && stands(entries, Key::NumRanks)
+        && stands(entries, Key::NumHoleCards)
+        && stands(entries, Key::NumBoardCards)
+        && stands(entries, Key::End)
+}
+
+/// Whether nothing is missing.
+#[tactic(auto, unfolding(crate::specs::GameFile::is_whole))]
+pub fn is_whole(entries: &[Entry]) -> bool
+    ensures { result ≡ is_whole_said (map entry_said entries.now) }
+{
+    if !has_needed(entries) {
+        return false;
+    }
+    let sizes = if has_no_limit(entries) {
+        Key::Stack
+    } else {
+        Key::RaiseSize
+    };
+    if !stands(entries, sizes) {
+        return false;
+    }
+    is_for_all(entries, Key::Blind)
+        && (!stands(entries, Key::Stack) || is_for_all(entries, Key::Stack))
+}
+
+/// The line that a fault of the whole names.
+pub fn end_line(entries: &[Entry], count: u64) -> u64
+    ensures { result ≡ end_line_said count (map entry_said entries.now) }
+{
+    match find_entry(entries, Key::End) {
+        Some(entry) => entry.line,
+        None => count.max(1),
+    }
+}
+
+// Whether the numbers are these four.
+fn are_four(numbers: &[u64], four: [u64; 4]) -> bool
+    ensures { result ≡ are_four_said (slice_index four 0) (slice_index four 1) (slice_index four 2) (slice_index four 3) numbers.now }
+{
+    match numbers {
+        [w, x, y, z] => *w == four[0] && *x == four[1] && (*y == four[2] && *z == four[3]),
+        _ => false,
+    }
+}
+
+// Whether some stack is 0, or below its blind.
+fn has_short_stack(stacks: &[u64], blinds: &[u64]) -> bool
+    ensures { result ≡ has_short_stack_said stacks.now blinds.now }
+{
+    match stacks {
+        [] => false,
+        [stack, stacks @ ..] => match blinds {
+            [] => false,
+            [blind, blinds @ ..] => {
+                *stack == 0 || *stack < *blind || has_short_stack(stacks, blinds)
+            }
+        },
+    }
+}
+
+// Whether there are two players, and the second blind is above the first.
+fn is_reversed(blinds: &[u64]) -> bool
+    ensures { result ≡ is_reversed_said blinds.now }
+{
+    match blinds {
+        [first, second] => *first < *second,
+        _ => false,
+    }
+}
+
+/// The greatest of some numbers.
+pub fn greatest(numbers: &[u64]) -> u64
+    ensures { result ≡ greatest_said numbers.now }
+{
+    match numbers {
+        [] => 0,
+        [number, rest @ ..] => {
+            let most = greatest(rest);
+            if *number < most { most } else { *number }
+        }
+    }
+}
+
+// The last place of a number, from 1, or 0.
+fn last_place(number: u64, numbers: &[u64]) -> usize
+    ensures place { result ≡ last_place_said number numbers.now }
+    ensures within { result ≤ length numbers.now }
+{
+    match numbers {
+        [] => 0,
+        [first, rest @ ..] => {
+            let place = last_place(number, rest);
+            if place > 0 {
+                place + 1
+            } else if *first == number {
+                1
+            } else {
+                0
+            }
+        }
+    }
+}
+
+/// The seat that opens the first round.
+pub fn opener_of(blinds: &[u64]) -> u64
+    ensures { result ≡ opener_of_said blinds.now }
+{
+    if blinds.len() == 2 {
+        return 2;
+    }
+    let place = last_place(greatest(blinds), blinds);
+    if place == blinds.len() {
+        1
+    } else {
+        place as u64 + 1
+    }
+}
+
+// Whether the sizes of raises are two equal ones and two equal ones, each at least 1.
+fn are_sizes(sizes: &[u64]) -> bool
+    ensures { result ≡ are_sizes_said sizes.now }
+{
+    match sizes {
+        [s, t, b, c] => *s >= 1 && *s == *t && (*b >= 1 && *b == *c),
+        _ => false,
+    }
+}
+
+// The first number of players, rounds or cards that is not played.
+fn other_cards(entries: &[Entry]) -> Option<Key>
+    ensures { result ≡ first_where (other_cards_said (map entry_said entries.now)) }
+{
+    let players = number_at(entries, Key::NumPlayers);
+    if !(2 <= players && players <= 10) {
+        return Some(Key::NumPlayers);
+    }
+    if number_at(entries, Key::NumRounds) != 4 {
+        return Some(Key::NumRounds);
+    }
+    if number_at(entries, Key::NumSuits) != 4 {
+        return Some(Key::NumSuits);
+    }
+    if number_at(entries, Key::NumRanks) != 13 {
+        return Some(Key::NumRanks);
+    }
+    if number_at(entries, Key::NumHoleCards) != 2 {
+        return Some(Key::NumHoleCards);
+    }
+    if !are_four(numbers_at(entries, Key::NumBoardCards), [0, 3, 1, 1]) {
+        return Some(Key::NumBoardCards);
+    }
+    None
+}
+
+// The first chips that are not played.
+fn other_chips(entries: &[Entry], stacks: &[u64]) -> Option<Key>
+    requires { stacks.now ≡ stacks_at (map entry_said entries.now) }
+    ensures { result ≡ first_where (other_chips_said (map entry_said entries.now)) }
+{
+    let blinds = numbers_at(entries, Key::Blind);
+    let sizes = numbers_at(entries, Key::RaiseSize);
+    let no_limit = has_no_limit(entries);
+    let most = greatest(blinds);
+    if has_short_stack(stacks, blinds) {
+        return Some(if stands(entries, Key::Stack) {
+            Key::Stack
+        } else {
+            Key::Blind
+        });
+    }
+    if is_reversed(blinds) {
+        return Some(Key::Blind);
+    }
+    if !are_four(
+        numbers_at(entries, Key::FirstPlayer),
+        [opener_of(blinds), 1, 1, 1],
+    ) {
+        return Some(Key::FirstPlayer);
+    }
+    if no_limit && most == 0 {
+        return Some(Key::Blind);
+    }
+    if !no_limit && !are_sizes(sizes) {
+        return Some(Key::RaiseSize);
+    }
+    if !no_limit && is_small_blind_of(most, sizes) {
+        return Some(Key::RaiseSize);
+    }
+    None
+}
+
+// Whether the greatest blind is above 0 and below the first size of a raise.
+fn is_small_blind_of(most: u64, sizes: &[u64]) -> bool
+    ensures { result ≡ nat_lt 0 most && nat_lt most (slice_index sizes.now 0) }
+{
+    0 < most && !sizes.is_empty() && most < sizes[0]
+}
+
+/// The first key that shows that the game is not played.
+#[tactic(auto, unfolding(crate::specs::GameFile::first_unsupported))]
+pub fn first_unsupported(entries: &[Entry], stacks: &[u64]) -> Option<Key>
+    requires { stacks.now ≡ stacks_at (map entry_said entries.now) }
+    ensures { result ≡ first_unsupported_said (map entry_said entries.now) }
+{
+    match other_cards(entries) {
+        Some(key) => Some(key),
+        None => other_chips(entries, stacks),
+    }
+}

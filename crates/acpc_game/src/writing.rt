@@ -1,0 +1,169 @@
+//! A game is written in its one spelling.
+ghost use Rattle.std.specs.Prelude.{◌≡◌, ◌++◌, codes, length, IfOk, OnOk};
+ghost use Rattle.acpc_game.specs.GameText.{caps_text, chips_text, counts_text, first_text, game_text, key_line, kind_text, rows_text, sizes_text, spaced, turns_text};
+ghost use Rattle.acpc_game.specs.GameView.{game_in};
+ghost use Rattle.acpc_game.specs.Games.{amounts_in};
+
+use crate::game::Game;
+use crate::supported::opener_of;
+use card_set::Memory;
+use chip_ledger::SeatRow;
+use std::alloc::{AllocError, Global};
+
+// Numbers, with a space in front of each.
+fn push_numbers(alloc: Global, out: &mut Vec<u8>, numbers: &[u64]) -> Result<(), AllocError>
+    ensures { OnOk result (out.new.items ≡ out.old.items ++ spaced numbers.now) }
+{
+    for number in numbers {
+        let digits = number.to_string(alloc)?;
+        out.extend_from_slice(b" ")?;
+        out.extend_from_slice(digits.as_bytes())?;
+    }
+    Ok(())
+}
+
+// A key, `=`, and numbers.
+#[tactic(auto, unfolding(crate::specs::GameText::key_line))]
+fn push_line(
+    alloc: Global,
+    out: &mut Vec<u8>,
+    word: &str,
+    numbers: &[u64],
+) -> Result<(), AllocError>
+    ensures { OnOk result (out.new.items ≡ out.old.items ++ key_line word.now numbers.now) }
+{
+    out.extend_from_slice(word.as_bytes())?;
+    out.extend_from_slice(b" =")?;
+    push_numbers(alloc, out, numbers)?;
+    out.extend_from_slice(b"\n")
+}
+
+// The amounts of the seats of a row.
+fn amounts_of(row: &SeatRow) -> &[u64]
+    ensures { result.now ≡ amounts_in row.now }
+{
+    &row.amounts[..row.seats as usize]
+}
+
+// Whether there is a limit.
+#[tactic(auto, unfolding(crate::specs::GameText::kind_text))]
+fn push_kind(out: &mut Vec<u8>, no_limit: bool) -> Result<(), AllocError>
+    ensures { OnOk result (out.new.items ≡ out.old.items ++ kind_text no_limit) }
+{
+    if no_limit {
+        return out.extend_from_slice(b"nolimit\n");
+    }
+    out.extend_from_slice(b"limit\n")
+}
+
+// The players and the rounds.
+#[tactic(auto, unfolding(crate::specs::GameText::counts_text))]
+fn push_counts(alloc: Global, out: &mut Vec<u8>, players: u64) -> Result<(), AllocError>
+    ensures { OnOk result (out.new.items ≡ out.old.items ++ counts_text players) }
+{
+    push_line(alloc, out, "numPlayers", &[players])?;
+    push_line(alloc, out, "numRounds", &[4])
+}
+
+// The stacks and the blinds.
+#[tactic(auto, unfolding(crate::specs::GameText::rows_text))]
+fn push_rows(
+    alloc: Global,
+    out: &mut Vec<u8>,
+    stacks: &[u64],
+    blinds: &[u64],
+) -> Result<(), AllocError>
+    ensures { OnOk result (out.new.items ≡ out.old.items ++ rows_text stacks.now blinds.now) }
+{
+    push_line(alloc, out, "stack", stacks)?;
+    push_line(alloc, out, "blind", blinds)
+}
+
+// Whether there is a limit, the players, the rounds, the stacks and the blinds.
+#[tactic(auto, unfolding(crate::specs::GameText::chips_text))]
+fn push_chips(alloc: Global, out: &mut Vec<u8>, game: &Game) -> Result<(), AllocError>
+    ensures { OnOk result (out.new.items ≡ out.old.items ++ chips_text (game_in game.now)) }
+{
+    let stacks = amounts_of(&game.stacks);
+    push_kind(out, game.no_limit)?;
+    push_counts(alloc, out, stacks.len() as u64)?;
+    push_rows(alloc, out, stacks, amounts_of(&game.blinds))
+}
+
+// The sizes of raises of a limit game.
+#[tactic(auto, unfolding(crate::specs::GameText::sizes_text))]
+fn push_sizes(alloc: Global, out: &mut Vec<u8>, game: &Game) -> Result<(), AllocError>
+    ensures { OnOk result (out.new.items ≡ out.old.items ++ sizes_text (game_in game.now)) }
+{
+    if game.no_limit {
+        return Ok(());
+    }
+    let sizes = [
+        game.small_raise,
+        game.small_raise,
+        game.big_raise,
+        game.big_raise,
+    ];
+    push_line(alloc, out, "raiseSize", &sizes)
+}
+
+// The caps as wider numbers.
+#[tactic(auto, using(crate::proofs::Bounds::four_entries))]
+fn wide_caps(caps: [u32; 4]) -> [u64; 4]
+    ensures { result ≡ caps }
+{
+    [
+        u64::from(caps[0]),
+        u64::from(caps[1]),
+        u64::from(caps[2]),
+        u64::from(caps[3]),
+    ]
+}
+
+// The most raises of each round, if there is a most.
+#[tactic(auto, unfolding(crate::specs::GameText::caps_text))]
+fn push_caps(alloc: Global, out: &mut Vec<u8>, caps: Option<[u32; 4]>) -> Result<(), AllocError>
+    ensures { OnOk result (out.new.items ≡ out.old.items ++ caps_text caps) }
+{
+    match caps {
+        None => Ok(()),
+        Some(caps) => {
+            let caps = wide_caps(caps);
+            push_line(alloc, out, "maxRaises", &caps)
+        }
+    }
+}
+
+// The first seats of the rounds.
+#[tactic(auto, unfolding(crate::specs::GameText::first_text))]
+fn push_first(alloc: Global, out: &mut Vec<u8>, blinds: &[u64]) -> Result<(), AllocError>
+    ensures { OnOk result (out.new.items ≡ out.old.items ++ first_text blinds.now) }
+{
+    push_line(alloc, out, "firstPlayer", &[opener_of(blinds), 1, 1, 1])
+}
+
+// The first seats of the rounds, and the most raises of each.
+#[tactic(auto, unfolding(crate::specs::GameText::turns_text))]
+fn push_turns(alloc: Global, out: &mut Vec<u8>, game: &Game) -> Result<(), AllocError>
+    ensures { OnOk result (out.new.items ≡ out.old.items ++ turns_text (game_in game.now)) }
+{
+    push_first(alloc, out, amounts_of(&game.blinds))?;
+    push_caps(alloc, out, game.caps)
+}
+
+/// The game file of a game.
+#[tactic(auto, unfolding(crate::specs::GameText::game_text))]
+pub fn write_game(alloc: Global, game: &Game) -> Result<Vec<u8>, Memory>
+    ensures { IfOk result (λ text. text.items ≡ game_text (game_in game.now)) }
+{
+    let mut out = Vec::new(alloc);
+    out.extend_from_slice(b"GAMEDEF\n")?;
+    push_chips(alloc, &mut out, game)?;
+    push_sizes(alloc, &mut out, game)?;
+    push_turns(alloc, &mut out, game)?;
+    out.extend_from_slice(
+        b"numSuits = 4\nnumRanks = 13\nnumHoleCards = 2\nnumBoardCards = 0 3 1 1\n",
+    )?;
+    out.extend_from_slice(b"END GAMEDEF\n")?;
+    Ok(out)
+}
