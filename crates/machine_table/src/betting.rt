@@ -7,7 +7,6 @@ ghost use Rattle.play_event.specs.ValidSetup.{IsValid};
 ghost use Rattle.street_laws.specs.CardEvents.{is_card_said};
 
 use crate::setups::setup_of;
-use crate::valid::is_valid;
 use crate::words;
 use betting_core::{Betting, Moved};
 use card_set::read_slots;
