@@ -65,40 +65,26 @@ pub get_member-put_other : (q k : List ℕ) (d : Data) (ms : Members) → (q ≡
 get_member-put_other q k d no_members other = skips q k d no_members other
 get_member-put_other q k d (member l e ms) other = get_member-put_other_at _ q k l d e ms refl other (get_member-put_other q k d ms other)
 
+-- the first of two values that stands
+abbrev pub or_later : Option Data → Option Data → Option Data
+or_later None later = later
+or_later (Some value) later = Some value
+
 -- the value at a key in fields: the first that stands
 abbrev pub field_at : List ℕ → List Field → Option Data
 field_at q [] = None
-field_at q (field ∷ fields) = here q field.0 field.1 (field_at q fields)
-  where
-    here : List ℕ → List ℕ → Option Data → Option Data → Option Data
-    here q k None later = later
-    here q k (Some d) later = cond (bytes_eq q k) (Some d) later
+field_at q (field ∷ fields) = cond (bytes_eq q field.0) (or_later field.1 (field_at q fields)) (field_at q fields)
 
 put_there : (q k : List ℕ) (d : Data) (ms : Members) (same : Bool) → bytes_eq q k ≡ same → get_member q (put k d ms) ≡ cond same (Some d) (get_member q ms)
 put_there q k d ms true is = let e : q ≡ k = (bytes_eq-Decides q k).0 is in rw e (get_member-put k d ms)
 put_there q k d ms false is = get_member-put_other q k d ms (λ e. true≢false (sym ((bytes_eq-Decides q k).1 e) ∙ is))
 
+either_way : (same : Bool) (found : Option Data) → found ≡ cond same found found
+either_way true found = refl
+either_way false found = refl
+
+-- what is found in a table of fields
 pub get_member-table_of : (q : List ℕ) (fields : List Field) → get_member q (table_of fields) ≡ field_at q fields
 get_member-table_of q [] = refl
-get_member-table_of q ((k, None) ∷ fields) = get_member-table_of q fields
+get_member-table_of q ((k, None) ∷ fields) = get_member-table_of q fields ∙ either_way (bytes_eq q k) (field_at q fields)
 get_member-table_of q ((k, Some d) ∷ fields) = put_there q k d (table_of fields) (bytes_eq q k) refl ∙ rw (get_member-table_of q fields) refl
-
--- how deep members nest
-depth_at : (o : Ordering) (k l : List ℕ) (d e : Data) (ms more : Members) (most : ℕ) → depth d ≤ most → depth e ≤ most → members_depth ms ≤ most → members_depth more ≤ most
-    → members_depth (match_ordering o (member k d (member l e ms)) (member l d ms) (member l e more)) ≤ most
-depth_at Less k l d e ms more most a b c h = omega arith
-depth_at Equal k l d e ms more most a b c h = omega arith
-depth_at Greater k l d e ms more most a b c h = omega arith
-
-pub depth-put : (k : List ℕ) (d : Data) (ms : Members) (most : ℕ) → depth d ≤ most → members_depth ms ≤ most → members_depth (put k d ms) ≤ most
-depth-put k d no_members most a b = omega arith
-depth-put k d (member l e ms) most a b = depth_at (slice_cmp nat_cmp k l) k l d e ms (put k d ms) most a (omega (arith, b)) (omega (arith, b)) (depth-put k d ms most a (omega (arith, b)))
-
-abbrev pub IsAtMost : ℕ → Option Data → Type 0
-IsAtMost most None = Unit {0}
-IsAtMost most (Some d) = depth d ≤ most
-
-pub depth-table_of : (most : ℕ) (fields : List Field) → AllByRecursion (λ field. IsAtMost most field.1) fields → members_depth (table_of fields) ≤ most
-depth-table_of most [] each = omega arith
-depth-table_of most ((k, None) ∷ fields) each = depth-table_of most fields each.1
-depth-table_of most ((k, Some d) ∷ fields) each = depth-put k d (table_of fields) most each.0 (depth-table_of most fields each.1)

@@ -1,0 +1,2 @@
+pub mod RowsAgain
+pub mod SetupAgain

@@ -1,0 +1,1 @@
+-- What is read again of plays that were written.
