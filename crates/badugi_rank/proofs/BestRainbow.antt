@@ -11,10 +11,10 @@ use Rattle.card_set.proofs.Listing.{is_one_of-filter, kept_different, length-sam
 use Rattle.hand_order.specs.Choices.{choices, IsAmong}
 use Rattle.hand_order.proofs.Greatest.{IsAmong-left, IsAmong-right, Says, says_greatest}
 use Rattle.hand_order.proofs.Held.{every_chosen, length_chosen, IsAmong-cases}
+use Rattle.hand_order.proofs.RankMasks.{IsMaskOf}
 use Rattle.hand_order.proofs.SameChoices.{every_one_of, filter_among, one_of_every}
 use Rattle.hand_order.proofs.SetCounts.{four_suits}
 use Rattle.hand_order.proofs.SuitedHands.{of_suit}
-use Rattle.low_rank.proofs.RazzMasks.{IsMaskOf}
 use Rattle.badugi_rank.specs.Badugi.{candidates, choice_points, points}
 use Rattle.badugi_rank.specs.BadugiLaw.{choice_value, some_points}
 use Rattle.badugi_rank.specs.Rainbow.{IsMost, taken_points}

@@ -16,10 +16,10 @@ use Rattle.card_set.proofs.Counted.{IsHeight-low_ace, rank_with, times-cons, tim
 use Rattle.card_set.proofs.DeckLaws.{suits_same}
 use Rattle.hand_order.proofs.Alike.{Passes, every_all, every_map}
 use Rattle.hand_order.proofs.Held.{every_chosen}
+use Rattle.hand_order.proofs.RankMasks.{IsMaskOf}
 use Rattle.hand_order.proofs.SameChoices.{filter_among}
 use Rattle.hand_order.proofs.SetCounts.{height_below, rank_below}
 use Rattle.hand_order.proofs.SuitedHands.{every_filter, of_suit}
-use Rattle.low_rank.proofs.RazzMasks.{IsMaskOf}
 use Rattle.badugi_rank.specs.Badugi.{has_in_common, has_nothing_in_common}
 use Rattle.badugi_rank.proofs.SuitRanks.{IsOneOf}
 use Rattle.list_laws.proofs.Tests.{passes_or_not, same_test, true_false}

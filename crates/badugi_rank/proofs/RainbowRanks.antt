@@ -9,11 +9,10 @@ use Rattle.card_set.specs.declared.card.Rank.TheVariants as ranks
 use Rattle.card_set.specs.Ranks.{falling_heights, high_ace, low_ace, occurring, ranks_of, times}
 use Rattle.card_set.proofs.Counted.{IsHeight-low_ace, all_once, times-cons, times-none}
 use Rattle.hand_order.specs.Digits.{class_above}
+use Rattle.hand_order.specs.Lowest.{has_height, lowest}
+use Rattle.hand_order.proofs.LowestLaws.{empty_of, lowest_some}
+use Rattle.hand_order.proofs.LowHeights.{aces, low_times}
 use Rattle.hand_order.proofs.SetCounts.{height_least}
-use Rattle.low_rank.specs.Lowest.{has_height, lowest}
-use Rattle.low_rank.proofs.EightBest.{empty_of}
-use Rattle.low_rank.proofs.EightMask.{aces, low_times}
-use Rattle.low_rank.proofs.LowestLaws.{lowest_some}
 use Rattle.badugi_rank.specs.Badugi.{choice_points, has_nothing_in_common}
 use Rattle.badugi_rank.specs.BadugiLaw.{once_each}
 use Rattle.badugi_rank.specs.Rainbow.{ranks_in, taken_points}

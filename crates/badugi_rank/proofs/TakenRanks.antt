@@ -1,10 +1,9 @@
 -- The ranks that are taken make a number of at most four digits.
 use Rattle.std.proofs.Common.{◌≡◌, ℕ, ◌-◌, ◌^◌, ◌<◌, ◌≤◌, List, length, ◌∙◌, ap, arith}
 use Rattle.hand_order.specs.Digits.{class_above, with_digits}
+use Rattle.hand_order.specs.Lowest.{has_height, lowest}
 use Rattle.hand_order.proofs.Digits.{number_below}
-use Rattle.low_rank.specs.Lowest.{has_height, lowest}
-use Rattle.low_rank.proofs.EightBest.{digits_within, few_lowest}
-use Rattle.low_rank.proofs.LowestLaws.{lowest_passes}
+use Rattle.hand_order.proofs.LowestLaws.{digits_within, few_lowest, lowest_passes}
 use Rattle.badugi_rank.specs.Rainbow.{ranks_in, taken_points}
 
 pub few_ranks : (taken : ℕ) → length (ranks_in taken) ≤ 4

@@ -3,7 +3,7 @@ use Rattle.std.specs.Prelude.{◌≡◌, ◌≤◌, ◌⊎◌, ℕ, ◌-◌, ◌
 use Rattle.std.specs.Int.{bit_at, bit_not, w16}
 use lib.Bits.{bit_and, bit_or}
 use Rattle.hand_order.specs.Digits.{class_above}
-use Rattle.low_rank.specs.Lowest.{has_height, lowest}
+use Rattle.hand_order.specs.Lowest.{has_height, lowest}
 
 -- the four lowest ranks of a mask, the greatest first
 unfoldable pub ranks_in : ℕ → List ℕ

@@ -6,8 +6,7 @@ ghost use Rattle.badugi_rank.specs.Badugi.{points};
 ghost use Rattle.badugi_rank.specs.Rainbow.{IsMost, taken_points};
 
 use card_set::{CardSet, Suit};
-use hand_order::{Score, class_above, clear, top};
-use low_rank::lowest_ranks;
+use hand_order::{Score, class_above, clear, lowest_ranks, top};
 
 /// The score of four cards in badugi. The masks of the four suits tell the best choice.
 pub fn best_rainbow(cards: &CardSet) -> Score

@@ -12,9 +12,12 @@ pub mod HighAlike
 pub mod HighLaw
 pub mod HighReadings
 pub mod Lawful
+pub mod LowHeights
+pub mod LowestLaws
 pub mod OwnRanks
 pub mod PlainHands
 pub mod RankDigits
+pub mod RankMasks
 pub mod Ranked
 pub mod SameChoices
 pub mod SetChoices

@@ -4,6 +4,7 @@ pub mod Digits
 pub mod Height
 pub mod Heights
 pub mod Ladder
+pub mod Lowest
 pub mod Order
 pub mod Picks
 pub mod Points

@@ -1,5 +1,5 @@
 -- The best low hand up to the eight has the five lowest ranks of the cards up to the eight.
-use Rattle.std.proofs.Common.{◌≡◌, ◌-◌, ◌+◌, ◌^◌, ◌<◌, ◌≤◌, ◌==◌, ◌&&◌, ℕ, zero, suc, Bool, true, false, cond, List, [], ◌∷◌, ◌++◌, length, filter, Option, Some, None, inl, inr, refl, sym, ◌∙◌, ap, subst, arith, eqb-true, length-append}
+use Rattle.std.proofs.Common.{◌≡◌, ◌-◌, ◌+◌, ◌^◌, ◌<◌, ◌≤◌, ◌==◌, ◌&&◌, ℕ, zero, suc, Bool, true, false, cond, List, [], ◌∷◌, ◌++◌, length, filter, Option, Some, None, inl, inr, refl, sym, ◌∙◌, ap, subst, arith, eqb-true}
 use Rattle.std.specs.List.{list_all}
 use Rattle.std.specs.Prelude.{nat_le}
 use Rattle.std.proofs.lemmas.Bool.{and_parts, cases_lt, le-leb, leb-true}
@@ -11,7 +11,8 @@ use Rattle.card_set.specs.Different.{AllDifferent}
 use Rattle.card_set.specs.Ranks.{falling_heights, low_ace, occurring, ranks_occurring, ranks_of, times}
 use Rattle.card_set.proofs.Counted.{IsHeight-low_ace, all_times, counted, few_times, ranks_occurring_count, times-cons, times-none}
 use Rattle.hand_order.specs.Choices.{choices, AreHeld, IsAmong}
-use Rattle.hand_order.specs.Digits.{class_above, with_digits, AreDigits}
+use Rattle.hand_order.specs.Digits.{class_above, with_digits}
+use Rattle.hand_order.specs.Lowest.{lowest}
 use Rattle.hand_order.specs.Picks.{Fits, IsPicked, Within, pattern}
 use Rattle.hand_order.specs.Points.{greatest}
 use Rattle.hand_order.proofs.Alike.{Passes, all_every, every_all}
@@ -20,6 +21,7 @@ use Rattle.hand_order.proofs.FallingRanks.{FallingFrom, falling_picked, picked_s
 use Rattle.hand_order.proofs.FittingChoices.{fits_counts, fitting, times_of_ranks}
 use Rattle.hand_order.proofs.Greatest.{Says, says_greatest}
 use Rattle.hand_order.proofs.Held.{every_chosen, held_chosen}
+use Rattle.hand_order.proofs.LowestLaws.{Pass, digits_within, empty_of, few_lowest, lowest_least, lowest_passes}
 use Rattle.hand_order.proofs.OwnRanks.{InRange, down, own_picked, pattern_of, several}
 use Rattle.hand_order.proofs.PlainHands.{choice_within, ones_alone}
 use Rattle.hand_order.proofs.StraightBits.{Occur, ones_fit}
@@ -27,8 +29,6 @@ use Rattle.hand_order.proofs.SuitedHands.{chosen_filter, every_filter, filter_ch
 use Rattle.low_rank.specs.EightLow.{is_qualified, points}
 use Rattle.low_rank.specs.Low.{low_points}
 use Rattle.low_rank.specs.LowLaw.{best_class}
-use Rattle.low_rank.specs.Lowest.{lowest}
-use Rattle.low_rank.proofs.LowestLaws.{Pass, lowest_least, lowest_passes, lowest_some}
 
 -- the card is at most an eight
 abbrev pub is_low : Card → Bool
@@ -86,10 +86,6 @@ filter_passes q has turn (suc b) = by_test (q (suc b)) refl (filter_passes q has
 pub all_down : falling_heights ≡ down 14
 unfolding falling_heights
 all_down = refl
-
-pub empty_of : (xs : List ℕ) → length xs ≡ 0 → xs ≡ []
-empty_of [] none = refl
-empty_of (x ∷ xs) none = absurd (omega arith)
 
 -- the ranks of a hand without a pair occur once
 ones_only : (cards : List Card) → has_no_pair low_ace cards ≡ true → ranks_of low_ace cards ≡ occurring low_ace cards 1
@@ -242,22 +238,6 @@ eight_none has cards different tells few = by_says (greatest points (choices 5 c
     by_says (Some most) says =
         let long = (eight_most has cards says.choice most tells says.among (held_chosen 5 cards says.choice different says.among) says.pointed).0 in
         absurd (omega arith)
-
-pub digits_within : (bound : ℕ) (hs : List ℕ) → bound ≤ 16 → FallingFrom bound hs → AreDigits hs
-digits_within bound [] below falling = tt
-digits_within bound (h ∷ hs) below falling = (omega (arith, falling.0), digits_within h hs (omega (arith, falling.0)) falling.1)
-
-pub few_lowest : (has : ℕ → Bool) (heights from n : ℕ) → length (lowest has heights from n) ≤ n
-few_lowest has zero from n = omega arith
-few_lowest has (suc heights) from zero = omega arith
-few_lowest has (suc heights) from (suc m) =
-    let long = ap (length {A = ℕ}) (lowest_some has heights from m) in
-    let few = by_test (has from) (few_lowest has heights (from + 1) m) (few_lowest has heights (from + 1) (suc m)) in
-    omega arith
-  where
-    by_test : (b : Bool) → length (lowest has heights (from + 1) m) ≤ m → length (lowest has heights (from + 1) (suc m)) ≤ suc m → length (cond b (lowest has heights (from + 1) m ++ from ∷ []) (lowest has heights (from + 1) (suc m))) ≤ suc m
-    by_test true fewer same = omega (arith, fewer, length-append (lowest has heights (from + 1) m) (from ∷ []))
-    by_test false fewer same = same
 
 -- the lowest ranks make a number below the sixth place
 pub low_number : (has : ℕ → Bool) (seen : List ℕ) → seen ≡ lowest has 8 1 5 → with_digits 0 seen < 16 ^ 5

@@ -4,13 +4,12 @@ use Rattle.std.specs.Prelude.{nat_le}
 use Rattle.std.proofs.lemmas.Bool.{and_parts, cases_lt, le-leb, leb-true, ne_eqb}
 use Rattle.card_set.specs.Classes.{IsLower}
 use Rattle.hand_order.specs.Digits.{with_digits}
+use Rattle.hand_order.specs.Lowest.{lowest}
 use Rattle.hand_order.proofs.Digits.{AreDigits, same_before}
 use Rattle.hand_order.proofs.FallingRanks.{FallingFrom}
+use Rattle.hand_order.proofs.LowestLaws.{IsLeast, Pass, digits_within, few_lowest, lowest_least, lowest_passes, lowest_some}
 use Rattle.list_laws.proofs.Tests.{and_false, and_true}
-use Rattle.low_rank.specs.Lowest.{lowest}
 use Rattle.low_rank.specs.RazzBest.{both_ranks, class_ranks, first_ranks, is_free, is_height_of, lowest_ranks, often, often_ranks, seldom, seldom_ranks}
-use Rattle.low_rank.proofs.EightBest.{digits_within, few_lowest}
-use Rattle.low_rank.proofs.LowestLaws.{IsLeast, Pass, lowest_least, lowest_passes, lowest_some}
 
 -- how many heights pass a test, among as many from one on
 abbrev passing : (ℕ → Bool) → ℕ → ℕ → ℕ

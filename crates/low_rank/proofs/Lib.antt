@@ -3,6 +3,5 @@ pub mod EightMask
 pub mod FreeRanks
 pub mod LowAlike
 pub mod LowNumber
-pub mod LowestLaws
 pub mod RazzChoices
 pub mod RazzMasks

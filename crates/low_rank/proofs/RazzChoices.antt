@@ -21,6 +21,7 @@ use Rattle.hand_order.proofs.FallingRanks.{FallingFrom}
 use Rattle.hand_order.proofs.FittingChoices.{times_of_ranks}
 use Rattle.hand_order.proofs.Greatest.{Says, says_greatest}
 use Rattle.hand_order.proofs.Held.{held_chosen}
+use Rattle.hand_order.proofs.LowestLaws.{Pass, digits_within, empty_of}
 use Rattle.hand_order.proofs.OwnRanks.{down}
 use Rattle.hand_order.proofs.PlainHands.{choice_within}
 use Rattle.hand_order.proofs.SameChoices.{none_chosen, with_first}
@@ -32,9 +33,8 @@ use Rattle.list_laws.proofs.Tests.{passes_or_not}
 use Rattle.low_rank.specs.Low.{low_points, low_table}
 use Rattle.low_rank.specs.Razz.{points}
 use Rattle.low_rank.specs.RazzBest.{HasClass, class_ranks, first_ranks, is_free, is_height_of, lowest_ranks, often, often_ranks, seldom, seldom_ranks}
-use Rattle.low_rank.proofs.EightBest.{all_down, digits_within, empty_of, falls_within, filter_falls, filter_passes}
+use Rattle.low_rank.proofs.EightBest.{all_down, falls_within, filter_falls, filter_passes}
 use Rattle.low_rank.proofs.FreeRanks.{both_least, digits_both, few_ranks, ranks_shape}
-use Rattle.low_rank.proofs.LowestLaws.{Pass}
 
 -- the lists of ranks by how often they occur have the shape of a class
 record HasShape (list : ℕ → List ℕ) (class : ℕ) : Type 0 where

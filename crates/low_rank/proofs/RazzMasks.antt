@@ -1,25 +1,18 @@
 -- The masks of the four suits tell how often each low rank occurs.
-use Rattle.std.proofs.Common.{◌≡◌, ◌+◌, ◌-◌, ◌^◌, ◌<◌, ◌==◌, ℕ, Bool, cond, List, inl, inr, sym, ◌∙◌, ap, arith, eq-eqb}
+use Rattle.std.proofs.Common.{◌≡◌, ◌+◌, ◌-◌, ℕ, Bool, cond, List, inl, inr, sym, ◌∙◌, ap, arith, eq-eqb}
 use Rattle.std.specs.Int.{bit_at}
 use Rattle.std.proofs.lemmas.Bool.{cases_lt, ne_eqb}
 use Rattle.card_set.specs.declared.card.Card.{Card}
-use Rattle.card_set.specs.declared.card.Rank.{Rank}
-use Rattle.card_set.specs.declared.card.Suit.{Suit}
 use Rattle.card_set.specs.declared.card.Suit.TheVariants as suits
 use Rattle.card_set.specs.declared.set.CardSet.{CardSet}
-use Rattle.card_set.specs.CardSet.{is_in, IsListing}
-use Rattle.card_set.specs.Deck.{ranks_below}
+use Rattle.card_set.specs.CardSet.{IsListing}
 use Rattle.card_set.specs.Ranks.{high_ace, low_ace, times}
+use Rattle.hand_order.proofs.LowHeights.{aces, low_times}
+use Rattle.hand_order.proofs.RankMasks.{IsMaskOf}
 use Rattle.hand_order.proofs.SetCounts.{four_suits, mask_counts}
 use Rattle.low_rank.specs.RazzBest.{low_count}
 use Rattle.low_rank.specs.declared.razz.SuitMasks.{SuitMasks}
-use Rattle.low_rank.proofs.EightMask.{aces, low_times}
 use Rattle.low_rank.proofs.RazzChoices.{Counts}
-
--- a mask has the ranks of a suit of the set
-pub record IsMaskOf (set : CardSet) (mask : ℕ) (suit : Suit) : Type 0 where
-  pub within : mask < 2 ^ 13
-  pub each : (rank : Rank) → (bit_at mask (ranks_below rank) == 1) ≡ is_in set (record { rank = rank; suit = suit })
 
 pub masks_count : (set : CardSet) (masks : SuitMasks) (cards : List Card) → IsListing set cards → IsMaskOf set masks.clubs suits.C → IsMaskOf set masks.diamonds suits.D → IsMaskOf set masks.hearts suits.H → IsMaskOf set masks.spades suits.S → Counts (low_count masks) cards
 masks_count set masks cards lists clubs diamonds hearts spades h some few =

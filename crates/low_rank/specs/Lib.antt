@@ -2,6 +2,5 @@ pub mod DeuceSeven
 pub mod EightLow
 pub mod Low
 pub mod LowLaw
-pub mod Lowest
 pub mod Razz
 pub mod RazzBest

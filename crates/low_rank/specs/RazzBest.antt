@@ -2,7 +2,7 @@
 use Rattle.std.specs.Prelude.{◌≡◌, ◌==◌, ◌&&◌, not, ℕ, ◌+◌, ◌-◌, Bool, List, [], ◌++◌, length, nat_le, if◌then◌else◌}
 use Rattle.std.specs.List.{list_any}
 use Rattle.std.specs.Int.{bit_at}
-use Rattle.low_rank.specs.Lowest.{lowest}
+use Rattle.hand_order.specs.Lowest.{lowest}
 use Rattle.low_rank.specs.declared.razz.SuitMasks.{SuitMasks}
 
 -- how often the ranks that a class names first occur

@@ -8,6 +8,5 @@ mod orders;
 mod razz;
 
 pub use deuce::DeuceSeven;
-pub use eight::lowest_ranks;
 pub use low::up_low;
 pub use orders::{EightLow, RazzLow};

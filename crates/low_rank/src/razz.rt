@@ -5,8 +5,8 @@ ghost use Rattle.card_set.specs.declared.card.Card.{Card};
 ghost use Rattle.card_set.specs.CardSet.{count_of, IsListing};
 ghost use Rattle.hand_order.specs.Choices.{choices};
 ghost use Rattle.hand_order.specs.Heights.{heights_of};
+ghost use Rattle.hand_order.specs.Lowest.{lowest};
 ghost use Rattle.hand_order.specs.Points.{greatest};
-ghost use Rattle.low_rank.specs.Lowest.{lowest};
 ghost use Rattle.low_rank.specs.Razz.{points};
 ghost use Rattle.low_rank.specs.RazzBest.{
   HasClass,

@@ -1,8 +1,8 @@
 use Rattle.std.proofs.Common.{ℕ, ◌-◌, ◌^◌, List, Some, length, arith, ap, ◌∙◌, bit_or}
 use Rattle.card_set.specs.declared.card.Suit.TheVariants as suits
 use Rattle.hand_order.specs.Digits.{class_above}
+use Rattle.hand_order.specs.Lowest.{has_height}
 use Rattle.hand_order.proofs.SetCounts.{level_shows, mask_counts}
-use Rattle.low_rank.specs.Lowest.{has_height}
 use Rattle.low_rank.proofs.EightBest.{eight_best, eight_none, low_number}
 use Rattle.low_rank.proofs.EightMask.{mask_tells, or_four}
 use Rattle.low_rank.proofs.eight.best_eight.Goals as goal

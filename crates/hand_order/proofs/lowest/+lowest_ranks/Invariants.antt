@@ -1,4 +1,4 @@
-use Rattle.low_rank.proofs.eight.+lowest_ranks.Given as goal
+use Rattle.hand_order.proofs.lowest.+lowest_ranks.Given as goal
 
 -- the heights that are left
 abbrev pub decreases-lowest_ranks : goal.decreases-lowest_ranks

@@ -1,10 +1,10 @@
 -- The lowest heights that pass make the least number of all that pass.
 use Rattle.std.proofs.Common.{◌≡◌, ℕ, zero, suc, ◌+◌, ◌-◌, ◌*◌, ◌<◌, ◌≤◌, ◌==◌, Bool, true, false, cond, List, [], ◌∷◌, ◌++◌, length, inl, inr, refl, sym, ◌∙◌, ap, subst, arith, length-append}
 use Rattle.std.proofs.lemmas.Bool.{cases_lt, ne_eqb}
-use Rattle.hand_order.specs.Digits.{with_digits}
+use Rattle.hand_order.specs.Digits.{with_digits, AreDigits}
+use Rattle.hand_order.specs.Lowest.{lowest}
 use Rattle.hand_order.proofs.Digits.{with_digits-append, with_digits-cons, with_digits-nil}
 use Rattle.hand_order.proofs.FallingRanks.{FallingFrom}
-use Rattle.low_rank.specs.Lowest.{lowest}
 
 -- each height passes the test, and is not below another
 abbrev pub Pass : (ℕ → Bool) → ℕ → List ℕ → Type 0
@@ -124,3 +124,23 @@ lowest_passes has (suc heights) from n =
     by_tests false false is fewer same =
         let higher : from + 1 + heights ≡ from + suc heights = omega arith in
         (subst (λ (k : ℕ). FallingFrom k (lowest has heights (from + 1) n)) higher same.0, pass_lower has from (lowest has heights (from + 1) n) same.1)
+
+pub digits_within : (bound : ℕ) (hs : List ℕ) → bound ≤ 16 → FallingFrom bound hs → AreDigits hs
+digits_within bound [] below falling = tt
+digits_within bound (h ∷ hs) below falling = (omega (arith, falling.0), digits_within h hs (omega (arith, falling.0)) falling.1)
+
+pub few_lowest : (has : ℕ → Bool) (heights from n : ℕ) → length (lowest has heights from n) ≤ n
+few_lowest has zero from n = omega arith
+few_lowest has (suc heights) from zero = omega arith
+few_lowest has (suc heights) from (suc m) =
+    let long = ap (length {A = ℕ}) (lowest_some has heights from m) in
+    let few = by_test (has from) (few_lowest has heights (from + 1) m) (few_lowest has heights (from + 1) (suc m)) in
+    omega arith
+  where
+    by_test : (b : Bool) → length (lowest has heights (from + 1) m) ≤ m → length (lowest has heights (from + 1) (suc m)) ≤ suc m → length (cond b (lowest has heights (from + 1) m ++ from ∷ []) (lowest has heights (from + 1) (suc m))) ≤ suc m
+    by_test true fewer same = omega (arith, fewer, length-append (lowest has heights (from + 1) m) (from ∷ []))
+    by_test false fewer same = same
+
+pub empty_of : (xs : List ℕ) → length xs ≡ 0 → xs ≡ []
+empty_of [] none = refl
+empty_of (x ∷ xs) none = absurd (omega arith)

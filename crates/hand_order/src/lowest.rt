@@ -1,0 +1,36 @@
+// The lowest ranks of a mask, where the ace is the lowest.
+ghost use Rattle.std.specs.Prelude.{◌≡◌, ◌≤◌, ◌+◌, length};
+ghost use Rattle.hand_order.specs.Heights.{heights_of};
+ghost use Rattle.hand_order.specs.Lowest.{has_height, lowest};
+
+use crate::row::RankRow;
+
+/// So many of the lowest ranks of a mask among as many heights from one on, the greatest first.
+/// A mask has the two as bit 0 and the ace as bit 12; the ace has the height 1.
+pub fn lowest_ranks(mask: u16, heights: u8, from: u8, need: u8) -> RankRow
+    requires first { 1 ≤ from }
+    requires last { from + heights ≤ 14 }
+    requires few { need ≤ 5 }
+    ensures list { heights_of result ≡ lowest (has_height mask) heights from need }
+    ensures long { length (heights_of result) ≤ need }
+{
+    if heights == 0 || need == 0 {
+        return RankRow::new();
+    }
+    if !has_rank(mask, from) {
+        return lowest_ranks(mask, heights - 1, from + 1, need);
+    }
+    let mut row = lowest_ranks(mask, heights - 1, from + 1, need - 1);
+    row.push(from);
+    row
+}
+
+// Whether a mask has the rank of a height, the ace the lowest.
+fn has_rank(mask: u16, height: u8) -> bool
+    requires first { 1 ≤ height }
+    requires last { height ≤ 13 }
+    ensures { result ≡ has_height mask height }
+{
+    let place = if height == 1 { 12 } else { height - 2 };
+    mask >> place & 1 == 1
+}
