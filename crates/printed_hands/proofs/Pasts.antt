@@ -1,0 +1,193 @@
+-- The past after each event of a script, and what the next event adds to it.
+use Rattle.std.proofs.Common.{◌≡◌, ℕ, zero, suc, ◌+◌, ◌≤◌, ◌<◌, Bool, true, false, List, [], ◌∷◌, ◌++◌, length, take, drop, reverse, map, get_or, slice_get, Option, Some, None, refl, sym, ap, ◌∙◌, append_assoc, arith, inl, inr}
+use Rattle.std.proofs.lemmas.Bool.{cases_lt}
+use Rattle.std.proofs.lemmas.List.{drop_more, drop_all, take_more, take_all, reverse-append, length-append, length-map}
+use Rattle.std.proofs.lemmas.Option.{get_or_from_slice_get, slice_get-get_or, slice_get-map, slice_get_within}
+use Rattle.canonical_play.specs.PlayedScript.{is_move}
+use Rattle.play_event.specs.Laws.{AreLegal}
+use Rattle.play_event.specs.Past as past
+use Rattle.play_event.specs.Past.{Move, Past, Resolved, moves_of}
+use Rattle.play_event.specs.Said as said
+use Rattle.play_event.specs.Said.{Said, said_of}
+use Rattle.play_event.specs.Due.{turn}
+use Rattle.play_event.specs.Mover.{mover}
+use Rattle.play_event.specs.Openers.{InTurn}
+use Rattle.play_event.specs.Scripts.{past_of, resolved_by, resolved_on, with_event}
+use Rattle.play_event.specs.Table.{up_cards}
+use Rattle.play_event.specs.declared.event.Event.{Event}
+use Rattle.play_event.specs.declared.setup.Rules.{Rules}
+use Rattle.play_event.specs.declared.setup.Setup.{Setup}
+use Rattle.printed_hands.specs.Steps.{event_named}
+
+-- the first events of a script, the newest first
+abbrev pub so_far : List Event → ℕ → List Said
+so_far script count = reverse (take count (map said_of script))
+
+-- the events behind the first ones, the newest first
+abbrev pub later_than : List Event → ℕ → List Said
+later_than script count = reverse (drop count (map said_of script))
+
+-- the events that are left begin with the next one
+pub record IsNext (script : List Event) (count : ℕ) (event : Event) (more : List Event) : Type 0 where
+  pub within : count < length script
+  pub left : more ≡ drop (count + 1) script
+  pub longer : so_far script (count + 1) ≡ said_of event ∷ so_far script count
+
+first_of : Event → List Event → Event
+first_of other [] = other
+first_of other (event ∷ more) = event
+
+behind_first : List Event → List Event
+behind_first [] = []
+behind_first (event ∷ more) = more
+
+no_event : (event : Event) (more : List Event) → event ∷ more ≡ [] → ⊥
+no_event event more is = cc
+
+more_said : (events : List Said) (count : ℕ) (event : Said) → slice_get events count ≡ Some event → reverse (take (count + 1) events) ≡ event ∷ reverse (take count events)
+more_said events count event is =
+    ap reverse (take_more events count event (slice_get_within events count event is))
+    ∙ reverse-append (take count events) (get_or events count event ∷ [])
+    ∙ ap (λ e. e ∷ reverse (take count events)) (get_or_from_slice_get events count event event is)
+
+pub is_next : (script : List Event) (count : ℕ) (event : Event) (more : List Event) → event ∷ more ≡ drop count script → IsNext script count event more
+unfolding first_of behind_first
+is_next script count event more left = elim (cases_lt count (length script)) [
+  | inr over ↦ absurd (no_event event more (left ∙ drop_all count script over))
+  | inl within ↦
+      let cut = left ∙ drop_more script count event within in
+      let at : slice_get script count ≡ Some event = slice_get-get_or script count event within ∙ ap Some (sym (ap (first_of event) cut)) in
+      record {
+        within = within;
+        left = ap behind_first cut;
+        longer = more_said (map said_of script) count (said_of event) (slice_get-map said_of script count ∙ ap (λ o. elim o [ None ↦ None | Some e ↦ Some (said_of e) ]) at);
+      }
+]
+
+-- no event is left
+pub none_left : (script : List Event) (count : ℕ) → [] ≡ drop count script → length script ≤ count
+none_left script count left = elim (cases_lt count (length script)) [
+  | inr over ↦ over
+  | inl within ↦ absurd (nothing script count within left)
+]
+  where
+    nothing : (script : List Event) (count : ℕ) → count < length script → [] ≡ drop count script → ⊥
+    nothing [] count within left = omega (arith, within)
+    nothing (event ∷ rest) count within left = no_event (get_or (event ∷ rest) count event) (drop (count + 1) (event ∷ rest)) (sym (left ∙ drop_more (event ∷ rest) count event within))
+
+-- all events are those later than some, and these
+pub all_are : (script : List Event) (count : ℕ) → reverse (map said_of script) ≡ later_than script count ++ so_far script count
+all_are script count = ap reverse (sym (take_drop count (map said_of script))) ∙ reverse-append (take count (map said_of script)) (drop count (map said_of script))
+  where
+    take_drop : (count : ℕ) (events : List Said) → take count events ++ drop count events ≡ events
+    take_drop zero events = refl
+    take_drop (suc count) [] = refl
+    take_drop (suc count) (event ∷ events) = ap (λ rest. event ∷ rest) (take_drop count events)
+
+-- events before legal ones are legal
+pub legal_before : (setup : Setup) (rules : Rules) (later events : List Said) → AreLegal setup rules (later ++ events) → AreLegal setup rules events
+legal_before setup rules [] events legal = legal
+legal_before setup rules (event ∷ later) events legal = legal_before setup rules later events legal.1
+
+-- the moves of a past with one event more are in front of those before it
+added : (newest : Resolved) (before : Past) → (front : List Move) × (moves_of (newest ∷ before) ≡ front ++ moves_of before)
+added (past.Moved move) before = (move ∷ [], refl)
+added (past.Dealt street seat cards) before = ([], refl)
+added (past.Boarded street cards) before = ([], refl)
+added (past.Discarded street seat cards) before = ([], refl)
+added (past.Shown street seat cards) before = ([], refl)
+added (past.Mucked street seat) before = ([], refl)
+
+-- and those of a past with more events
+pub record Longer (setup : Setup) (later events : List Said) : Type 0 where
+  pub front : List Move
+  pub is : moves_of (past_of setup (later ++ events)) ≡ front ++ moves_of (past_of setup events)
+
+pub longer : (setup : Setup) (later events : List Said) → Longer setup later events
+unfolding with_event
+longer setup [] events = record { front = []; is = refl }
+longer setup (event ∷ later) events =
+    let before = longer setup later events in
+    let base : Past = past_of setup (later ++ events) in
+    let new = added (resolved_on setup base (turn setup base).0 event) base in
+    record {
+      front = new.0 ++ before.front;
+      is = new.1 ∙ ap (λ list. new.0 ++ list) before.is ∙ sym (append_assoc new.0 before.front (moves_of (past_of setup events)));
+    }
+
+-- an event of cards takes place as it is said, and moves nothing
+pub record OnCards (setup : Setup) (before : Past) (event : Said) : Type 0 where
+  pub newest : Resolved
+  pub is : with_event setup event before ≡ newest ∷ before
+  pub named : event_named newest ≡ event
+  pub moves : moves_of (newest ∷ before) ≡ moves_of before
+
+pub on_cards : (setup : Setup) (before : Past) (event : Said) → is_move event ≡ false → OnCards setup before event
+unfolding with_event
+on_cards setup before (said.Hole seat cards) is_not = record { newest = past.Dealt (turn setup before).0 seat cards; is = refl; named = refl; moves = refl }
+on_cards setup before (said.Board cards) is_not = record { newest = past.Boarded (turn setup before).0 cards; is = refl; named = refl; moves = refl }
+on_cards setup before (said.Discard seat cards) is_not = record { newest = past.Discarded (turn setup before).0 seat cards; is = refl; named = refl; moves = refl }
+on_cards setup before (said.Show seat cards) is_not = record { newest = past.Shown (turn setup before).0 seat cards; is = refl; named = refl; moves = refl }
+on_cards setup before (said.Muck seat) is_not = record { newest = past.Mucked (turn setup before).0 seat; is = refl; named = refl; moves = refl }
+on_cards setup before (said.Fold named) is_not = cc
+on_cards setup before (said.Call named stated) is_not = cc
+on_cards setup before (said.Raise named amount) is_not = cc
+on_cards setup before (said.BringIn named) is_not = cc
+
+-- a move takes place as a move
+is_moved : Resolved → Bool
+is_moved (past.Moved move) = true
+is_moved (past.Dealt street seat cards) = false
+is_moved (past.Boarded street cards) = false
+is_moved (past.Discarded street seat cards) = false
+is_moved (past.Shown street seat cards) = false
+is_moved (past.Mucked street seat) = false
+
+the_move : (newest : Resolved) → is_moved newest ≡ true → (move : Move) × (newest ≡ past.Moved move)
+unfolding is_moved
+the_move (past.Moved move) is_so = (move, refl)
+the_move (past.Dealt street seat cards) is_so = cc
+the_move (past.Boarded street cards) is_so = cc
+the_move (past.Discarded street seat cards) is_so = cc
+the_move (past.Shown street seat cards) is_so = cc
+the_move (past.Mucked street seat) is_so = cc
+
+moved_by : (setup : Setup) (moves : List Move) (street : ℕ) (in_turn : InTurn) (event : Said) → is_move event ≡ true → is_moved (resolved_by setup moves street in_turn event) ≡ true
+unfolding is_moved
+moved_by setup moves street in_turn (said.Fold named) is_so = refl
+moved_by setup moves street in_turn (said.Call named stated) is_so = refl
+moved_by setup moves street in_turn (said.Raise named amount) is_so = refl
+moved_by setup moves street in_turn (said.BringIn named) is_so = refl
+moved_by setup moves street in_turn (said.Hole seat cards) is_so = cc
+moved_by setup moves street in_turn (said.Board cards) is_so = cc
+moved_by setup moves street in_turn (said.Discard seat cards) is_so = cc
+moved_by setup moves street in_turn (said.Show seat cards) is_so = cc
+moved_by setup moves street in_turn (said.Muck seat) is_so = cc
+
+pub record ByMove (setup : Setup) (before : Past) (event : Said) : Type 0 where
+  pub move : Move
+  pub is : with_event setup event before ≡ past.Moved move ∷ before
+
+pub by_move : (setup : Setup) (before : Past) (event : Said) → is_move event ≡ true → ByMove setup before event
+unfolding with_event
+by_move setup before event is_so =
+    let street = (turn setup before).0 in
+    let in_turn = mover setup (up_cards setup.code before) (moves_of before) street in
+    let found = the_move (resolved_by setup (moves_of before) street in_turn event) (moved_by setup (moves_of before) street in_turn event is_so) in
+    record { move = found.0; is = ap (λ newest. newest ∷ before) found.1 }
+
+-- a past has as many events as there are
+pub past_length : (setup : Setup) (events : List Said) → length (past_of setup events) ≡ length events
+unfolding with_event
+past_length setup [] = refl
+past_length setup (event ∷ before) = ap suc (past_length setup before)
+
+-- and no more moves than events
+pub moves_few : (before : Past) → length (moves_of before) ≤ length before
+moves_few [] = omega arith
+moves_few (past.Moved move ∷ before) = omega (arith, moves_few before)
+moves_few (past.Dealt street seat cards ∷ before) = omega (arith, moves_few before)
+moves_few (past.Boarded street cards ∷ before) = omega (arith, moves_few before)
+moves_few (past.Discarded street seat cards ∷ before) = omega (arith, moves_few before)
+moves_few (past.Shown street seat cards ∷ before) = omega (arith, moves_few before)
+moves_few (past.Mucked street seat ∷ before) = omega (arith, moves_few before)

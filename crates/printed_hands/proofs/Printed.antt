@@ -1,0 +1,201 @@
+-- The lines of the events so far, and of one event more.
+use Rattle.std.proofs.Common.{◌≡◌, ℕ, ◌+◌, ◌-◌, ◌≤◌, ◌<◌, Bool, true, false, List, [], ◌∷◌, ◌++◌, length, map, take, drop, reverse, slice_get, Option, Some, None, refl, sym, subst, ap, ◌∙◌, append_assoc, count_by, not, decimal, arith}
+use Rattle.std.specs.Option.{option_map}
+use Rattle.std.proofs.lemmas.List.{append-nil, length-map, length-reverse, length-take-le, take_all}
+use Rattle.std.proofs.lemmas.Option.{slice_get-map, slice_get_within}
+use Rattle.chip_ledger.specs.SeatRow.{amount_of}
+use Rattle.chip_ledger.specs.declared.rows.SeatRow.{SeatRow}
+use Rattle.chip_ledger.specs.declared.rows.TheConstants.{MOST_AMOUNT}
+use Rattle.canonical_play.specs.CanonScript.{move_named, plain_move}
+use Rattle.canonical_play.specs.PlayedScript.{is_move}
+use Rattle.canonical_play.specs.TraceCore.{TraceCore}
+use Rattle.hand_canon.specs.Sound.{IsSound, script_said}
+use Rattle.hand_canon.specs.declared.trace.Play.{Play}
+use Rattle.phh_words.specs.Written.{event_text}
+use Rattle.play_event.proofs.ChipLaws.{puts_within}
+use Rattle.play_event.specs.Chips.{chips_put}
+use Rattle.play_event.specs.Laws.{AreLegal}
+use Rattle.play_event.specs.Past as past
+use Rattle.play_event.specs.Past.{Move, Past, Resolved, moves_of}
+use Rattle.play_event.specs.Played.{move_said}
+use Rattle.play_event.specs.Said.{Said, said_of}
+use Rattle.play_event.specs.Scripts.{past_at_end, past_of, with_event}
+use Rattle.play_event.specs.Trace.{TracedMove, traced_move, traced_moves}
+use Rattle.play_event.specs.declared.event.Event.{Event}
+use Rattle.play_event.specs.declared.played.Move as rows
+use Rattle.play_event.specs.declared.setup.Setup.{Setup}
+use Rattle.printed_hands.specs.Steps.{HasPut, MayAdd, chips_text, event_named, step_lines}
+use Rattle.printed_hands.proofs.Moves.{own_more, traced_here}
+use Rattle.printed_hands.proofs.Pasts.{all_are, by_move, is_next, later_than, legal_before, longer, none_left, on_cards, past_length, so_far}
+
+-- the past after so many events
+abbrev pub past_to : Play → ℕ → Past
+past_to play count = past_of play.hand.setup (so_far play.hand.script count)
+
+-- So many events are printed: these are left, a row has what each seat has put, and the text has a line for each of them.
+pub record ArePrinted (play : Play) (count made : ℕ) (put : SeatRow) (left : List Event) (before text : List ℕ) : Type 0 where
+  pub within : count ≤ length play.hand.script
+  pub left_is : left ≡ drop count play.hand.script
+  pub has_put : HasPut play.hand.setup (moves_of (past_to play count)) put
+  pub made_is : made ≡ length (moves_of (past_to play count))
+  pub lines : text ≡ before ++ step_lines play.hand.setup (past_to play count)
+
+-- what is printed of an event
+abbrev pub line_of : Setup → ℕ → Said → List Move → List ℕ
+line_of setup number event moves = decimal number ++ (32 ∷ event_text event ++ chips_text setup moves)
+
+pub count_is : (play : Play) (count : ℕ) → count ≤ length play.hand.script → length (past_to play count) ≡ count
+count_is play count within =
+    past_length play.hand.setup (so_far play.hand.script count)
+    ∙ length-reverse (take count (map said_of play.hand.script))
+    ∙ length-take-le count (map said_of play.hand.script) (omega (arith, within, length-map play.hand.script said_of))
+
+-- the lines of a past with one event more
+one_line : (setup : Setup) (newest : Resolved) (base : Past) (count : ℕ) (event : Said) (moves : List Move)
+    → length base ≡ count → event_named newest ≡ event → moves_of (newest ∷ base) ≡ moves
+    → step_lines setup (newest ∷ base) ≡ step_lines setup base ++ line_of setup (count + 1) event moves
+unfolding step_lines
+one_line setup newest base count event moves counted named moved = rw (counted, named, moved) refl
+
+-- one event more, that leaves these moves
+more_lines : (play : Play) (count : ℕ) (newest : Resolved) (event : Said) (moves : List Move) (before text : List ℕ)
+    → count ≤ length play.hand.script → past_to play (count + 1) ≡ newest ∷ past_to play count
+    → event_named newest ≡ event → moves_of (newest ∷ past_to play count) ≡ moves
+    → text ≡ before ++ step_lines play.hand.setup (past_to play count)
+    → text ++ line_of play.hand.setup (count + 1) event moves ≡ before ++ step_lines play.hand.setup (past_to play (count + 1))
+more_lines play count newest event moves before text within is named moved so_far =
+    let setup = play.hand.setup in
+    let line = line_of setup (count + 1) event moves in
+    ap (λ (t : List ℕ). t ++ line) so_far
+    ∙ append_assoc before (step_lines setup (past_to play count)) line
+    ∙ ap (λ (t : List ℕ). before ++ t) (sym (ap (step_lines setup) is ∙ one_line setup newest (past_to play count) count event moves (count_is play count within) named moved))
+
+-- an event of cards more
+pub cards_printed : (play : Play) (count made : ℕ) (put : SeatRow) (left more : List Event) (event : Event) (before text : List ℕ)
+    → ArePrinted play count made put left before text → event ∷ more ≡ left → is_move (said_of event) ≡ false
+    → ArePrinted play (count + 1) made put more before (text ++ line_of play.hand.setup (count + 1) (said_of event) (moves_of (past_to play count)))
+cards_printed play count made put left more event before text printed front is_not =
+    let next = is_next play.hand.script count event more (front ∙ printed.left_is) in
+    let on = on_cards play.hand.setup (past_to play count) (said_of event) is_not in
+    let is : past_to play (count + 1) ≡ on.newest ∷ past_to play count = ap (past_of play.hand.setup) next.longer ∙ on.is in
+    let moves : moves_of (past_to play (count + 1)) ≡ moves_of (past_to play count) = ap moves_of is ∙ on.moves in
+    record {
+      within = omega (arith, next.within);
+      left_is = next.left;
+      has_put = subst (λ (list : List Move). HasPut play.hand.setup list put) (sym moves) printed.has_put;
+      made_is = printed.made_is ∙ ap length (sym moves);
+      lines = more_lines play count on.newest (said_of event) (moves_of (past_to play count)) before text printed.within is on.named on.moves printed.lines;
+    }
+
+-- the next event is a move: the trace has it behind those that were made, and its chips may be put
+pub record IsNextMove (play : Play) (count made : ℕ) (put : SeatRow) (event : Event) (more : List Event) : Type 0 where
+  pub move : Move
+  pub is : past_to play (count + 1) ≡ past.Moved move ∷ past_to play count
+  pub here : slice_get (map move_said play.trace.moves) made ≡ Some (traced_move play.hand.setup move (moves_of (past_to play count)))
+  pub may_add : (moved : rows.Move) → slice_get play.trace.moves made ≡ Some moved → MayAdd moved put
+  pub within : count < length play.hand.script
+  pub left : more ≡ drop (count + 1) play.hand.script
+
+-- the move that a row says
+said_move : (setup : Setup) (moved : rows.Move) (move : Move) (base : List Move) → move_said moved ≡ traced_move setup move base → plain_move (move_said moved) ≡ move
+said_move setup moved move base same = ap plain_move same
+
+some_said : (moved : rows.Move) (traced : TracedMove) (found : Option rows.Move) → found ≡ Some moved → option_map move_said found ≡ Some traced → move_said moved ≡ traced
+some_said moved traced found is said = inside (move_said moved) traced (sym (ap (option_map move_said) is) ∙ said)
+  where
+    inside : (x y : TracedMove) → Some x ≡ Some y → x ≡ y
+    inside x y same = cc
+
+pub next_move : (play : Play) (count made : ℕ) (put : SeatRow) (left more : List Event) (event : Event) (before text : List ℕ)
+    → IsSound play → ArePrinted play count made put left before text → event ∷ more ≡ left → is_move (said_of event) ≡ true
+    → IsNextMove play count made put event more
+next_move play count made put left more event before text sound printed front is_so =
+    let setup = play.hand.setup in
+    let script = play.hand.script in
+    let base = past_to play count in
+    let next = is_next script count event more (front ∙ printed.left_is) in
+    let by = by_move setup base (said_of event) is_so in
+    let is : past_to play (count + 1) ≡ past.Moved by.move ∷ base = ap (past_of setup) next.longer ∙ by.is in
+    let all = all_are script (count + 1) in
+    let more_moves = longer setup (later_than script (count + 1)) (so_far script (count + 1)) in
+    let end_is : moves_of (past_of setup (reverse (map said_of script))) ≡ more_moves.front ++ by.move ∷ moves_of base =
+    ap (λ (events : List Said). moves_of (past_of setup events)) all ∙ more_moves.is ∙ ap (λ (list : List Move). more_moves.front ++ list) (ap moves_of is) in
+    let traced : map move_said play.trace.moves ≡ traced_moves setup (more_moves.front ++ by.move ∷ moves_of base) =
+    ap (λ (core : TraceCore). core.moves) sound.trace.core ∙ ap (traced_moves setup) end_is in
+    let here : slice_get (map move_said play.trace.moves) made ≡ Some (traced_move setup by.move (moves_of base)) =
+    ap (λ (list : List TracedMove). slice_get list made) traced
+    ∙ ap (slice_get (traced_moves setup (more_moves.front ++ by.move ∷ moves_of base))) printed.made_is
+    ∙ traced_here setup more_moves.front by.move (moves_of base) in
+    let legal : AreLegal setup play.hand.rules (so_far script (count + 1)) =
+    legal_before setup play.hand.rules (later_than script (count + 1)) (so_far script (count + 1))
+    (subst (λ (events : List Said). AreLegal setup play.hand.rules events) all sound.legal.played.legal) in
+    record {
+      move = by.move;
+      is = is;
+      here = here;
+      may_add = λ moved found inside.
+          let same = said_move setup moved by.move (moves_of base) (some_said moved (traced_move setup by.move (moves_of base)) (slice_get play.trace.moves made) found (sym (slice_get-map move_said play.trace.moves made) ∙ here)) in
+          let seat : by.move.seat ≡ moved.seat.number = sym (ap (λ (m : Move). m.seat) same) in
+          let from : by.move.from ≡ moved.from = sym (ap (λ (m : Move). m.from) same) in
+          let to : by.move.to ≡ moved.to = sym (ap (λ (m : Move). m.to) same) in
+          let put_is = printed.has_put.amounts moved.seat.number moved.seat.first (omega (arith, inside, printed.has_put.seats)) in
+          let most = puts_within setup play.hand.rules (so_far script (count + 1)) sound.valid.antes legal moved.seat.number in
+          let own = ap (λ (list : List Move). chips_put setup list moved.seat.number) (ap moves_of is) ∙ own_more setup (moves_of base) by.move moved.seat.number seat in
+          let stack = setup.stacks.bounded (moved.seat.number - 1) in
+          rw (put_is) (omega (arith, most, own, stack, from, to));
+      within = next.within;
+      left = next.left;
+    }
+
+-- a move more
+pub move_printed : (play : Play) (count made : ℕ) (put new : SeatRow) (left more : List Event) (event : Event) (moved : rows.Move) (before text : List ℕ)
+    → ArePrinted play count made put left before text → IsNextMove play count made put event more
+    → slice_get play.trace.moves made ≡ Some moved
+    → HasPut play.hand.setup (plain_move (move_said moved) ∷ moves_of (past_to play count)) new
+    → ArePrinted play (count + 1) (made + 1) new more before
+    (text ++ line_of play.hand.setup (count + 1) (move_named (plain_move (move_said moved))) (plain_move (move_said moved) ∷ moves_of (past_to play count)))
+move_printed play count made put new left more event moved before text printed next found has =
+    let setup = play.hand.setup in
+    let base = past_to play count in
+    let same = said_move setup moved next.move (moves_of base) (some_said moved (traced_move setup next.move (moves_of base)) (slice_get play.trace.moves made) found (sym (slice_get-map move_said play.trace.moves made) ∙ next.here)) in
+    let is : past_to play (count + 1) ≡ past.Moved (plain_move (move_said moved)) ∷ base =
+    next.is ∙ ap (λ (move : Move). past.Moved move ∷ base) (sym same) in
+    let moves : moves_of (past_to play (count + 1)) ≡ plain_move (move_said moved) ∷ moves_of base = ap moves_of is in
+    record {
+      within = omega (arith, next.within);
+      left_is = next.left;
+      has_put = subst (λ (list : List Move). HasPut setup list new) (sym moves) has;
+      made_is = rw (moves) (omega (arith, printed.made_is));
+      lines = more_lines play count (past.Moved (plain_move (move_said moved))) (move_named (plain_move (move_said moved))) (plain_move (move_said moved) ∷ moves_of base) before text printed.within is refl refl printed.lines;
+    }
+
+-- before the first event
+pub none_printed : (play : Play) (put : SeatRow) (left : List Event) (text : List ℕ)
+    → left ≡ play.hand.script → HasPut play.hand.setup [] put → ArePrinted play 0 0 put left text text
+unfolding step_lines
+none_printed play put left text is has =
+    record { within = omega arith; left_is = is; has_put = has; made_is = refl; lines = sym (append-nil text) }
+
+-- behind the last event
+pub steps_printed : (play : Play) (count made : ℕ) (put : SeatRow) (left : List Event) (before text : List ℕ)
+    → ArePrinted play count made put left before text → [] ≡ left
+    → text ≡ before ++ step_lines play.hand.setup (past_at_end play.hand.setup (script_said play.hand))
+steps_printed play count made put left before text printed none =
+    let over = none_left play.hand.script count (none ∙ printed.left_is) in
+    let all : so_far play.hand.script count ≡ reverse (map said_of play.hand.script) =
+    ap reverse (take_all count (map said_of play.hand.script) (omega (arith, over, length-map play.hand.script said_of))) in
+    printed.lines ∙ ap (λ (events : List Said). before ++ step_lines play.hand.setup (past_of play.hand.setup events)) all
+
+-- a hand within the limits has few events
+counted_both : (events : List Said) → count_by is_move events + count_by (λ event. not (is_move event)) events ≡ length events
+counted_both [] = refl
+counted_both (event ∷ rest) = by_move (is_move event) refl (counted_both rest)
+  where
+    by_move : (b : Rattle.std.proofs.Common.Bool) → is_move event ≡ b → count_by is_move rest + count_by (λ event. not (is_move event)) rest ≡ length rest → count_by is_move (event ∷ rest) + count_by (λ event. not (is_move event)) (event ∷ rest) ≡ length (event ∷ rest)
+    by_move true is later =
+        omega (arith, later, Rattle.list_laws.proofs.Counting.count_by-cons is_move event rest, Rattle.list_laws.proofs.Counting.count_by-cons (λ (e : Said). not (is_move e)) event rest, ap {B = ℕ} (λ b. Rattle.std.proofs.Common.cond b 1 0) is, ap {B = ℕ} (λ b. Rattle.std.proofs.Common.cond (not b) 1 0) is)
+    by_move false is later =
+        omega (arith, later, Rattle.list_laws.proofs.Counting.count_by-cons is_move event rest, Rattle.list_laws.proofs.Counting.count_by-cons (λ (e : Said). not (is_move e)) event rest, ap {B = ℕ} (λ b. Rattle.std.proofs.Common.cond b 1 0) is, ap {B = ℕ} (λ b. Rattle.std.proofs.Common.cond (not b) 1 0) is)
+
+pub few_events : (play : Play) → IsSound play → length play.hand.script ≤ 4352
+few_events play sound = omega (arith, counted_both (map said_of play.hand.script), length-map play.hand.script said_of, sound.within.moves, sound.within.others)

@@ -1,0 +1,18 @@
+-- What the command check prints of legal hands.
+use Rattle.std.specs.Prelude.{ℕ, ◌+◌, List, [], ◌∷◌, ◌++◌, length, codes}
+use Rattle.std.specs.Fmt.{decimal}
+use Rattle.hand_canon.specs.declared.trace.Play.{Play}
+use Rattle.printed_hands.specs.Amounts.{amounts_in, amounts_text}
+
+-- the lines of hands, the first of which has this number
+unfoldable pub each_hand : (ℕ → Play → List ℕ) → ℕ → List Play → List ℕ
+each_hand lines number [] = []
+each_hand lines number (play ∷ others) = lines number play ++ each_hand lines (number + 1) others
+
+-- the line of a hand: what each seat ends with
+abbrev pub check_line : ℕ → Play → List ℕ
+check_line number play = codes "hand " ++ (decimal number ++ (codes ":" ++ (amounts_text (amounts_in play.trace.finish) ++ codes "\n")))
+
+-- the line of each hand, and the number of hands
+abbrev pub check_said : List Play → List ℕ
+check_said plays = each_hand check_line 1 plays ++ (codes "legal hands: " ++ (decimal (length plays) ++ codes "\n"))

@@ -1,0 +1,6 @@
+-- The text of legal hands.
+pub mod Amounts
+pub mod Check
+pub mod Ending
+pub mod Steps
+pub mod Replay

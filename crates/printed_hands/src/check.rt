@@ -1,0 +1,32 @@
+//! One line a hand says what each seat ends with, and one line behind them how many hands there are.
+ghost use Rattle.std.specs.Prelude.{◌≡◌, ◌++◌, IfOk, OnOk, string_bytes};
+ghost use Rattle.printed_hands.specs.Check.{check_line, check_said};
+
+use crate::amounts::push_row;
+use card_set::Memory;
+use hand_canon::Play;
+use std::alloc::Global;
+
+/// The finishing stacks of each hand, a line a hand, and the number of hands.
+pub fn check_text(alloc: Global, plays: &[Play]) -> Result<String, Memory>
+    ensures { IfOk result (λ text. string_bytes text ≡ check_said plays.now) }
+{
+    let mut text = String::new(alloc);
+    for (index, play) in plays.iter().enumerate() {
+        push_line(&mut text, index as u64 + 1, play)?;
+    }
+    let hands = plays.len();
+    write!(text, "legal hands: {hands}\n")?;
+    Ok(text)
+}
+
+// Puts the line of the hand with this number at the end of a text.
+fn push_line(text: &mut String, number: u64, play: &Play) -> Result<(), Memory>
+    ensures { OnOk result (string_bytes text.new
+        ≡ string_bytes text.old ++ check_line number play.now) }
+{
+    write!(text, "hand {number}:")?;
+    push_row(text, &play.trace.finish)?;
+    text.push_str("\n")?;
+    Ok(())
+}

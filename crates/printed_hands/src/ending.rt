@@ -1,0 +1,149 @@
+//! The last lines of a hand: what is returned, who gets what of each pot, and what each seat ends with.
+ghost use Rattle.std.specs.Prelude.{◌≡◌, ◌+◌, ◌++◌, ◌≤◌, length, OnOk, string_bytes};
+ghost use Rattle.printed_hands.specs.Ending.{divided, ending_lines, entries, listed_from, pot_line, pot_lines, rake_entry, return_line, return_lines};
+
+use crate::amounts::push_row;
+use card_set::Memory;
+use chip_ledger::{Pot, SeatRow};
+use hand_canon::Trace;
+
+/// Puts the last lines of a hand at the end of a text.
+pub fn push_ending(text: &mut String, trace: &Trace) -> Result<(), Memory>
+    ensures { OnOk result (string_bytes text.new
+        ≡ string_bytes text.old ++ ending_lines trace.now) }
+{
+    let returned = &trace.pots.returned;
+    push_returns(text, 1, &returned.amounts[..returned.seats as usize])?;
+    push_pots(
+        text,
+        1,
+        &trace.pots.pots[..trace.pots.count as usize],
+        &trace.shares.shares[..trace.shares.count as usize],
+        &trace.setup.rakes.rakes,
+    )?;
+    text.push_str("finish")?;
+    push_row(text, &trace.finish)?;
+    text.push_str("\n")?;
+    Ok(())
+}
+
+// Puts a line for each seat, from this one on, to which something is returned.
+fn push_returns(text: &mut String, seat: u8, amounts: &[u64]) -> Result<(), Memory>
+    requires { seat + length amounts.now ≤ 11 }
+    ensures { OnOk result (string_bytes text.new
+        ≡ string_bytes text.old ++ return_lines seat amounts.now) }
+{
+    match amounts {
+        [] => Ok(()),
+        [first, others @ ..] => {
+            let amount = *first;
+            push_return(text, seat, amount)?;
+            push_returns(text, seat + 1, others)
+        }
+    }
+}
+
+// Puts the line of what is returned to a seat, if something is.
+fn push_return(text: &mut String, seat: u8, amount: u64) -> Result<(), Memory>
+    ensures { OnOk result (string_bytes text.new
+        ≡ string_bytes text.old ++ return_line seat amount) }
+{
+    if amount > 0 {
+        write!(text, "return p{seat} {amount}\n")?;
+    }
+    Ok(())
+}
+
+// Puts the lines of pots, the first of which has this number.
+fn push_pots(
+    text: &mut String,
+    number: u8,
+    pots: &[Pot],
+    shares: &[SeatRow],
+    rakes: &[u64],
+) -> Result<(), Memory>
+    requires { number + length pots.now ≤ 12 }
+    ensures { OnOk result (string_bytes text.new
+        ≡ string_bytes text.old ++ pot_lines number pots.now shares.now rakes.now) }
+{
+    let [pot, pots @ ..] = pots else {
+        return Ok(());
+    };
+    let [share, shares @ ..] = shares else {
+        return Ok(());
+    };
+    let [rake, rakes @ ..] = rakes else {
+        return Ok(());
+    };
+    push_pot(text, number, pot, share, *rake)?;
+    push_pots(text, number + 1, pots, shares, rakes)
+}
+
+// Puts the line of a pot.
+fn push_pot(
+    text: &mut String,
+    number: u8,
+    pot: &Pot,
+    share: &SeatRow,
+    rake: u64,
+) -> Result<(), Memory>
+    ensures { OnOk result (string_bytes text.new
+        ≡ string_bytes text.old ++ pot_line number pot.now share.now rake) }
+{
+    let chips = pot.chips;
+    write!(text, "pot {number} {chips}: ")?;
+    push_entries(text, true, 1, &share.amounts[..share.seats as usize], rake)?;
+    text.push_str("\n")?;
+    Ok(())
+}
+
+// Puts what seats get of a pot, from this one on, and its rake behind them.
+fn push_entries(
+    text: &mut String,
+    is_first: bool,
+    seat: u8,
+    amounts: &[u64],
+    rake: u64,
+) -> Result<(), Memory>
+    requires { seat + length amounts.now ≤ 11 }
+    ensures { OnOk result (string_bytes text.new
+        ≡ string_bytes text.old ++ listed_from is_first (entries seat amounts.now rake)) }
+{
+    match amounts {
+        [] => push_rake(text, is_first, rake),
+        [first, others @ ..] => {
+            let amount = *first;
+            if amount == 0 {
+                return push_entries(text, is_first, seat + 1, others, rake);
+            }
+            push_comma(text, is_first)?;
+            write!(text, "p{seat} {amount}")?;
+            push_entries(text, false, seat + 1, others, rake)
+        }
+    }
+}
+
+// Puts the rake of a pot, if one is taken.
+fn push_rake(text: &mut String, is_first: bool, rake: u64) -> Result<(), Memory>
+    ensures { OnOk result (string_bytes text.new
+        ≡ string_bytes text.old ++ listed_from is_first (rake_entry rake)) }
+{
+    if rake == 0 {
+        return Ok(());
+    }
+    push_comma(text, is_first)?;
+    write!(text, "rake {rake}")?;
+    Ok(())
+}
+
+// Puts what divides an entry from the one before it, if there is one.
+fn push_comma(text: &mut String, is_first: bool) -> Result<(), Memory>
+    ensures { OnOk result (string_bytes text.new
+        ≡ string_bytes text.old ++ divided is_first) }
+{
+    if is_first {
+        return Ok(());
+    }
+    text.push_str(", ")?;
+    Ok(())
+}
