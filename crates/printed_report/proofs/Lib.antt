@@ -1,0 +1,7 @@
+pub mod Rows
+pub mod Named
+pub mod Counted
+pub mod Within
+pub mod Entries
+pub mod DefaultNames
+pub mod Worked

@@ -1,0 +1,105 @@
+-- What is put into rows and found there.
+use Rattle.std.proofs.Common.{◌≡◌, ℕ, Bool, true, false, cond, ◌||◌, List, [], ◌∷◌, ◌++◌, map, Option, Some, unwrap_or, bytes_eq, refl, sym, ap, subst, ◌∙◌, true≢false, Bor}
+use Rattle.std.specs.Cmp.Lexicographic.{bytes_decides}
+use Rattle.std.specs.List.{list_any}
+use Rattle.std.specs.Map.{lookup}
+use Rattle.indexmap.specs.IndexMap.{insert_entry}
+use Rattle.printed_report.specs.Report.{Seated, with_name}
+use Rattle.printed_report.specs.Tallies.{no_tally, row_names, tally_at, with_row, with_seat}
+use Rattle.printed_report.specs.declared.tally.Tally.{Tally}
+
+-- a look-up in a map is one in its rows
+pub lookup_rows : (name : List ℕ) (entries : List (Bor (List ℕ) × Tally))
+    → lookup (λ key. bytes_eq name key.now) entries ≡ lookup (bytes_eq name) (map (λ entry. (entry.0.now, entry.1)) entries)
+lookup_rows name [] = refl
+lookup_rows name (entry ∷ entries) = ap (λ found. cond (bytes_eq name entry.0.now) (Some entry.1) found) (lookup_rows name entries)
+
+mapped : {X Y : Type 0} (f : X → Y) (b : Bool) (xs ys : List X) → map f (cond b xs ys) ≡ cond b (map f xs) (map f ys)
+mapped f true xs ys = refl
+mapped f false xs ys = refl
+
+-- what is put into a map is put into its rows
+pub insert_rows : (entries : List (Bor (List ℕ) × Tally)) (key : Bor (List ℕ)) (tally : Tally)
+    → map (λ entry. (entry.0.now, entry.1)) (insert_entry (λ x y. bytes_eq x.now y.now) entries key tally)
+    ≡ insert_entry bytes_eq (map (λ entry. (entry.0.now, entry.1)) entries) key.now tally
+insert_rows [] key tally = refl
+insert_rows (entry ∷ entries) key tally =
+    mapped (λ entry. (entry.0.now, entry.1)) (bytes_eq key.now entry.0.now) ((entry.0, tally) ∷ entries) (entry ∷ insert_entry (λ x y. bytes_eq x.now y.now) entries key tally)
+    ∙ ap (λ rest. cond (bytes_eq key.now entry.0.now) ((entry.0.now, tally) ∷ map (λ entry. (entry.0.now, entry.1)) entries) ((entry.0.now, entry.1) ∷ rest)) (insert_rows entries key tally)
+
+found_or : (b : Bool) (tally other : Tally) (rest : Option Tally) → unwrap_or (cond b (Some tally) rest) other ≡ cond b tally (unwrap_or rest other)
+found_or true tally other rest = refl
+found_or false tally other rest = refl
+
+-- a row in front
+at_front : (row : List ℕ × Tally) (rows : List (List ℕ × Tally)) (asked : List ℕ)
+    → tally_at (row ∷ rows) asked ≡ cond (bytes_eq asked row.0) row.1 (tally_at rows asked)
+at_front row rows asked = found_or (bytes_eq asked row.0) row.1 no_tally (lookup (bytes_eq asked) rows)
+
+chosen_twice : (b : Bool) (x y z : Tally) → cond b x z ≡ cond b x (cond b y z)
+chosen_twice true x y z = refl
+chosen_twice false x y z = refl
+
+swapped : (p q : Bool) (x y z : Tally) → (p ≡ true → q ≡ true → y ≡ x) → cond p y (cond q x z) ≡ cond q x (cond p y z)
+swapped true true x y z same = same refl refl
+swapped true false x y z same = refl
+swapped false q x y z same = refl
+
+both_equal : (asked name key : List ℕ) → bytes_eq asked key ≡ true → bytes_eq asked name ≡ true → bytes_eq name key ≡ true
+both_equal asked name key first second = subst (λ text. bytes_eq text key ≡ true) ((bytes_decides asked name).0 second) first
+
+-- a name that got a tally has it, and the others have theirs
+pub at_insert : (rows : List (List ℕ × Tally)) (name : List ℕ) (tally : Tally) (asked : List ℕ)
+    → tally_at (insert_entry bytes_eq rows name tally) asked ≡ cond (bytes_eq asked name) tally (tally_at rows asked)
+at_insert [] name tally asked = at_front (name, tally) [] asked
+at_insert (row ∷ rows) name tally asked = by (bytes_eq name row.0) refl (at_insert rows name tally asked)
+  where
+    by : (b : Bool) → bytes_eq name row.0 ≡ b
+        → tally_at (insert_entry bytes_eq rows name tally) asked ≡ cond (bytes_eq asked name) tally (tally_at rows asked)
+        → tally_at (cond b ((row.0, tally) ∷ rows) (row ∷ insert_entry bytes_eq rows name tally)) asked
+        ≡ cond (bytes_eq asked name) tally (tally_at (row ∷ rows) asked)
+    by true same later =
+        let name_is : name ≡ row.0 = (bytes_decides name row.0).0 same in
+        at_front (row.0, tally) rows asked
+        ∙ chosen_twice (bytes_eq asked row.0) tally row.1 (tally_at rows asked)
+        ∙ (λ i. cond (bytes_eq asked (sym name_is i)) tally (sym (at_front row rows asked) i))
+    by false other later =
+        at_front row (insert_entry bytes_eq rows name tally) asked
+        ∙ ap (λ rest. cond (bytes_eq asked row.0) row.1 rest) later
+        ∙ swapped (bytes_eq asked row.0) (bytes_eq asked name) tally row.1 (tally_at rows asked) (λ first second. absurd (true≢false (sym (both_equal asked name row.0 first second) ∙ other)))
+        ∙ ap (λ rest. cond (bytes_eq asked name) tally rest) (sym (at_front row rows asked))
+
+longer : (b : Bool) (name : List ℕ) (names other : List (List ℕ)) → name ∷ cond b names other ≡ cond b (name ∷ names) (name ∷ other)
+longer true name names other = refl
+longer false name names other = refl
+
+-- a name that got a tally stands where it stood, or last
+pub names_insert : (rows : List (List ℕ × Tally)) (name : List ℕ) (tally : Tally)
+    → row_names (insert_entry bytes_eq rows name tally) ≡ with_name (row_names rows) name
+names_insert [] name tally = refl
+names_insert (row ∷ rows) name tally = by (bytes_eq name row.0) (names_insert rows name tally)
+  where
+    by : (b : Bool)
+        → row_names (insert_entry bytes_eq rows name tally) ≡ with_name (row_names rows) name
+        → row_names (cond b ((row.0, tally) ∷ rows) (row ∷ insert_entry bytes_eq rows name tally))
+        ≡ cond (b || list_any (bytes_eq name) (row_names rows)) (row_names (row ∷ rows)) (row_names (row ∷ rows) ++ name ∷ [])
+    by true later = refl
+    by false later =
+        ap (λ rest. row.0 ∷ rest) later
+        ∙ longer (list_any (bytes_eq name) (row_names rows)) row.0 (row_names rows) (row_names rows ++ name ∷ [])
+
+-- a tally with one more seat, where the seat has the name
+abbrev pub step : ℕ → List ℕ → Tally → Seated → Tally
+step number asked tally seat = cond (bytes_eq asked seat.name) (with_seat number tally seat) tally
+
+same_seat : (number : ℕ) (rows : List (List ℕ × Tally)) (seat : Seated) (asked : List ℕ) (b : Bool) → bytes_eq asked seat.name ≡ b
+    → cond b (with_seat number (tally_at rows seat.name) seat) (tally_at rows asked) ≡ cond b (with_seat number (tally_at rows asked) seat) (tally_at rows asked)
+same_seat number rows seat asked true same = ap (λ name. with_seat number (tally_at rows name) seat) (sym ((bytes_decides asked seat.name).0 same))
+same_seat number rows seat asked false other = refl
+
+-- a seat adds to the tally of its name alone
+pub at_row : (number : ℕ) (rows : List (List ℕ × Tally)) (seat : Seated) (asked : List ℕ)
+    → tally_at (with_row number rows seat) asked ≡ step number asked (tally_at rows asked) seat
+at_row number rows seat asked =
+    at_insert rows seat.name (with_seat number (tally_at rows seat.name) seat) asked
+    ∙ same_seat number rows seat asked (bytes_eq asked seat.name) refl

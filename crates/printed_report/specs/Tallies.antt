@@ -1,0 +1,67 @@
+-- What is tallied of each name, hand after hand and seat after seat.
+use Rattle.std.specs.Prelude.{ℕ, ◌+◌, ◌*◌, ◌≤◌, ◌==◌, List, [], ◌∷◌, fold, map, bytes_eq, unwrap_or, if◌then◌else◌, pos, ◌-ℤ◌}
+use denote.Ref.{Bor}
+use Rattle.std.specs.Map.{lookup}
+use Rattle.indexmap.specs.IndexMap.{IndexMap, insert_entry}
+use Rattle.chip_ledger.specs.declared.rows.TheConstants.{MOST_AMOUNT}
+use Rattle.printed_report.specs.declared.tally.Tally.{Tally}
+use Rattle.printed_report.specs.Report.{Hand, Seated, name_line}
+
+-- the tally of a name that is not seen yet
+abbrev pub no_tally : Tally
+no_tally = record { started = 0; finished = 0; hands = 0; last = 0 }
+
+-- a tally with one more seat, in the hand with this number
+abbrev pub with_seat : ℕ → Tally → Seated → Tally
+with_seat number tally seat =
+    record {
+      started = tally.started + seat.started;
+      finished = tally.finished + seat.finished;
+      hands = if tally.last == number then tally.hands else tally.hands + 1;
+      last = number;
+    }
+
+-- the names of a map, each with its tally
+abbrev pub rows_of : {S : Type 0} → IndexMap (Bor (List ℕ)) Tally S → List (List ℕ × Tally)
+rows_of tallies = map (λ entry. (entry.0.now, entry.1)) tallies.entries
+
+-- the names of rows
+abbrev pub row_names : List (List ℕ × Tally) → List (List ℕ)
+row_names rows = map (λ row. row.0) rows
+
+-- the tally of a name
+abbrev pub tally_at : List (List ℕ × Tally) → List ℕ → Tally
+tally_at rows name = unwrap_or (lookup (bytes_eq name) rows) no_tally
+
+-- rows with one more seat
+abbrev pub with_row : ℕ → List (List ℕ × Tally) → Seated → List (List ℕ × Tally)
+with_row number rows seat =
+    insert_entry bytes_eq rows seat.name (with_seat number (tally_at rows seat.name) seat)
+
+-- rows with the seats of one more hand
+abbrev pub with_seats : ℕ → List (List ℕ × Tally) → List Seated → List (List ℕ × Tally)
+with_seats number rows seats = fold (with_row number) rows seats
+
+-- rows with the seats of more hands, the first of which has this number
+abbrev pub with_hands : ℕ → List (List ℕ × Tally) → List Hand → List (List ℕ × Tally)
+with_hands number rows [] = rows
+with_hands number rows (hand ∷ hands) = with_hands (number + 1) (with_seats number rows hand.seats) hands
+
+-- the most seats of all hands: ten of each of 65,536 hands
+abbrev pub MOST_SEATS : ℕ
+MOST_SEATS = 655360
+
+-- a tally is of no more than so many seats
+pub record IsWithin (seats : ℕ) (tally : Tally) : Type 0 where
+  pub started : tally.started ≤ seats * MOST_AMOUNT
+  pub finished : tally.finished ≤ seats * MOST_AMOUNT
+  pub hands : tally.hands ≤ seats
+
+-- each tally is
+abbrev pub AreWithin : ℕ → List (List ℕ × Tally) → Type 0
+AreWithin seats rows = (name : List ℕ) → IsWithin seats (tally_at rows name)
+
+-- the line of a name
+abbrev pub tally_line : List (List ℕ × Tally) → List ℕ → List ℕ
+tally_line rows name =
+    name_line (pos (tally_at rows name).finished -ℤ pos (tally_at rows name).started) (tally_at rows name).hands name
