@@ -1,2 +1,7 @@
 pub mod RowsAgain
 pub mod SetupAgain
+pub mod NotesAgain
+pub mod SeatingAgain
+pub mod EventsAgain
+pub mod HandAgain
+pub mod OrderAgain

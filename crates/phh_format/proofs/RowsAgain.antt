@@ -55,7 +55,7 @@ pub row_again : (seats most : ℕ) (key : Key) (all : List ℕ) → length all �
 unfolding row_said
 row_again seats most key all count each = rw (items_again seats key all count) (amounts_again 0 most key all each)
 
-each_taken : (P : ℕ → Type 0) (n : ℕ) (all : List ℕ) → n ≤ length all → ((k : ℕ) → k < n → P (get_or all k 0)) → AllByRecursion P (take n all)
+pub each_taken : (P : ℕ → Type 0) (n : ℕ) (all : List ℕ) → n ≤ length all → ((k : ℕ) → k < n → P (get_or all k 0)) → AllByRecursion P (take n all)
 each_taken P zero all within each = tt
 each_taken P (suc n) [] within each = absurd (omega (arith, within))
 each_taken P (suc n) (x ∷ rest) within each = (each 0 (omega arith), each_taken P n rest (omega (arith, within)) (λ k h. each (suc k) (omega (arith, h))))

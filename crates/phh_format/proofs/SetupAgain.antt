@@ -102,9 +102,9 @@ less_taken (suc n) (x ∷ xs) [] few many less k = absurd (omega (arith, many))
 less_taken (suc n) (x ∷ xs) (y ∷ ys) few many less zero = less zero
 less_taken (suc n) (x ∷ xs) (y ∷ ys) few many less (suc k) = less_taken n xs ys (omega (arith, few)) (omega (arith, many)) (λ j. less (suc j)) k
 
-or_none : (found : Option Data) → or_later found None ≡ found
-or_none None = refl
-or_none (Some value) = refl
+pub field_alone : (found : Option Data) → or_later found None ≡ found
+field_alone None = refl
+field_alone (Some value) = refl
 
 -- whether antes are dead
 dead_again : (dead : Bool) (antes : List ℕ) → (dead ≡ true → list_any (λ ante. nat_lt 0 ante) antes ≡ true) → are_dead (not dead) antes ≡ dead
@@ -204,10 +204,10 @@ module _ (place : ℕ) (play : Play) (valid : IsValid play.trace.setup) where
   unfolding sizes_said
   sizes_again =
       rw (
-        size_again (is_stud setup.code) setup.bring_in keys.BringIn valid.bring_in (or_none (size_field (is_stud setup.code) setup.bring_in)),
-        size_again (is_fixed (limit_of setup.code)) setup.small_bet keys.SmallBet valid.small_bet (or_none (size_field (is_fixed (limit_of setup.code)) setup.small_bet)),
-        size_again (is_fixed (limit_of setup.code)) setup.big_bet keys.BigBet valid.big_bet (or_none (size_field (is_fixed (limit_of setup.code)) setup.big_bet)),
-        size_again (not (is_fixed (limit_of setup.code))) setup.min_bet keys.MinBet valid.least_bet (or_none (size_field (not (is_fixed (limit_of setup.code))) setup.min_bet)),
+        size_again (is_stud setup.code) setup.bring_in keys.BringIn valid.bring_in (field_alone (size_field (is_stud setup.code) setup.bring_in)),
+        size_again (is_fixed (limit_of setup.code)) setup.small_bet keys.SmallBet valid.small_bet (field_alone (size_field (is_fixed (limit_of setup.code)) setup.small_bet)),
+        size_again (is_fixed (limit_of setup.code)) setup.big_bet keys.BigBet valid.big_bet (field_alone (size_field (is_fixed (limit_of setup.code)) setup.big_bet)),
+        size_again (not (is_fixed (limit_of setup.code))) setup.min_bet keys.MinBet valid.least_bet (field_alone (size_field (not (is_fixed (limit_of setup.code))) setup.min_bet)),
       ) refl
 
   -- the setup of a hand that was written
