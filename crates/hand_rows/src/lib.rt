@@ -1,0 +1,12 @@
+//! The words of rows of tests are read as setups, rules and events, and events are told in these words.
+#![tactic(auto)]
+
+mod cards;
+mod events;
+mod setups;
+mod words;
+
+pub use cards::{cards_text, slots_text};
+pub use events::{event_text, kind_of};
+pub use setups::setup_of;
+pub use words::{first_and_rest, row_of, row_text, seat_of};

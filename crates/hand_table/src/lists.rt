@@ -1,0 +1,144 @@
+// What a list holds after one item was put into it, and what a text holds.
+use chip_ledger::Seat;
+use hand_canon::{Moves, Notes, Places, Record, Records, Stated, Text};
+use hand_rows::{event_text, kind_of, setup_of, slots_text};
+use play_event::{Act, Event, Kind, Move, Place, Rules, Script, Setup};
+use std::alloc::{AllocError, Global};
+
+/// What the lists hold: a script the row's event, places the first card that it deals, moves a fold, and records the row's
+/// setup with such a script.
+pub fn pushed(alloc: Global, row: &str) -> Result<Option<String>, AllocError> {
+    let Some((start, event)) = row.split_once(": ") else {
+        return Ok(None);
+    };
+    let (Some((setup, rules)), Some(kind)) = (setup_of(start), kind_of(event)) else {
+        return Ok(None);
+    };
+    let script = script_with(alloc, kind)?;
+    let places = places_with(alloc, kind)?;
+    let moves = moves_with(alloc)?;
+    let records = records_with(alloc, setup, rules, kind)?;
+    Ok(Some(format!(in alloc; "{script}; {places}; {moves}; {records}")?))
+}
+
+fn script_with(alloc: Global, kind: Kind) -> Result<String, AllocError> {
+    let mut script = Script::new(alloc);
+    match script.push(Event { at: 1, kind }) {
+        Ok(()) => {
+            let count = script.len();
+            let event = event_text(alloc, &script.get(0).kind)?;
+            format!(in alloc; "{count} event, {event}")
+        }
+        Err(_) => Err(AllocError),
+    }
+}
+
+// The first card of a deal, as a place of the first street.
+fn places_with(alloc: Global, kind: Kind) -> Result<String, AllocError> {
+    let Kind::Hole { seat, cards } = kind else {
+        return String::from_str(alloc, "no place");
+    };
+    let mut places = Places::new(alloc);
+    let place = Place {
+        owner: Some(seat),
+        street: 1,
+        slot: cards.slots[0],
+        gone: 0,
+    };
+    match places.push(place) {
+        Ok(()) => {
+            let count = places.len();
+            let slot = slots_text(alloc, &[places.get(0).slot])?;
+            format!(in alloc; "{count} place, {slot}")
+        }
+        Err(_) => Err(AllocError),
+    }
+}
+
+fn moves_with(alloc: Global) -> Result<String, AllocError> {
+    let mut moves = Moves::new(alloc);
+    let fold = Move {
+        street: 1,
+        seat: Seat { number: 3 },
+        act: Act::Fold,
+        from: 0,
+        to: 0,
+        price: 2,
+        closed: false,
+        unit_to: 0,
+    };
+    match moves.push(fold) {
+        Ok(()) => {
+            let count = moves.len();
+            let moved = moves.get(0);
+            let (act, seat) = (moved.act, moved.seat.number);
+            format!(in alloc; "{count} move, {act:?} {seat}")
+        }
+        Err(_) => Err(AllocError),
+    }
+}
+
+fn records_with(
+    alloc: Global,
+    setup: Setup,
+    rules: Rules,
+    kind: Kind,
+) -> Result<String, AllocError> {
+    let mut script = Script::new(alloc);
+    match script.push(Event { at: 1, kind }) {
+        Ok(()) => {}
+        Err(_) => return Err(AllocError),
+    }
+    let record = Record {
+        setup,
+        rules,
+        script,
+        stated: nothing_stated(),
+        notes: no_notes(),
+    };
+    let mut records = Records::new(alloc);
+    match records.push(record) {
+        Ok(()) => {
+            let count = records.len();
+            let record = records.get(0);
+            let code = record.setup.code.text();
+            let events = record.script.len();
+            format!(in alloc; "{count} record, {code} with {events} event")
+        }
+        Err(_) => Err(AllocError),
+    }
+}
+
+fn nothing_stated() -> Stated {
+    Stated {
+        finish: None,
+        wins: None,
+        pot_total: None,
+        values: None,
+    }
+}
+
+fn no_notes() -> Notes {
+    Notes {
+        names: [None, None, None, None, None, None, None, None, None, None],
+        seats: None,
+        seat_count: None,
+        hand: None,
+        table: None,
+        venue: None,
+        currency: None,
+        year: None,
+        month: None,
+        day: None,
+        time: None,
+        zone: None,
+    }
+}
+
+/// A copy of the row's text.
+pub fn copied(alloc: Global, row: &str) -> Result<Option<String>, AllocError> {
+    match Text::new(alloc, row) {
+        Ok(text) => Ok(Some(String::from_str(alloc, text.as_str())?)),
+        Err(_) => Err(AllocError),
+    }
+}

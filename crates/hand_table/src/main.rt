@@ -1,0 +1,47 @@
+//! Rows of hands are read from the input, one a line, and each is printed again with what `replay`, and `canon` or
+//! `check_stated` behind it, answer to it.
+#![tactic(auto)]
+
+mod answers;
+mod facts;
+mod hands;
+mod lists;
+mod traces;
+
+use hand_rows::first_and_rest;
+use std::alloc::{AllocError, Global};
+use std::io;
+
+fn main(rt: HostRuntime) -> io::Result<()> {
+    let alloc = rt.alloc();
+    for line in rt.lines(alloc) {
+        let row = answered(alloc, line?.as_str())?;
+        println!(rt; "{row}")?;
+    }
+    Ok(())
+}
+
+// A row with its answer behind it. Headings, which begin with `#`, and empty lines stay as they are.
+fn answered(alloc: Global, row: &str) -> Result<String, AllocError> {
+    if row.is_empty() || row.starts_with('#') {
+        return String::from_str(alloc, row);
+    }
+    match answer_to(alloc, row)? {
+        Some(answer) => format!(in alloc; "{row} = {answer}"),
+        None => format!(in alloc; "{row} ? no such row"),
+    }
+}
+
+// The answer to the row, by its first word; none where the row has no meaning.
+fn answer_to(alloc: Global, row: &str) -> Result<Option<String>, AllocError> {
+    let (word, rest) = first_and_rest(row);
+    match word.as_bytes() {
+        b"replay" => answers::replayed(alloc, rest),
+        b"canon" => answers::canonical(alloc, rest),
+        b"stated" => answers::compared(alloc, rest),
+        b"times" => answers::repeated(alloc, rest),
+        b"push" => lists::pushed(alloc, rest),
+        b"text" => lists::copied(alloc, rest),
+        _ => Ok(None),
+    }
+}
