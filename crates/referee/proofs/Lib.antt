@@ -1,0 +1,2 @@
+-- Plays of records, as the loop over the records keeps them.
+pub mod Plays

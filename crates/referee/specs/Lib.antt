@@ -1,0 +1,2 @@
+-- What records come to: plays, or the first refused hand.
+pub mod Judged
