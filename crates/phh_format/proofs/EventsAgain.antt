@@ -18,7 +18,7 @@ use Rattle.phh_reading.specs.Events.{added, counted, event_said}
 use Rattle.phh_format.specs.Again.{numbered_from}
 
 -- the counts after one more event, which is a move or not
-abbrev one_more : Counts → Bool → Counts
+abbrev pub one_more : Counts → Bool → Counts
 one_more counts true = record { moves = counts.moves + 1; other_events = counts.other_events; file_moves = counts.file_moves + 1 }
 one_more counts false = record { moves = counts.moves; other_events = counts.other_events + 1; file_moves = counts.file_moves }
 

@@ -1,17 +1,14 @@
 -- A hand that was written reads back as that hand.
 use Rattle.std.proofs.Common.{◌≡◌, ℕ, zero, suc, ◌+◌, ◌-◌, ◌≤◌, ◌<◌, Bool, true, false, ◌||◌, nat_lt, cond, List, [], ◌∷◌, length, map, take, replicate, get_or, pos, Option, Some, None, option_map, Result, Ok, refl, sym, ap, subst, ◌∙◌, arith, inl, inr, true≢false}
-use Rattle.std.specs.List.{AllByRecursion, list_any}
+use Rattle.std.specs.List.{list_any}
 use Rattle.std.proofs.lemmas.Bool.{cases_lt, le-leb, lt-ltb}
 use Rattle.std.proofs.lemmas.List.{length-map, length-take-le}
 use Rattle.toml.specs.Data.{Data, string, integer, Members}
 use Rattle.chip_ledger.specs.declared.rows.TheConstants.{MOST_AMOUNT}
-use Rattle.chip_ledger.specs.RakeRow.{rake_of}
 use Rattle.play_event.specs.declared.setup.Setup.{Setup}
-use Rattle.play_event.specs.ValidSetup.{IsValid}
 use Rattle.first_fault.specs.Reading.{◌>>=◌, read_if}
 use Rattle.hand_canon.specs.declared.trace.Play.{Play}
-use Rattle.hand_canon.specs.AllowedNotes.{AreAllowed}
-use Rattle.phh_words.specs.Written.{CanBeSaid, event_text}
+use Rattle.phh_words.specs.Written.{event_text}
 use Rattle.phh_fields.specs.declared.fault.Fault.{Fault}
 use Rattle.phh_fields.specs.declared.fault.Key.{Key}
 use Rattle.phh_fields.specs.declared.fault.Key.TheVariants as keys
@@ -24,20 +21,13 @@ use Rattle.phh_table.specs.Document.{hand_table}
 use Rattle.phh_table.specs.HandFields.{hand_field, hand_fields, label, local_time, names_field, number_field, numbers, rakes_field, script_of}
 use Rattle.phh_table.proofs.Puts.{field_at}
 use Rattle.phh_fields.proofs.Zeros.{cut_zeros, with_zeros}
+use Rattle.phh_format.specs.Readable.{IsReadable}
 use Rattle.phh_format.specs.Again.{hand_again, kept_name, notes_again}
 use Rattle.phh_format.proofs.RowsAgain.{IsBetween, amount_count, amounts_again, each_amount, each_taken, list_again, listed_again, number_data, row_again}
 use Rattle.phh_format.proofs.SetupAgain.{at, field_alone, setup_again}
 use Rattle.phh_format.proofs.NotesAgain.{calendar_again, name_again, said_again, table_again, text_note_again, time_again}
 use Rattle.phh_format.proofs.SeatingAgain.{names_again, seat_count_again, seats_again}
 use Rattle.phh_format.proofs.EventsAgain.{HaveRoom, counts_with, events_again}
-
--- what must hold of a play that is written, so that its table reads back
-pub record IsReadable (play : Play) : Type 0 where
-  pub valid : IsValid play.trace.setup
-  pub events : AllByRecursion (CanBeSaid play.trace.setup.stacks.seats) (script_of play.trace)
-  pub finish : play.trace.finish.seats ≡ play.trace.setup.stacks.seats
-  pub no_more_rakes : (pot : ℕ) → play.trace.pots.count < pot → rake_of play.trace.setup.rakes pot ≡ 0
-  pub notes : AreAllowed play.trace.setup.stacks.seats play.hand.notes
 
 zero_taken : (n : ℕ) (all : List ℕ) → list_any (nat_lt 0) (take n all) ≡ false → (k : ℕ) → k < n → get_or all k 0 ≡ 0
 zero_taken zero all none k within = absurd (omega (arith, within))

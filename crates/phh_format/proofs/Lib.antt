@@ -5,3 +5,4 @@ pub mod SeatingAgain
 pub mod EventsAgain
 pub mod HandAgain
 pub mod OrderAgain
+pub mod FileAgain

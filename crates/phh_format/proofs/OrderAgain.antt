@@ -1,17 +1,21 @@
 -- Hands that were written under 1, 2 and so on are read in this order: it does not matter in which order they are placed.
-use Rattle.std.proofs.Common.{◌≡◌, ℕ, ◌+◌, ◌<◌, ◌^◌, List, [], ◌∷◌, length, decimal, Ordering, Less, Equal, Greater, nat_cmp, is_eq, refl, sym, ap, ◌∙◌, arith, true≢false}
-use Rattle.std.specs.List.{AllByRecursion}
+use Rattle.std.proofs.Common.{◌≡◌, ℕ, ◌+◌, ◌≤◌, ◌<◌, ◌^◌, ◌&&◌, true, List, [], ◌∷◌, ◌++◌, length, map, decimal, Ordering, Less, Equal, Greater, nat_cmp, is_eq, refl, sym, ap, ◌∙◌, arith, append_assoc, true≢false}
+use Rattle.std.specs.Char.{digit_value, is_digit}
+use Rattle.std.specs.List.{AllByRecursion, list_all}
 use Rattle.std.specs.Cmp.{IsTotalOrder, nat_cmp_is}
 use Rattle.std.specs.Ordering.{match_ordering, ordering_reverse}
 use Rattle.std.specs.Cmp.Lexicographic.{slice_cmp}
-use Rattle.std.specs.Str.Parse.{digits_value}
+use Rattle.std.specs.Str.Parse.{AllDigits, digits_value}
+use Rattle.first_fault.specs.Digits.{are_digits}
+use Rattle.std.proofs.lemmas.Bool.{and_parts, lt-ltb}
 use Rattle.std.proofs.lemmas.Cmp.{nat_cmp_total, nat_list_cmp_total, then_total, tied_itself}
 use Rattle.std.proofs.lemmas.Map.Text.{is_eq-slice_cmp}
 use Rattle.std.proofs.lemmas.Slice.Eq.{bytes_eq-Decides}
 use Rattle.std.proofs.lemmas.Fmt.{decimal_is_IsNumeral}
+use Rattle.std.proofs.lemmas.List.{append-nil}
 use Rattle.toml.specs.Data.{Data, Members, no_members, member, table}
 use Rattle.hand_canon.specs.declared.trace.Play.{Play}
-use Rattle.phh_reading.specs.Order.{Entry, key_cmp, placed, placed_all}
+use Rattle.phh_reading.specs.Order.{Entry, are_hands, in_order, is_table, key_cmp, placed, placed_all, tables_among}
 use Rattle.phh_table.specs.Members.{put, table_of}
 use Rattle.phh_table.specs.Document.{hand_table, numbered_hands}
 
@@ -162,5 +166,73 @@ new_key n place (play ∷ rest) lower few =
     (new_key n (place + 1) rest (omega (arith, lower)) (omega (arith, few)))
 
 -- each entry has the key of a number up to this one
-AreUpTo : ℕ → List Entry → Type 0
-AreUpTo most es = AllByRecursion (λ (e : Entry). key_cmp (decimal (most + 1)) e.0 ≡ Greater) es
+abbrev pub AreUpTo : ℕ → List Entry → Type 0
+AreUpTo most es = AllByRecursion (λ (e : Entry). (n : ℕ) × (e.0 ≡ decimal n) × (n ≤ most)) es
+
+-- an entry with a greater number is placed behind all
+placed_last : (most : ℕ) (v : Data) (es : List Entry) → AreUpTo most es → most + 1 < 2 ^ 64 → placed (decimal (most + 1)) v es ≡ es ++ (decimal (most + 1), v) ∷ []
+placed_last most v [] each small = refl
+placed_last most v (e ∷ es) each small =
+    let n = each.0.0 in
+    let low : key_cmp (decimal n) (decimal (most + 1)) ≡ Less = lower_key n (most + 1) (omega (arith, each.0.2)) small in
+    let above : key_cmp (decimal (most + 1)) e.0 ≡ Greater =
+    ap (key_cmp (decimal (most + 1))) each.0.1 ∙ key_total.antisymm (decimal (most + 1)) (decimal n) ∙ ap ordering_reverse low in
+    after (decimal (most + 1)) v e es above ∙ behind e (placed (decimal (most + 1)) v es) (es ++ (decimal (most + 1), v) ∷ []) (placed_last most v es each.1 small)
+
+more_up_to : (most : ℕ) (v : Data) (es : List Entry) → AreUpTo most es → AreUpTo (most + 1) (es ++ (decimal (most + 1), v) ∷ [])
+more_up_to most v [] each = ((most + 1, refl, omega arith), tt)
+more_up_to most v (e ∷ es) each = ((each.0.0, each.0.1, omega (arith, each.0.2)), more_up_to most v es each.1)
+
+-- the hands of plays are placed behind those before them
+pub placed_in_order : (place : ℕ) (plays : List Play) (es : List Entry) → AreUpTo place es → place + length plays < 2 ^ 64
+    → placed_all es (table_of (numbered_hands place plays)) ≡ es ++ hands_from place plays
+placed_in_order place [] es each small = sym (append-nil es)
+placed_in_order place (play ∷ rest) es each small =
+    let value = table (hand_table place play) in
+    let members = table_of (numbered_hands (place + 1) rest) in
+    placed_first es (decimal (place + 1)) value members (new_key (place + 1) (place + 1) rest (omega arith) (omega (arith, small)))
+    ∙ ap (λ (entries : List Entry). placed_all entries members) (placed_last place value es each (omega (arith, small)))
+    ∙ placed_in_order (place + 1) rest (es ++ (decimal (place + 1), value) ∷ []) (more_up_to place value es each) (omega (arith, small))
+    ∙ append_assoc es ((decimal (place + 1), value) ∷ []) (hands_from (place + 1) rest)
+
+-- the tables of plays, of which the first is at this place
+abbrev pub hand_tables : ℕ → List Play → List Members
+hand_tables place [] = []
+hand_tables place (play ∷ rest) = hand_table place play ∷ hand_tables (place + 1) rest
+
+tables_from : (place : ℕ) (plays : List Play) → tables_among (map (λ entry. entry.1) (hands_from place plays)) ≡ hand_tables place plays
+tables_from place [] = refl
+tables_from place (play ∷ rest) = ap (λ (tables : List Members). hand_table place play ∷ tables) (tables_from (place + 1) rest)
+
+-- hands that were written under their numbers are read in their order
+pub in_order_again : (plays : List Play) → length plays < 2 ^ 64 → in_order (table_of (numbered_hands 0 plays)) ≡ hand_tables 0 plays
+in_order_again plays small =
+    ap (λ (entries : List Entry). tables_among (map (λ entry. entry.1) entries)) (placed_in_order 0 plays [] tt (omega (arith, small))) ∙ tables_from 0 plays
+
+-- each key of hands that were written is a number
+number_key : (n : ℕ) → n < 2 ^ 64 → are_digits (decimal n) ≡ true
+unfolding are_digits
+number_key n small = let is = decimal_is_IsNumeral n small in rw (lt-ltb 0 (length (decimal n)) is.0.0, each_digit (decimal n) is.0.1) refl
+  where
+    each_digit : (digits : List ℕ) → AllDigits 10 digits → list_all (λ sign. is_digit sign 10) digits ≡ true
+    each_digit [] each = refl
+    each_digit (digit ∷ digits) each = rw (lt-ltb (digit_value digit) 10 each.0, each_digit digits each.1) refl
+
+hands_at : (o : Ordering) (k l : List ℕ) (v w : Data) (rest more : Members) → (are_digits k && is_table v) ≡ true → slice_cmp nat_cmp k l ≡ o → are_hands (member l w rest) ≡ true → are_hands more ≡ true
+    → are_hands (match_ordering o (member k v (member l w rest)) (member l v rest) (member l w more)) ≡ true
+hands_at Less k l v w rest more one is all later = rw one all
+hands_at Equal k l v w rest more one is all later =
+    let same : k ≡ l = (bytes_eq-Decides k l).0 (sym (is_eq-slice_cmp k l) ∙ ap is_eq is) in
+    rw (ap (λ (key : List ℕ). are_digits key && is_table v) (sym same) ∙ one) (and_parts (are_digits l && is_table w) (are_hands rest) all).1
+hands_at Greater k l v w rest more one is all later = rw ((and_parts (are_digits l && is_table w) (are_hands rest) all).0) later
+
+hands_put : (k : List ℕ) (v : Data) (members : Members) → (are_digits k && is_table v) ≡ true → are_hands members ≡ true → are_hands (put k v members) ≡ true
+hands_put k v no_members one all = rw one refl
+hands_put k v (member l w rest) one all =
+    hands_at (slice_cmp nat_cmp k l) k l v w rest (put k v rest) one refl all (hands_put k v rest one (and_parts (are_digits l && is_table w) (are_hands rest) all).1)
+
+pub are_hands_again : (place : ℕ) (plays : List Play) → place + length plays < 2 ^ 64 → are_hands (table_of (numbered_hands place plays)) ≡ true
+are_hands_again place [] small = refl
+are_hands_again place (play ∷ rest) small =
+    hands_put (decimal (place + 1)) (table (hand_table place play)) (table_of (numbered_hands (place + 1) rest))
+    (rw (number_key (place + 1) (omega (arith, small))) refl) (are_hands_again (place + 1) rest (omega (arith, small)))

@@ -1,5 +1,9 @@
-//! The Poker Hand History format: bytes are read as records, and plays are written as bytes that read as their document.
+//! The Poker Hand History format: bytes are read as records, and plays are written as bytes that read as
+//! their document, and so as their hands again.
 #![tactic(auto)]
 
+mod laws;
+
+pub use laws::law_of_reading_again;
 pub use phh_reading::{PhhFault, read};
 pub use phh_table::{spells, write};
