@@ -1,7 +1,2 @@
-pub mod Answering
-pub mod Documents
-pub mod Finishing
-pub mod FirstStreet
-pub mod Playing
-pub mod SeatNumbers
-pub mod Turn
+-- How a run ends with the answer to its input.
+mod Answering

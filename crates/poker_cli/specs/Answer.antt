@@ -1,53 +1,27 @@
--- What the program answers to the bytes of its input, and the text of each answer.
-use Rattle.std.specs.Prelude.{ℕ, ◌+◌, nat_lt, if◌then◌else◌, List, [], ◌∷◌, ◌++◌, length, codes, Option, Some, None}
-use Rattle.std.specs.List.{flat_map}
+-- What the program answers to the bytes of its input.
+use Rattle.std.specs.Prelude.{◌≡◌, ℕ, ◌<◌, ◌≤◌, List, [], ◌++◌, length, map, codes, Ok, Err}
 use Rattle.std.specs.Fmt.{decimal}
-use Rattle.std.specs.Str.{is_utf8}
-use Rattle.toml.specs.Data.{Members}
-use Rattle.toml.specs.Parse.{parse_document}
-use Rattle.play_event.specs.declared.reason.Illegal.{Illegal}
-use Rattle.play_event.specs.declared.reason.Illegal.TheVariants as reasons
-use Rattle.first_form.specs.FirstForm.{first_form}
-use Rattle.first_form.specs.Hand.{Told}
-use Rattle.poker_cli.specs.Verdict.{Verdict, Stopped, Beyond, Refused, EndsEarly, Complete, verdict}
+use Rattle.command_words.specs.declared.command.Command.{Command}
+use Rattle.command_words.specs.declared.command.Command.TheVariants as commands
+use Rattle.hand_canon.specs.declared.record.Record.{Record}
+use Rattle.hand_canon.specs.declared.trace.Play.{Play}
+use Rattle.phh_reading.specs.Hand.{plain}
+use Rattle.phh_reading.specs.Reading.{Wrong, reading}
+use Rattle.printed_hands.specs.Check.{check_said}
+use Rattle.printed_hands.specs.Replay.{replay_said}
+use Rattle.printed_report.specs.Report.{report_said}
+use Rattle.referee.specs.Judged.{ArePlaysOf, IsFirstRefused}
+use Rattle.referee.specs.declared.fault.PlaysFault.{PlaysFault}
+use Rattle.referee.specs.declared.fault.PlaysFault.TheVariants as plays_faults
+use Rattle.referee.specs.declared.fault.Refusal.{Refusal}
+use Rattle.poker_cli.specs.Faults.{wrong_line, wrong_status}
+use Rattle.poker_cli.specs.Lines.{refused_line}
 use Rattle.poker_cli.specs.declared.status.Status.{Status}
 use Rattle.poker_cli.specs.declared.status.Status.TheVariants as statuses
 
 -- the most bytes of an input
 abbrev pub most_input : ℕ
 most_input = 16777216
-
--- what a reason is called
-abbrev pub reason_text : Illegal → List ℕ
-reason_text reasons.HandOver = codes "HandOver"
-reason_text reasons.WrongKind = codes "WrongKind"
-reason_text reasons.WrongSeat = codes "WrongSeat"
-reason_text reasons.WrongCount = codes "WrongCount"
-reason_text reasons.CardTaken = codes "CardTaken"
-reason_text reasons.NotHeld = codes "NotHeld"
-reason_text reasons.UpCardUnknown = codes "UpCardUnknown"
-reason_text reasons.NothingToCall = codes "NothingToCall"
-reason_text reasons.RaiseClosed = codes "RaiseClosed"
-reason_text reasons.RaiseTooSmall = codes "RaiseTooSmall"
-reason_text reasons.RaiseTooBig = codes "RaiseTooBig"
-reason_text (reasons.AmountDiffers stated due) = codes "AmountDiffers stated " ++ (decimal stated ++ (codes ", due " ++ decimal due))
-
--- the line of a refused event: its number, that of its action, and the reason
-abbrev pub refused_line : ℕ → ℕ → Illegal → List ℕ
-refused_line index at reason =
-    codes "refused: hand 1: event " ++ (decimal (index + 1) ++ (codes ", action " ++ (decimal at ++ (codes ": " ++ (reason_text reason ++ codes "\n")))))
-
--- the line of a hand whose script ends early
-abbrev pub early_line : ℕ → List ℕ
-early_line events = codes "refused: hand 1: ends early after " ++ (decimal events ++ codes " events\n")
-
--- the finishing stacks, each behind a space
-abbrev pub stacks_text : List ℕ → List ℕ
-stacks_text stacks = flat_map (λ stack. 32 ∷ decimal stack) stacks
-
--- the two lines of a hand that is legal and complete
-abbrev pub legal_lines : List ℕ → List ℕ
-legal_lines stacks = codes "hand 1:" ++ (stacks_text stacks ++ codes "\nlegal hands: 1\n")
 
 -- an answer: its status, what goes to the output, and the line that is told beside it
 pub record Answer : Type 0 where
@@ -59,30 +33,46 @@ pub record Answer : Type 0 where
 abbrev pub refusal : Status → List ℕ → Answer
 refusal status line = record { status = status; output = []; line = line }
 
--- the answer to a hand of the first form
-abbrev pub answer_by : ℕ → Verdict → Answer
-answer_by events (Stopped Beyond) = refusal statuses.Unbuilt (codes "unbuilt\n")
-answer_by events (Stopped (Refused index at reason)) = refusal statuses.Refused (refused_line index at reason)
-answer_by events EndsEarly = refusal statuses.Refused (early_line events)
-answer_by events (Complete stacks) = record { status = statuses.Done; output = legal_lines stacks; line = [] }
+-- the answer to an input that is too long
+abbrev pub to_excess : Answer
+to_excess = refusal statuses.Limit (codes "limit: input bytes 16777216\n")
 
--- the answer to a document, which has the first form or is unbuilt
-abbrev pub answer_to_hand : Option Told → Answer
-answer_to_hand None = refusal statuses.Unbuilt (codes "unbuilt\n")
-answer_to_hand (Some hand) = answer_by (length hand.script) (verdict hand)
+-- the answer to an input that does not read as hands
+abbrev pub to_wrong : Wrong → Answer
+to_wrong wrong = refusal (wrong_status wrong) (wrong_line wrong)
 
--- the document that the bytes are
-abbrev pub document_of : List ℕ → Option Members
-document_of bytes = if is_utf8 bytes then parse_document bytes else None
+-- the answer to a refused hand
+abbrev pub to_refusal : ℕ → Refusal → Answer
+to_refusal number why = refusal statuses.Refused (refused_line number why)
 
--- the answer to what is a document or is none
-abbrev pub answer_to_document : Option Members → Answer
-answer_to_document None = refusal statuses.BadInput (codes "bad input: Text\n")
-answer_to_document (Some document) = answer_to_hand (first_form document)
+-- an answer tells which hand is refused, and why
+abbrev pub IsToldOf : PlaysFault → Answer → Type 0
+IsToldOf (plays_faults.Refused number why) answer = answer ≡ to_refusal number why
+IsToldOf plays_faults.Memory answer = ⊥
 
--- the answer to the bytes of an input
-unfoldable pub answer_to : List ℕ → Answer
-answer_to bytes =
-    if nat_lt most_input (length bytes)
-    then refusal statuses.Limit (codes "limit: input bytes 16777216\n")
-    else answer_to_document (document_of bytes)
+-- what a command prints of plays
+abbrev pub text_of : Command → List Play → List ℕ
+text_of commands.Check plays = check_said plays
+text_of commands.Replay plays = replay_said plays
+text_of commands.Report plays = report_said plays
+
+-- the answer to an input whose hands are all legal and agree
+abbrev pub to_plays : Command → List Play → Answer
+to_plays command plays = record { status = statuses.Done; output = text_of command plays; line = [] }
+
+-- The answer of a command to the records of an input.
+pub data IsAnswerTo (command : Command) (records : List Record) : Answer → Type 0 where
+  -- a hand is refused, and this is the first
+  Refused : (number : ℕ) (why : Refusal) → IsFirstRefused records number why → IsAnswerTo command records (to_refusal number why)
+  -- all hands are legal, and agree with what is stated of them
+  Played : (plays : List Play) → ArePlaysOf records plays → IsAnswerTo command records (to_plays command plays)
+
+-- The answer of a command to the bytes of its input.
+pub data IsAnswer (command : Command) (bytes : List ℕ) : Answer → Type 0 where
+  -- they are too many
+  TooLong : most_input < length bytes → IsAnswer command bytes to_excess
+  -- they do not read as hands
+  Unread : length bytes ≤ most_input → (wrong : Wrong) → reading bytes ≡ Err wrong → IsAnswer command bytes (to_wrong wrong)
+  -- they read as these hands
+  Read : length bytes ≤ most_input → (records : List Record) → reading bytes ≡ Ok (map plain records)
+      → (answer : Answer) → IsAnswerTo command records answer → IsAnswer command bytes answer

@@ -13,7 +13,6 @@ status_number statuses.ReadFault = 5
 status_number statuses.WriteFault = 6
 status_number statuses.Limit = 7
 status_number statuses.Memory = 8
-status_number statuses.Unbuilt = 12
 
 -- the number of a status
 abbrev pub IsStatusNumber : ℕ → Type 0

@@ -1,20 +1,23 @@
 //! What the program answers to the bytes of its input.
-ghost use Rattle.std.specs.Prelude.{◌≡◌, codes, IfOk, IfSome, string_bytes};
-ghost use Rattle.std.specs.Option.{option_map};
+ghost use Rattle.std.specs.Prelude.{◌≡◌, ◌≤◌, All, length, IfOk, string_bytes};
+ghost use Rattle.hand_canon.specs.Sound.{IsSound};
+ghost use Rattle.hand_canon.specs.SoundRecord.{IsSoundRecord};
+ghost use Rattle.hand_canon.specs.declared.limits.TheConstants.{MOST_HANDS};
 ghost use Rattle.poker_cli.specs.Answer as definition;
-ghost use Rattle.first_form.specs.Hand.{IsFirstHand, told};
-ghost use Rattle.toml.specs.View.{table_view};
-ghost use Rattle.first_form.specs.FirstForm.{first_form};
+ghost use Rattle.poker_cli.specs.Answer.{IsAnswer, IsAnswerTo, IsToldOf, most_input};
+ghost use Rattle.poker_cli.specs.Run.{IsOwn};
 ghost use Rattle.poker_cli.specs.Told.{answer_told};
-ghost use Rattle.poker_cli.specs.Outcome.{verdict_of};
 
-use crate::play::{self, Outcome};
+use crate::faults::answer_to_fault;
+use crate::lines::refused_line;
 use crate::status::Status;
-use crate::text;
 use card_set::Memory;
-use first_form::{Hand, read_hand};
+use command_words::Command;
+use hand_canon::{Play, Records};
+use printed_hands::{check_text, replay_text};
+use printed_report::report_text;
+use referee::{PlaysFault, plays_of};
 use std::alloc::Global;
-use toml::Table;
 
 /// An answer: its status, what goes to the output, and the line that is told beside it.
 #[derive(Drop)]
@@ -27,97 +30,75 @@ pub struct Answer {
 /// The most bytes of an input.
 pub const MOST_INPUT: usize = 16_777_216;
 
-/// The answer to bytes that are not too many.
-#[tactic(auto, using(crate::proofs::Documents::no_document))]
-pub fn answer_to_document(alloc: Global, bytes: &[u8]) -> Result<Answer, Memory>
-    ensures { IfOk result (λ answer. answer_told answer
-        ≡ definition.answer_to_document (definition.document_of bytes.now)) }
+/// The answer of a command to bytes that are not too many.
+pub fn answer_to(alloc: Global, command: Command, bytes: &[u8]) -> Result<Answer, Memory>
+    requires { length bytes.now ≤ most_input }
+    ensures answer { IfOk result (λ answer. IsAnswer command bytes.now (answer_told answer)) }
+    ensures own { IfOk result (λ answer. IsOwn answer.status) }
 {
-    match toml::table_from_slice(alloc, bytes) {
-        Ok(table) => answer_to_table(alloc, &table),
-        Err(error) => {
-            if error.is_memory() {
-                return Err(Memory);
-            }
-            Ok(refusal(
-                alloc,
-                Status::BadInput,
-                String::from_str(alloc, "bad input: Text\n")?,
-            ))
-        }
+    match phh_format::read(alloc, bytes) {
+        Ok(records) => answer_to_records(alloc, command, records),
+        Err(fault) => answer_to_fault(alloc, &fault),
     }
 }
 
-// The answer to a document that was read.
-fn answer_to_table(alloc: Global, table: &Table) -> Result<Answer, Memory>
-    ensures { IfOk result (λ answer. answer_told answer
-        ≡ definition.answer_to_hand (first_form (table_view table.now))) }
+// The answer to the records that bytes say.
+fn answer_to_records(alloc: Global, command: Command, records: Records) -> Result<Answer, Memory>
+    requires sound { All IsSoundRecord records }
+    requires few { length records ≤ MOST_HANDS }
+    ensures answer { IfOk result (λ answer. IsAnswerTo command records (answer_told answer)) }
+    ensures own { IfOk result (λ answer. IsOwn answer.status) }
 {
-    let hand = read_hand(alloc, table)?;
-    answer_to_hand(alloc, hand)
-}
-
-// The answer to a hand, or to a document of another form.
-fn answer_to_hand(alloc: Global, hand: Option<Hand>) -> Result<Answer, Memory>
-    requires { IfSome hand (λ hand. IsFirstHand (told hand)) }
-    ensures { IfOk result (λ answer. answer_told answer
-        ≡ definition.answer_to_hand (option_map told hand)) }
-{
-    match hand {
-        Some(hand) => {
-            let outcome = play::play(alloc, &hand)?;
-            answer_by(alloc, hand.script.len(), &outcome)
-        }
-        None => Ok(refusal(
-            alloc,
-            Status::Unbuilt,
-            String::from_str(alloc, "unbuilt\n")?,
-        )),
-    }
-}
-
-// The answer to a hand by what became of it.
-fn answer_by(alloc: Global, events: usize, outcome: &Outcome) -> Result<Answer, Memory>
-    ensures { IfOk result (λ answer. answer_told answer
-        ≡ definition.answer_by events (verdict_of outcome.now)) }
-{
-    match outcome {
-        Outcome::Beyond => Ok(refusal(
-            alloc,
-            Status::Unbuilt,
-            String::from_str(alloc, "unbuilt\n")?,
-        )),
-        Outcome::Refused { index, at, reason } => {
-            let line = text::refused_line(alloc, *index, *at, *reason)?;
-            Ok(refusal(alloc, Status::Refused, line))
-        }
-        Outcome::EndsEarly => {
-            let line = text::early_line(alloc, events)?;
-            Ok(refusal(alloc, Status::Refused, line))
-        }
-        Outcome::Complete(stacks) => Ok(Answer {
+    match plays_of(alloc, records) {
+        Ok(plays) => Ok(Answer {
             status: Status::Done,
-            output: text::legal_lines(alloc, stacks)?,
+            output: text_of(alloc, command, &plays)?,
             line: String::new(alloc),
         }),
+        Err(fault) => answer_to_refused(alloc, &fault),
+    }
+}
+
+// The answer to records that have no plays.
+fn answer_to_refused(alloc: Global, fault: &PlaysFault) -> Result<Answer, Memory>
+    ensures answer { IfOk result (λ answer. IsToldOf fault.now (answer_told answer)) }
+    ensures own { IfOk result (λ answer. IsOwn answer.status) }
+{
+    match fault {
+        PlaysFault::Refused { hand, why } => {
+            let line = refused_line(alloc, *hand, why)?;
+            Ok(refusal(alloc, Status::Refused, line))
+        }
+        PlaysFault::Memory => Err(Memory),
+    }
+}
+
+// What a command prints of plays.
+fn text_of(alloc: Global, command: Command, plays: &[Play]) -> Result<String, Memory>
+    requires sound { All IsSound plays.now }
+    requires few { length plays.now ≤ MOST_HANDS }
+    ensures { IfOk result (λ text. string_bytes text ≡ definition.text_of command plays.now) }
+{
+    match command {
+        Command::Check => check_text(alloc, plays),
+        Command::Replay => replay_text(alloc, plays),
+        Command::Report => report_text(alloc, plays),
     }
 }
 
 /// The answer to an input that is too long.
 pub fn answer_to_excess(alloc: Global) -> Result<Answer, Memory>
-    ensures { IfOk result (λ answer. answer_told answer
-        ≡ definition.refusal Status.Limit (codes "limit: input bytes 16777216\n")) }
+    ensures answer { IfOk result (λ answer. answer_told answer ≡ definition.to_excess) }
+    ensures own { IfOk result (λ answer. IsOwn answer.status) }
 {
-    Ok(refusal(
-        alloc,
-        Status::Limit,
-        String::from_str(alloc, "limit: input bytes 16777216\n")?,
-    ))
+    let line = String::from_str(alloc, "limit: input bytes 16777216\n")?;
+    Ok(refusal(alloc, Status::Limit, line))
 }
 
-// An answer without output.
-fn refusal(alloc: Global, status: Status, line: String) -> Answer
-    ensures { answer_told result ≡ definition.refusal status (string_bytes line) }
+/// An answer without output.
+pub fn refusal(alloc: Global, status: Status, line: String) -> Answer
+    ensures answer { answer_told result ≡ definition.refusal status (string_bytes line) }
+    ensures status { result.status ≡ status }
 {
     Answer {
         status,

@@ -1,14 +1,15 @@
 //! The top call: from the words and the input to the status, the output and the line.
-ghost use Rattle.std.specs.Prelude.{◌≡◌, ◌↔◌, [], ◌∷◌, map, codes, bytes_eq, IsTrue, IfOk, IfSome, IsErrOf, String, string_bytes};
+ghost use Rattle.std.specs.Prelude.{◌≡◌, ◌↔◌, map, bytes_eq, None, IfOk, IfSome, IsErrOf, string_bytes};
+ghost use Rattle.command_words.specs.Words.{command_said};
 ghost use Rattle.host_io.specs.Faults.{Rose};
-ghost use Rattle.poker_cli.specs.Answer as definition;
+ghost use Rattle.poker_cli.specs.Answer.{IsAnswer};
+ghost use Rattle.poker_cli.specs.Run.{Ends, IsOwn, MayEnd, TellsLine, Writes, WritesNothing, fixed_line, line_of};
 ghost use Rattle.poker_cli.specs.Told.{answer_told};
-ghost use Rattle.poker_cli.specs.Words.{IsCheck, usage_line};
-ghost use Rattle.poker_cli.specs.Run.{MayEnd, TellsLine, Writes, WritesNothing, IsOwn, fixed_line, line_of};
 
 use crate::answer::{self, Answer, MOST_INPUT};
 use crate::status::Status;
 use card_set::Memory;
+use command_words::{Command, read_words};
 use host_io::{Failed, InFault, Shelf, Sink, Source, read_all, write_all};
 use std::alloc::Global;
 
@@ -25,38 +26,82 @@ pub fn run<S: Source, H: Shelf, K: Sink, D: Sink>(
     out: &mut K,
     diag: &mut D,
 ) -> Status
-    // The words are no command: nothing is read then.
-    ensures usage { (result ≡ Status.Usage) ↔ (IsCheck (map string_bytes words.now) → ⊥) }
+    // The words are no command: nothing is read then, and no memory is taken.
+    ensures usage { (result ≡ Status.Usage) ↔ (command_said (map string_bytes words.now) ≡ None) }
     ensures unread { result ≡ Status.Usage → input.new ≡ input.old }
 
-    // Each status has its cause: the answer to the input, or a fault whose count rose in this call.
-    ensures status { IsCheck (map string_bytes words.now)
-        → IfSome (S.left input.old) (λ bytes. MayEnd (definition.answer_to bytes) result) }
+    // The words are a command: the run ends with the answer to its input, or with a fault whose
+    // count rose in this call.
+    ensures ends { IfSome (command_said (map string_bytes words.now)) (λ command.
+        IfSome (S.left input.old) (λ bytes. Ends command bytes
+        (record {
+          held = K.held out.old;
+          holds = K.held out.new;
+          before = K.faults out.old;
+          now = K.faults out.new;
+        })
+        (record {
+          held = D.held diag.old;
+          holds = D.held diag.new;
+          before = D.faults diag.old;
+          now = D.faults diag.new;
+        }) result)) }
     ensures read_fault { result ≡ Status.ReadFault
         → Rose (S.faults input.old) (S.faults input.new) }
     ensures write_fault { result ≡ Status.WriteFault → Rose (K.faults out.old) (K.faults out.new) }
 
-    // The output is written where all is done, and not before.
-    ensures written { IfSome (S.left input.old)
-        (λ bytes. Writes (K.held out.old) (K.held out.new) (definition.answer_to bytes) result) }
+    // Nothing is written before all is done, and the line of a fault depends on no input.
     ensures nothing_written { WritesNothing result → out.new ≡ out.old }
-
-    // The line is told whole, unless the count of its sink rose. That of a fault depends on no
-    // input.
-    ensures line { IfSome (S.left input.old) (λ bytes. TellsLine
-        (D.faults diag.old) (D.faults diag.new) (D.held diag.old) (D.held diag.new)
-        (line_of (definition.answer_to bytes) result)) }
     ensures fixed_line { IfSome (fixed_line result) (TellsLine
         (D.faults diag.old) (D.faults diag.new) (D.held diag.old) (D.held diag.new)) }
     ensures quiet { result ≡ Status.Done → diag.new ≡ diag.old }
     ensures shelf { shelf.new ≡ shelf.old }
 {
     let _ = shelf;
-    if !is_check(words) {
-        tell(diag, USAGE);
-        return Status::Usage;
+    match read_words(alloc, words) {
+        Ok(Some(command)) => run_command(alloc, command, input, out, diag),
+        Ok(None) => {
+            tell(diag, USAGE);
+            Status::Usage
+        }
+        Err(Memory) => {
+            tell(diag, b"out of memory\n");
+            Status::Memory
+        }
     }
-    match reply(alloc, input) {
+}
+
+// Runs a command.
+fn run_command<S: Source, K: Sink, D: Sink>(
+    alloc: Global,
+    command: Command,
+    input: &mut S,
+    out: &mut K,
+    diag: &mut D,
+) -> Status
+    ensures answered { result ≡ Status.Usage → ⊥ }
+    ensures ends { IfSome (S.left input.old) (λ bytes. Ends command bytes
+        (record {
+          held = K.held out.old;
+          holds = K.held out.new;
+          before = K.faults out.old;
+          now = K.faults out.new;
+        })
+        (record {
+          held = D.held diag.old;
+          holds = D.held diag.new;
+          before = D.faults diag.old;
+          now = D.faults diag.new;
+        }) result) }
+    ensures read_fault { result ≡ Status.ReadFault
+        → Rose (S.faults input.old) (S.faults input.new) }
+    ensures write_fault { result ≡ Status.WriteFault → Rose (K.faults out.old) (K.faults out.new) }
+    ensures nothing_written { WritesNothing result → out.new ≡ out.old }
+    ensures fixed_line { IfSome (fixed_line result) (TellsLine
+        (D.faults diag.old) (D.faults diag.new) (D.held diag.old) (D.held diag.new)) }
+    ensures quiet { result ≡ Status.Done → diag.new ≡ diag.old }
+{
+    match reply(alloc, command, input) {
         Ok(answer) => deliver(&answer, out, diag),
         Err(NoAnswer::ReadFault) => {
             tell(diag, b"read fault\n");
@@ -69,33 +114,16 @@ pub fn run<S: Source, H: Shelf, K: Sink, D: Sink>(
     }
 }
 
-// The words are `check --from phh`.
-fn is_check(words: &[String]) -> bool
-    ensures { IsTrue result ↔ IsCheck (map string_bytes words.now) }
-{
-    let [command, option, format] = words else {
-        return false;
-    };
-    same(command, "check") && same(option, "--from") && same(format, "phh")
-}
-
-// The text is this word.
-fn same(text: &String, word: &str) -> bool
-    ensures { IsTrue result ↔ (string_bytes text.now ≡ word.now) }
-{
-    text.as_str() == word
-}
-
 // The answer to all that the source has left.
-fn reply<S: Source>(alloc: Global, input: &mut S) -> Result<Answer, NoAnswer>
+fn reply<S: Source>(alloc: Global, command: Command, input: &mut S) -> Result<Answer, NoAnswer>
     ensures answer { IfOk result (λ answer. IfSome (S.left input.old)
-        (λ bytes. answer_told answer ≡ definition.answer_to bytes)) }
+        (λ bytes. IsAnswer command bytes (answer_told answer))) }
     ensures own { IfOk result (λ answer. IsOwn answer.status) }
     ensures read_fault { IsErrOf result NoAnswer.ReadFault
         → Rose (S.faults input.old) (S.faults input.new) }
 {
     match read_all(alloc, input, MOST_INPUT) {
-        Ok(bytes) => match answer::answer_to_document(alloc, &bytes) {
+        Ok(bytes) => match answer::answer_to(alloc, command, &bytes) {
             Ok(answer) => Ok(answer),
             Err(Memory) => Err(NoAnswer::Memory),
         },

@@ -3,19 +3,11 @@
 #![tactic(auto)]
 
 mod answer;
-mod chips;
-mod deals;
 mod entry;
-mod finish;
-mod past;
-mod play;
+mod faults;
+mod lines;
 mod process;
-mod raises;
-mod reasons;
-mod seats;
 mod status;
-mod text;
-mod turns;
 
 pub use entry::run;
 pub use process::run_process;

@@ -11,18 +11,16 @@ pub enum Status {
     Refused,
     /// The words are no command.
     Usage,
-    /// The input is no document.
+    /// The input does not read as hands.
     BadInput,
     /// The input could not be read.
     ReadFault,
     /// The output could not be written.
     WriteFault,
-    /// The input is too long.
+    /// The input is too long, or it has more of something than is read.
     Limit,
     /// There was not enough memory.
     Memory,
-    /// The document or its hand is of a form that is still to be built.
-    Unbuilt,
 }
 
 impl Status {
@@ -39,7 +37,6 @@ impl Status {
             Status::WriteFault => 6,
             Status::Limit => 7,
             Status::Memory => 8,
-            Status::Unbuilt => 12,
         }
     }
 }

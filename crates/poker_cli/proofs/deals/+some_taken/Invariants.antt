@@ -1,5 +1,0 @@
-use Rattle.std.proofs.Common.{length}
-use Rattle.poker_cli.proofs.deals.+some_taken.Given as goal
-
-abbrev pub decreases-some_taken : goal.decreases-some_taken
-decreases-some_taken l = length l.slots.now
