@@ -1,5 +1,5 @@
 -- Numbers that are within the greatest of their key.
-use Rattle.std.proofs.Common.{◌≡◌, ℕ, zero, suc, ◌≤◌, true, nat_le, eqb, List, [], ◌∷◌, length, replicate, get_or, refl, subst, arith}
+use Rattle.std.proofs.Common.{◌≡◌, ℕ, zero, suc, ◌≤◌, true, nat_le, eqb, List, [], ◌∷◌, replicate, get_or, refl, subst, arith}
 use Rattle.std.specs.List.{list_all}
 use Rattle.std.proofs.lemmas.Bool.{and_parts, le-leb, leb-true}
 use Rattle.std.proofs.lemmas.Bool.Decides.{nat_tests}
@@ -7,14 +7,15 @@ use Rattle.acpc_game.specs.declared.key.Key.{Key}
 use Rattle.acpc_game.specs.declared.key.Key.TheVariants as keys
 use Rattle.acpc_game.specs.Keys.{most_of, key_place, has_count}
 use Rattle.acpc_game.specs.Games.{are_chips}
+use Rattle.chip_ledger.specs.declared.numbers.TheConstants.{MOST_CHIPS}
 
-more_room : (most : ℕ) (numbers : List ℕ) → most ≤ 1000000000000 → list_all (λ number. nat_le number most) numbers ≡ true → are_chips numbers ≡ true
+more_room : (most : ℕ) (numbers : List ℕ) → most ≤ MOST_CHIPS → list_all (λ number. nat_le number most) numbers ≡ true → are_chips numbers ≡ true
 more_room most [] few all = refl
 more_room most (number ∷ numbers) few all =
     let parts = and_parts (nat_le number most) (list_all (λ n. nat_le n most) numbers) all in
-    rw (le-leb number 1000000000000 (omega (arith, few, leb-true number most parts.0)), more_room most numbers few parts.1) refl
+    rw (le-leb number MOST_CHIPS (omega (arith, few, leb-true number most parts.0)), more_room most numbers few parts.1) refl
 
-most_few : (key : Key) → most_of key ≤ 1000000000000
+most_few : (key : Key) → most_of key ≤ MOST_CHIPS
 most_few keys.Begin = omega arith
 most_few keys.End = omega arith
 most_few keys.Limit = omega arith
@@ -40,10 +41,10 @@ same_stacks zero = refl
 same_stacks (suc count) = same_stacks count
 
 -- an amount of a list of them, or 0 behind it
-pub chips_within : (numbers : List ℕ) (index : ℕ) → are_chips numbers ≡ true → get_or numbers index 0 ≤ 1000000000000
+pub chips_within : (numbers : List ℕ) (index : ℕ) → are_chips numbers ≡ true → get_or numbers index 0 ≤ MOST_CHIPS
 chips_within [] index all = omega arith
-chips_within (number ∷ numbers) zero all = leb-true number 1000000000000 (and_parts (nat_le number 1000000000000) (are_chips numbers) all).0
-chips_within (number ∷ numbers) (suc index) all = chips_within numbers index (and_parts (nat_le number 1000000000000) (are_chips numbers) all).1
+chips_within (number ∷ numbers) zero all = leb-true number MOST_CHIPS (and_parts (nat_le number MOST_CHIPS) (are_chips numbers) all).0
+chips_within (number ∷ numbers) (suc index) all = chips_within numbers index (and_parts (nat_le number MOST_CHIPS) (are_chips numbers) all).1
 
 caps_key : (key : Key) → eqb (key_place key) 8 ≡ true → key ≡ keys.MaxRaises
 caps_key keys.Begin is = absurd (cc (is))
@@ -68,12 +69,3 @@ caps_small key numbers is all = subst (λ (k : Key). list_all (λ number. nat_le
 
 pub caps_four : (key : Key) (count : ℕ) → eqb (key_place key) 8 ≡ true → has_count key count ≡ true → count ≡ 4
 caps_four key count is has = let four : eqb count 4 ≡ true = subst (λ (k : Key). has_count k count ≡ true) (caps_key key is) has in grind (arith, nat_tests, four)
-
--- four entries are all of a list of four
-pub four_entries : (xs : List ℕ) → length xs ≡ 4 → get_or xs 0 0 ∷ get_or xs 1 0 ∷ get_or xs 2 0 ∷ get_or xs 3 0 ∷ [] ≡ xs
-four_entries [] four = absurd (omega (arith, four))
-four_entries (a ∷ []) four = absurd (omega (arith, four))
-four_entries (a ∷ b ∷ []) four = absurd (omega (arith, four))
-four_entries (a ∷ b ∷ c ∷ []) four = absurd (omega (arith, four))
-four_entries (a ∷ b ∷ c ∷ d ∷ []) four = refl
-four_entries (a ∷ b ∷ c ∷ d ∷ e ∷ more) four = absurd (omega (arith, four))

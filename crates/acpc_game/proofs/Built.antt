@@ -1,7 +1,7 @@
 -- The game of entries from which nothing is missing fits its own conditions.
-use Rattle.std.proofs.Common.{◌≡◌, ℕ, ◌≤◌, Bool, true, false, not, nat_lt, nat_le, eqb, ◌&&◌, ◌||◌, if◌then◌else◌, List, [], ◌∷◌, length, replicate, slice_index, refl, sym, ◌∙◌, arith}
+use Rattle.std.proofs.Common.{◌≡◌, ℕ, ◌≤◌, Bool, true, false, not, nat_lt, nat_le, eqb, ◌&&◌, ◌||◌, if◌then◌else◌, List, [], ◌∷◌, length, replicate, slice_index, sym, ◌∙◌, arith}
 use Rattle.std.specs.List.{list_all}
-use Rattle.std.proofs.lemmas.Bool.{and_parts, leb-true}
+use Rattle.std.proofs.lemmas.Bool.{and_parts, leb-true, not-false}
 use Rattle.std.proofs.lemmas.Bool.Decides.{nat_tests}
 use Rattle.std.proofs.lemmas.List.{length-replicate}
 use Rattle.chip_ledger.specs.Greatest.{greatest}
@@ -10,6 +10,7 @@ use Rattle.acpc_game.specs.GameFile.{EntrySaid, needed, is_whole, is_for_all, ha
 use Rattle.acpc_game.specs.Games.{are_chips, is_size, fit_blinds}
 use Rattle.acpc_game.proofs.Bounds.{chips_within}
 use Rattle.acpc_game.specs.Playable.{IsPlayable}
+use Rattle.chip_ledger.specs.declared.numbers.TheConstants.{MOST_CHIPS}
 
 are_equal : (m n : ℕ) → eqb m n ≡ true → m ≡ n
 are_equal m n same = grind (arith, nat_tests, same)
@@ -50,20 +51,16 @@ counted entries whole playable =
       same = stacks_counted entries whole ∙ sym (blinds_counted entries whole);
     }
 
-not_not : (b : Bool) → not b ≡ false → b ≡ true
-not_not true is = refl
-not_not false is = absurd (cc (is))
-
-sized : (s b blind : ℕ) → nat_le 1 s ≡ true → nat_le 1 b ≡ true → s ≤ 1000000000000 → b ≤ 1000000000000 → (nat_lt 0 blind && nat_lt blind s) ≡ false → is_size s && (is_size b && (eqb blind 0 || nat_le s blind)) ≡ true
+sized : (s b blind : ℕ) → nat_le 1 s ≡ true → nat_le 1 b ≡ true → s ≤ MOST_CHIPS → b ≤ MOST_CHIPS → (nat_lt 0 blind && nat_lt blind s) ≡ false → is_size s && (is_size b && (eqb blind 0 || nat_le s blind)) ≡ true
 sized s b blind some big few few_big first = grind (arith, nat_tests, some, big, few, few_big, first)
 
 fitting : (no_limit : Bool) (blind : ℕ) (sizes : List ℕ) → (no_limit && eqb blind 0) ≡ false → (not no_limit && not (are_sizes sizes)) ≡ false
     → (not no_limit && (nat_lt 0 blind && nat_lt blind (slice_index sizes 0))) ≡ false
-    → slice_index sizes 0 ≤ 1000000000000 → slice_index sizes 2 ≤ 1000000000000
+    → slice_index sizes 0 ≤ MOST_CHIPS → slice_index sizes 2 ≤ MOST_CHIPS
     → fit_blinds no_limit blind (if no_limit then 0 else slice_index sizes 0) (if no_limit then 0 else slice_index sizes 2) ≡ true
 fitting true blind sizes some sized_too first few few_big = let none : eqb blind 0 ≡ false = some in grind (arith, nat_tests, none)
 fitting false blind (s ∷ t ∷ b ∷ c ∷ []) some are first few few_big =
-    let equal : are_sizes (s ∷ t ∷ b ∷ c ∷ []) ≡ true = not_not (are_sizes (s ∷ t ∷ b ∷ c ∷ [])) are in
+    let equal : are_sizes (s ∷ t ∷ b ∷ c ∷ []) ≡ true = not-false (are_sizes (s ∷ t ∷ b ∷ c ∷ [])) are in
     let halves = and_parts (nat_le 1 s && eqb s t) (nat_le 1 b && eqb b c) equal in
     sized s b blind (and_parts (nat_le 1 s) (eqb s t) halves.0).0 (and_parts (nat_le 1 b) (eqb b c) halves.1).0 few few_big first
 fitting false blind [] some are first few few_big = absurd (cc (are))

@@ -1,11 +1,12 @@
 -- The facts of a game of which nothing shows that it is not played.
-use Rattle.std.proofs.Common.{◌≡◌, Bool, true, false, not, nat_le, ◌&&◌, List, [], ◌∷◌, Option, Some, None, refl}
+use Rattle.std.proofs.Common.{◌≡◌, Bool, true, false, nat_le, ◌&&◌, List, [], ◌∷◌, Option, Some, None, refl}
 use Rattle.std.specs.List.{AllByRecursion}
 use Rattle.acpc_game.specs.declared.key.Key.{Key}
 use Rattle.acpc_game.specs.declared.key.Key.TheVariants as keys
 use Rattle.acpc_game.specs.Keys.{or_else}
 use Rattle.acpc_game.specs.GameFile.{EntrySaid, first_where, first_unsupported, other_cards, other_chips, number_at}
 use Rattle.acpc_game.specs.Playable.{IsPlayable}
+use Rattle.std.proofs.lemmas.Bool.{not-false}
 
 none_of : (tests : List (Bool × Key)) → first_where tests ≡ None → AllByRecursion (λ test. test.0 ≡ false) tests
 none_of [] none = tt
@@ -15,10 +16,6 @@ none_of ((false, key) ∷ rest) none = (refl, none_of rest none)
 none_both : (first second : Option Key) → or_else first second ≡ None → (first ≡ None) × (second ≡ None)
 none_both (Some key) second none = absurd (cc (none))
 none_both None second none = (refl, none)
-
-not_not : (b : Bool) → not b ≡ false → b ≡ true
-not_not true is = refl
-not_not false is = absurd (cc (is))
 
 pub playable : (entries : List EntrySaid) → first_unsupported entries ≡ None → IsPlayable entries
 unfolding first_unsupported
@@ -32,7 +29,7 @@ playable entries none =
     let sizes = blind.1 in
     let first_size = sizes.1 in
     record {
-      players = not_not (nat_le 2 (number_at keys.NumPlayers entries) && nat_le (number_at keys.NumPlayers entries) 10) cards.0;
+      players = not-false (nat_le 2 (number_at keys.NumPlayers entries) && nat_le (number_at keys.NumPlayers entries) 10) cards.0;
       stacked = stacked.0;
       in_order = in_order.0;
       blind = blind.0;

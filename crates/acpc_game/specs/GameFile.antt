@@ -38,6 +38,7 @@ is_of key entry = key_place entry.key == key_place key
 abbrev pub found : Key → List EntrySaid → Option EntrySaid
 found key entries = find (is_of key) entries
 
+-- an entry with this key stands
 abbrev pub stands : Key → List EntrySaid → Bool
 stands key entries = list_any (is_of key) entries
 
@@ -95,6 +96,7 @@ abbrev pub says_no_limit : Key → Bool
 says_no_limit keys.NoLimit = true
 says_no_limit _ = false
 
+-- the game has no limit
 abbrev pub has_no_limit : List EntrySaid → Bool
 has_no_limit entries = option_map_or (λ entry. says_no_limit entry.key) (found keys.Limit entries) false
 
@@ -125,6 +127,7 @@ end_line count entries = option_map_or (λ entry. entry.line) (found keys.End en
 abbrev pub default_stack : ℕ
 default_stack = 2147483647
 
+-- the stacks of the players: those that are said, or the default one for each
 abbrev pub stacks_at : List EntrySaid → List ℕ
 stacks_at entries = if stands keys.Stack entries then numbers_at keys.Stack entries else replicate (length (numbers_at keys.Blind entries)) default_stack
 
@@ -207,6 +210,7 @@ pub record GameSaid : Type 0 where
 abbrev pub size_at : ℕ → List EntrySaid → ℕ
 size_at place entries = if has_no_limit entries then 0 else slice_index (numbers_at keys.RaiseSize entries) place
 
+-- the game that the entries of a whole file say
 abbrev pub game_by : List EntrySaid → GameSaid
 game_by entries = record {
   no_limit = has_no_limit entries;

@@ -50,7 +50,8 @@ fn key_before(front: &[u8]) -> Option<Key>
 fn count_numbers(text: &[u8]) -> Option<usize>
     ensures digits { IfSome result (λ count. list_all are_digits_said (words_of text.now) ≡ true) }
     ensures words { IfSome result (λ count. count ≡ length (words_of text.now)) }
-    ensures count { result ≡ (if list_all are_digits_said (words_of text.now) then Some (length (words_of text.now)) else None) }
+    ensures count { result ≡ (if list_all are_digits_said (words_of text.now)
+        then Some (length (words_of text.now)) else None) }
 {
     let mut count = 0;
     let mut rest = text;
@@ -69,7 +70,8 @@ fn count_numbers(text: &[u8]) -> Option<usize>
 fn numbers_of(key: Key, behind: &[u8]) -> Option<(Key, &[u8])>
     ensures fits { IfSome result (λ found. (list_all are_digits_said (words_of found.1.now) ≡ true)
         × (has_count found.0 (length (words_of found.1.now)) ≡ true)) }
-    ensures form { option_map (λ found. (found.0, words_of found.1.now)) result ≡ numbers_behind key behind.now }
+    ensures form { option_map (λ found. (found.0, words_of found.1.now)) result
+        ≡ numbers_behind key behind.now }
 {
     if ends_with_space(behind) {
         return None;
@@ -104,7 +106,8 @@ fn read_behind<'a>(front: &[u8], rest: &'a [u8]) -> Option<(Key, &'a [u8])>
 fn read_numbered(line: &[u8]) -> Option<(Key, &[u8])>
     ensures fits { IfSome result (λ found. (list_all are_digits_said (words_of found.1.now) ≡ true)
         × (has_count found.0 (length (words_of found.1.now)) ≡ true)) }
-    ensures form { option_map (λ found. (found.0, words_of found.1.now)) result ≡ key_and_numbers (parts_of 61 line.now) }
+    ensures form { option_map (λ found. (found.0, words_of found.1.now)) result
+        ≡ key_and_numbers (parts_of 61 line.now) }
 {
     let (front, rest) = cut_at(line, b'=');
     match rest {

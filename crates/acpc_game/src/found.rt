@@ -10,7 +10,8 @@ use crate::key::Key;
 /// The entry with this key, if one stands.
 pub fn find_entry(entries: &[Entry], key: Key) -> Option<&Entry>
     ensures is { IfSome result (λ entry. is_of key (entry_said entry.now) ≡ true) }
-    ensures entry { option_map (λ entry. entry_said entry.now) result ≡ found key (map entry_said entries.now) }
+    ensures entry { option_map (λ entry. entry_said entry.now) result
+        ≡ found key (map entry_said entries.now) }
 {
     match entries {
         [] => None,

@@ -25,5 +25,6 @@ pub struct Game {
     pub ghost few_blinds: { are_chips (amounts_in blinds) ≡ true },
     pub ghost stacked: { has_short_stack (amounts_in stacks) (amounts_in blinds) ≡ false },
     pub ghost in_order: { is_reversed (amounts_in blinds) ≡ false },
-    pub ghost sizes: { fit_blinds no_limit (greatest (amounts_in blinds)) small_raise big_raise ≡ true },
+    pub ghost sizes: { fit_blinds no_limit (greatest (amounts_in blinds))
+        small_raise big_raise ≡ true },
 }

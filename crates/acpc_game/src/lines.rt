@@ -46,9 +46,11 @@ fn read_numbers(
 ) -> Result<Vec<u64>, Stop<AcpcFault>>
     requires digits { list_all are_digits (words_of text.now) ≡ true }
     requires small { most ≤ 1000000000000000000 }
-    ensures said { Gives (λ numbers. numbers.items) result (numbers_after line most [] (words_of text.now)) }
+    ensures said { Gives (λ numbers. numbers.items) result
+        (numbers_after line most [] (words_of text.now)) }
     ensures count { IfOk result (λ numbers. length numbers.items ≡ length (words_of text.now)) }
-    ensures bounded { IfOk result (λ numbers. list_all (λ number. nat_le number most) numbers.items ≡ true) }
+    ensures bounded { IfOk result
+        (λ numbers. list_all (λ number. nat_le number most) numbers.items ≡ true) }
 {
     let mut numbers = Vec::new(alloc);
     let mut rest = text;
@@ -80,7 +82,8 @@ fn take_line(
 ) -> Result<(), Stop<AcpcFault>>
     ensures ok { OnOk result (entries_after_line (map entry_said entries.old.items) line text.now
         ≡ Ok (map entry_said entries.new.items)) }
-    ensures err { IfErr result (λ stop. Fails stop (entries_after_line (map entry_said entries.old.items) line text.now)) }
+    ensures err { IfErr result
+        (λ stop. Fails stop (entries_after_line (map entry_said entries.old.items) line text.now)) }
 {
     if is_passed_over(text) {
         return Ok(());

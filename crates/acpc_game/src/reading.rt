@@ -83,7 +83,8 @@ fn four_caps(numbers: &[u64]) -> [u32; 4]
 // The most raises of each round, if there is a most.
 #[tactic(auto, using(crate::proofs::Bounds::caps_small, crate::proofs::Bounds::caps_four))]
 fn caps_of(entries: &[Entry]) -> Option<[u32; 4]>
-    ensures { result ≡ option_map (λ entry. entry.numbers) (found keys.MaxRaises (map entry_said entries.now)) }
+    ensures { result
+        ≡ option_map (λ entry. entry.numbers) (found keys.MaxRaises (map entry_said entries.now)) }
 {
     match find_entry(entries, Key::MaxRaises) {
         None => None,

@@ -71,7 +71,9 @@ pub fn end_line(entries: &[Entry], count: u64) -> u64
 
 // Whether the numbers are these four.
 fn are_four(numbers: &[u64], four: [u64; 4]) -> bool
-    ensures { result ≡ are_four_said (slice_index four 0) (slice_index four 1) (slice_index four 2) (slice_index four 3) numbers.now }
+    ensures { result
+        ≡ are_four_said (slice_index four 0) (slice_index four 1) (slice_index four 2)
+        (slice_index four 3) numbers.now }
 {
     match numbers {
         [w, x, y, z] => *w == four[0] && *x == four[1] && (*y == four[2] && *z == four[3]),

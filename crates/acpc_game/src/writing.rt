@@ -108,7 +108,7 @@ fn push_sizes(alloc: Global, out: &mut Vec<u8>, game: &Game) -> Result<(), Alloc
 }
 
 // The caps as wider numbers.
-#[tactic(auto, using(crate::proofs::Bounds::four_entries))]
+#[tactic(auto, using(list_laws::proofs::Entries::four_entries))]
 fn wide_caps(caps: [u32; 4]) -> [u64; 4]
     ensures { result ≡ caps }
 {

@@ -1,5 +1,4 @@
 -- Laws of parts, lines, words and letters.
 pub mod PartLaws
 pub mod LineLaws
-pub mod WordLaws
 pub mod Scan

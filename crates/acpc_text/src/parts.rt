@@ -61,7 +61,8 @@ fn without_return(line: &[u8]) -> &[u8]
 
 /// The first line of a text, and what stands behind it, if the text is not empty.
 pub fn next_line(text: &[u8]) -> Option<(&[u8], &[u8])>
-    ensures lines { lines_of text.now ≡ option_map_or (λ cut. cut.0.now ∷ lines_of cut.1.now) result [] }
+    ensures lines { lines_of text.now
+        ≡ option_map_or (λ cut. cut.0.now ∷ lines_of cut.1.now) result [] }
     ensures shorter { IfSome result (λ cut. length cut.1.now < length text.now) }
     ensures within { IfSome result (λ cut. length cut.0.now ≤ length text.now) }
 {
@@ -103,7 +104,8 @@ fn word_len(text: &[u8]) -> usize
 
 /// The first word of a text, and what stands behind it; `None` where the text has no word.
 pub fn next_word(text: &[u8]) -> Option<(&[u8], &[u8])>
-    ensures words { words_of text.now ≡ option_map_or (λ cut. cut.0.now ∷ words_of cut.1.now) result [] }
+    ensures words { words_of text.now
+        ≡ option_map_or (λ cut. cut.0.now ∷ words_of cut.1.now) result [] }
     ensures shorter { IfSome result (λ cut. length cut.1.now < length text.now) }
 {
     let text = skip_spaces(text);

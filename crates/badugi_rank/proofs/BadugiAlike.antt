@@ -11,10 +11,10 @@ use Rattle.card_set.proofs.DeckLaws.{is_same_card-self, is_same_card-true}
 use Rattle.card_set.proofs.Listing.{lacks_one_of, ranks_of-same}
 use Rattle.hand_order.specs.Choices.{AreAlike}
 use Rattle.hand_order.specs.Digits.{class_above}
-use Rattle.hand_order.proofs.Alike.{Passes, all_every, both_ways, every_all, every_map}
+use Rattle.hand_order.proofs.Alike.{Passes, all_every, every_all, every_map}
 use Rattle.hand_order.proofs.SameChoices.{every_one_of, one_of_every}
 use Rattle.badugi_rank.specs.Badugi.{choice_points, has_in_common, has_nothing_in_common}
-use Rattle.list_laws.proofs.Tests.{passes_or_not}
+use Rattle.list_laws.proofs.Tests.{or_right, passes_or_not, same_test}
 
 -- cards that have something in common are one
 abbrev AreApart : List Card → Type 0
@@ -59,10 +59,6 @@ apart_from (card ∷ rest) nothing a b one other common =
       ]
     ]
 
-or_later : (p q : Bool) → q ≡ true → (p || q) ≡ true
-or_later true q is = refl
-or_later false q is = is
-
 and_both : (p q : Bool) → p ≡ true → q ≡ true → (p && q) ≡ true
 and_both true q one other = other
 and_both false q one other = one
@@ -72,14 +68,14 @@ nothing_from [] different apart = refl
 nothing_from (card ∷ rest) different apart =
     and_both (list_all (λ next. not (has_in_common card next)) rest) (has_nothing_in_common rest)
     (all_every (λ next. not (has_in_common card next)) rest (every_map (λ next. is_one_of next rest ≡ true) (Passes (λ next. not (has_in_common card next))) (λ next is. by_test next is (passes_or_not (has_in_common card next))) rest (every_one_of rest)))
-    (nothing_from rest different.1 (λ a b one other common. apart a b (or_later (is_same_card card a) (is_one_of a rest) one) (or_later (is_same_card card b) (is_one_of b rest) other) common))
+    (nothing_from rest different.1 (λ a b one other common. apart a b (or_right (is_same_card card a) (is_one_of a rest) one) (or_right (is_same_card card b) (is_one_of b rest) other) common))
   where
     first : is_one_of card (card ∷ rest) ≡ true
     first = ap (λ (b : Bool). b || is_one_of card rest) (is_same_card-self card)
 
     by_test : (next : Card) → is_one_of next rest ≡ true → (has_in_common card next ≡ true) ⊎ (has_in_common card next ≡ false) → not (has_in_common card next) ≡ true
     by_test next is (inl common) =
-        let same = apart card next first (or_later (is_same_card card next) (is_one_of next rest) is) common in
+        let same = apart card next first (or_right (is_same_card card next) (is_one_of next rest) is) common in
         let lacks = lacks_one_of card rest different.0 in
         let there = subst (λ (c : Card). is_one_of c rest ≡ true) (sym same) is in
         absurd (cc)
@@ -90,6 +86,6 @@ nothing_same a b different same nothing = nothing_from b different (λ x y one o
 
 pub choice_alike : (n : ℕ) → AreAlike choice_points n
 choice_alike n a b held_a held_b same =
-    ap (λ (t : Bool). cond t (Some (16 ^ 6 - class_above (4 - length a) (ranks_of low_ace a))) None) (both_ways (has_nothing_in_common a) (has_nothing_in_common b) (nothing_same a b held_b.1 same) (nothing_same b a held_a.1 (λ card. sym (same card))))
+    ap (λ (t : Bool). cond t (Some (16 ^ 6 - class_above (4 - length a) (ranks_of low_ace a))) None) (same_test (has_nothing_in_common a) (has_nothing_in_common b) (nothing_same a b held_b.1 same) (nothing_same b a held_a.1 (λ card. sym (same card))))
     ∙ ap (λ (k : ℕ). cond (has_nothing_in_common b) (Some (16 ^ 6 - class_above (4 - k) (ranks_of low_ace a))) None) (held_a.0 ∙ sym held_b.0)
     ∙ ap (λ (l : List ℕ). cond (has_nothing_in_common b) (Some (16 ^ 6 - class_above (4 - length b) l)) None) (ranks_of-same low_ace a b held_a.1 held_b.1 same)

@@ -2,7 +2,7 @@
 use Rattle.std.proofs.Common.{◌≡◌, ◌≢◌, ℕ, suc, ◌+◌, ◌<◌, ◌≤◌, ◌==◌, ◌&&◌, ◌||◌, not, Bool, true, false, cond, List, [], ◌∷◌, length, filter, ◌⊎◌, inl, inr, refl, sym, ◌∙◌, ap, subst, arith, eqb-true, eq-eqb}
 use Rattle.std.specs.Int.{bit_at}
 use Rattle.std.specs.List.{list_all}
-use Rattle.std.proofs.lemmas.Bool.{and_parts, cases_lt, ne_eqb}
+use Rattle.std.proofs.lemmas.Bool.{and_parts, cases_lt, ne_eqb, not-true}
 use Rattle.std.proofs.lemmas.Nat.Bits.{bit_at_above}
 use Rattle.card_set.specs.declared.card.Card.{Card}
 use Rattle.card_set.specs.declared.card.Rank.{Rank}
@@ -24,10 +24,6 @@ use Rattle.badugi_rank.specs.Badugi.{has_in_common, has_nothing_in_common}
 use Rattle.badugi_rank.proofs.SuitRanks.{IsOneOf}
 use Rattle.list_laws.proofs.Tests.{passes_or_not, same_test, true_false}
 
-not_true : (b : Bool) → not b ≡ true → b ≡ false
-not_true false is = refl
-not_true true is = absurd (cc)
-
 -- where one card has the suit, none of the others has
 none_of_suit : (s : ℕ) (card : Card) (rest : List Card) → of_suit s card ≡ true → list_all (λ other. not (has_in_common card other)) rest ≡ true → filter (of_suit s) rest ≡ []
 none_of_suit s card [] of apart = refl
@@ -41,7 +37,7 @@ none_of_suit s card (other ∷ rest) of apart =
     off (inl is) differ =
         let same = eq-eqb (suits_before other.suit) (suits_before card.suit) (eqb-true _ _ is ∙ sym (eqb-true _ _ of)) in
         let common : has_in_common card other ≡ true = right (low_ace other.rank == low_ace card.rank) (suits_before other.suit == suits_before card.suit) same in
-        absurd (true_false (sym common ∙ not_true (has_in_common card other) differ))
+        absurd (true_false (sym common ∙ not-true (has_in_common card other) differ))
       where
         right : (p q : Bool) → q ≡ true → (p || q) ≡ true
         right true q is = refl
@@ -173,4 +169,4 @@ apart_different (card ∷ rest) apart =
     clash : not (has_in_common card card) ≡ true → ⊥
     clash differ =
         let common = ap (λ (b : Bool). b || (suits_before card.suit == suits_before card.suit)) (eq-eqb (low_ace card.rank) (low_ace card.rank) refl) in
-        true_false (sym common ∙ not_true (has_in_common card card) differ)
+        true_false (sym common ∙ not-true (has_in_common card card) differ)

@@ -10,12 +10,13 @@ use Rattle.card_set.specs.Ranks.{falling_heights, high_ace, low_ace, occurring, 
 use Rattle.card_set.proofs.Counted.{IsHeight-low_ace, all_once, times-cons, times-none}
 use Rattle.hand_order.specs.Digits.{class_above}
 use Rattle.hand_order.specs.Lowest.{has_height, lowest}
-use Rattle.hand_order.proofs.LowestLaws.{empty_of, lowest_some}
+use Rattle.hand_order.proofs.LowestLaws.{lowest_some}
 use Rattle.hand_order.proofs.LowHeights.{aces, low_times}
 use Rattle.hand_order.proofs.SetCounts.{height_least}
 use Rattle.badugi_rank.specs.Badugi.{choice_points, has_nothing_in_common}
 use Rattle.badugi_rank.specs.BadugiLaw.{once_each}
 use Rattle.badugi_rank.specs.Rainbow.{ranks_in, taken_points}
+use Rattle.std.proofs.lemmas.List.{nil_from_length}
 
 -- as many heights from one on, the greatest first
 abbrev heights_from : ℕ → ℕ → List ℕ
@@ -25,7 +26,7 @@ heights_from (suc heights) from = heights_from heights (from + 1) ++ from ∷ []
 -- where enough are asked for, the lowest heights that pass are all that pass
 lowest_all : (has : ℕ → Bool) (heights from need : ℕ) → length (filter has (heights_from heights from)) ≤ need → lowest has heights from need ≡ filter has (heights_from heights from)
 lowest_all has zero from need few = refl
-lowest_all has (suc heights) from zero few = sym (empty_of (filter has (heights_from (suc heights) from)) (omega arith))
+lowest_all has (suc heights) from zero few = sym (nil_from_length (filter has (heights_from (suc heights) from)) (omega arith))
 lowest_all has (suc heights) from (suc m) few =
     lowest_some has heights from m ∙ by_test (has from) (few_or few) (lowest_all has heights (from + 1) m) (lowest_all has heights (from + 1) (suc m)) ∙ sym (filter-append has (heights_from heights (from + 1)) (from ∷ []))
   where
@@ -111,9 +112,9 @@ once_ranks : (cards : List Card) → has_nothing_in_common cards ≡ true → (r
 unfolding ranks_of
 once_ranks cards apart =
     let once = all_once low_ace IsHeight-low_ace cards (once_each cards apart) in (
-      ap (λ (l : List ℕ). l ++ (occurring low_ace cards 3 ++ (occurring low_ace cards 2 ++ occurring low_ace cards 1))) (empty_of (occurring low_ace cards 4) once.0)
-          ∙ ap (λ (l : List ℕ). l ++ (occurring low_ace cards 2 ++ occurring low_ace cards 1)) (empty_of (occurring low_ace cards 3) once.1)
-          ∙ ap (λ (l : List ℕ). l ++ occurring low_ace cards 1) (empty_of (occurring low_ace cards 2) once.2),
+      ap (λ (l : List ℕ). l ++ (occurring low_ace cards 3 ++ (occurring low_ace cards 2 ++ occurring low_ace cards 1))) (nil_from_length (occurring low_ace cards 4) once.0)
+          ∙ ap (λ (l : List ℕ). l ++ (occurring low_ace cards 2 ++ occurring low_ace cards 1)) (nil_from_length (occurring low_ace cards 3) once.1)
+          ∙ ap (λ (l : List ℕ). l ++ occurring low_ace cards 1) (nil_from_length (occurring low_ace cards 2) once.2),
       once.3,
     )
 

@@ -1,14 +1,10 @@
 -- The ranks that are taken make a number of at most four digits.
-use Rattle.std.proofs.Common.{◌≡◌, ℕ, ◌-◌, ◌^◌, ◌<◌, ◌≤◌, List, length, ◌∙◌, ap, arith}
+use Rattle.std.proofs.Common.{◌≡◌, ℕ, ◌-◌, ◌^◌, ◌<◌, List, length, ◌∙◌, ap, arith}
 use Rattle.hand_order.specs.Digits.{class_above, with_digits}
 use Rattle.hand_order.specs.Lowest.{has_height, lowest}
 use Rattle.hand_order.proofs.Digits.{number_below}
 use Rattle.hand_order.proofs.LowestLaws.{digits_within, few_lowest, lowest_passes}
 use Rattle.badugi_rank.specs.Rainbow.{ranks_in, taken_points}
-
-pub few_ranks : (taken : ℕ) → length (ranks_in taken) ≤ 4
-unfolding ranks_in
-few_ranks taken = few_lowest (has_height taken) 13 1 4
 
 pub ranks_number : (taken : ℕ) → with_digits 0 (ranks_in taken) < 16 ^ 5
 unfolding ranks_in

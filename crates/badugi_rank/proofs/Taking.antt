@@ -1,7 +1,7 @@
 -- What can be taken of the ranks that are left is what can be taken without one of them, and what can be taken after it.
-use lib.Bits.{bit_and, bit_or}
-use Rattle.std.proofs.Common.{◌≡◌, ℕ, ◌*◌, ◌^◌, ◌%◌, ◌≤◌, ◌==◌, Bool, true, false, cond, List, [], ◌∷◌, max, ◌⊎◌, inl, inr, refl, sym, ◌∙◌, ap, subst, arith, eqb-true, w16}
-use Rattle.std.specs.Int.{bit_at, bit_not}
+use lib.Bits.{bit_or}
+use Rattle.std.proofs.Common.{◌≡◌, ℕ, ◌*◌, ◌^◌, ◌%◌, ◌≤◌, ◌==◌, Bool, true, false, cond, List, [], ◌∷◌, max, ◌⊎◌, inl, inr, refl, sym, ◌∙◌, ap, arith, eqb-true}
+use Rattle.std.specs.Int.{bit_at}
 use Rattle.std.proofs.lemmas.Bool.{cases_lt}
 use Rattle.badugi_rank.specs.Rainbow.{CanTake, IsMost, TakesOne, taken_points}
 use Rattle.list_laws.proofs.Bits.{no_bit}
@@ -10,28 +10,6 @@ use Rattle.list_laws.proofs.Tests.{passes_or_not}
 none_left : (left taken more : ℕ) → left ≡ 0 → TakesOne left taken more → more ≡ taken
 none_left left taken more none (inl same) = same
 none_left left taken more none (inr one) = no_bit left one.0 none one.1
-
--- no rank is left, and no suit
-pub most_taken : (left taken most : ℕ) → left ≡ 0 → most ≡ taken_points taken → IsMost left [] taken most
-most_taken left taken most none is = record {
-  ranks = taken;
-  can = inl refl;
-  reached = sym is;
-  none_more = λ other can. let same = ap taken_points (none_left left taken other none can) in omega arith;
-}
-
--- no rank is left, and the next suit comes
-pub most_next : (left mask taken free most : ℕ) (others : List ℕ) → left ≡ 0 → free ≡ bit_and mask (bit_not w16 taken) → IsMost free others taken most → IsMost left (mask ∷ others) taken most
-most_next left mask taken free most others none is found = record {
-  ranks = found.ranks;
-  can = (taken, inl refl, subst (λ (m : ℕ). CanTake m others taken found.ranks) is found.can);
-  reached = found.reached;
-  none_more = λ other can.
-      let same = none_left left taken can.0 none can.1 in
-      found.none_more other
-      (subst (λ (m : ℕ). CanTake m others taken other) (sym is)
-      (subst (λ (m : ℕ). CanTake (bit_and mask (bit_not w16 m)) others m other) same can.2));
-}
 
 -- a rank is taken
 abbrev pub with_rank : ℕ → ℕ → ℕ

@@ -19,6 +19,7 @@ abbrev pub has_nothing_in_common : List Card → Bool
 has_nothing_in_common [] = true
 has_nothing_in_common (card ∷ rest) = list_all (λ other. not (has_in_common card other)) rest && has_nothing_in_common rest
 
+-- a choice counts: its ranks and suits all differ
 abbrev pub IsRainbow : List Card → Type 0
 IsRainbow chosen = has_nothing_in_common chosen ≡ true
 

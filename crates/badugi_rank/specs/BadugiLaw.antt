@@ -1,7 +1,7 @@
 -- The order of badugi is lawful.
-use Rattle.std.proofs.Common.{◌≡◌, ℕ, zero, suc, ◌+◌, ◌-◌, ◌^◌, ◌<◌, ◌≤◌, ◌==◌, not, Bool, true, false, cond, List, [], ◌∷◌, ◌++◌, length, get_or, Option, Some, None, IsSome, inl, inr, ◌↔◌, refl, sym, ◌∙◌, ap, subst, arith, eqb-true}
+use Rattle.std.proofs.Common.{◌≡◌, ℕ, zero, suc, ◌+◌, ◌-◌, ◌^◌, ◌<◌, ◌≤◌, ◌==◌, not, Bool, true, cond, List, [], ◌∷◌, ◌++◌, length, get_or, Option, Some, None, IsSome, inl, inr, ◌↔◌, refl, sym, ◌∙◌, ap, subst, arith, eqb-true}
 use Rattle.std.specs.List.{list_all}
-use Rattle.std.proofs.lemmas.Bool.{and_parts, or_parts}
+use Rattle.std.proofs.lemmas.Bool.{and_parts, not-true, or_parts}
 use Rattle.std.proofs.lemmas.Option.{cond_some}
 use Rattle.card_set.specs.declared.card.Card.{Card}
 use Rattle.card_set.specs.Different.{AllDifferent}
@@ -19,21 +19,18 @@ use Rattle.hand_order.proofs.RankDigits.{AreDigits-ranks_of}
 use Rattle.hand_order.proofs.Ranked.{IsRanked, ranked_low_law}
 use Rattle.badugi_rank.specs.Badugi.{has_in_common, has_nothing_in_common, IsRainbow, IsWeakerChoice, candidates, IsHand, IsWeaker, choice_points, points}
 use Rattle.list_laws.proofs.Tests.{passes_or_not}
+use Rattle.list_laws.proofs.Options.{some_where}
 
 -- at most four cards
 abbrev pub AreFew : List Card → Type 0
 AreFew chosen = length chosen ≤ 4
-
-not_true : (b : Bool) → not b ≡ true → b ≡ false
-not_true false is = refl
-not_true true is = absurd (cc)
 
 -- no card of a rank that other cards lack
 lacks_rank : (card : Card) (rest : List Card) → list_all (λ other. not (has_in_common card other)) rest ≡ true → times low_ace rest (low_ace card.rank) ≡ 0
 lacks_rank card [] lacks = times-none low_ace (low_ace card.rank)
 lacks_rank card (other ∷ rest) lacks =
     let parts = and_parts (not (has_in_common card other)) (list_all (λ other. not (has_in_common card other)) rest) lacks in
-    let apart = or_parts (low_ace other.rank == low_ace card.rank) (suits_before other.suit == suits_before card.suit) (not_true (has_in_common card other) parts.0) in
+    let apart = or_parts (low_ace other.rank == low_ace card.rank) (suits_before other.suit == suits_before card.suit) (not-true (has_in_common card other) parts.0) in
     let none = ap (λ (b : Bool). cond {A = ℕ} b 1 0) apart.0 in
     omega (arith, times-cons low_ace other rest (low_ace card.rank), none, lacks_rank card rest parts.1)
 
@@ -62,9 +59,11 @@ rainbow_ranks chosen differ =
 abbrev pub missing_cards : List Card → ℕ
 missing_cards chosen = 4 - length chosen
 
+-- how many ranks fewer than four decide, by how many cards a choice lacks
 rainbow_missing : List ℕ
 rainbow_missing = 0 ∷ 1 ∷ 2 ∷ 3 ∷ 4 ∷ []
 
+-- the ranks of a choice and those that it lacks are four
 missing_of : (n : ℕ) → n ≤ 4 → n + get_or rainbow_missing (4 - n) 0 ≡ 4
 unfolding rainbow_missing
 missing_of zero few = refl
@@ -74,6 +73,7 @@ missing_of (suc (suc (suc zero))) few = refl
 missing_of (suc (suc (suc (suc zero)))) few = refl
 missing_of (suc (suc (suc (suc (suc n))))) few = absurd (omega arith)
 
+-- a choice is ranked by its ranks, the ace low
 rainbow_ranked : (chosen : List Card) → AreFew chosen → has_nothing_in_common chosen ≡ true → IsRanked missing_cards (ranks_of low_ace) rainbow_missing 4 4 chosen
 rainbow_ranked chosen few differ =
     let same = rainbow_ranks chosen differ in
@@ -84,13 +84,11 @@ rainbow_ranked chosen few differ =
       digits = AreDigits-ranks_of low_ace chosen;
     }
 
+-- a choice with points counts, and has the number of its ranks
 pub choice_value : (chosen : List Card) (value : ℕ) → choice_points chosen ≡ Some value → (has_nothing_in_common chosen ≡ true) × (16 ^ 6 - class_above (4 - length chosen) (ranks_of low_ace chosen) ≡ value)
 choice_value chosen value is = cond_some (has_nothing_in_common chosen) (16 ^ 6 - class_above (4 - length chosen) (ranks_of low_ace chosen)) value is
 
-points_there : (test : Bool) (value : ℕ) → IsSome (cond test (Some value) None) ↔ (test ≡ true)
-points_there true value = (λ some. refl, λ is. refl)
-points_there false value = (λ some. some, λ is. is)
-
+-- the points of a choice are less exactly where it is weaker
 choice_ordered : (a b : List Card) (low high : ℕ) → AreFew a → AreFew b → choice_points a ≡ Some low → choice_points b ≡ Some high → (low < high) ↔ IsWeakerChoice a b
 choice_ordered a b low high few_a few_b is_low is_high =
     let is_a = choice_value a low is_low in
@@ -102,7 +100,7 @@ choice_ordered a b low high few_a few_b is_low is_high =
 
 -- choices are ordered by their numbers
 pub lawful_choices : IsLawful AreFew IsRainbow IsWeakerChoice choice_points
-lawful_choices = lawful_by_order AreFew IsRainbow IsWeakerChoice choice_points (λ chosen few. points_there (has_nothing_in_common chosen) (16 ^ 6 - class_above (4 - length chosen) (ranks_of low_ace chosen))) choice_ordered
+lawful_choices = lawful_by_order AreFew IsRainbow IsWeakerChoice choice_points (λ chosen few. some_where (has_nothing_in_common chosen) (16 ^ 6 - class_above (4 - length chosen) (ranks_of low_ace chosen))) choice_ordered
 
 -- the choices of a hand have at most four cards
 pub few_chosen : (cards chosen : List Card) → AllDifferent cards → IsAmong chosen (candidates cards) → AreFew chosen
@@ -123,6 +121,7 @@ few_chosen cards chosen different among =
 hand_points : (cards : List Card) (most : Option ℕ) → AreHeld 4 cards → points cards ≡ most → IsPointsOfHolding IsRainbow IsWeakerChoice choice_points (candidates cards) most
 hand_points cards most held is = greatest_of_holding AreFew IsRainbow IsWeakerChoice choice_points (candidates cards) most lawful_choices (λ choice among. few_chosen cards choice held.1 among) (sym is)
 
+-- the points of a hand are less exactly where it is weaker
 hand_ordered : (a b : List Card) (low high : ℕ) → AreHeld 4 a → AreHeld 4 b → points a ≡ Some low → points b ≡ Some high → (low < high) ↔ IsWeaker a b
 hand_ordered a b low high held_a held_b is_low is_high =
     beats_exactly AreFew IsRainbow IsWeakerChoice choice_points (candidates b) (candidates a) (Some high) (Some low) lawful_choices
@@ -137,6 +136,7 @@ one_chosen card rest =
     (IsAmong-right (card ∷ []) (choices 3 (card ∷ rest)) (choices 2 (card ∷ rest) ++ choices 1 (card ∷ rest))
     (IsAmong-right (card ∷ []) (choices 2 (card ∷ rest)) (choices 1 (card ∷ rest)) (inl refl)))
 
+-- each hand of four cards has points
 pub some_points : (cards : List Card) (most : Option ℕ) → AreHeld 4 cards → points cards ≡ most → IsSome most
 some_points cards (Some value) held is = refl
 some_points [] None held is = absurd (omega (arith, held.0))
@@ -145,5 +145,6 @@ some_points (card ∷ rest) None held is =
     let no_points : choice_points (card ∷ []) ≡ None = none (card ∷ []) (one_chosen card rest) in
     absurd (cc)
 
+-- the order of badugi is lawful
 pub lawful_badugi : IsLawful (AreHeld 4) IsHand IsWeaker points
 lawful_badugi = lawful_by_order (AreHeld 4) IsHand IsWeaker points (λ cards held. (λ some. tt, λ hand. some_points cards (points cards) held refl)) hand_ordered

@@ -1,7 +1,7 @@
 -- After a move the running numbers stand for the moves with it.
 use Rattle.std.proofs.Common.{◌≡◌, ◌≢◌, ℕ, ◌+◌, ◌-◌, ◌*◌, Bool, true, false, ◌&&◌, ◌||◌, ◌==◌, not, nat_le, min, max, cond, if◌then◌else◌, inl, inr, List, ◌∷◌, count_by, refl, sym, ap, subst, ◌∙◌, arith}
 use Rattle.std.specs.List.{list_any}
-use Rattle.std.proofs.lemmas.Bool.{cases_eq, eq-eqb, ne_eqb}
+use Rattle.std.proofs.lemmas.Bool.{cases_eq, eq-eqb}
 use Rattle.list_laws.proofs.Counting.{count_by-cons}
 use Rattle.chip_ledger.specs.LiveRow.{flag_of}
 use Rattle.chip_ledger.specs.SeatRow.{amount_of}
@@ -19,6 +19,7 @@ use Rattle.betting_numbers.specs.Moving.{IsMoved, most_raises}
 use Rattle.street_laws.specs.Seats.{IsSeat}
 use Rattle.betting_numbers.specs.Standing.{Standing, newest_seat}
 use Rattle.betting_numbers.proofs.Bridge.{price_is}
+use Rattle.list_laws.proofs.Numbers.{different_number}
 
 -- of a seat and of the others
 by_seat : (P : ℕ → Type 0) (seat k : ℕ) → P seat → (k ≢ seat → P k) → P k
@@ -29,9 +30,6 @@ by_seat P seat k here there = elim (cases_eq k seat) [
 
 same_seat : (seat : ℕ) → (seat == seat) ≡ true
 same_seat seat = eq-eqb seat seat refl
-
-another : (seat k : ℕ) → k ≢ seat → (seat == k) ≡ false
-another seat k other = ne_eqb seat k (λ same. other (sym same))
 
 -- a move of this street is the newest of it
 pub on_street : (street : ℕ) (move : Move) (before : List Move) → move.street ≡ street → moves_on street (move ∷ before) ≡ move ∷ moves_on street before
@@ -75,7 +73,7 @@ module _ (b next : Table) (moves : List Move) (seat target unit : ℕ) (act : Ac
   puts_after k in_k =
       by_seat (λ k. IsSeat b.setup k → amount_of next.puts k ≡ chips_put b.setup (the_move ∷ moves) k) seat k
       (λ i. omega (arith, mv.puts, st.puts seat in_hand, st.bets seat in_hand, added_by seat true (same_seat seat)))
-      (λ other i. omega (arith, mv.other_puts k i.first other, st.puts k i, added_by k false (another seat k other)))
+      (λ other i. omega (arith, mv.other_puts k i.first other, st.puts k i, added_by k false (different_number seat k other)))
       in_k
 
   street_added : (k : ℕ) (mine : Bool) → (seat == k) ≡ mine → street_chips b.setup (the_move ∷ moves) b.street k ≡ brought b.setup b.street k + ((if mine then target - street_chips b.setup moves b.street seat else 0) + chips_added k (moves_on b.street moves))
@@ -87,14 +85,14 @@ module _ (b next : Table) (moves : List Move) (seat target unit : ℕ) (act : Ac
   bets_after k in_k =
       by_seat (λ k. IsSeat b.setup k → amount_of next.bets k ≡ street_chips b.setup (the_move ∷ moves) b.street k) seat k
       (λ i. omega (arith, mv.bets, st.bets seat in_hand, street_added seat true (same_seat seat)))
-      (λ other i. omega (arith, mv.other_bets k i.first other, st.bets k i, street_added k false (another seat k other)))
+      (λ other i. omega (arith, mv.other_bets k i.first other, st.bets k i, street_added k false (different_number seat k other)))
       in_k
 
   live_after : (k : ℕ) → IsSeat b.setup k → flag_of next.live k ≡ is_live (the_move ∷ moves) k
   live_after k in_k =
       by_seat (λ k. IsSeat b.setup k → flag_of next.live k ≡ is_live (the_move ∷ moves) k) seat k
       (λ i. mv.live ∙ ap (λ l. l && not (is_fold act)) (st.live seat in_hand) ∙ live_one_more (is_fold act) (seat == seat) (list_any (λ move. is_fold move.act && (move.seat == seat)) moves) (same_seat seat))
-      (λ other i. mv.other_live k i.first other ∙ st.live k i ∙ live_as_before (is_fold act) (seat == k) (list_any (λ move. is_fold move.act && (move.seat == k)) moves) (another seat k other))
+      (λ other i. mv.other_live k i.first other ∙ st.live k i ∙ live_as_before (is_fold act) (seat == k) (list_any (λ move. is_fold move.act && (move.seat == k)) moves) (different_number seat k other))
       in_k
 
   moved_by : (k : ℕ) (mine : Bool) → (seat == k) ≡ mine → has_moved (the_move ∷ moves) b.street k ≡ (mine || has_moved moves b.street k)
@@ -106,7 +104,7 @@ module _ (b next : Table) (moves : List Move) (seat target unit : ℕ) (act : Ac
   moved_after k in_k =
       by_seat (λ k. IsSeat b.setup k → flag_of next.moved k ≡ has_moved (the_move ∷ moves) b.street k) seat k
       (λ i. mv.moved ∙ sym (moved_by seat true (same_seat seat)))
-      (λ other i. mv.other_moved k i.first other ∙ st.moved k i ∙ sym (moved_by k false (another seat k other)))
+      (λ other i. mv.other_moved k i.first other ∙ st.moved k i ∙ sym (moved_by k false (different_number seat k other)))
       in_k
 
   since_by : (k : ℕ) (mine : Bool) → (seat == k) ≡ mine → has_moved_since_rise b.setup (the_move ∷ moves) b.street k ≡ (mine || (nat_le target (price b.setup moves b.street) && has_moved_since_rise b.setup moves b.street k))
@@ -121,7 +119,7 @@ module _ (b next : Table) (moves : List Move) (seat target unit : ℕ) (act : Ac
       (λ other i. mv.other_since k i.first other
       ∙ ap (λ p. nat_le target p && flag_of b.since_rise k) (price_is b moves st)
       ∙ ap (λ f. nat_le target (price b.setup moves b.street) && f) (st.since_rise k i)
-      ∙ sym (since_by k false (another seat k other)))
+      ∙ sym (since_by k false (different_number seat k other)))
       in_k
 
   raises_after : next.raises ≡ min (raises_on (the_move ∷ moves) b.street) most_raises

@@ -1,7 +1,7 @@
 -- Where a deal or a draw is ended, the state stands for the past, or up to its new due.
 use Rattle.std.proofs.Common.{◌≡◌, ℕ, zero, suc, ◌+◌, ◌<◌, ◌≤◌, Bool, true, false, ◌&&◌, ◌||◌, not, nat_lt, nat_le, if◌then◌else◌, inl, inr, ◌⊎◌, List, [], Some, None, is_some, map, refl, sym, ap, subst, ◌∙◌, arith}
 use Rattle.std.specs.List.{list_any, range_with_len}
-use Rattle.std.proofs.lemmas.Bool.{leb-false, and_left, le-leb, cases_eq, cases_lt, true≢false, ltb-true, ltb-false, not-true, ne_eqb}
+use Rattle.std.proofs.lemmas.Bool.{and_left, cases_eq, cases_lt, true≢false, ltb-true, ltb-false, not-true, ne_eqb}
 use Rattle.play_event.specs.declared.code.Code.{Code}
 use Rattle.play_event.specs.declared.reason.Due.{Due}
 use Rattle.play_event.specs.declared.reason.Due.TheVariants as dues
@@ -34,6 +34,7 @@ use Rattle.betting_numbers.proofs.StandsAfter.{standing_with_due}
 use Rattle.street_laws.specs.Walk.{walked}
 use Rattle.street_laws.proofs.Walk.{walk_on, due_here}
 use Rattle.street_laws.proofs.LiveSeats.{one_of_several}
+use Rattle.list_laws.proofs.Numbers.{two_or_more}
 
 -- the cards of a street are dealt where its deal or its draw is complete
 no_draw : (setup : Setup) (past : Past) (street : ℕ) → has_draw setup.code street ≡ false → is_draw_due setup past street ≡ false
@@ -50,7 +51,7 @@ are_dealt setup past street dues.Move other come done = absurd come
 are_dealt setup past street dues.Over other come done = absurd come
 
 -- on the next street nobody owes
-zero_greatest : (f : ℕ → ℕ) (first n : ℕ) → ((k : ℕ) → f k ≡ 0) → greatest (map f (range_with_len first n)) ≡ 0
+pub zero_greatest : (f : ℕ → ℕ) (first n : ℕ) → ((k : ℕ) → f k ≡ 0) → greatest (map f (range_with_len first n)) ≡ 0
 zero_greatest f first zero none = refl
 zero_greatest f first (suc n) none = omega (arith, none first, zero_greatest f (first + 1) n none)
 
@@ -242,9 +243,6 @@ module _ (b next : Table) (past : Past) (up : StandsUpTo b past) (other : b.due 
   pub showdown_dealt : is_done b.setup past next.due ≡ true → next.due ≡ dues.Show
   showdown_dealt done = (showdown_by (is_bring_in_due b.setup (moves_of past) b.street) (is_move_due b.setup (moves_of past) b.street) (nat_lt b.street (street_count b.setup.code)) refl refl refl to_is done).show
 
-settled_shown : (n : ℕ) → nat_le n 1 ≡ false → nat_le 2 n ≡ true
-settled_shown n more = le-leb 2 n (let two : 1 < n = leb-false n 1 more in omega (arith, two))
-
 -- the showdown is ended: the hand is over
 pub show_ended : (b : Table) (past : Past) → StandsUpTo b past → b.due ≡ dues.Show → StandsFor (with_due b dues.Over) past
 show_ended b past up due_is =
@@ -264,5 +262,5 @@ show_ended b past up due_is =
           ∙ ap (λ (n : ℕ). (n, dues.Over)) (sym come.0);
       someone = one_of_several b.setup (moves_of past) up.more;
       early = up.early;
-      unshown = λ other unended. absurd (true≢false (sym (ap (λ l. l && (true || (nat_le (able_count b.setup (moves_of past)) 1 && not (has_able_seat_to_call b.setup (moves_of past) b.street)))) (settled_shown (live_count b.setup (moves_of past)) up.more)) ∙ unended));
+      unshown = λ other unended. absurd (true≢false (sym (ap (λ l. l && (true || (nat_le (able_count b.setup (moves_of past)) 1 && not (has_able_seat_to_call b.setup (moves_of past) b.street)))) (two_or_more (live_count b.setup (moves_of past)) up.more)) ∙ unended));
     }

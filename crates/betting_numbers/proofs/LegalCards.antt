@@ -19,7 +19,7 @@ use Rattle.street_laws.specs.Done.{is_done}
 use Rattle.street_laws.specs.Walk.{has_nothing_later}
 use Rattle.street_laws.proofs.CardTurns.{several_live, moves_kept}
 use Rattle.street_laws.proofs.Later.{reached_by}
-use Rattle.street_laws.proofs.LegalCards.{at_street, card_resolved, shows_kept, settled_at, betting_event, undrawn, two_live}
+use Rattle.street_laws.proofs.LegalCards.{at_street, card_resolved, shows_kept, settled_at, betting_event, undrawn}
 use Rattle.street_laws.proofs.Showdown.{one_left, show_over}
 use Rattle.street_laws.proofs.TurnAfter.{few_is_over}
 use Rattle.street_laws.proofs.Unsettled.{unsettled}
@@ -27,6 +27,7 @@ use Rattle.betting_numbers.specs.declared.table.Table.{Table}
 use Rattle.betting_numbers.specs.Standing.{Standing, StandsFor}
 use Rattle.betting_numbers.specs.UpTo.{StandsUpTo}
 use Rattle.betting_numbers.proofs.Carded.{deal_kept, deal_ended, draw_kept, draw_ended, show_kept, show_done}
+use Rattle.list_laws.proofs.Numbers.{two_or_more}
 
 -- a legal event may come
 pub comes : (b : Table) (rules : Rules) (past : Past) (event : Said) → StandsFor b past → why b.setup rules past event ≡ None → may_come b.setup past (b.street, b.due) event ≡ true
@@ -55,7 +56,7 @@ module _ (b : Table) (rules : Rules) (past : Past) (event : Said) (stands : Stan
   still_by : (shows : Bool) → is_showing event ≡ shows → (b.due ≡ dues.Over → ⊥) → is_settled b.setup (moves_of past) (b.street, b.due) ≡ false → (seat : ℕ) → is_live (moves_of past) seat ≡ true → has_to_show (the_event ∷ past) seat ≡ true
   still_by false is other unended seat live = shows_kept b.setup past b.street event seat card is ∙ stands.unshown other unended seat live
   still_by true is other unended seat live =
-      absurd (true≢false (sym (settled_at b.setup past b.street (two_live (live_count b.setup (moves_of past)) (several_live b.setup past b.street b.due stands.turn_is other)) b.due event is may other) ∙ unended))
+      absurd (true≢false (sym (settled_at b.setup past b.street (two_or_more (live_count b.setup (moves_of past)) (several_live b.setup past b.street b.due stands.turn_is other)) b.due event is may other) ∙ unended))
 
   still : (b.due ≡ dues.Over → ⊥) → is_settled b.setup (moves_of past) (b.street, b.due) ≡ false → (seat : ℕ) → is_live (moves_of past) seat ≡ true → has_to_show (the_event ∷ past) seat ≡ true
   still other = still_by (is_showing event) refl other

@@ -1,6 +1,6 @@
 -- After a legal move the state stands for the past with it.
-use Rattle.std.proofs.Common.{◌≡◌, ℕ, ◌+◌, ◌-◌, ◌<◌, ◌≤◌, Bool, true, false, ◌&&◌, ◌||◌, ◌==◌, not, nat_lt, nat_le, if◌then◌else◌, inl, inr, List, ◌∷◌, Some, refl, sym, ap, subst, ◌∙◌, arith}
-use Rattle.std.proofs.lemmas.Bool.{and_from, and_parts, and_right, le-leb, leb-true, lt-ltb, ltb-true, cases_eq, false_from_ne_true, true≢false}
+use Rattle.std.proofs.Common.{◌≡◌, ℕ, ◌+◌, ◌-◌, ◌≤◌, Bool, true, false, ◌&&◌, ◌||◌, ◌==◌, not, nat_lt, nat_le, if◌then◌else◌, inl, inr, List, ◌∷◌, Some, refl, sym, ap, subst, ◌∙◌, arith}
+use Rattle.std.proofs.lemmas.Bool.{and_from, and_parts, and_right, le-leb, leb-true, cases_eq, false_from_ne_true, true≢false}
 use Rattle.play_event.specs.declared.code.Code.{Code}
 use Rattle.play_event.specs.declared.reason.Due.{Due}
 use Rattle.play_event.specs.declared.reason.Due.TheVariants as dues
@@ -8,8 +8,6 @@ use Rattle.play_event.specs.declared.setup.Setup.{Setup}
 use Rattle.play_event.specs.Games.{street_count}
 use Rattle.play_event.specs.Streets as streets
 use Rattle.play_event.specs.Past.{Past, Move, Act, Moved, moves_of}
-use Rattle.chip_ledger.specs.SeatRow.{amount_of}
-use Rattle.play_event.specs.Chips.{chips_left, chips_added, posted}
 use Rattle.play_event.specs.Seats.{is_live, is_able, live_count, all_seats}
 use Rattle.play_event.specs.Showing.{has_to_show, has_shown, has_mucked}
 use Rattle.std.specs.List.{list_any}
@@ -33,11 +31,13 @@ use Rattle.betting_numbers.proofs.AfterMove.{the_move, standing_after, on_street
 use Rattle.list_laws.proofs.Counting.{counts_fewer}
 use Rattle.betting_numbers.proofs.NextStreet.{standing_next}
 use Rattle.street_laws.proofs.Later.{early_moves, early_up}
-use Rattle.street_laws.proofs.TurnAfter.{cards_are_dealt, dealt_still, due_by, still_live}
+use Rattle.street_laws.proofs.TurnAfter.{cards_are_dealt, dealt_still, due_by}
 use Rattle.street_laws.proofs.Walk.{turn_after_move}
-use Rattle.street_laws.proofs.Unsettled.{bets_unfinished, due_after_cards, unsettled}
+use Rattle.street_laws.proofs.Unsettled.{due_after_cards, unsettled}
 use Rattle.street_laws.proofs.LiveSeats.{some_left}
 use Rattle.street_laws.proofs.CardTurns.{several_live}
+use Rattle.play_event.proofs.StillAble.{able_still, still_live}
+use Rattle.play_event.proofs.FloorLaws.{bet_unfinished}
 
 -- the numbers stand whatever is due
 pub standing_with_due : (setup : Setup) (street : ℕ) (b : Table) (due : Due) (moves : List Move) → Standing setup street b moves → Standing setup street (with_due b due) moves
@@ -54,16 +54,6 @@ standing_with_due setup street b due moves st = record {
   doubled = st.doubled;
   opened = st.opened;
 }
-
--- no bring-in is due after a move: it came, or fewer seats are able where none was due
-able_still : (setup : Setup) (move : Move) (moves : List Move) (seat : ℕ) → is_able setup (move ∷ moves) seat ≡ true → is_able setup moves seat ≡ true
-able_still setup move moves seat is =
-    let parts = and_parts (is_live (move ∷ moves) seat) (nat_lt 0 (chips_left setup (move ∷ moves) seat)) is in
-    let more : 0 < chips_left setup (move ∷ moves) seat = ltb-true 0 (chips_left setup (move ∷ moves) seat) parts.1 in
-    and_from (is_live moves seat) (nat_lt 0 (chips_left setup moves seat)) (still_live move moves seat parts.0) (lt-ltb 0 (chips_left setup moves seat) (left_by (amount_of setup.stacks seat) (posted setup seat) (chips_added seat moves) (if move.seat == seat then move.to - move.from else 0) more))
-  where
-    left_by : (stack post added new : ℕ) → 0 < stack - (post + (new + added)) → 0 < stack - (post + added)
-    left_by stack post added new more = omega (arith, more)
 
 bring_in_closed_by : (stud first : Bool) (few many : ℕ) (opens opened : Bool) → few ≤ many → (opens ≡ false → (stud && first && nat_le 2 many && not opened) ≡ false) → (stud && first && nat_le 2 few && not (opens || opened)) ≡ false
 bring_in_closed_by stud first few many true opened less before = and_right (stud && first && nat_le 2 few) false refl
@@ -165,7 +155,7 @@ module _ (b mid next : Table) (past : Past) (seat target unit : ℕ) (act : Act)
   turn_there : turn b.setup (Moved new_move ∷ past) ≡ (next.street, next.due)
   turn_there =
       turn_after_move b.setup past new_move
-      (dealt_still b.setup past new_move b.street (cards_are_dealt b.setup past b.street b.due stands.turn_is bets (bets_unfinished b.due bets)))
+      (dealt_still b.setup past new_move b.street (cards_are_dealt b.setup past b.street b.due stands.turn_is bets (bet_unfinished b.due bets)))
       stands.early within each_shows
       ∙ ap (λ i. turn_after b.setup.code b.street (nat_le (live_count b.setup (new_move ∷ moves_of past)) 1) i (is_move_due b.setup (new_move ∷ moves_of past) b.street)) closed
       ∙ sym (

@@ -1,5 +1,5 @@
 -- The ends of the legal targets by the running numbers are those of the rules.
-use Rattle.std.proofs.Common.{◌≡◌, ℕ, List, Option, Some, None, IfSome, sym, ap, subst, ◌∙◌}
+use Rattle.std.proofs.Common.{◌≡◌, ℕ, List, sym, ap, subst, ◌∙◌}
 use Rattle.play_event.specs.declared.limit.Limit.{Limit}
 use Rattle.play_event.specs.Price.{starting_price}
 use Rattle.play_event.specs.Streets.{limit_of}
@@ -36,8 +36,3 @@ seat_in Undecided = 0
 pub same_turn : (one other : ℕ) → TheSeat one ≡ TheSeat other → one ≡ other
 unfolding seat_in
 same_turn one other is = ap seat_in is
-
--- what is so of a value where there is one
-pub some_more : {A : Type 0} (found : Option A) (P Q : A → Type 0) → ((x : A) → P x → Q x) → IfSome found P → IfSome found Q
-some_more None P Q h is = is
-some_more (Some x) P Q h is = h x is

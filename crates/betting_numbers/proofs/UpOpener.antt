@@ -31,7 +31,7 @@ use Rattle.betting_numbers.specs.UpSeen.{HoldsUps, has_unknown_seen, has_unknown
 use Rattle.list_laws.proofs.Counting.{counted_some}
 use Rattle.betting_numbers.proofs.Bridge.{able_is, able_count_is, mover_is, move_due_is, StartsIn}
 use Rattle.list_laws.proofs.Earliest.{first_exists}
-use Rattle.up_card_order.proofs.FirstOpens.{opens_not, opens_trans}
+use Rattle.play_event.proofs.OpenerOrder.{opens_not, opens_trans}
 use Rattle.betting_numbers.proofs.InTurn.{Passed, passed, nobody_by, found_turn}
 use Rattle.chip_ledger.proofs.SeatLists.{any_seats}
 use Rattle.list_laws.proofs.Finding.{find_agree}

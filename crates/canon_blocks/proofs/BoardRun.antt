@@ -1,5 +1,5 @@
 -- The canonical deal of the board.
-use Rattle.std.proofs.Common.{◌≡◌, ℕ, suc, ◌<◌, false, ◌==◌, nat_lt, inl, inr, Some, None, List, [], ◌∷◌, map, length, refl, sym, ap, subst, arith, if◌then◌else◌}
+use Rattle.std.proofs.Common.{◌≡◌, ℕ, ◌<◌, false, ◌==◌, nat_lt, inl, inr, Some, None, List, [], ◌∷◌, map, length, refl, sym, ap, subst, arith, if◌then◌else◌}
 use Rattle.std.specs.List.{list_any}
 use Rattle.std.proofs.lemmas.Bool.{or_right, or_from, lt-ltb, le-ltb, ne_eqb}
 use Rattle.card_set.specs.declared.card.Card.{Card}
@@ -22,6 +22,7 @@ use Rattle.play_event.proofs.ClashLaws.{IsOneOf}
 use Rattle.canonical_play.specs.CanonScript.{board_said}
 use Rattle.canon_blocks.proofs.Runs.{Runs}
 use Rattle.canon_blocks.proofs.CardEvents.{HasCome, due_there, board_legal, board_placed}
+use Rattle.canon_blocks.proofs.CleanShow.{known_length}
 
 -- a past with a deal of the board, where it has cards
 abbrev pub with_board : ℕ → List Slot → Past → Past
@@ -34,11 +35,6 @@ known_again [] known = refl
 known_again (slots.Known card ∷ rest) known = ap (λ l. slots.Known card ∷ l) (known_again rest (λ slot among. known slot (inr among)))
 known_again (slots.Unknown ∷ rest) known = false_true (sym (known slots.Unknown (inl refl)))
 
-same_count : (list : List Slot) → ((slot : Slot) → IsOneOf list slot → is_unknown slot ≡ false) → length (known_cards list) ≡ length list
-same_count [] known = refl
-same_count (slots.Known card ∷ rest) known = ap suc (same_count rest (λ slot among. known slot (inr among)))
-same_count (slots.Unknown ∷ rest) known = false_true (sym (known slots.Unknown (inl refl)))
-
 -- a deal is due where the board is owed cards
 board_due : (setup : Setup) (before : Past) (street : ℕ) → 0 < board_cards_owed setup before street → due_on setup before street ≡ Some (dues.Deal street)
 board_due setup before street some =
@@ -50,7 +46,7 @@ pub board_run : (setup : Setup) (rules : Rules) (before : Past) (street : ℕ) (
 board_run setup rules before street [] come known owed free = refl
 board_run setup rules before street (slot ∷ rest) come known owed free =
     let cards : List Card = known_cards (slot ∷ rest) in
-    let count : length cards ≡ length (slot ∷ rest) = same_count (slot ∷ rest) known in
+    let count : length cards ≡ length (slot ∷ rest) = known_length (slot ∷ rest) known in
     let turned : turn setup before ≡ (street, dues.Deal street) = due_there setup before street (dues.Deal street) come (board_due setup before street (omega (arith, owed))) in
     let F : List Slot → Type 0 = λ l. has_taken_card setup.code (places_of setup.code before) street l ≡ false in (
       board_legal setup rules before street cards turned (lt-ltb 0 (board_cards_on setup.code street) (omega (arith, owed)))

@@ -57,10 +57,6 @@ legal_at setup rules before now event turned none =
     let P : ℕ × Due → Type 0 = λ at. NoneHoldAt setup rules before at event in
     legal_without_reason setup rules before event (subst P (sym turned) none)
 
--- an event that is no move takes place on the street whose turn it is
-pub placed_at : (setup : Setup) (before : Past) (now : ℕ × Due) (event : Said) (place : ℕ → Resolved) → turn setup before ≡ now → (with_event setup event before ≡ place (turn setup before).0 ∷ before) → with_event setup event before ≡ place now.0 ∷ before
-placed_at setup before now event place turned is = is ∙ ap (λ (at : ℕ × Due). place at.0 ∷ before) turned
-
 -- a deal is legal where it may come and its seat is owed so many cards, and none of them is taken
 pub deal_legal : (setup : Setup) (rules : Rules) (before : Past) (street : ℕ) (due : Due) (seat : ℕ) (cards : List Slot) → turn setup before ≡ (street, due) → is_over due ≡ false → is_due_kind setup.code due (said.Hole seat cards) ≡ true → is_owed_nothing setup before street seat ≡ false → is_wrong_deal (cards_owed setup before street seat) (length cards) ≡ false → has_taken_card setup.code (places_of setup.code before) street cards ≡ false → why setup rules before (said.Hole seat cards) ≡ None
 deal_legal setup rules before street due seat cards turned going kind owed count free =

@@ -13,7 +13,7 @@ use Rattle.play_event.specs.Places.{Place, is_held_by}
 use Rattle.play_event.specs.Naming.{other_names, blanks_in, after_names, after_discard, discarded_now, held_count}
 use Rattle.play_event.specs.Taken.{newly_known, has_misplaced_card, is_misplaced}
 use Rattle.play_event.specs.CardReasons.{has_no_place}
-use Rattle.list_laws.proofs.Tests.{false_true}
+use Rattle.list_laws.proofs.Tests.{and_not, false_true}
 use Rattle.canon_blocks.proofs.MatchedNames.{slots_taken, names_taken, blanks_taken, marked_if, BlanksFirst, TakenTogether, IsMatched, is_matched}
 
 -- counts by the length of what is kept
@@ -58,11 +58,6 @@ fewer_taken : (covers taken : Place → Bool) (placed : List Place) → ((place 
 fewer_taken covers taken [] sub = omega arith
 fewer_taken covers taken (place ∷ rest) sub = count_step covers taken place rest (covers place) (taken place) (sub place) (fewer_taken covers taken rest sub)
 
--- marks make nothing known
-unknown_both : (b : Bool) → (b && not b) ≡ false
-unknown_both true = refl
-unknown_both false = refl
-
 marked_slot : (taken : Place → Bool) (mark : Place → Place) (place : Place) (t : Bool) → (mark place).slot ≡ place.slot → (if t then mark place else place).slot ≡ place.slot
 marked_slot taken mark place true same = same
 marked_slot taken mark place false same = refl
@@ -72,7 +67,7 @@ pub none_known : (taken : Place → Bool) (mark : Place → Place) (placed : Lis
 none_known taken mark [] same = refl
 none_known taken mark (place ∷ rest) same =
     ap (λ s. if is_unknown place.slot && not (is_unknown s) then (marked_if taken mark place ∷ newly_known rest (map (marked_if taken mark) rest)) else newly_known rest (map (marked_if taken mark) rest)) (marked_slot taken mark place (taken place) (same place))
-    ∙ (ap (λ b. if b then (marked_if taken mark place ∷ newly_known rest (map (marked_if taken mark) rest)) else newly_known rest (map (marked_if taken mark) rest)) (unknown_both (is_unknown place.slot))
+    ∙ (ap (λ b. if b then (marked_if taken mark place ∷ newly_known rest (map (marked_if taken mark) rest)) else newly_known rest (map (marked_if taken mark) rest)) (and_not (is_unknown place.slot))
     ∙ none_known taken mark rest same)
 
 -- a discard of some of the cards that a seat holds

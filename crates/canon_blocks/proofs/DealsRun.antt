@@ -14,7 +14,7 @@ use Rattle.play_event.specs.Streets.{has_draw}
 use Rattle.play_event.specs.Said as said
 use Rattle.play_event.specs.Said.{Said}
 use Rattle.play_event.specs.Past as past
-use Rattle.play_event.specs.Past.{Past, Resolved, moves_of, newest_street}
+use Rattle.play_event.specs.Past.{Past, moves_of}
 use Rattle.play_event.specs.Seats.{is_live, all_seats}
 use Rattle.play_event.specs.Dealing.{cards_owed, hole_cards_owed, hole_cards_dealt, replacements_owed, cards_discarded, is_deal_due, is_draw_due, next_to_draw, board_cards_owed}
 use Rattle.play_event.specs.Due.{turn, due_on, is_bring_in_due, is_move_due}
@@ -25,6 +25,7 @@ use Rattle.play_event.specs.Reasons.{is_over, is_due_kind}
 use Rattle.canonical_play.specs.CanonScript.{deal_said}
 use Rattle.canon_blocks.proofs.Runs.{Runs}
 use Rattle.canon_blocks.proofs.CardEvents.{HasCome, due_there, still_there, deal_legal, deal_placed}
+use Rattle.list_laws.proofs.Any.{none_passes}
 
 -- a past with a deal, where it has cards
 abbrev pub with_deal : ℕ → ℕ → List Slot → Past → Past
@@ -41,11 +42,6 @@ pub record DealsOn (setup : Setup) (street : ℕ) (due : Due) : Type 0 where
   pub kind : (seat : ℕ) (cards : List Slot) → is_due_kind setup.code due (said.Hole seat cards) ≡ true
   pub going : is_over due ≡ false
   pub is_due : (before : Past) (seat : ℕ) → 1 ≤ seat → seat ≤ setup.stacks.seats → 0 < cards_owed setup before street seat → due_on setup before street ≡ Some due
-
--- a street that deals hole cards and does not draw
-owed_some : (b : Bool) (on dealt : ℕ) → 0 < (if b then on - dealt else 0) → 0 < on
-owed_some true on dealt some = omega (arith, some)
-owed_some false on dealt some = absurd (omega (arith, some))
 
 -- a street that deals hole cards deals to any seat that is owed some
 pub hole_street : (setup : Setup) (street : ℕ) → has_draw setup.code street ≡ false → 0 < hole_cards_on setup.code street → DealsOn setup street (dues.Deal street)
@@ -66,14 +62,10 @@ no_owed : (b : Bool) (on dealt : ℕ) → on ≡ 0 → nat_lt 0 (if b then on - 
 no_owed true on dealt none = le-ltb 0 (on - dealt) (omega (arith, none))
 no_owed false on dealt none = refl
 
-any_never : (p : ℕ → Bool) (seats : List ℕ) → ((seat : ℕ) → p seat ≡ false) → list_any p seats ≡ false
-any_never p [] never = refl
-any_never p (seat ∷ rest) never = ap (λ b. b || list_any p rest) (never seat) ∙ any_never p rest never
-
 -- a street without cards has no deal due
 pub no_deal : (setup : Setup) (before : Past) (street : ℕ) → hole_cards_on setup.code street ≡ 0 → board_cards_on setup.code street ≡ 0 → is_deal_due setup before street ≡ false
 no_deal setup before street no_hole no_board =
-    ap (λ b. b || nat_lt 0 (board_cards_owed setup before street)) (any_never (λ seat. nat_lt 0 (hole_cards_owed setup before street seat)) (all_seats setup) (λ seat. no_owed (is_live (moves_of before) seat) (hole_cards_on setup.code street) (hole_cards_dealt before street seat) no_hole))
+    ap (λ b. b || nat_lt 0 (board_cards_owed setup before street)) (none_passes (λ seat. nat_lt 0 (hole_cards_owed setup before street seat)) (all_seats setup) (λ seat. no_owed (is_live (moves_of before) seat) (hole_cards_on setup.code street) (hole_cards_dealt before street seat) no_hole))
     ∙ le-ltb 0 (board_cards_owed setup before street) (omega (arith, no_board))
 
 -- so does a street that draws, where discards are to be replaced

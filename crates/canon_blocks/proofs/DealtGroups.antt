@@ -13,29 +13,29 @@ use Rattle.play_event.specs.Table.{places_of}
 use Rattle.play_event.specs.Taken.{is_foreign}
 use Rattle.play_event.specs.Laws.{IsAmong}
 use Rattle.play_event.proofs.ClashLaws.{among_append}
-use Rattle.play_laws.specs.LegalPlaces.{owner_folded, gone_by, AreLawful}
+use Rattle.play_laws.specs.LegalPlaces.{has_owner_folded, is_gone_by, AreLawful}
 use Rattle.canon_blocks.proofs.Mirrors.{Mirrors, AreMirrored}
-use Rattle.canon_blocks.proofs.FreeGroups.{IsBefore, IsAsLate, out_by, group_not_taken}
+use Rattle.canon_blocks.proofs.FreeGroups.{IsBefore, IsAsLate, is_out_by, group_not_taken}
 use Rattle.canon_blocks.proofs.DealsRun.{AllFree, with_deal, with_deals}
 use Rattle.play_event.proofs.OwnerLaws.{is_same_owner-true}
 
 -- places that are not yet gone at the deals of their street
-still_here : (code : Code) (moves : List Move) (placed : List Place) (street : ℕ) (place : Place) → AreLawful code moves placed → IsAmong placed place → place.street ≡ street → gone_by moves street place ≡ false
+still_here : (code : Code) (moves : List Move) (placed : List Place) (street : ℕ) (place : Place) → AreLawful code moves placed → IsAmong placed place → place.street ≡ street → is_gone_by moves street place ≡ false
 still_here code moves placed street place law among here =
-    false_from_ne_true (gone_by moves street place) (λ gone. omega (arith, here, law.gone_after place street among gone))
+    false_from_ne_true (is_gone_by moves street place) (λ gone. omega (arith, here, law.gone_after place street among gone))
 
-mirror_dealt : (moves : List Move) (owner : Option ℕ) (street : ℕ) (late : Bool) (index number : ℕ) (card : Place) → card.owner ≡ owner → card.street ≡ street → card.index ≡ index → gone_by moves street card ≡ false → Mirrors (moves_before street moves) (out_by street) (record { owner = owner; street = street; index = index; number = number; slot = card.slot; past_deck = late; gone_after = None; discarded = 0 }) card
+mirror_dealt : (moves : List Move) (owner : Option ℕ) (street : ℕ) (late : Bool) (index number : ℕ) (card : Place) → card.owner ≡ owner → card.street ≡ street → card.index ≡ index → is_gone_by moves street card ≡ false → Mirrors (moves_before street moves) (is_out_by street) (record { owner = owner; street = street; index = index; number = number; slot = card.slot; past_deck = late; gone_after = None; discarded = 0 }) card
 mirror_dealt moves owner street late index number card mine here indexed still =
     record {
       owner = sym mine;
       street = sym here;
       index = sym indexed;
       slot = refl;
-      discarded = sym (ap (λ b. if b then card.discarded else 0) (or_parts (out_by street card) (owner_folded (moves_before street moves) card.owner) still).0);
+      discarded = sym (ap (λ b. if b then card.discarded else 0) (or_parts (is_out_by street card) (has_owner_folded (moves_before street moves) card.owner) still).0);
       gone_after = sym still;
     }
 
-mirrors_dealt : (code : Code) (moves : List Move) (placed : List Place) (owner : Option ℕ) (street : ℕ) (late : Bool) (index number : ℕ) (cards : List Place) → AreLawful code moves placed → ((card : Place) → IsAmong cards card → Passed (is_in_group owner street) placed card) → AreIndexed index cards → AreMirrored (moves_before street moves) (out_by street) (places_dealt owner street late index number (map (λ (place : Place). place.slot) cards)) cards
+mirrors_dealt : (code : Code) (moves : List Move) (placed : List Place) (owner : Option ℕ) (street : ℕ) (late : Bool) (index number : ℕ) (cards : List Place) → AreLawful code moves placed → ((card : Place) → IsAmong cards card → Passed (is_in_group owner street) placed card) → AreIndexed index cards → AreMirrored (moves_before street moves) (is_out_by street) (places_dealt owner street late index number (map (λ (place : Place). place.slot) cards)) cards
 mirrors_dealt code moves placed owner street late index number [] law group indexed = tt
 mirrors_dealt code moves placed owner street late index number (card ∷ rest) law group indexed =
     let mine = group card (inl refl) in
@@ -52,7 +52,7 @@ mirrored_append moves out (mine ∷ mines) [] more others first second = absurd 
 mirrored_append moves out (mine ∷ mines) (final ∷ finals) more others first second = (first.0, mirrored_append moves out mines finals more others first.1 second)
 
 -- an owner has no card of the street yet
-none_count : (moves : List Move) (placed : List Place) (street : ℕ) (owner : Option ℕ) (mines finals : List Place) → AreMirrored moves (out_by street) mines finals → ((final : Place) → IsAmong finals final → IsBefore placed street owner final) → filter (is_in_group owner street) mines ≡ []
+none_count : (moves : List Move) (placed : List Place) (street : ℕ) (owner : Option ℕ) (mines finals : List Place) → AreMirrored moves (is_out_by street) mines finals → ((final : Place) → IsAmong finals final → IsBefore placed street owner final) → filter (is_in_group owner street) mines ≡ []
 none_count moves placed street owner [] [] mirrored before = refl
 none_count moves placed street owner [] (final ∷ finals) mirrored before = refl
 none_count moves placed street owner (mine ∷ mines) [] mirrored before = absurd mirrored
@@ -65,7 +65,7 @@ none_count moves placed street owner (mine ∷ mines) (final ∷ finals) mirrore
 
 -- what stands after some of the deals of a street
 pub record AreDealt (code : Code) (moves : List Move) (placed : List Place) (street : ℕ) (mines finals : List Place) : Type 0 where
-  pub mirrored : AreMirrored (moves_before street moves) (out_by street) mines finals
+  pub mirrored : AreMirrored (moves_before street moves) (is_out_by street) mines finals
   pub as_late : IsAsLate code placed mines street
 
 -- one deal more
@@ -76,7 +76,7 @@ deal_more code moves placed mines finals street owner law indexed so_far before 
     let P : ℕ → Type 0 = λ index. AreIndexed index (group_of placed street owner) in
     let news : List Place = places_dealt owner street late (count_by (is_in_group owner street) mines) (length mines) (group_slots placed street owner) in
     record {
-      mirrored = mirrored_append (moves_before street moves) (out_by street) mines finals news (group_of placed street owner) so_far.mirrored
+      mirrored = mirrored_append (moves_before street moves) (is_out_by street) mines finals news (group_of placed street owner) so_far.mirrored
           (mirrors_dealt code moves placed owner street late (count_by (is_in_group owner street) mines) (length mines) (group_of placed street owner) law (λ card among. passed (is_in_group owner street) placed card among) (subst P (sym none) indexed));
       as_late = record {
         dealt = omega (arith, so_far.as_late.dealt, more_count (λ place. nat_lt place.street street) mines news);

@@ -9,7 +9,7 @@ use Rattle.play_event.specs.Places.{Place, is_same_owner, is_held_by}
 use Rattle.play_event.specs.Naming.{after_discard, discarded_now}
 use Rattle.play_event.specs.Laws.{IsAmong}
 use Rattle.list_laws.proofs.Tests.{false_true}
-use Rattle.play_laws.specs.LegalPlaces.{owner_folded, UnknownsFirst}
+use Rattle.play_laws.specs.LegalPlaces.{has_owner_folded, UnknownsFirst}
 use Rattle.canon_blocks.proofs.Mirrors.{Mirrors, AreMirrored}
 use Rattle.canon_blocks.proofs.MatchedNames.{slots_taken, blanks_taken, marked_if, BlanksFirst, TakenTogether}
 use Rattle.canon_blocks.proofs.CleanDiscard.{IsCleanDiscard, clean_discard}
@@ -17,8 +17,8 @@ use Rattle.play_laws.proofs.PlaceLists.{AreNumbered}
 use Rattle.play_laws.proofs.QuietEvents.{held_parts}
 use Rattle.play_laws.proofs.DiscardCounts.{is_out_of}
 use Rattle.play_event.proofs.OwnerLaws.{is_same_owner-true}
-use Rattle.play_laws.proofs.FittingMoves.{none_some}
 use Rattle.std.proofs.lemmas.List.{append_assoc, length-append}
+use Rattle.list_laws.proofs.Options.{none_some}
 
 -- A place of the canonical script is taken where the final place at its number is one that the seat discarded in this draw.
 abbrev pub taken_by : List Place → ℕ → ℕ → Place → Bool
@@ -37,7 +37,7 @@ get_behind (first ∷ rest) final finals = get_behind rest final finals
 
 -- what is to be discarded now is held
 pub record IsDrawing (moves : List Move) (out : Place → Bool) (street seat : ℕ) (finals : List Place) : Type 0 where
-  pub live : owner_folded moves (Some seat) ≡ false
+  pub live : has_owner_folded moves (Some seat) ≡ false
   pub still : (final : Place) → IsAmong finals final → is_out_of street seat final ≡ true → out final ≡ false
   pub early : (final : Place) → IsAmong finals final → final.street < street
   pub before : (final : Place) → IsAmong finals final → final.owner ≡ Some seat → out final ≡ false → (final.discarded ≡ 0) ⊎ (street ≤ final.discarded)
@@ -47,13 +47,13 @@ drawing_rest : (moves : List Move) (out : Place → Bool) (street seat : ℕ) (f
 drawing_rest moves out street seat final finals is = record { live = is.live; still = λ other among. is.still other (inr among); early = λ other among. is.early other (inr among); before = λ other among. is.before other (inr among); some = is.some }
 
 -- a place that the seat discards now is held
-held_now : (moves : List Move) (out : Place → Bool) (street seat : ℕ) (mine final : Place) → owner_folded moves (Some seat) ≡ false → Mirrors moves out mine final → (is_out_of street seat final ≡ true → out final ≡ false) → is_out_of street seat final ≡ true → is_held_by seat mine ≡ true
+held_now : (moves : List Move) (out : Place → Bool) (street seat : ℕ) (mine final : Place) → has_owner_folded moves (Some seat) ≡ false → Mirrors moves out mine final → (is_out_of street seat final ≡ true → out final ≡ false) → is_out_of street seat final ≡ true → is_held_by seat mine ≡ true
 held_now moves out street seat mine final live mirror still is =
     let parts = and_parts (is_same_owner final.owner (Some seat)) (final.discarded == street) is in
     and_from (is_same_owner mine.owner (Some seat)) (is_none mine.gone_after) (ap (λ o. is_same_owner o (Some seat)) mirror.owner ∙ parts.0)
-    (none_some mine.gone_after (mirror.gone_after ∙ or_from (out final) (owner_folded moves final.owner) (still is) (ap (owner_folded moves) (is_same_owner-true final.owner (Some seat) parts.0) ∙ live)))
+    (none_some mine.gone_after (mirror.gone_after ∙ or_from (out final) (has_owner_folded moves final.owner) (still is) (ap (has_owner_folded moves) (is_same_owner-true final.owner (Some seat) parts.0) ∙ live)))
 
-taken_one : (moves : List Move) (out : Place → Bool) (all : List Place) (street seat : ℕ) (mine final : Place) → owner_folded moves (Some seat) ≡ false → Mirrors moves out mine final → (is_out_of street seat final ≡ true → out final ≡ false) → slice_get all mine.number ≡ Some final → taken_by all street seat mine ≡ is_out_of street seat final
+taken_one : (moves : List Move) (out : Place → Bool) (all : List Place) (street seat : ℕ) (mine final : Place) → has_owner_folded moves (Some seat) ≡ false → Mirrors moves out mine final → (is_out_of street seat final ≡ true → out final ≡ false) → slice_get all mine.number ≡ Some final → taken_by all street seat mine ≡ is_out_of street seat final
 taken_one moves out all street seat mine final live mirror still at =
     ap (λ o. is_held_by seat mine && option_map_or (is_out_of street seat) o false) at ∙ by_out (is_out_of street seat final) (is_held_by seat mine) (held_now moves out street seat mine final live mirror still)
   where
@@ -109,7 +109,7 @@ blanks_first moves out taken street seat (mine ∷ mines) (final ∷ finals) mir
       let parts = and_parts (is_same_owner second.owner (Some seat)) (second.discarded == street) is_out in
       let on : second.discarded ≡ street = eqb-true second.discarded street parts.1 in
       let mine_is : final.owner ≡ Some seat = sym mirrored.0.owner ∙ (held_parts seat mine held).1 in
-      let not_out : out final ≡ false = (or_parts (out final) (owner_folded moves final.owner) (sym mirrored.0.gone_after ∙ ap is_some (held_parts seat mine held).0)).0 in
+      let not_out : out final ≡ false = (or_parts (out final) (has_owner_folded moves final.owner) (sym mirrored.0.gone_after ∙ ap is_some (held_parts seat mine held).0)).0 in
       let same : final.discarded ≡ second.discarded = before.0 second among (mine_is ∙ sym (is_same_owner-true second.owner (Some seat) parts.0)) (sym (ap is_unknown mirrored.0.slot) ∙ unknown) unknown_second
       (omega (arith, on, is.some)) (omega (arith, on, is.early final (inl refl))) (elim (is.before final (inl refl) mine_is not_out) [ inl none ↦ inl none | inr late ↦ inr (omega (arith, late, on)) ]) in
       both_ways (taken mine) not_taken (all.0 ∙ and_from (is_same_owner final.owner (Some seat)) (final.discarded == street) (ap (λ o. is_same_owner o (Some seat)) mine_is ∙ eq-eqb seat seat refl) (eq-eqb final.discarded street (same ∙ on)))),
@@ -126,7 +126,7 @@ mirror_out moves out street seat count mine final true mirror now is =
       index = mirror.index;
       slot = mirror.slot;
       discarded = sym (ap (λ b. if b then final.discarded else 0) (or_right (out final) (is_out_of street seat final) is) ∙ eqb-true final.discarded street (and_parts (is_same_owner final.owner (Some seat)) (final.discarded == street) is).1);
-      gone_after = sym (or_left (out final || is_out_of street seat final) (owner_folded moves final.owner) (or_right (out final) (is_out_of street seat final) is));
+      gone_after = sym (or_left (out final || is_out_of street seat final) (has_owner_folded moves final.owner) (or_right (out final) (is_out_of street seat final) is));
     }
 mirror_out moves out street seat count mine final false mirror now is =
     record {
@@ -135,7 +135,7 @@ mirror_out moves out street seat count mine final false mirror now is =
       index = mirror.index;
       slot = mirror.slot;
       discarded = mirror.discarded ∙ ap (λ b. if b then final.discarded else 0) (sym (or_false (out final) (is_out_of street seat final) is));
-      gone_after = mirror.gone_after ∙ ap (λ b. b || owner_folded moves final.owner) (sym (or_false (out final) (is_out_of street seat final) is));
+      gone_after = mirror.gone_after ∙ ap (λ b. b || has_owner_folded moves final.owner) (sym (or_false (out final) (is_out_of street seat final) is));
     }
   where
     or_false : (a b : Bool) → b ≡ false → (a || b) ≡ a

@@ -18,13 +18,13 @@ use Rattle.play_event.specs.Scripts.{with_event, past_of}
 use Rattle.play_event.specs.Laws.{IsAmong, AreLegal}
 use Rattle.play_event.proofs.ClashLaws.{among_append}
 use Rattle.play_laws.proofs.LegalEvents.{Stepped, deals, boards, moves, discards, shows, mucks, stepped}
-use Rattle.play_laws.proofs.QuietEvents.{HowMarked, kept, marked, AreMarked, discard_marks, show_marks, nothing, held_parts}
+use Rattle.play_laws.proofs.QuietEvents.{HowMarked, kept, marked, AreMarked, discard_marks, show_marks, is_nothing, held_parts}
 use Rattle.play_laws.proofs.DealtPlaces.{are_new}
 use Rattle.play_laws.proofs.DrawnDiscards.{out_drawn}
 use Rattle.play_laws.proofs.FittingSteps.{drew}
-use Rattle.canon_blocks.proofs.FreeGroups.{out_by}
+use Rattle.canon_blocks.proofs.FreeGroups.{is_out_by}
 use Rattle.canon_blocks.proofs.TraceOrder.{IsOwner, a_seat, the_board, DrewLive, drew_live}
-use Rattle.canon_blocks.proofs.DiscardsRun.{out_to, is_below}
+use Rattle.canon_blocks.proofs.DiscardsRun.{is_out_to, is_below}
 use Rattle.canon_blocks.proofs.TraceOrderCounts.{AreOwned}
 use Rattle.list_laws.proofs.Options.{some_is_none}
 
@@ -71,7 +71,7 @@ seats_step setup before at _ (mucks who may) out = out
 seats_step setup before at _ (shows who cards may free) out =
     let placed = places_of setup.code before in
     let covers : Place → Bool = is_covered setup.code who (is_show_of_all placed who cards) in
-    marked_seats nothing (length placed) at placed (after_show setup.code who cards placed) (λ old is none. both_ways false refl is) out (show_marks covers (length placed) at cards (other_names (filter covers placed) cards) 0 placed)
+    marked_seats is_nothing (length placed) at placed (after_show setup.code who cards placed) (λ old is none. both_ways false refl is) out (show_marks covers (length placed) at cards (other_names (filter covers placed) cards) 0 placed)
 seats_step setup before at _ (discards who cards no_deal draw next few free held) out =
     let placed = places_of setup.code before in
     marked_seats (is_held_by who) (length placed) at placed (after_discard at who cards placed) (no_board who) out (discard_marks (is_held_by who) (length placed) at (known_cards cards) (other_names (filter (is_held_by who) placed) (known_cards cards)) (blanks_in cards) placed)
@@ -112,7 +112,7 @@ less_is a b = elim (cases_lt b a) [
 ]
 
 -- what is out before a street is out to its first seat
-pub before_first : (setup : Setup) (placed : List Place) (before : ℕ) (place : Place) → AreOwned setup placed → IsAmong placed place → out_by before place ≡ out_to (before + 1) 1 place
+pub before_first : (setup : Setup) (placed : List Place) (before : ℕ) (place : Place) → AreOwned setup placed → IsAmong placed place → is_out_by before place ≡ is_out_to (before + 1) 1 place
 before_first setup placed before place owned among =
     ap (λ b. nat_lt 0 place.discarded && b) (sym (less_is place.discarded before) ∙ sym (none (nat_lt place.discarded (before + 1)) ((place.discarded == (before + 1)) && is_below 1 place.owner) (and_right (place.discarded == (before + 1)) (is_below 1 place.owner) (not_below place.owner (owned place among)))))
   where
@@ -125,7 +125,7 @@ before_first setup placed before place owned among =
     not_below _ the_board = refl
 
 -- after the last seat, what is out by the street is out
-pub after_last : (setup : Setup) (rules : Rules) (events : List Said) (street : ℕ) (place : Place) → AreLegal setup rules events → IsAmong (places_of setup.code (past_of setup events)) place → 1 ≤ street → out_to street (1 + setup.stacks.seats) place ≡ out_by street place
+pub after_last : (setup : Setup) (rules : Rules) (events : List Said) (street : ℕ) (place : Place) → AreLegal setup rules events → IsAmong (places_of setup.code (past_of setup events)) place → 1 ≤ street → is_out_to street (1 + setup.stacks.seats) place ≡ is_out_by street place
 after_last setup rules events street place legal among some = by_some (nat_lt 0 place.discarded) refl
   where
     above : street ≤ place.discarded → (place.discarded ≡ street → ⊥) → street < place.discarded
@@ -148,7 +148,7 @@ after_last setup rules events street place legal among some = by_some (nat_lt 0 
         ap (λ b. nat_lt place.discarded street || ((place.discarded == street) && b)) below ∙ by_order
 
 -- on a street without a draw nothing is discarded
-pub no_draw_out : (setup : Setup) (rules : Rules) (events : List Said) (before : ℕ) (place : Place) → AreLegal setup rules events → IsAmong (places_of setup.code (past_of setup events)) place → has_draw setup.code (before + 1) ≡ false → out_by before place ≡ out_by (before + 1) place
+pub no_draw_out : (setup : Setup) (rules : Rules) (events : List Said) (before : ℕ) (place : Place) → AreLegal setup rules events → IsAmong (places_of setup.code (past_of setup events)) place → has_draw setup.code (before + 1) ≡ false → is_out_by before place ≡ is_out_by (before + 1) place
 no_draw_out setup rules events before place legal among no_draw = by_some (nat_lt 0 place.discarded) refl
   where
     by_some : (b : Bool) → nat_lt 0 place.discarded ≡ b → (b && nat_le place.discarded before) ≡ (b && nat_le place.discarded (before + 1))

@@ -7,7 +7,7 @@ use Rattle.play_event.specs.Places.{Place, is_held_by, is_same_owner}
 use Rattle.play_event.specs.Taken.{may_repeat, is_gone_before, is_one_card}
 use Rattle.play_event.specs.Laws.{IsAmong, NoneClash}
 use Rattle.list_laws.proofs.Tests.{false_true}
-use Rattle.play_laws.specs.LegalPlaces.{owner_folded, UnknownsFirst}
+use Rattle.play_laws.specs.LegalPlaces.{has_owner_folded, UnknownsFirst}
 use Rattle.canon_blocks.proofs.Mirrors.{AreMirrored}
 use Rattle.canon_blocks.proofs.MatchedNames.{TakenTogether}
 use Rattle.play_laws.proofs.PlaceGroups.{AreRising, one_number}
@@ -30,8 +30,8 @@ is_below first (Some seat) = nat_lt seat first
 is_below first None = false
 
 -- out by a street, up to this seat of its draw
-abbrev pub out_to : ℕ → ℕ → Place → Bool
-out_to street first place = nat_lt 0 place.discarded && (nat_lt place.discarded street || ((place.discarded == street) && is_below first place.owner))
+abbrev pub is_out_to : ℕ → ℕ → Place → Bool
+is_out_to street first place = nat_lt 0 place.discarded && (nat_lt place.discarded street || ((place.discarded == street) && is_below first place.owner))
 
 -- tests that agree mirror alike
 pub mirrored_as : (moves : List Move) (out other : Place → Bool) (mines finals : List Place) → ((final : Place) → IsAmong finals final → out final ≡ other final) → AreMirrored moves out mines finals → AreMirrored moves other mines finals
@@ -40,7 +40,7 @@ mirrored_as moves out other [] (final ∷ finals) same mirrored = absurd mirrore
 mirrored_as moves out other (mine ∷ mines) [] same mirrored = absurd mirrored
 mirrored_as moves out other (mine ∷ mines) (final ∷ finals) same mirrored =
     let it = mirrored.0 in (
-      record { owner = it.owner; street = it.street; index = it.index; slot = it.slot; discarded = it.discarded ∙ ap (λ b. if b then final.discarded else 0) (same final (inl refl)); gone_after = it.gone_after ∙ ap (λ b. b || owner_folded moves final.owner) (same final (inl refl)) },
+      record { owner = it.owner; street = it.street; index = it.index; slot = it.slot; discarded = it.discarded ∙ ap (λ b. if b then final.discarded else 0) (same final (inl refl)); gone_after = it.gone_after ∙ ap (λ b. b || has_owner_folded moves final.owner) (same final (inl refl)) },
       mirrored_as moves out other mines finals (λ f among. same f (inr among)) mirrored.1,
     )
 
@@ -64,7 +64,7 @@ below_next seat first = elim (cases_lt seat first) [
     above seat first more differ = elim (cases_lt first seat) [ inl less ↦ omega (arith, less) | inr same ↦ absurd (differ (omega (arith, same, more))) ]
 
 -- the next seat
-pub out_next : (street first : ℕ) (place : Place) → 1 ≤ street → (out_to street first place || is_out_of street first place) ≡ out_to street (first + 1) place
+pub out_next : (street first : ℕ) (place : Place) → 1 ≤ street → (is_out_to street first place || is_out_of street first place) ≡ is_out_to street (first + 1) place
 out_next street first place some = by_owner place.owner refl
   where
     spread : (zero_less less here below same : Bool) → (here ≡ true → zero_less ≡ true) → ((zero_less && (less || (here && below))) || (same && here)) ≡ (zero_less && (less || (here && (below || same))))
@@ -93,7 +93,7 @@ out_next street first place some = by_owner place.owner refl
     spread false less false below true pos = refl
     spread false less false below false pos = refl
 
-    by_owner : (owner : Option ℕ) → place.owner ≡ owner → (out_to street first place || is_out_of street first place) ≡ out_to street (first + 1) place
+    by_owner : (owner : Option ℕ) → place.owner ≡ owner → (is_out_to street first place || is_out_of street first place) ≡ is_out_to street (first + 1) place
     by_owner (Some seat) mine =
         let pos : (place.discarded == street) ≡ true → nat_lt 0 place.discarded ≡ true = λ here. lt-ltb 0 place.discarded (omega (arith, eqb-true place.discarded street here, some)) in
         ap (λ o. (nat_lt 0 place.discarded && (nat_lt place.discarded street || ((place.discarded == street) && is_below first o))) || (is_same_owner o (Some first) && (place.discarded == street))) mine

@@ -11,7 +11,7 @@ use Rattle.play_event.specs.Places.{Place}
 use Rattle.play_event.specs.Taken.{is_clash, may_repeat, is_gone_before, is_one_card, is_borne_by, is_in_deck, is_foreign, is_taken}
 use Rattle.play_event.specs.Laws.{IsAmong}
 use Rattle.list_laws.proofs.Tests.{false_true}
-use Rattle.play_laws.specs.LegalPlaces.{owner_folded, gone_by, AreLawful}
+use Rattle.play_laws.specs.LegalPlaces.{has_owner_folded, is_gone_by, AreLawful}
 use Rattle.canon_blocks.proofs.Mirrors.{Mirrors, AreMirrored}
 
 -- two cards that are one: either may repeat the other
@@ -20,7 +20,7 @@ either_repeats a b true same apart one = refl
 either_repeats a b false same apart one = false_true (sym apart ∙ (ap (λ m. not m && is_one_card a.slot b.slot) same ∙ one))
 
 -- a card of a street that stands on this street or before was gone by the street, and the card is dealt past the deck
-pub late_and_gone : (code : Code) (moves : List Move) (placed : List Place) (old new : Place) → AreLawful code moves placed → IsAmong placed old → IsAmong placed new → old.street ≤ new.street → new.number ≢ old.number → is_one_card new.slot old.slot ≡ true → (new.past_deck ≡ true) × (gone_by moves new.street old ≡ true)
+pub late_and_gone : (code : Code) (moves : List Move) (placed : List Place) (old new : Place) → AreLawful code moves placed → IsAmong placed old → IsAmong placed new → old.street ≤ new.street → new.number ≢ old.number → is_one_card new.slot old.slot ≡ true → (new.past_deck ≡ true) × (is_gone_by moves new.street old ≡ true)
 late_and_gone code moves placed old new law in_old in_new before differ one = elim (or_cases (may_repeat new old) (may_repeat old new) (either_repeats new old (may_repeat new old || may_repeat old new) refl (law.apart new old in_new in_old differ) one)) [
   | inl is ↦ let parts = and_parts new.past_deck (is_gone_before old.gone_after new.number) is in (parts.0, law.gone_when old new in_old in_new parts.1)
   | inr is ↦
@@ -40,7 +40,7 @@ street_apart code moves placed a b law in_a in_b same differ = not_one (is_one_c
 
 -- the canonical script's cards of other streets: one that stands again is gone, and the street deals past the deck
 pub record IsFreeOver (out : Place → Bool) (moves : List Move) (late : Bool) (slot : Slot) (final : Place) : Type 0 where
-  pub when : is_one_card slot final.slot ≡ true → (late ≡ true) × ((out final || owner_folded moves final.owner) ≡ true)
+  pub when : is_one_card slot final.slot ≡ true → (late ≡ true) × ((out final || has_owner_folded moves final.owner) ≡ true)
 
 free_here : (late gone one : Bool) → (one ≡ true → (late ≡ true) × (gone ≡ true)) → (not (late && gone) && one) ≡ false
 free_here late gone false when = and_right (not (late && gone)) false refl

@@ -11,7 +11,7 @@ use Rattle.play_event.specs.Past.{Move, moves_before}
 use Rattle.play_event.specs.Places.{Place, is_same_owner, is_in_group, is_past_deck}
 use Rattle.play_event.specs.Taken.{is_one_card, is_borne_by, is_foreign, is_taken, has_repeat, is_repeated, has_taken_card}
 use Rattle.play_event.specs.Laws.{IsAmong}
-use Rattle.play_laws.specs.LegalPlaces.{gone_by, AreLawful}
+use Rattle.play_laws.specs.LegalPlaces.{is_gone_by, AreLawful}
 use Rattle.canon_blocks.proofs.Mirrors.{AreMirrored}
 use Rattle.canon_blocks.proofs.FreeCards.{late_and_gone, street_apart, IsFreeOver, not_taken}
 
@@ -34,11 +34,11 @@ late_still code moves placed mines street place law as_late among here late =
     (lt-ltb (deck_of code) (count_by (λ place. nat_lt place.street street) mines + count_by (λ place. place.discarded == street) mines) (omega (arith, was.1, as_late.dealt, as_late.discarded)))
 
 -- discarded by the draw of a street
-abbrev pub out_by : ℕ → Place → Bool
-out_by street place = nat_lt 0 place.discarded && nat_le place.discarded street
+abbrev pub is_out_by : ℕ → Place → Bool
+is_out_by street place = nat_lt 0 place.discarded && nat_le place.discarded street
 
 -- a card of the group is free over the places before it
-group_free : (code : Code) (moves : List Move) (placed mines : List Place) (street : ℕ) (owner : Option ℕ) (card final : Place) → AreLawful code moves placed → AreRising placed → IsAsLate code placed mines street → Passed (is_in_group owner street) placed card → IsBefore placed street owner final → IsFreeOver (out_by street) (moves_before street moves) (is_past_deck code mines street) card.slot final
+group_free : (code : Code) (moves : List Move) (placed mines : List Place) (street : ℕ) (owner : Option ℕ) (card final : Place) → AreLawful code moves placed → AreRising placed → IsAsLate code placed mines street → Passed (is_in_group owner street) placed card → IsBefore placed street owner final → IsFreeOver (is_out_by street) (moves_before street moves) (is_past_deck code mines street) card.slot final
 group_free code moves placed mines street owner card final law rising as_late in_group before =
     let parts = and_parts (is_same_owner card.owner owner) (card.street == street) in_group.passes in
     let here : card.street ≡ street = eqb-true card.street street parts.1 in
@@ -48,16 +48,16 @@ group_free code moves placed mines street owner card final law rising as_late in
           let is : card ≡ final = one_number placed card final rising in_group.among before.among same in
           before.apart (ap (λ (p : Place). p.street) (sym is) ∙ here) (ap (λ (p : Place). is_same_owner p.owner owner) (sym is) ∙ parts.0) in
           let both = late_and_gone code moves placed final card law before.among in_group.among (omega (arith, here, before.reached)) differ one in
-          let P : ℕ → Type 0 = λ k. gone_by moves k final ≡ true in
+          let P : ℕ → Type 0 = λ k. is_gone_by moves k final ≡ true in
           (late_still code moves placed mines street card law as_late in_group.among here both.0, subst P here both.1);
     }
 
 -- none of the group's cards is taken
-none_taken : (code : Code) (moves : List Move) (placed mines finals : List Place) (street : ℕ) (owner : Option ℕ) (cards : List Place) → AreLawful code moves placed → AreRising placed → ((place : Place) → IsAmong placed place → is_foreign code place.slot ≡ false) → IsAsLate code placed mines street → AreMirrored (moves_before street moves) (out_by street) mines finals → ((final : Place) → IsAmong finals final → IsBefore placed street owner final) → ((card : Place) → IsAmong cards card → Passed (is_in_group owner street) placed card) → list_any (is_taken code mines (is_past_deck code mines street)) (map (λ (place : Place). place.slot) cards) ≡ false
+none_taken : (code : Code) (moves : List Move) (placed mines finals : List Place) (street : ℕ) (owner : Option ℕ) (cards : List Place) → AreLawful code moves placed → AreRising placed → ((place : Place) → IsAmong placed place → is_foreign code place.slot ≡ false) → IsAsLate code placed mines street → AreMirrored (moves_before street moves) (is_out_by street) mines finals → ((final : Place) → IsAmong finals final → IsBefore placed street owner final) → ((card : Place) → IsAmong cards card → Passed (is_in_group owner street) placed card) → list_any (is_taken code mines (is_past_deck code mines street)) (map (λ (place : Place). place.slot) cards) ≡ false
 none_taken code moves placed mines finals street owner [] law rising deck as_late mirrored before group = refl
 none_taken code moves placed mines finals street owner (card ∷ cards) law rising deck as_late mirrored before group =
     or_from (is_taken code mines (is_past_deck code mines street) card.slot) (list_any (is_taken code mines (is_past_deck code mines street)) (map (λ (place : Place). place.slot) cards))
-    (not_taken code (moves_before street moves) (out_by street) (is_past_deck code mines street) card.slot mines finals mirrored (deck card (group card (inl refl)).among) (λ final among. group_free code moves placed mines street owner card final law rising as_late (group card (inl refl)) (before final among)))
+    (not_taken code (moves_before street moves) (is_out_by street) (is_past_deck code mines street) card.slot mines finals mirrored (deck card (group card (inl refl)).among) (λ final among. group_free code moves placed mines street owner card final law rising as_late (group card (inl refl)) (before final among)))
     (none_taken code moves placed mines finals street owner cards law rising deck as_late mirrored before (λ other among. group other (inr among)))
 
 -- and no two of them are one
@@ -79,7 +79,7 @@ none_again code moves placed street owner (first ∷ rest) law rising group =
     on_street card in_group = eqb-true card.street street (and_parts (is_same_owner card.owner owner) (card.street == street) in_group.passes).1
 
 -- no card of an owner's group is taken when the group is dealt
-pub group_not_taken : (code : Code) (moves : List Move) (placed mines finals : List Place) (street : ℕ) (owner : Option ℕ) → AreLawful code moves placed → AreRising placed → ((place : Place) → IsAmong placed place → is_foreign code place.slot ≡ false) → IsAsLate code placed mines street → AreMirrored (moves_before street moves) (out_by street) mines finals → ((final : Place) → IsAmong finals final → IsBefore placed street owner final) → has_taken_card code mines street (group_slots placed street owner) ≡ false
+pub group_not_taken : (code : Code) (moves : List Move) (placed mines finals : List Place) (street : ℕ) (owner : Option ℕ) → AreLawful code moves placed → AreRising placed → ((place : Place) → IsAmong placed place → is_foreign code place.slot ≡ false) → IsAsLate code placed mines street → AreMirrored (moves_before street moves) (is_out_by street) mines finals → ((final : Place) → IsAmong finals final → IsBefore placed street owner final) → has_taken_card code mines street (group_slots placed street owner) ≡ false
 group_not_taken code moves placed mines finals street owner law rising deck as_late mirrored before =
     or_from (list_any (is_taken code mines (is_past_deck code mines street)) (group_slots placed street owner)) (has_repeat (group_slots placed street owner))
     (none_taken code moves placed mines finals street owner (group_of placed street owner) law rising deck as_late mirrored before (λ card among. passed (is_in_group owner street) placed card among))

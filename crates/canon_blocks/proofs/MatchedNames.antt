@@ -1,6 +1,6 @@
 -- Names that are those of some of the covered places mark just these places.
-use Rattle.std.proofs.Common.{◌≡◌, ℕ, zero, suc, Bool, true, false, ◌&&◌, ◌||◌, inl, inr, ◌⊎◌, List, [], ◌∷◌, map, filter, refl, sym, ◌∙◌, ap, arith, if◌then◌else◌}
-use Rattle.std.proofs.lemmas.Bool.{or_cases, or_right}
+use Rattle.std.proofs.Common.{◌≡◌, ℕ, zero, suc, Bool, true, false, ◌&&◌, ◌||◌, inl, inr, List, [], ◌∷◌, map, filter, refl, sym, ◌∙◌, ap, arith, if◌then◌else◌}
+use Rattle.std.proofs.lemmas.Bool.{false_from_ne_true, or_cases, or_right}
 use Rattle.card_set.specs.declared.card.Card.{Card}
 use Rattle.card_set.specs.declared.card.Slot.{Slot}
 use Rattle.card_set.specs.declared.card.Slot.TheVariants as slots
@@ -132,26 +132,15 @@ pub named_where_taken : (covers taken : Place → Bool) (placed : List Place) �
 named_where_taken covers taken placed sub together place card among here covered =
     named_or_not taken card placed place (is_named card (names_taken taken placed)) (taken place) refl refl (named_is_taken covers taken card placed place sub together among here covered) (taken_is_named taken card placed place among here)
 
--- and no name is left over
-without_at : (card name : Card) (rest : List Card) (b : Bool) → (b || is_named card rest) ≡ false → without (slots.Known card) rest ≡ rest ⊎ (b ≡ true) → (if b then rest else (name ∷ without (slots.Known card) rest)) ≡ name ∷ rest
-without_at card name rest true none (inl same) = false_true (sym none)
-without_at card name rest true none (inr is) = false_true (sym none)
-without_at card name rest false none (inl same) = ap (λ l. name ∷ l) same
-without_at card name rest false none (inr is) = false_true is
-
 -- behind a covered known place that is not taken its card is not named
 abbrev pub Apart : (covers taken : Place → Bool) → List Place → Type 0
 Apart covers taken [] = Unit {0}
 Apart covers taken (place ∷ rest) = ((card : Card) → place.slot ≡ slots.Known card → covers place ≡ true → taken place ≡ false → is_named card (names_taken taken rest) ≡ false) × Apart covers taken rest
 
-false_by : (b : Bool) → (b ≡ true → ⊥) → b ≡ false
-false_by false never = refl
-false_by true never = absurd (never refl)
-
 apart : (covers taken : Place → Bool) (placed : List Place) → ((other : Place) → taken other ≡ true → covers other ≡ true) → TakenTogether covers taken placed → Apart covers taken placed
 apart covers taken [] sub together = tt
 apart covers taken (place ∷ rest) sub together = (
-  λ card here covered not_taken. false_by (is_named card (names_taken taken rest)) (λ named.
+  λ card here covered not_taken. false_from_ne_true (is_named card (names_taken taken rest)) (λ named.
       let it = is_named_by taken card rest named in
       false_true (sym not_taken ∙ (together place it.place (inl refl) (inr it.among) covered (sub it.place it.is_taken) (ap (λ s. is_one_card s it.place.slot) here ∙ it.is_borne_by) ∙ it.is_taken))),
   apart covers taken rest sub (λ a b in_a in_b. together a b (inr in_a) (inr in_b)),

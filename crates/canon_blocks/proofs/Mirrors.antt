@@ -2,7 +2,7 @@
 use Rattle.std.specs.Prelude.{◌≡◌, Bool, ◌||◌, if◌then◌else◌, List, [], ◌∷◌, is_some}
 use Rattle.play_event.specs.Past.{Move}
 use Rattle.play_event.specs.Places.{Place}
-use Rattle.play_laws.specs.LegalPlaces.{owner_folded}
+use Rattle.play_laws.specs.LegalPlaces.{has_owner_folded}
 
 -- how a place of the canonical script stands to the place of the same card in the script: what is gone is told by the
 -- moves so far and by the discards so far
@@ -12,7 +12,7 @@ pub record Mirrors (moves : List Move) (out : Place → Bool) (mine final : Plac
   pub index : mine.index ≡ final.index
   pub slot : mine.slot ≡ final.slot
   pub discarded : mine.discarded ≡ (if out final then final.discarded else 0)
-  pub gone_after : is_some mine.gone_after ≡ (out final || owner_folded moves final.owner)
+  pub gone_after : is_some mine.gone_after ≡ (out final || has_owner_folded moves final.owner)
 
 -- so do all places, in the same order
 abbrev pub AreMirrored : List Move → (Place → Bool) → List Place → List Place → Type 0

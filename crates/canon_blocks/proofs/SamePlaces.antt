@@ -14,11 +14,11 @@ use Rattle.play_event.specs.Laws.{IsAmong}
 use Rattle.list_laws.proofs.Tests.{false_true}
 use Rattle.canon_blocks.proofs.Mirrors.{Mirrors, AreMirrored}
 use Rattle.play_laws.proofs.PlaceGroups.{group_of}
-use Rattle.canon_blocks.proofs.FreeGroups.{out_by}
+use Rattle.canon_blocks.proofs.FreeGroups.{is_out_by}
 use Rattle.canon_blocks.proofs.TraceOrder.{IsOwner, a_seat, the_board, finals_of, finals_group, street_pieces}
 
 -- one place, where all its discards are over
-same_place : (list : List Move) (last : ℕ) (mine final : Place) → Mirrors list (out_by last) mine final → final.discarded ≤ last → traced_place mine ≡ traced_place final
+same_place : (list : List Move) (last : ℕ) (mine final : Place) → Mirrors list (is_out_by last) mine final → final.discarded ≤ last → traced_place mine ≡ traced_place final
 same_place list last mine final mirror most =
     let P : Option ℕ → Type 0 = λ o. traced_place mine ≡ (record { owner = o; street = final.street; slot = final.slot; discarded = final.discarded }) in
     subst P mirror.owner (by_street mirror.street)
@@ -43,7 +43,7 @@ group_step mine final mines finals true false same one later = false_true (sym s
 group_step mine final mines finals false true same one later = false_true same
 group_step mine final mines finals false false same one later = later
 
-same_group : (list : List Move) (last : ℕ) (owner : Option ℕ) (street : ℕ) (mines finals : List Place) → AreMirrored list (out_by last) mines finals → ((final : Place) → IsAmong finals final → final.discarded ≤ last) → map traced_place (filter (is_in_group owner street) mines) ≡ map traced_place (filter (is_in_group owner street) finals)
+same_group : (list : List Move) (last : ℕ) (owner : Option ℕ) (street : ℕ) (mines finals : List Place) → AreMirrored list (is_out_by last) mines finals → ((final : Place) → IsAmong finals final → final.discarded ≤ last) → map traced_place (filter (is_in_group owner street) mines) ≡ map traced_place (filter (is_in_group owner street) finals)
 same_group list last owner street [] [] mirrored most = refl
 same_group list last owner street [] (final ∷ finals) mirrored most = absurd mirrored
 same_group list last owner street (mine ∷ mines) [] mirrored most = absurd mirrored
@@ -80,7 +80,7 @@ streets_same setup some all start (suc count) last least most same =
     ∙ sym (map-append traced_place (places_on setup all start) (flat_map (places_on setup all) (range_with_len (start + 1) count)))))
 
 -- the places of the trace are the same
-pub same_places : (setup : Setup) (mine script : Past) (list : List Move) → AreMirrored list (out_by (street_count setup.code)) (places_of setup.code mine) (finals_of setup (places_of setup.code script) (street_count setup.code)) → ((final : Place) → IsAmong (finals_of setup (places_of setup.code script) (street_count setup.code)) final → final.discarded ≤ street_count setup.code) → traced_places setup mine ≡ traced_places setup script
+pub same_places : (setup : Setup) (mine script : Past) (list : List Move) → AreMirrored list (is_out_by (street_count setup.code)) (places_of setup.code mine) (finals_of setup (places_of setup.code script) (street_count setup.code)) → ((final : Place) → IsAmong (finals_of setup (places_of setup.code script) (street_count setup.code)) final → final.discarded ≤ street_count setup.code) → traced_places setup mine ≡ traced_places setup script
 same_places setup mine script list mirrored most =
     let last : ℕ = street_count setup.code in
     let all : List Place = places_of setup.code script in

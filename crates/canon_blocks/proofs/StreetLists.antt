@@ -9,7 +9,7 @@ use Rattle.play_event.specs.Past as past
 use Rattle.play_event.specs.Past.{Past, Resolved, Move, Dealt, Boarded, Moved, Discarded, Shown, Mucked, moves_of, newest_street, moves_before}
 use Rattle.play_event.specs.Dealing.{hole_cards_dealt, board_cards_dealt, has_drawn}
 use Rattle.play_event.specs.Places.{Place}
-use Rattle.play_laws.specs.PastLaws.{AreReached, plays_on}
+use Rattle.play_laws.specs.PastLaws.{AreReached, is_played_on}
 use Rattle.play_laws.proofs.DoneKept.{all_early}
 use Rattle.play_laws.proofs.MovesLaw.{MovesLaw}
 use Rattle.canon_blocks.proofs.MovesRun.{AreAllOn, with_moves}
@@ -53,22 +53,22 @@ dealt_off true c n m off none = false_true (sym off)
 dealt_off false c n m off none = omega (arith, none)
 
 -- a street without an event has no cards, no draws and no moves
-pub unplayed : (street : ℕ) (before : Past) → list_any (plays_on street) before ≡ false → IsUnplayed street before
+pub unplayed : (street : ℕ) (before : Past) → list_any (is_played_on street) before ≡ false → IsUnplayed street before
 unplayed street [] none = record { own = refl; holes = λ seat. refl; board = refl; drawn = λ seat. refl }
 unplayed street (Dealt on owner cards ∷ before) none =
-    let parts = or_parts (on == street) (list_any (plays_on street) before) none in
+    let parts = or_parts (on == street) (list_any (is_played_on street) before) none in
     let it = unplayed street before parts.1 in
     record { own = it.own; holes = λ seat. dealt_off (on == street) (owner == seat) (length cards) (hole_cards_dealt before street seat) parts.0 (it.holes seat); board = it.board; drawn = it.drawn }
 unplayed street (Boarded on cards ∷ before) none =
-    let parts = or_parts (on == street) (list_any (plays_on street) before) none in
+    let parts = or_parts (on == street) (list_any (is_played_on street) before) none in
     let it = unplayed street before parts.1 in
     record { own = it.own; holes = it.holes; board = omega (arith, ap {B = ℕ} (λ b. if b then length cards else 0) parts.0, it.board); drawn = it.drawn }
 unplayed street (Moved move ∷ before) none =
-    let parts = or_parts (move.street == street) (list_any (plays_on street) before) none in
+    let parts = or_parts (move.street == street) (list_any (is_played_on street) before) none in
     let it = unplayed street before parts.1 in
     record { own = ap (λ b. if b then (move ∷ own_moves street (moves_of before)) else own_moves street (moves_of before)) parts.0 ∙ it.own; holes = it.holes; board = it.board; drawn = it.drawn }
 unplayed street (Discarded on owner cards ∷ before) none =
-    let parts = or_parts (on == street) (list_any (plays_on street) before) none in
+    let parts = or_parts (on == street) (list_any (is_played_on street) before) none in
     let it = unplayed street before parts.1 in
     record { own = it.own; holes = it.holes; board = it.board; drawn = λ seat. ap (λ b. (b && (owner == seat)) || has_drawn before street seat) parts.0 ∙ it.drawn seat }
 unplayed street (Shown on owner cards ∷ before) none = let it = unplayed street before none in record { own = it.own; holes = it.holes; board = it.board; drawn = it.drawn }

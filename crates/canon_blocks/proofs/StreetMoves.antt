@@ -12,15 +12,16 @@ use Rattle.play_event.specs.Table.{places_of}
 use Rattle.play_event.specs.Scripts.{with_event, past_of}
 use Rattle.play_event.specs.Laws.{AreLegal}
 use Rattle.list_laws.proofs.Tests.{false_true}
-use Rattle.play_laws.specs.LegalPlaces.{owner_folded}
+use Rattle.play_laws.specs.LegalPlaces.{has_owner_folded}
 use Rattle.canon_blocks.proofs.Mirrors.{Mirrors, AreMirrored}
 use Rattle.play_laws.specs.PastLaws.{AreReached, PastLaw}
 use Rattle.play_laws.proofs.DueAtEvents.{Reaches, turn_reaches}
 use Rattle.play_laws.proofs.LegalEvents.{Stepped, deals, boards, moves, discards, shows, mucks, stepped}
 use Rattle.play_laws.proofs.LegalPlaces.{legal_past}
-use Rattle.play_laws.proofs.QuietEvents.{folded_own, folded_other, some_or_none, unfolded_first}
+use Rattle.play_laws.proofs.QuietEvents.{folded_own, folded_other, unfolded_first}
 use Rattle.canon_blocks.proofs.MovesRun.{with_moves}
 use Rattle.play_laws.proofs.PastLawKept.{reached_more}
+use Rattle.list_laws.proofs.Options.{some_or_none}
 
 -- streets do not grow from a move to an older one
 abbrev pub AreFalling : List Move → Type 0
@@ -81,26 +82,26 @@ moves_split street (first ∷ older) falling = elim (cases_lt first.street stree
     above late differ = elim (cases_lt street first.street) [ inl less ↦ omega (arith, less) | inr more ↦ absurd (differ (omega (arith, more, late))) ]
 
 -- a move keeps the mirror
-fold_gone : (played : Move) (list : List Move) (count : ℕ) (place : Place) (x o g : Bool) → is_fold played.act ≡ true → is_same_owner place.owner (Some played.seat) ≡ o → is_none place.gone_after ≡ g → is_some place.gone_after ≡ (x || owner_folded list place.owner) → is_some (if o && g then gone_now count place else place).gone_after ≡ (x || owner_folded (played ∷ list) place.owner)
-fold_gone played list count place x true true fold owner gone was = sym (or_right x (owner_folded (played ∷ list) place.owner) (own place.owner owner))
+fold_gone : (played : Move) (list : List Move) (count : ℕ) (place : Place) (x o g : Bool) → is_fold played.act ≡ true → is_same_owner place.owner (Some played.seat) ≡ o → is_none place.gone_after ≡ g → is_some place.gone_after ≡ (x || has_owner_folded list place.owner) → is_some (if o && g then gone_now count place else place).gone_after ≡ (x || has_owner_folded (played ∷ list) place.owner)
+fold_gone played list count place x true true fold owner gone was = sym (or_right x (has_owner_folded (played ∷ list) place.owner) (own place.owner owner))
   where
-    own : (who : Option ℕ) → is_same_owner who (Some played.seat) ≡ true → owner_folded (played ∷ list) who ≡ true
+    own : (who : Option ℕ) → is_same_owner who (Some played.seat) ≡ true → has_owner_folded (played ∷ list) who ≡ true
     own (Some seat) same = folded_own played list (Some seat) fold (ap Some (eqb-true seat played.seat same))
     own None same = false_true same
 fold_gone played list count place x true false fold owner gone was =
-    not-false (is_some place.gone_after) (sym (some_or_none place.gone_after) ∙ gone) ∙ sym (or_right x (owner_folded (played ∷ list) place.owner) (own place.owner owner))
+    not-false (is_some place.gone_after) (sym (some_or_none place.gone_after) ∙ gone) ∙ sym (or_right x (has_owner_folded (played ∷ list) place.owner) (own place.owner owner))
   where
-    own : (who : Option ℕ) → is_same_owner who (Some played.seat) ≡ true → owner_folded (played ∷ list) who ≡ true
+    own : (who : Option ℕ) → is_same_owner who (Some played.seat) ≡ true → has_owner_folded (played ∷ list) who ≡ true
     own (Some seat) same = folded_own played list (Some seat) fold (ap Some (eqb-true seat played.seat same))
     own None same = false_true same
 fold_gone played list count place x false g fold owner gone was = was ∙ ap (λ f. x || f) (sym (folded_other played list place.owner false owner refl))
 
 fold_mirror : (played : Move) (list : List Move) (out : Place → Bool) (count : ℕ) (mine final : Place) → is_fold played.act ≡ true → Mirrors list out mine final → Mirrors (played ∷ list) out (folded_place played.seat count mine) final
 fold_mirror played list out count mine final fold mirror =
-    let gone = fold_gone played list count mine (out final) (is_same_owner mine.owner (Some played.seat)) (is_none mine.gone_after) fold refl refl (mirror.gone_after ∙ ap (λ o. out final || owner_folded list o) (sym mirror.owner)) in
-    by_held (is_held_by played.seat mine) (gone ∙ ap (λ o. out final || owner_folded (played ∷ list) o) mirror.owner)
+    let gone = fold_gone played list count mine (out final) (is_same_owner mine.owner (Some played.seat)) (is_none mine.gone_after) fold refl refl (mirror.gone_after ∙ ap (λ o. out final || has_owner_folded list o) (sym mirror.owner)) in
+    by_held (is_held_by played.seat mine) (gone ∙ ap (λ o. out final || has_owner_folded (played ∷ list) o) mirror.owner)
   where
-    by_held : (b : Bool) → is_some (if b then gone_now count mine else mine).gone_after ≡ (out final || owner_folded (played ∷ list) final.owner) → Mirrors (played ∷ list) out (if b then gone_now count mine else mine) final
+    by_held : (b : Bool) → is_some (if b then gone_now count mine else mine).gone_after ≡ (out final || has_owner_folded (played ∷ list) final.owner) → Mirrors (played ∷ list) out (if b then gone_now count mine else mine) final
     by_held true gone = record { owner = mirror.owner; street = mirror.street; index = mirror.index; slot = mirror.slot; discarded = mirror.discarded; gone_after = gone }
     by_held false gone = record { owner = mirror.owner; street = mirror.street; index = mirror.index; slot = mirror.slot; discarded = mirror.discarded; gone_after = gone }
 

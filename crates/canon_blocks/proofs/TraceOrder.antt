@@ -17,7 +17,7 @@ use Rattle.play_event.specs.Trace.{owners, places_on}
 use Rattle.play_event.specs.Laws.{IsAmong, AreLegal}
 use Rattle.list_laws.proofs.Tests.{false_true}
 use Rattle.play_event.proofs.ClashLaws.{among_append}
-use Rattle.play_laws.specs.PastLaws.{plays_on}
+use Rattle.play_laws.specs.PastLaws.{is_played_on}
 use Rattle.play_laws.proofs.DueAtEvents.{Reaches, turn_reaches}
 use Rattle.play_laws.proofs.LegalEvents.{Stepped, deals, boards, moves, discards, shows, mucks, stepped}
 use Rattle.play_laws.proofs.PastLawKept.{is_next_to_draw}
@@ -26,6 +26,8 @@ use Rattle.play_laws.proofs.DonePasts.{AreOn, played_on, legal_done}
 use Rattle.play_laws.proofs.LegalPlaces.{legal_past}
 use Rattle.play_laws.proofs.PlaceGroups.{group_of, Passed, passed}
 use Rattle.play_event.proofs.OwnerLaws.{is_same_owner-true}
+use Rattle.list_laws.proofs.NumbersOfRange.{flat_more}
+use Rattle.play_laws.proofs.FittingMoves.{none_pass}
 
 -- who drew on a street was live when it began
 pub record DrewLive (setup : Setup) (before : Past) (street seat : ℕ) : Type 0 where
@@ -33,16 +35,16 @@ pub record DrewLive (setup : Setup) (before : Past) (street seat : ℕ) : Type 0
   pub most : seat ≤ setup.stacks.seats
   pub live : is_live (moves_before street (moves_of before)) seat ≡ true
 
-drawn_plays : (before : Past) (street seat : ℕ) → has_drawn before street seat ≡ true → list_any (plays_on street) before ≡ true
+drawn_plays : (before : Past) (street seat : ℕ) → has_drawn before street seat ≡ true → list_any (is_played_on street) before ≡ true
 drawn_plays [] street seat has = false_true has
-drawn_plays (Dealt on owner cards ∷ before) street seat has = or_right (on == street) (list_any (plays_on street) before) (drawn_plays before street seat has)
-drawn_plays (Boarded on cards ∷ before) street seat has = or_right (on == street) (list_any (plays_on street) before) (drawn_plays before street seat has)
-drawn_plays (Moved played ∷ before) street seat has = or_right (played.street == street) (list_any (plays_on street) before) (drawn_plays before street seat has)
+drawn_plays (Dealt on owner cards ∷ before) street seat has = or_right (on == street) (list_any (is_played_on street) before) (drawn_plays before street seat has)
+drawn_plays (Boarded on cards ∷ before) street seat has = or_right (on == street) (list_any (is_played_on street) before) (drawn_plays before street seat has)
+drawn_plays (Moved played ∷ before) street seat has = or_right (played.street == street) (list_any (is_played_on street) before) (drawn_plays before street seat has)
 drawn_plays (Shown on owner cards ∷ before) street seat has = drawn_plays before street seat has
 drawn_plays (Mucked on owner ∷ before) street seat has = drawn_plays before street seat has
 drawn_plays (Discarded on owner cards ∷ before) street seat has = elim (or_cases ((on == street) && (owner == seat)) (has_drawn before street seat) has) [
-  | inl here ↦ or_left (on == street) (list_any (plays_on street) before) (and_parts (on == street) (owner == seat) here).0
-  | inr earlier ↦ or_right (on == street) (list_any (plays_on street) before) (drawn_plays before street seat earlier)
+  | inl here ↦ or_left (on == street) (list_any (is_played_on street) before) (and_parts (on == street) (owner == seat) here).0
+  | inr earlier ↦ or_right (on == street) (list_any (is_played_on street) before) (drawn_plays before street seat earlier)
 ]
 
 drew_still : (setup : Setup) (before : Past) (event : Resolved) (street seat : ℕ) → street ≤ street_of event → DrewLive setup before street seat → DrewLive setup (event ∷ before) street seat
@@ -97,10 +99,6 @@ flat_none f (key ∷ rest) none = ap (λ l. l ++ flat_map f rest) (none key) ∙
 all_pass : (p : Place → Bool) (places : List Place) → ((place : Place) → IsAmong places place → p place ≡ true) → filter p places ≡ places
 all_pass p [] pass = refl
 all_pass p (first ∷ rest) pass = ap (λ b. if b then (first ∷ filter p rest) else filter p rest) (pass first (inl refl)) ∙ ap (λ l. first ∷ l) (all_pass p rest (λ place among. pass place (inr among)))
-
-none_pass : (p : Place → Bool) (places : List Place) → ((place : Place) → IsAmong places place → p place ≡ false) → filter p places ≡ []
-none_pass p [] pass = refl
-none_pass p (first ∷ rest) pass = ap (λ b. if b then (first ∷ filter p rest) else filter p rest) (pass first (inl refl)) ∙ none_pass p rest (λ place among. pass place (inr among))
 
 group_group : (placed : List Place) (owner other : Option ℕ) (street at : ℕ) → filter (is_in_group owner street) (group_of placed at other) ≡ (if is_same_owner other owner && (at == street) then group_of placed street owner else [])
 group_group placed owner other street at = by_same (is_same_owner other owner && (at == street)) refl
@@ -208,19 +206,6 @@ streets_hit setup placed owner street start (suc count) own least most = elim (c
 pub finals_group : (setup : Setup) (placed : List Place) (owner : Option ℕ) (street count : ℕ) → IsOwner setup owner → 1 ≤ street → street ≤ count → filter (is_in_group owner street) (finals_of setup placed count) ≡ group_of placed street owner
 finals_group setup placed owner street count own least most =
     filter_flat (is_in_group owner street) (places_on setup placed) (range_with_len 1 count) ∙ streets_hit setup placed owner street 1 count own least (omega (arith, most))
-
--- one street more
-flat_more : (f : ℕ → List Place) (start count : ℕ) → flat_map f (range_with_len start (suc count)) ≡ flat_map f (range_with_len start count) ++ f (start + count)
-flat_more f start zero = append-nil (f start) ∙ ap f (here start)
-  where
-    here : (n : ℕ) → n ≡ n + 0
-    here n = omega arith
-flat_more f start (suc count) =
-    ap (λ l. f start ++ l) (flat_more f (start + 1) count ∙ ap (λ n. flat_map f (range_with_len (start + 1) count) ++ f n) (next start count))
-    ∙ sym (append_assoc (f start) (flat_map f (range_with_len (start + 1) count)) (f (start + suc count)))
-  where
-    next : (a b : ℕ) → (a + 1) + b ≡ a + suc b
-    next a b = omega arith
 
 -- one street more
 pub finals_more : (setup : Setup) (placed : List Place) (count : ℕ) → finals_of setup placed (suc count) ≡ finals_of setup placed count ++ places_on setup placed (1 + count)

@@ -22,7 +22,7 @@ use Rattle.canon_blocks.proofs.Mirrors.{Mirrors, AreMirrored}
 use Rattle.play_laws.proofs.LegalEvents.{Stepped, deals, boards, moves, discards, shows, mucks, stepped}
 use Rattle.play_laws.proofs.DealtPlaces.{are_new}
 use Rattle.play_laws.proofs.PlaceGroups.{AreRising, passed, rising_filter, group_of}
-use Rattle.canon_blocks.proofs.FreeGroups.{IsAsLate, out_by}
+use Rattle.canon_blocks.proofs.FreeGroups.{IsAsLate, is_out_by}
 use Rattle.play_laws.proofs.KnownUpCards.{AreSureOf, discard_sure, show_sure, fold_sure}
 use Rattle.play_laws.proofs.UnknownOrder.{AreSorted, street_number, sure_from}
 use Rattle.play_laws.proofs.MovesLaw.{is_up_by, ups_by}
@@ -212,7 +212,7 @@ mirror_count list out p q (mine ∷ mines) (final ∷ finals) mirrored both =
     by_both false false it later = later
 
 -- the draw is as far past the deck in the canonical order
-pub as_late : (setup : Setup) (placed mines : List Place) (list : List Move) (before : ℕ) → AreRising placed → AreOwned setup placed → ((place : Place) → IsAmong placed place → 1 ≤ place.street) → ((place : Place) → IsAmong placed place → 0 < place.discarded → place.street < place.discarded) → AreMirrored list (out_by (before + 1)) mines (finals_of setup placed before) → IsAsLate setup.code placed mines (before + 1)
+pub as_late : (setup : Setup) (placed mines : List Place) (list : List Move) (before : ℕ) → AreRising placed → AreOwned setup placed → ((place : Place) → IsAmong placed place → 1 ≤ place.street) → ((place : Place) → IsAmong placed place → 0 < place.discarded → place.street < place.discarded) → AreMirrored list (is_out_by (before + 1)) mines (finals_of setup placed before) → IsAsLate setup.code placed mines (before + 1)
 as_late setup placed mines list before up owned since out_after mirrored =
     let street : ℕ = before + 1 in
     record {
@@ -221,16 +221,16 @@ as_late setup placed mines list before up owned since out_after mirrored =
         length-filter (λ (place : Place). nat_lt place.street street) placed,
         length-filter (λ (place : Place). nat_lt place.street street) mines,
         all_there setup placed (λ place. nat_lt place.street street) before up owned (λ place among is. (since place among, omega (arith, ltb-true place.street street is))),
-        mirror_count list (out_by street) (λ place. nat_lt place.street street) (λ place. nat_lt place.street street) mines (finals_of setup placed before) mirrored (λ mine final among mirror is. ap (λ s. nat_lt s street) mirror.street ∙ is),
+        mirror_count list (is_out_by street) (λ place. nat_lt place.street street) (λ place. nat_lt place.street street) mines (finals_of setup placed before) mirrored (λ mine final among mirror is. ap (λ s. nat_lt s street) mirror.street ∙ is),
       );
       discarded = omega (
         arith,
         length-filter (λ (place : Place). place.discarded == street) placed,
         length-filter (λ (place : Place). place.discarded == street) mines,
         all_there setup placed (λ place. place.discarded == street) before up owned (λ place among is. (since place among, omega (arith, eqb-true place.discarded street is, out_after place among (omega (arith, eqb-true place.discarded street is))))),
-        mirror_count list (out_by street) (λ place. place.discarded == street) (λ place. place.discarded == street) mines (finals_of setup placed before) mirrored (λ mine final among mirror is.
+        mirror_count list (is_out_by street) (λ place. place.discarded == street) (λ place. place.discarded == street) mines (finals_of setup placed before) mirrored (λ mine final among mirror is.
             let same : final.discarded ≡ street = eqb-true final.discarded street is in
-            let out_now : out_by street final ≡ true = and_from (nat_lt 0 final.discarded) (nat_le final.discarded street) (lt-ltb 0 final.discarded (omega (arith, same))) (le-leb final.discarded street (omega (arith, same))) in
+            let out_now : is_out_by street final ≡ true = and_from (nat_lt 0 final.discarded) (nat_le final.discarded street) (lt-ltb 0 final.discarded (omega (arith, same))) (le-leb final.discarded street (omega (arith, same))) in
             ap (λ d. d == street) (mirror.discarded ∙ ap (λ b. if b then final.discarded else 0) out_now) ∙ is),
       );
     }

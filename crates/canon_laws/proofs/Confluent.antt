@@ -1,5 +1,5 @@
 -- The confluence of scripts: the canonical script of a legal and complete script's trace is legal and complete, and has this trace.
-use Rattle.std.proofs.Common.{◌≡◌, ℕ, List, [], ◌∷◌, filter, reverse, length, take, refl, sym, ◌∙◌, ap, subst}
+use Rattle.std.proofs.Common.{◌≡◌, ℕ, List, filter, reverse, length, sym, ◌∙◌, ap, subst}
 use Rattle.play_event.specs.declared.setup.Setup.{Setup}
 use Rattle.play_event.specs.declared.setup.Rules.{Rules}
 use Rattle.play_event.specs.Said.{Said}
@@ -15,13 +15,10 @@ use Rattle.canon_laws.specs.Confluence.{HasTraceOf, IsConfluent}
 use Rattle.canon_blocks.proofs.Runs.{run_of_script}
 use Rattle.canon_laws.proofs.LastPast.{IsLast, last_past}
 use Rattle.canon_laws.proofs.SameCore.{plain_again, same_core}
-
-take_whole : (l : List Said) → take (length l) l ≡ l
-take_whole [] = refl
-take_whole (first ∷ rest) = ap (λ l. first ∷ l) (take_whole rest)
+use Rattle.std.proofs.lemmas.List.{take_all}
 
 end_of : (setup : Setup) (script : List Said) → past_after setup script (length script) ≡ past_of setup (reverse script)
-end_of setup script = ap (λ l. past_of setup (reverse l)) (take_whole script)
+end_of setup script = ap (λ l. past_of setup (reverse l)) (take_all (length script) script (omega arith))
 
 words_confluent : (setup : Setup) (rules : Rules) (script words : List Said) → IsPlayed setup rules script → IsLast setup rules (past_of setup (reverse script)) words → HasTraceOf setup rules script words
 words_confluent setup rules script words played it =

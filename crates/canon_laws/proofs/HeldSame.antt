@@ -16,11 +16,11 @@ use Rattle.play_event.specs.Scripts.{past_of}
 use Rattle.play_event.specs.Laws.{AreLegal, IsAmong}
 use Rattle.list_laws.proofs.Tests.{false_true}
 use Rattle.canon_blocks.proofs.Mirrors.{Mirrors, AreMirrored}
-use Rattle.play_laws.specs.LegalPlaces.{owner_folded}
+use Rattle.play_laws.specs.LegalPlaces.{has_owner_folded}
 use Rattle.play_laws.proofs.LegalPlaces.{legal_past}
 use Rattle.play_laws.proofs.FittingMoves.{same_filter}
 use Rattle.play_laws.proofs.DiscardCounts.{is_out_of}
-use Rattle.canon_blocks.proofs.FreeGroups.{out_by}
+use Rattle.canon_blocks.proofs.FreeGroups.{is_out_by}
 use Rattle.canon_blocks.proofs.TraceOrder.{finals_of, is_final}
 use Rattle.canon_blocks.proofs.TraceOrderCounts.{legal_owned, seat_same}
 use Rattle.play_laws.proofs.UnknownOrder.{legal_sorted}
@@ -62,11 +62,11 @@ zero_is n = elim (cases_lt 0 n) [
 ]
 
 -- by whose card it is
-held_by : (seat : ℕ) (list : List Move) (owner : Option ℕ) (when : Option ℕ) (discarded : ℕ) (out b : Bool) → is_live list seat ≡ true → is_same_owner owner (Some seat) ≡ b → out ≡ nat_lt 0 discarded → is_some when ≡ (out || owner_folded list owner) → (b && is_none when) ≡ (b && (discarded == 0))
+held_by : (seat : ℕ) (list : List Move) (owner : Option ℕ) (when : Option ℕ) (discarded : ℕ) (out b : Bool) → is_live list seat ≡ true → is_same_owner owner (Some seat) ≡ b → out ≡ nat_lt 0 discarded → is_some when ≡ (out || has_owner_folded list owner) → (b && is_none when) ≡ (b && (discarded == 0))
 held_by seat list owner when discarded out false live own is has = refl
 held_by seat list owner when discarded out true live own is has =
     let mine : owner ≡ Some seat = is_same_owner-true owner (Some seat) own in
-    let stays : owner_folded list owner ≡ false = ap (owner_folded list) mine ∙ not_from_true (is_live list seat) live in
+    let stays : has_owner_folded list owner ≡ false = ap (has_owner_folded list) mine ∙ not_from_true (is_live list seat) live in
     none_is when (nat_lt 0 discarded) (has ∙ (ap (λ b. out || b) stays ∙ (or_none out ∙ is))) ∙ zero_is discarded
   where
     or_none : (b : Bool) → (b || false) ≡ b
@@ -74,17 +74,17 @@ held_by seat list owner when discarded out true live own is has =
     or_none false = refl
 
 -- what a live seat holds at the end in the canonical past
-pub held_same : (setup : Setup) (rules : Rules) (events : List Said) (mines : List Place) (seat : ℕ) → AreLegal setup rules events → 1 ≤ seat → seat ≤ setup.stacks.seats → is_live (moves_of (past_of setup events)) seat ≡ true → AreMirrored (moves_of (past_of setup events)) (out_by (street_count setup.code)) mines (finals_of setup (places_of setup.code (past_of setup events)) (street_count setup.code)) → slots_held seat mines ≡ map (λ (x : Place). x.slot) (filter (is_out_of 0 seat) (finals_of setup (places_of setup.code (past_of setup events)) (street_count setup.code)))
+pub held_same : (setup : Setup) (rules : Rules) (events : List Said) (mines : List Place) (seat : ℕ) → AreLegal setup rules events → 1 ≤ seat → seat ≤ setup.stacks.seats → is_live (moves_of (past_of setup events)) seat ≡ true → AreMirrored (moves_of (past_of setup events)) (is_out_by (street_count setup.code)) mines (finals_of setup (places_of setup.code (past_of setup events)) (street_count setup.code)) → slots_held seat mines ≡ map (λ (x : Place). x.slot) (filter (is_out_of 0 seat) (finals_of setup (places_of setup.code (past_of setup events)) (street_count setup.code)))
 held_same setup rules events mines seat legal least most live mirrored =
     let script : Past = past_of setup events in
     let placed : List Place = places_of setup.code script in
     let count : ℕ = street_count setup.code in
     let finals : List Place = finals_of setup placed count in
     let law = legal_past setup rules events legal in
-    slots_mirrored (moves_of script) (out_by count) (is_held_by seat) (is_out_of 0 seat) mines finals
+    slots_mirrored (moves_of script) (is_out_by count) (is_held_by seat) (is_out_of 0 seat) mines finals
     (λ mine final among mirror.
     ap (λ o. is_same_owner o (Some seat) && is_none mine.gone_after) mirror.owner
-    ∙ held_by seat (moves_of script) final.owner mine.gone_after final.discarded (out_by count final) (is_same_owner final.owner (Some seat)) live refl
+    ∙ held_by seat (moves_of script) final.owner mine.gone_after final.discarded (is_out_by count final) (is_same_owner final.owner (Some seat)) live refl
     (by_within (nat_lt 0 final.discarded) (nat_le final.discarded count) (le-leb final.discarded count (omega (arith, law.places.out_reached final (is_final setup placed count final among).among, law.past.within)))) mirror.gone_after)
     mirrored
   where

@@ -1,7 +1,7 @@
 -- The past at the end of the canonical script.
-use Rattle.std.proofs.Common.{◌≡◌, ℕ, zero, suc, inl, inr, ◌+◌, ◌-◌, ◌≤◌, ◌<◌, Bool, true, false, ◌&&◌, ◌||◌, ◌==◌, not, nat_le, List, [], ◌∷◌, ◌++◌, map, filter, refl, sym, ◌∙◌, ap, subst, arith, if◌then◌else◌}
-use Rattle.std.specs.List.{list_any, flat_map, range_with_len}
-use Rattle.std.proofs.lemmas.Bool.{and_parts, or_left, eq-eqb, ne_eqb, cases_lt, lt-leb, le-leb, leb-true, leb-false, both_ways}
+use Rattle.std.proofs.Common.{◌≡◌, ℕ, ◌+◌, ◌-◌, ◌≤◌, ◌<◌, Bool, true, false, ◌&&◌, not, nat_le, List, [], ◌++◌, map, filter, refl, sym, ◌∙◌, ap, subst, arith, if◌then◌else◌}
+use Rattle.std.specs.List.{flat_map}
+use Rattle.std.proofs.lemmas.Bool.{and_parts, both_ways, le-leb, leb-false, leb-true, lt-leb, not-true}
 use Rattle.std.proofs.lemmas.List.{append-nil}
 use Rattle.play_event.specs.declared.reason.Due.{Due}
 use Rattle.play_event.specs.declared.reason.Due.TheVariants as dues
@@ -20,7 +20,6 @@ use Rattle.play_event.specs.Table.{places_of}
 use Rattle.play_event.specs.Trace.{traced_places, streets_of, is_shown, is_contested, has_unknown_card}
 use Rattle.play_event.specs.Scripts.{past_of}
 use Rattle.play_event.specs.Laws.{AreLegal}
-use Rattle.list_laws.proofs.Tests.{false_true}
 use Rattle.canonical_play.specs.CanonScript.{street_said, showdown_said, showing_said, script_of, held_slots}
 use Rattle.canon_blocks.proofs.Mirrors.{AreMirrored}
 use Rattle.canon_blocks.proofs.Runs.{Runs, run_append}
@@ -28,46 +27,22 @@ use Rattle.play_laws.proofs.DueAtEvents.{turned_by}
 use Rattle.play_laws.proofs.DoneKept.{all_early}
 use Rattle.play_laws.proofs.LegalPlaces.{legal_past, LegalPast}
 use Rattle.play_laws.proofs.PlayedStreets.{IsReached}
-use Rattle.canon_blocks.proofs.FreeGroups.{out_by}
+use Rattle.canon_blocks.proofs.FreeGroups.{is_out_by}
 use Rattle.canon_blocks.proofs.TraceOrder.{finals_of}
 use Rattle.canon_blocks.proofs.TracedSlots.{discarded_same}
-use Rattle.list_laws.proofs.NumbersOfRange.{map_same}
+use Rattle.list_laws.proofs.NumbersOfRange.{is_in, map_same}
 use Rattle.canon_blocks.proofs.CleanShow.{HoldsKnown, held_cards}
 use Rattle.canon_laws.proofs.HeldSame.{slots_held, held_same, held_script, unknown_same, holds_known}
 use Rattle.canon_laws.proofs.ShowdownRun.{AtShow, turn_shows, show_word, shows_run}
 use Rattle.canon_laws.proofs.AllStreets.{AtEnd, at_end}
-
--- one of the seats that pass
-pub not_in : (p : ℕ → Bool) (first count seat : ℕ) → seat < first → list_any (λ other. other == seat) (filter p (range_with_len first count)) ≡ false
-not_in p first zero seat less = refl
-not_in p first (suc count) seat less = by_first (p first) (not_in p (first + 1) count seat (omega (arith, less)))
-  where
-    by_first : (b : Bool) → list_any (λ other. other == seat) (filter p (range_with_len (first + 1) count)) ≡ false → list_any (λ other. other == seat) (if b then (first ∷ filter p (range_with_len (first + 1) count)) else filter p (range_with_len (first + 1) count)) ≡ false
-    by_first true later = ap (λ b. b || list_any (λ other. other == seat) (filter p (range_with_len (first + 1) count))) (ne_eqb first seat (λ same. omega (arith, same, less))) ∙ later
-    by_first false later = later
-
--- a seat is among those that are kept where it passes
-pub is_in : (p : ℕ → Bool) (first count seat : ℕ) → first ≤ seat → seat < first + count → list_any (λ other. other == seat) (filter p (range_with_len first count)) ≡ p seat
-is_in p first zero seat from to = absurd (omega (arith, from, to))
-is_in p first (suc count) seat from to = elim (cases_lt first seat) [
-  | inl above ↦ skip (p first) above (is_in p (first + 1) count seat (omega (arith, above)) (omega (arith, to)))
-  | inr below ↦ let same : first ≡ seat = omega (arith, below, from) in hit (p first) same (not_in p (first + 1) count seat (omega (arith, same))) ∙ ap p same
-]
-  where
-    skip : (b : Bool) → first < seat → list_any (λ other. other == seat) (filter p (range_with_len (first + 1) count)) ≡ p seat → list_any (λ other. other == seat) (if b then (first ∷ filter p (range_with_len (first + 1) count)) else filter p (range_with_len (first + 1) count)) ≡ p seat
-    skip true above later = ap (λ b. b || list_any (λ other. other == seat) (filter p (range_with_len (first + 1) count))) (ne_eqb first seat (λ same. omega (arith, same, above))) ∙ later
-    skip false above later = later
-
-    hit : (b : Bool) → first ≡ seat → list_any (λ other. other == seat) (filter p (range_with_len (first + 1) count)) ≡ false → list_any (λ other. other == seat) (if b then (first ∷ filter p (range_with_len (first + 1) count)) else filter p (range_with_len (first + 1) count)) ≡ b
-    hit true same later = or_left (first == seat) (list_any (λ other. other == seat) (filter p (range_with_len (first + 1) count))) (eq-eqb first seat same)
-    hit false same later = later
+use Rattle.play_event.proofs.StreetLaws.{shown_unfinished}
 
 -- the past at the end
 pub record IsLast (setup : Setup) (rules : Rules) (script : Past) (words : List Said) : Type 0 where
   pub after : Past
   pub run : Runs setup rules [] words after
   pub moves : moves_of after ≡ moves_of script
-  pub mirrored : AreMirrored (moves_of script) (out_by (street_count setup.code)) (places_of setup.code after) (finals_of setup (places_of setup.code script) (street_count setup.code))
+  pub mirrored : AreMirrored (moves_of script) (is_out_by (street_count setup.code)) (places_of setup.code after) (finals_of setup (places_of setup.code script) (street_count setup.code))
   pub mucked : nat_le (live_count setup (moves_of script)) 1 ≡ false → (seat : ℕ) → 1 ≤ seat → seat ≤ setup.stacks.seats → is_live (moves_of script) seat ≡ true → has_mucked after seat ≡ not (is_shown setup script seat)
   pub ends : is_unfinished (turn setup after).1 ≡ false
 
@@ -75,18 +50,10 @@ over_ends : (setup : Setup) (mine : Past) → nat_le (live_count setup (moves_of
 unfolding turn
 over_ends setup mine over = ap (λ b. is_unfinished (turned_by setup mine b (first_due (due_on setup mine) (street_count setup.code + 1 - newest_street mine) (newest_street mine))).1) over
 
-shows_end : (b : Bool) → is_unfinished (if b then dues.Show else dues.Over) ≡ false
-shows_end true = refl
-shows_end false = refl
-
 -- a shown seat
 pub record ShownParts (setup : Setup) (script : Past) (seat : ℕ) : Type 0 where
   pub live : is_live (moves_of script) seat ≡ true
   pub known : has_unknown_card setup script seat ≡ false
-
-not_true : (b : Bool) → not b ≡ true → b ≡ false
-not_true true is = false_true is
-not_true false is = refl
 
 -- a shown seat did not muck, and all its cards are known
 pub shown_parts : (setup : Setup) (script : Past) (seat : ℕ) → is_shown setup script seat ≡ true → ShownParts setup script seat
@@ -97,7 +64,7 @@ shown_parts setup script seat is =
     let u = not (has_unknown_card setup script seat) in
     let one = and_parts ((c && l) && m) u is in
     let two = and_parts (c && l) m one.0 in
-    record { live = (and_parts c l two.0).1; known = not_true (has_unknown_card setup script seat) one.1 }
+    record { live = (and_parts c l two.0).1; known = not-true (has_unknown_card setup script seat) one.1 }
 
 early_all : (setup : Setup) (rules : Rules) (events : List Said) → AreLegal setup rules events → moves_before (street_count setup.code + 1) (moves_of (past_of setup events)) ≡ moves_of (past_of setup events)
 early_all setup rules events legal =
@@ -116,22 +83,22 @@ last_past setup rules events legal complete =
     let shown : List ℕ = filter (is_shown setup script) (all_seats setup) in
     let e : AtEnd setup rules script = at_end setup rules events legal complete in
     let all = early_all setup rules events legal in
-    let M : List Move → Type 0 = λ l. AreMirrored l (out_by count) (places_of setup.code e.mine) finals in
+    let M : List Move → Type 0 = λ l. AreMirrored l (is_out_by count) (places_of setup.code e.mine) finals in
     let mirrored = subst M all e.at.mirrored in
     let L : Past → Type 0 = LegalPast setup in
     let law : LegalPast setup e.mine = subst L e.at.led.past (legal_past setup rules e.at.led.events e.at.led.legal) in
     by_over (nat_le (live_count setup list) 1) refl e (e.at.same_moves ∙ all) mirrored law
   where
-    held_is : (seat : ℕ) (mines : List Place) → 1 ≤ seat → seat < 1 + setup.stacks.seats → is_live (moves_of (past_of setup events)) seat ≡ true → AreMirrored (moves_of (past_of setup events)) (out_by (street_count setup.code)) mines (finals_of setup (places_of setup.code (past_of setup events)) (street_count setup.code)) → held_slots (traced_places setup (past_of setup events)) seat ≡ slots_held seat mines
+    held_is : (seat : ℕ) (mines : List Place) → 1 ≤ seat → seat < 1 + setup.stacks.seats → is_live (moves_of (past_of setup events)) seat ≡ true → AreMirrored (moves_of (past_of setup events)) (is_out_by (street_count setup.code)) mines (finals_of setup (places_of setup.code (past_of setup events)) (street_count setup.code)) → held_slots (traced_places setup (past_of setup events)) seat ≡ slots_held seat mines
     held_is seat mines from to live mirrored =
         discarded_same (finals_of setup (places_of setup.code (past_of setup events)) (street_count setup.code)) seat 0
         ∙ sym (held_same setup rules events mines seat legal from (omega (arith, to)) live mirrored)
 
-    word_is : (seat : ℕ) (mines : List Place) (b : Bool) → 1 ≤ seat → seat < 1 + setup.stacks.seats → is_shown setup (past_of setup events) seat ≡ b → AreMirrored (moves_of (past_of setup events)) (out_by (street_count setup.code)) mines (finals_of setup (places_of setup.code (past_of setup events)) (street_count setup.code)) → (if b then said.Show seat (known_cards (held_slots (traced_places setup (past_of setup events)) seat)) else said.Muck seat) ≡ (if b then said.Show seat (held_cards seat mines) else said.Muck seat)
+    word_is : (seat : ℕ) (mines : List Place) (b : Bool) → 1 ≤ seat → seat < 1 + setup.stacks.seats → is_shown setup (past_of setup events) seat ≡ b → AreMirrored (moves_of (past_of setup events)) (is_out_by (street_count setup.code)) mines (finals_of setup (places_of setup.code (past_of setup events)) (street_count setup.code)) → (if b then said.Show seat (known_cards (held_slots (traced_places setup (past_of setup events)) seat)) else said.Muck seat) ≡ (if b then said.Show seat (held_cards seat mines) else said.Muck seat)
     word_is seat mines true from to is mirrored = ap (λ l. said.Show seat (known_cards l)) (held_is seat mines from to (shown_parts setup (past_of setup events) seat is).live mirrored)
     word_is seat mines false from to is mirrored = refl
 
-    by_over : (b : Bool) → nat_le (live_count setup (moves_of (past_of setup events))) 1 ≡ b → (e : AtEnd setup rules (past_of setup events)) → moves_of e.mine ≡ moves_of (past_of setup events) → AreMirrored (moves_of (past_of setup events)) (out_by (street_count setup.code)) (places_of setup.code e.mine) (finals_of setup (places_of setup.code (past_of setup events)) (street_count setup.code)) → LegalPast setup e.mine → IsLast setup rules (past_of setup events) (script_of setup (traced_places setup (past_of setup events)) (moves_of (past_of setup events)) (filter (is_shown setup (past_of setup events)) (all_seats setup)))
+    by_over : (b : Bool) → nat_le (live_count setup (moves_of (past_of setup events))) 1 ≡ b → (e : AtEnd setup rules (past_of setup events)) → moves_of e.mine ≡ moves_of (past_of setup events) → AreMirrored (moves_of (past_of setup events)) (is_out_by (street_count setup.code)) (places_of setup.code e.mine) (finals_of setup (places_of setup.code (past_of setup events)) (street_count setup.code)) → LegalPast setup e.mine → IsLast setup rules (past_of setup events) (script_of setup (traced_places setup (past_of setup events)) (moves_of (past_of setup events)) (filter (is_shown setup (past_of setup events)) (all_seats setup)))
     by_over true over e moves mirrored law =
         let script : Past = past_of setup events in
         let list : List Move = moves_of script in
@@ -176,12 +143,12 @@ last_past setup rules events legal complete =
         ∙ map_same (showing_said tp shown) (show_word mines is) (is_live list) 1 setup.stacks.seats (λ seat from to.
         ap (λ b. if b then said.Show seat (known_cards (held_slots tp seat)) else said.Muck seat) (is_in is 1 setup.stacks.seats seat from to) ∙ word_is seat mines (is seat) from to refl mirrored) in
         let R : List Said → Type 0 = λ l. Runs setup rules [] (streets ++ l) s.after in
-        let P : List Place → Type 0 = λ l. AreMirrored list (out_by count) l (finals_of setup placed count) in
+        let P : List Place → Type 0 = λ l. AreMirrored list (is_out_by count) l (finals_of setup placed count) in
         record {
           after = s.after;
           run = subst R (sym words) (run_append setup rules [] e.mine s.after streets (map (show_word mines is) (filter (is_live list) (all_seats setup))) e.run s.run);
           moves = s.at.moves;
           mirrored = subst P (sym s.at.places) mirrored;
           mucked = λ so seat least most live. s.at.done seat least (omega (arith, most)) live;
-          ends = ap (λ (now : ℕ × Due). is_unfinished now.1) (turn_shows setup list mines is (1 + setup.stacks.seats) s.after several s.at) ∙ shows_end (is_show_due setup s.after);
+          ends = ap (λ (now : ℕ × Due). is_unfinished now.1) (turn_shows setup list mines is (1 + setup.stacks.seats) s.after several s.at) ∙ shown_unfinished (is_show_due setup s.after);
         }

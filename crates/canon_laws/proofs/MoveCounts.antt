@@ -1,7 +1,7 @@
 -- A past has as many moves as its script says.
 use Rattle.std.proofs.Common.{◌≡◌, ◌≤◌, List, [], ◌∷◌, length, count_by, reverse, refl, arith}
 use Rattle.list_laws.proofs.Counting.{count_by-cons}
-use Rattle.list_laws.proofs.CountsReversed.{count_reversed}
+use Rattle.list_laws.proofs.Reversed.{count_reversed}
 use Rattle.play_event.specs.Past.{moves_of}
 use Rattle.play_event.specs.Said as said
 use Rattle.play_event.specs.Said.{Said}

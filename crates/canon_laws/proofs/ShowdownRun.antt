@@ -1,7 +1,6 @@
 -- The showdown of the canonical script: each live seat shows all its cards, or mucks.
 use Rattle.std.proofs.Common.{◌≡◌, ℕ, zero, suc, ◌+◌, ◌-◌, ◌≤◌, ◌<◌, Bool, true, false, ◌&&◌, ◌||◌, ◌==◌, not, nat_le, inl, inr, Option, None, List, ◌∷◌, map, filter, length, refl, sym, ◌∙◌, ap, subst, arith, if◌then◌else◌}
 use Rattle.std.specs.List.{list_any, range_with_len}
-use Rattle.std.specs.Option.{option_map}
 use Rattle.std.proofs.lemmas.Bool.{and_from, or_left, or_from, eq-eqb, ne_eqb, cases_lt, le-leb, not_from_false, both_ways}
 use Rattle.card_set.specs.declared.card.Card.{Card}
 use Rattle.play_event.specs.declared.reason.Due.{Due}
@@ -15,7 +14,7 @@ use Rattle.play_event.specs.Past as past
 use Rattle.play_event.specs.Past.{Past, Move, moves_of, newest_street}
 use Rattle.play_event.specs.Seats.{is_live, live_count}
 use Rattle.play_event.specs.Showing.{has_shown, has_mucked, has_to_show}
-use Rattle.play_event.specs.Due.{turn, due_on, first_due, found_or, showdown}
+use Rattle.play_event.specs.Due.{turn, due_on, first_due, showdown}
 use Rattle.card_set.specs.Known.{is_unknown}
 use Rattle.play_event.specs.Places.{Place}
 use Rattle.play_event.specs.Naming.{held_count, after_show, held_down_count}
@@ -29,13 +28,7 @@ use Rattle.canon_blocks.proofs.CardEvents.{show_legal, muck_legal}
 use Rattle.play_laws.proofs.SeatRanges.{any_seat}
 use Rattle.canon_blocks.proofs.CleanShow.{HoldsKnown, held_cards, clean_show}
 use Rattle.play_event.specs.Taken.{has_misplaced_card}
-
--- where nothing is due on any street, nothing is found
-nothing_found : (on : ℕ → Option Due) (rest street : ℕ) → ((between : ℕ) → street ≤ between → between < street + rest → on between ≡ None) → first_due on rest street ≡ None
-nothing_found on zero street quiet = refl
-nothing_found on (suc rest) street quiet =
-    ap (λ d. found_or (option_map (λ due. (street, due)) d) (first_due on rest (street + 1))) (quiet street (omega arith) (omega arith))
-    ∙ nothing_found on rest (street + 1) (λ between least less. quiet between (omega (arith, least)) (omega (arith, less)))
+use Rattle.play_event.proofs.DueStreets.{first_quiet}
 
 -- the past between the shows
 pub record AtShow (setup : Setup) (list : List Move) (placed : List Place) (shown : ℕ → Bool) (first : ℕ) (mine : Past) : Type 0 where
@@ -56,7 +49,7 @@ unfolding turn
 turn_shows setup list placed shown first mine several at =
     by_found setup mine (nat_le (live_count setup (moves_of mine)) 1) (first_due (due_on setup mine) (street_count setup.code + 1 - newest_street mine) (newest_street mine))
     (ap (λ l. nat_le (live_count setup l) 1) at.moves ∙ several)
-    (nothing_found (due_on setup mine) (street_count setup.code + 1 - newest_street mine) (newest_street mine) (λ between least less. at.quiet between (omega (arith, at.since, least)) (omega (arith, less, at.within))))
+    (first_quiet (due_on setup mine) (street_count setup.code + 1 - newest_street mine) (newest_street mine) (λ between least less. at.quiet between (omega (arith, at.since, least)) (omega (arith, less, at.within))))
 
 -- one seat
 record IsOneShow (setup : Setup) (rules : Rules) (list : List Move) (placed : List Place) (shown : ℕ → Bool) (first : ℕ) (mine : Past) (event : Said) : Type 0 where

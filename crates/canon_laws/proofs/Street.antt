@@ -26,8 +26,8 @@ use Rattle.canon_blocks.proofs.StreetOrder.{street_pieces_out}
 use Rattle.canon_blocks.proofs.DiscardTests.{out_is, before_first}
 use Rattle.canon_blocks.proofs.TraceOrderCounts.{legal_owned}
 use Rattle.canon_blocks.proofs.TraceOrder.{finals_of, is_final, on_street_is}
-use Rattle.canon_blocks.proofs.FreeGroups.{out_by}
-use Rattle.canon_blocks.proofs.DiscardsRun.{out_to, mirrored_as, IsDrawn}
+use Rattle.canon_blocks.proofs.FreeGroups.{is_out_by}
+use Rattle.canon_blocks.proofs.DiscardsRun.{is_out_to, mirrored_as, IsDrawn}
 use Rattle.play_laws.proofs.DrawTables.{IsDrawStreet}
 use Rattle.canon_blocks.proofs.DrawRun.{AreDiscarded, discards_run, with_discards, out_slots}
 use Rattle.play_event.specs.Trace.{places_on, owners}
@@ -36,7 +36,7 @@ use Rattle.play_event.specs.Trace.{places_on, owners}
 pub record AtStreet (setup : Setup) (rules : Rules) (script : Past) (before : ℕ) (mine : Past) : Type 0 where
   pub led : IsLed setup rules mine
   pub same_moves : moves_of mine ≡ moves_before (before + 1) (moves_of script)
-  pub mirrored : AreMirrored (moves_before (before + 1) (moves_of script)) (out_by before) (places_of setup.code mine) (finals_of setup (places_of setup.code script) before)
+  pub mirrored : AreMirrored (moves_before (before + 1) (moves_of script)) (is_out_by before) (places_of setup.code mine) (finals_of setup (places_of setup.code script) before)
   pub newest : newest_street mine ≤ before + 1
   pub quiet : IsReached setup (moves_of script) (before + 1) → (street : ℕ) → 1 ≤ street → street < before + 1 → due_on setup mine street ≡ None
   pub no_holes : (street seat : ℕ) → before < street → hole_cards_dealt mine street seat ≡ 0
@@ -90,14 +90,14 @@ draw_run setup rules events mine before legal at come is =
     let placed : List Place = places_of setup.code script in
     let finals : List Place = finals_of setup placed before in
     let D : List Move → Type 0 = λ l. IsDrawn setup.stacks.seats l (before + 1) finals in
-    let M : List Move → Type 0 = λ l. AreMirrored l (out_to (before + 1) 1) (places_of setup.code mine) finals in
+    let M : List Move → Type 0 = λ l. AreMirrored l (is_out_to (before + 1) 1) (places_of setup.code mine) finals in
     let owned = legal_owned setup rules events legal in
     discards_run setup rules (before + 1) finals is 1 setup.stacks.seats mine
     (record {
       led = at.led;
       come = come;
       drawn = subst D (sym at.same_moves) (drawn_of setup rules events before legal);
-      mirrored = subst M (sym at.same_moves) (mirrored_as (moves_before (before + 1) (moves_of script)) (out_by before) (out_to (before + 1) 1) (places_of setup.code mine) finals (λ final among. before_first setup placed before final owned (is_final setup placed before final among).among) at.mirrored);
+      mirrored = subst M (sym at.same_moves) (mirrored_as (moves_before (before + 1) (moves_of script)) (is_out_by before) (is_out_to (before + 1) 1) (places_of setup.code mine) finals (λ final among. before_first setup placed before final owned (is_final setup placed before final among).among) at.mirrored);
       todo = λ seat from. at.no_drawn (before + 1) seat (omega arith);
       done = λ seat from to alive. absurd (omega (arith, from, to));
     }) (omega arith) (omega arith)

@@ -2,7 +2,7 @@
 use Rattle.std.proofs.Common.{◌≡◌, ℕ, zero, suc, ◌+◌, ◌-◌, ◌≤◌, ◌<◌, Bool, true, false, ◌&&◌, ◌||◌, ◌==◌, not, nat_lt, nat_le, inl, inr, Option, Some, None, is_some, List, [], ◌∷◌, ◌++◌, map, length, refl, sym, ◌∙◌, ap, subst, arith, if◌then◌else◌}
 use Rattle.std.specs.List.{flat_map, list_any, range_with_len}
 use Rattle.std.proofs.lemmas.Bool.{and_parts, and_left, and_right, or_from, cases_lt, eqb-true, le-ltb, not_from_true, both_ways}
-use Rattle.std.proofs.lemmas.List.{length-map, append_assoc, append-nil}
+use Rattle.std.proofs.lemmas.List.{append-nil, append_assoc, length-map, nil_from_length}
 use Rattle.card_set.specs.declared.card.Slot.{Slot}
 use Rattle.play_event.specs.declared.code.Code.{Code}
 use Rattle.play_event.specs.declared.reason.Due.TheVariants as dues
@@ -34,7 +34,7 @@ use Rattle.play_laws.proofs.PlayedStreets.{IsDone, folded_group, hole_group, boa
 use Rattle.canon_blocks.proofs.TraceOrderCounts.{legal_owned, as_late}
 use Rattle.canon_blocks.proofs.TraceOrder.{finals_of, is_final, finals_group, finals_more, street_pieces, IsOwner, a_seat, the_board}
 use Rattle.play_laws.proofs.UnknownOrder.{among_flat}
-use Rattle.canon_blocks.proofs.FreeGroups.{out_by, IsBefore, group_not_taken}
+use Rattle.canon_blocks.proofs.FreeGroups.{is_out_by, IsBefore, group_not_taken}
 use Rattle.play_laws.proofs.PlaceGroups.{group_of, group_slots, passed}
 use Rattle.canon_blocks.proofs.CleanShow.{one_of_map, known_length}
 use Rattle.canon_blocks.proofs.DealsRun.{with_deal, with_deals, street_deals, hole_street, draw_street, AllFree}
@@ -67,11 +67,6 @@ no_deals setup rules street cards first (suc count) before none =
     let P : List Slot → Type 0 = λ l. Runs setup rules before (deal_said first l ++ flat_map (λ seat. deal_said seat (cards seat)) (range_with_len (first + 1) count)) (with_deals street cards (range_with_len (first + 1) count) (with_deal street first l before)) in
     subst P (sym (none first (omega arith) (omega arith))) (no_deals setup rules street cards (first + 1) count before (λ seat from to. none seat (omega (arith, from)) (omega (arith, to))))
 
--- what a seat is owed
-pub length_none : {A : Type 0} (l : List A) → length l ≡ 0 → l ≡ []
-length_none [] is = refl
-length_none (first ∷ rest) is = absurd (omega (arith, is))
-
 owed_cards : (setup : Setup) (rules : Rules) (events : List Said) (start mine : Past) (before seat : ℕ) (live draws : Bool) → AreLegal setup rules events → IsDone setup (past_of setup events) (before + 1) → AtDeals setup rules (past_of setup events) before start mine → 1 ≤ seat → seat ≤ setup.stacks.seats → is_live (moves_of mine) seat ≡ live → has_draw setup.code (before + 1) ≡ draws → (if draws then replacements_owed mine (before + 1) seat else if live then hole_cards_on setup.code (before + 1) - hole_cards_dealt mine (before + 1) seat else 0) ≡ length (group_slots (places_of setup.code (past_of setup events)) (before + 1) (Some seat))
 owed_cards setup rules events start mine before seat live true legal done at least most alive draws = omega (arith, at.out draws seat least most, at.holes seat)
 owed_cards setup rules events start mine before seat true false legal done at least most alive draws =
@@ -95,7 +90,7 @@ maybe_board code moves placed street before finals (slot ∷ rest) group so_far 
 -- the deals to seats and to the board
 pub record AreDealtAll (setup : Setup) (rules : Rules) (script : Past) (before : ℕ) (mine after : Past) : Type 0 where
   pub run : Runs setup rules mine (deals_said setup (traced_places setup script) (before + 1)) after
-  pub mirrored : AreMirrored (moves_before (before + 1) (moves_of script)) (out_by (before + 1)) (places_of setup.code after) (finals_of setup (places_of setup.code script) (before + 1))
+  pub mirrored : AreMirrored (moves_before (before + 1) (moves_of script)) (is_out_by (before + 1)) (places_of setup.code after) (finals_of setup (places_of setup.code script) (before + 1))
   pub aside : IsAside (before + 1) mine after
   pub block : IsBlock (before + 1) mine after
   pub no_deal : is_deal_due setup after (before + 1) ≡ false
@@ -127,7 +122,7 @@ deals_part setup rules events before start mine true legal done at draws free ow
 deals_part setup rules events before start mine false legal done at draws free owed = elim (cases_lt 0 (hole_cards_on setup.code (before + 1))) [
   | inl some ↦ street_deals setup rules mine (before + 1) (dues.Deal (before + 1)) (λ seat. group_slots (places_of setup.code (past_of setup events)) (before + 1) (Some seat)) at.come (hole_street setup (before + 1) draws some) owed free
   | inr none ↦ no_deals setup rules (before + 1) (λ seat. group_slots (places_of setup.code (past_of setup events)) (before + 1) (Some seat)) 1 setup.stacks.seats mine (λ seat from to.
-      length_none (group_slots (places_of setup.code (past_of setup events)) (before + 1) (Some seat))
+      nil_from_length (group_slots (places_of setup.code (past_of setup events)) (before + 1) (Some seat))
       (sym (owed seat from (omega (arith, to))) ∙ (ap (λ b. if b then replacements_owed mine (before + 1) seat else hole_cards_owed setup mine (before + 1) seat) draws ∙ nothing seat (is_live (moves_of mine) seat) none)))
 ]
   where
@@ -187,7 +182,7 @@ all_dealt setup rules events before start mine legal done last at =
     ∙ (ap (λ l. finals ++ l) (sym (street_pieces setup placed street))
     ∙ (ap (λ k. finals ++ places_on setup placed k) (sym one)
     ∙ (sym (finals_more setup placed before) ∙ ap (finals_of setup placed) next))) in
-    let M : List Place → Type 0 = λ l. AreMirrored (moves_before street list) (out_by street) (places_of setup.code after) l in
+    let M : List Place → Type 0 = λ l. AreMirrored (moves_before street list) (is_out_by street) (places_of setup.code after) l in
     let R : List Said → Type 0 = λ l. Runs setup rules mine l after in
     let said_is : deals_said setup tp street ≡ flat_map (λ seat. deal_said seat (cards seat)) (all_seats setup) ++ board_said board =
     ap (λ l. l ++ board_said (dealt_slots tp None street)) (flat_same (λ seat. deal_said seat (dealt_slots tp (Some seat) street)) (λ seat. deal_said seat (cards seat)) 1 n (λ seat from to. ap (deal_said seat) (group_is setup events before (Some seat) last (a_seat seat from (omega (arith, to))))))

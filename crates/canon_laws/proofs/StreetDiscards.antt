@@ -31,9 +31,9 @@ use Rattle.play_laws.proofs.PlayedStreets.{IsReached, IsDone, folded_group, draw
 use Rattle.canon_blocks.proofs.DiscardTests.{after_last, no_draw_out}
 use Rattle.canon_blocks.proofs.TraceOrderCounts.{legal_owned, seat_same}
 use Rattle.canon_blocks.proofs.TraceOrder.{finals_of, is_final}
-use Rattle.canon_blocks.proofs.FreeGroups.{out_by}
+use Rattle.canon_blocks.proofs.FreeGroups.{is_out_by}
 use Rattle.play_laws.proofs.PlaceGroups.{group_of, group_slots}
-use Rattle.canon_blocks.proofs.DiscardsRun.{out_to, mirrored_as}
+use Rattle.canon_blocks.proofs.DiscardsRun.{is_out_to, mirrored_as}
 use Rattle.canon_blocks.proofs.DrawRun.{with_discards, out_slots}
 use Rattle.play_laws.proofs.DrawTables.{draw_tables}
 use Rattle.canon_blocks.proofs.StreetCounts.{IsAside, aside_same, aside_discards, discards_holes, discards_board, discards_own}
@@ -59,7 +59,7 @@ pub record AtDeals (setup : Setup) (rules : Rules) (script : Past) (before : ℕ
   pub led : IsLed setup rules mine
   pub come : HasCome setup mine (before + 1)
   pub same_moves : moves_of mine ≡ moves_before (before + 1) (moves_of script)
-  pub mirrored : AreMirrored (moves_before (before + 1) (moves_of script)) (out_by (before + 1)) (places_of setup.code mine) (finals_of setup (places_of setup.code script) before)
+  pub mirrored : AreMirrored (moves_before (before + 1) (moves_of script)) (is_out_by (before + 1)) (places_of setup.code mine) (finals_of setup (places_of setup.code script) before)
   pub holes : (seat : ℕ) → hole_cards_dealt mine (before + 1) seat ≡ 0
   pub board : board_cards_dealt mine (before + 1) ≡ 0
   pub out : has_draw setup.code (before + 1) ≡ true → (seat : ℕ) → 1 ≤ seat → seat ≤ setup.stacks.seats → cards_discarded mine (before + 1) seat ≡ length (group_slots (places_of setup.code script) (before + 1) (Some seat))
@@ -80,7 +80,7 @@ undrawn setup rules events mine before legal at come no_draw =
       led = at.led;
       come = come;
       same_moves = at.same_moves;
-      mirrored = mirrored_as (moves_before (before + 1) (moves_of script)) (out_by before) (out_by (before + 1)) (places_of setup.code mine) (finals_of setup placed before) (λ final among. no_draw_out setup rules events before final legal (is_final setup placed before final among).among no_draw) at.mirrored;
+      mirrored = mirrored_as (moves_before (before + 1) (moves_of script)) (is_out_by before) (is_out_by (before + 1)) (places_of setup.code mine) (finals_of setup placed before) (λ final among. no_draw_out setup rules events before final legal (is_final setup placed before final among).among no_draw) at.mirrored;
       holes = λ seat. at.no_holes (before + 1) seat (omega arith);
       board = at.no_board (before + 1) (omega arith);
       out = λ draws. false_true (sym no_draw ∙ draws);
@@ -117,7 +117,7 @@ all_drawn setup rules events mine before legal done at come reached last draws =
     let tp = traced_places setup script in
     let run = draw_run setup rules events mine before legal at come (draw_tables setup (before + 1) draws) in
     let R : List Said → Type 0 = λ l. Runs setup rules mine l after in
-    let M : List Move → Type 0 = λ l. AreMirrored l (out_by (before + 1)) (places_of setup.code after) finals in
+    let M : List Move → Type 0 = λ l. AreMirrored l (is_out_by (before + 1)) (places_of setup.code after) finals in
     let F : ℕ → Said = λ seat. said.Discard seat (discarded_slots tp seat (before + 1)) in
     let G : ℕ → Said = λ seat. said.Discard seat (names seat) in
     let came : is_reached setup list (before + 1) ≡ true = le-leb 2 (live_count setup (moves_before (before + 1) list)) (omega (arith, leb-false (live_count setup (moves_before (before + 1) list)) 1 reached)) in
@@ -133,7 +133,7 @@ all_drawn setup rules events mine before legal done at come reached last draws =
       led = led_on setup rules mine after (map G seats) at.led run.run;
       come = run.come;
       same_moves = run.moves ∙ at.same_moves;
-      mirrored = subst M at.same_moves (mirrored_as (moves_of mine) (out_to (before + 1) (1 + setup.stacks.seats)) (out_by (before + 1)) (places_of setup.code after) finals (λ final among. after_last setup rules events (before + 1) final legal (is_final setup placed before final among).among (omega arith)) run.mirrored);
+      mirrored = subst M at.same_moves (mirrored_as (moves_of mine) (is_out_to (before + 1) (1 + setup.stacks.seats)) (is_out_by (before + 1)) (places_of setup.code after) finals (λ final among. after_last setup rules events (before + 1) final legal (is_final setup placed before final among).among (omega arith)) run.mirrored);
       holes = λ seat. discards_holes (before + 1) names seats mine (before + 1) seat ∙ at.no_holes (before + 1) seat (omega arith);
       board = discards_board (before + 1) names seats mine (before + 1) ∙ at.no_board (before + 1) (omega arith);
       out = λ draw seat least most.

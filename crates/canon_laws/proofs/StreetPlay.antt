@@ -31,7 +31,7 @@ use Rattle.play_laws.proofs.PlayedStreets.{IsReached, IsDone, reached_done, reac
 use Rattle.play_laws.proofs.UnknownOrder.{legal_sorted}
 use Rattle.canon_blocks.proofs.TraceOrderCounts.{legal_owned, ups_finals}
 use Rattle.canon_blocks.proofs.TraceOrder.{finals_of}
-use Rattle.canon_blocks.proofs.FreeGroups.{out_by}
+use Rattle.canon_blocks.proofs.FreeGroups.{is_out_by}
 use Rattle.play_laws.proofs.MovesLaw.{is_up_by, ups_by, MovesLaw}
 use Rattle.play_laws.proofs.FittingPasts.{legal_moves}
 use Rattle.canon_blocks.proofs.MovesRun.{IsLed, led_on, with_moves, moves_with, AreAllOn, still_none, newest_with, moves_run}
@@ -108,12 +108,12 @@ played setup rules events mine before legal complete at reached last =
     let L : List Move → Type 0 = λ l. MovesLaw setup rules placed l in
     let fits : MovesLaw setup rules placed (own ++ moves_of two) = subst L (split ∙ ap (λ l. own ++ l) (sym moves_two)) (law_before setup rules placed (street + 1) list falling (legal_moves setup rules events legal)) in
     let run_three = moves_run setup rules placed two street own led_two come_two d.no_deal d.no_draw
-    (λ seat least most. ups_mirrored setup.code (moves_before street list) (out_by street) street seat (places_of setup.code two) (finals_of setup placed street) d.mirrored
+    (λ seat least most. ups_mirrored setup.code (moves_before street list) (is_out_by street) street seat (places_of setup.code two) (finals_of setup placed street) d.mirrored
     ∙ ups_finals setup placed street seat (rising 0 placed (legal_cards setup rules events legal).list.numbered) (legal_sorted setup rules events legal) (legal_owned setup rules events legal) law.places.since least most)
     on fits in
     let same_three : moves_of three ≡ moves_before (street + 1) list = moves_with own two ∙ (ap (λ l. own ++ l) moves_two ∙ sym split) in
     let led_three = led_on setup rules two three (map move_named (reverse own)) led_two run_three in
-    let M : List Move → Type 0 = λ l. AreMirrored l (out_by street) (places_of setup.code three) (finals_of setup placed street) in
+    let M : List Move → Type 0 = λ l. AreMirrored l (is_out_by street) (places_of setup.code three) (finals_of setup placed street) in
     let aside : IsAside street mine two = aside_more street mine one two a.aside d.aside in
     let block : IsBlock street mine three = block_more street mine one three a.block (block_more street one two three d.block (moves_block street own two on)) in
     let keep = moves_keep own two in
@@ -124,7 +124,7 @@ played setup rules events mine before legal complete at reached last =
       at = record {
         led = led_three;
         same_moves = same_three;
-        mirrored = subst M (sym split) (moves_mirrored setup.code own (moves_before street list) (out_by street) two (finals_of setup placed street) d.mirrored);
+        mirrored = subst M (sym split) (moves_mirrored setup.code own (moves_before street list) (is_out_by street) two (finals_of setup placed street) d.mirrored);
         newest = omega (arith, newest_with own two street on come_two.reached);
         quiet = λ next other least less. elim (cases_lt other street) [
           | inl early ↦ earlier three other least early block led_three

@@ -2,7 +2,7 @@
 use Rattle.std.proofs.Common.{◌≡◌, ℕ, suc, ◌+◌, ◌≤◌, true, false, ◌&&◌, nat_lt, nat_le, inl, inr, Option, Some, None, List, [], ◌++◌, map, reverse, length, refl, sym, ◌∙◌, ap, subst, arith, if◌then◌else◌}
 use Rattle.std.specs.List.{list_any}
 use Rattle.std.proofs.lemmas.Bool.{and_right, both_ways, false_from_ne_true, cases_lt, lt-leb, le-leb, leb-true}
-use Rattle.std.proofs.lemmas.List.{append-nil}
+use Rattle.std.proofs.lemmas.List.{append-nil, nil_from_length}
 use Rattle.play_event.specs.declared.setup.Setup.{Setup}
 use Rattle.play_event.specs.declared.setup.Rules.{Rules}
 use Rattle.play_event.specs.Games.{street_count}
@@ -18,7 +18,7 @@ use Rattle.play_event.specs.Scripts.{past_of}
 use Rattle.play_event.specs.Laws.{AreLegal, IsAmong}
 use Rattle.canonical_play.specs.CanonScript.{street_said, discards_said, deals_said, deal_said, board_said, dealt_slots, moves_named, move_named, is_reached, drawing_seats, discarded_slots}
 use Rattle.canon_blocks.proofs.Mirrors.{AreMirrored}
-use Rattle.play_laws.specs.PastLaws.{plays_on}
+use Rattle.play_laws.specs.PastLaws.{is_played_on}
 use Rattle.canon_blocks.proofs.Runs.{Runs}
 use Rattle.play_laws.proofs.LegalPlaces.{group_count}
 use Rattle.play_laws.proofs.DonePasts.{legal_done}
@@ -26,12 +26,12 @@ use Rattle.play_laws.proofs.PlayedStreets.{board_count}
 use Rattle.canon_blocks.proofs.DiscardTests.{out_is}
 use Rattle.play_laws.proofs.DrawnDiscards.{out_drawn}
 use Rattle.canon_blocks.proofs.TraceOrder.{finals_of, is_final, finals_more, street_pieces, IsOwner, a_seat, the_board}
-use Rattle.canon_blocks.proofs.FreeGroups.{out_by}
+use Rattle.canon_blocks.proofs.FreeGroups.{is_out_by}
 use Rattle.play_laws.proofs.PlaceGroups.{group_of}
 use Rattle.canon_blocks.proofs.DiscardsRun.{mirrored_as}
 use Rattle.canon_blocks.proofs.StreetMoves.{legal_falling, moves_split}
 use Rattle.canon_blocks.proofs.StreetLists.{IsUnplayed, unplayed}
-use Rattle.canon_laws.proofs.StreetDeals.{length_none, group_is}
+use Rattle.canon_laws.proofs.StreetDeals.{group_is}
 use Rattle.list_laws.proofs.NumbersOfRange.{flat_none}
 use Rattle.canon_laws.proofs.StreetPlay.{IsNext}
 use Rattle.canon_laws.proofs.Street.{AtStreet}
@@ -46,10 +46,10 @@ skipped setup rules events mine before legal at over last =
     let placed : List Place = places_of setup.code script in
     let tp = traced_places setup script in
     let done = (legal_done setup rules events legal).done in
-    let never : list_any (plays_on street) script ≡ false = false_from_ne_true (list_any (plays_on street) script) (λ some. both_ways (nat_le (live_count setup (moves_before street list)) 1) (done.several street some) over) in
+    let never : list_any (is_played_on street) script ≡ false = false_from_ne_true (list_any (is_played_on street) script) (λ some. both_ways (nat_le (live_count setup (moves_before street list)) 1) (done.several street some) over) in
     let it : IsUnplayed street script = unplayed street script never in
     let same : moves_before (street + 1) list ≡ moves_before street list = moves_split street list (legal_falling setup rules events legal) ∙ ap (λ l. l ++ moves_before street list) it.own in
-    let no_group : (owner : Option ℕ) → IsOwner setup owner → group_of placed street owner ≡ [] = λ owner own. length_none (group_of placed street owner) (by_owner owner own it) in
+    let no_group : (owner : Option ℕ) → IsOwner setup owner → group_of placed street owner ≡ [] = λ owner own. nil_from_length (group_of placed street owner) (by_owner owner own it) in
     let no_slots : (owner : Option ℕ) → IsOwner setup owner → dealt_slots tp owner street ≡ [] = λ owner own. group_is setup events before owner last own ∙ ap (map (λ (p : Place). p.slot)) (no_group owner own) in
     let not_come : is_reached setup list street ≡ false = lt-leb 2 (live_count setup (moves_before street list)) (omega (arith, leb-true (live_count setup (moves_before street list)) 1 over)) in
     let no_discards : discards_said setup tp list street ≡ [] =
@@ -69,15 +69,15 @@ skipped setup rules events mine before legal at over last =
     ∙ (ap (λ l. l ++ group_of placed street None) (flat_none (λ seat. group_of placed street (Some seat)) 1 setup.stacks.seats (λ seat from to. no_group (Some seat) (a_seat seat from (omega (arith, to)))))
     ∙ no_group None the_board)))
     ∙ append-nil (finals_of setup placed before))) in
-    let M : List Move → Type 0 = λ l. AreMirrored l (out_by street) (places_of setup.code mine) (finals_of setup placed street) in
-    let N : List Place → Type 0 = λ l. AreMirrored (moves_before street list) (out_by street) (places_of setup.code mine) l in
+    let M : List Move → Type 0 = λ l. AreMirrored l (is_out_by street) (places_of setup.code mine) (finals_of setup placed street) in
+    let N : List Place → Type 0 = λ l. AreMirrored (moves_before street list) (is_out_by street) (places_of setup.code mine) l in
     record {
       after = mine;
       run = subst R (sym nothing) refl;
       at = record {
         led = at.led;
         same_moves = at.same_moves ∙ sym same;
-        mirrored = subst M (sym same) (subst N (sym no_more) (mirrored_as (moves_before street list) (out_by before) (out_by street) (places_of setup.code mine) (finals_of setup placed before) (λ final among. same_out it final (is_final setup placed before final among).among) at.mirrored));
+        mirrored = subst M (sym same) (subst N (sym no_more) (mirrored_as (moves_before street list) (is_out_by before) (is_out_by street) (places_of setup.code mine) (finals_of setup placed before) (λ final among. same_out it final (is_final setup placed before final among).among) at.mirrored));
         newest = omega (arith, at.newest);
         quiet = λ reached. absurd (both_ways (nat_le (live_count setup (moves_before street list)) 1) (sym (ap (λ l. nat_le (live_count setup l) 1) same) ∙ reached) over);
         no_holes = λ other seat above. at.no_holes other seat (omega (arith, above));
@@ -99,7 +99,7 @@ skipped setup rules events mine before legal at over last =
         both_ways (has_drawn (past_of setup events) (before + 1) out.seat) (it.drawn out.seat)
         (out_drawn setup.code (past_of setup events) (before + 1) out.seat final among (out.owner, (here, omega arith)))
 
-    same_out : IsUnplayed (before + 1) (past_of setup events) → (final : Place) → IsAmong (places_of setup.code (past_of setup events)) final → out_by before final ≡ out_by (before + 1) final
+    same_out : IsUnplayed (before + 1) (past_of setup events) → (final : Place) → IsAmong (places_of setup.code (past_of setup events)) final → is_out_by before final ≡ is_out_by (before + 1) final
     same_out it final among = elim (cases_lt before final.discarded) [
       | inr less ↦ ap (λ b. nat_lt 0 final.discarded && b) (le-leb final.discarded before less ∙ sym (le-leb final.discarded (before + 1) (omega (arith, less))))
       | inl more ↦ elim (cases_lt (before + 1) final.discarded) [

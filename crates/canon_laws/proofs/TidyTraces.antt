@@ -1,8 +1,8 @@
 -- The trace of a legal script has tidy cards.
-use Rattle.std.proofs.Common.{◌≡◌, ℕ, zero, suc, ◌+◌, ◌-◌, ◌≤◌, Bool, true, false, ◌&&◌, ◌==◌, not, nat_lt, inl, inr, Option, Some, None, List, [], ◌∷◌, map, filter, reverse, length, refl, sym, ◌∙◌, ap, arith, if◌then◌else◌, subst, slice_get}
-use Rattle.std.specs.List.{list_any, range_with_len}
+use Rattle.std.proofs.Common.{◌≡◌, ℕ, zero, suc, ◌+◌, ◌-◌, ◌≤◌, Bool, true, false, ◌&&◌, ◌==◌, not, nat_lt, inl, inr, Option, Some, None, List, [], ◌∷◌, map, filter, reverse, length, refl, sym, ◌∙◌, ap, arith, subst, slice_get}
+use Rattle.std.specs.List.{list_any}
 use Rattle.std.specs.Option.{option_map_or}
-use Rattle.std.proofs.lemmas.Bool.{and_parts, and_from, and_left, eqb-true, lt-ltb, le-ltb, or_parts, or_from, not_from_false, false_from_ne_true, both_ways, cases_lt, ne_eqb, ltb-false}
+use Rattle.std.proofs.lemmas.Bool.{and_parts, and_from, and_left, eqb-true, lt-ltb, le-ltb, or_parts, or_from, not_from_false, false_from_ne_true, both_ways, cases_lt, ltb-false}
 use Rattle.std.proofs.lemmas.List.{length-map, length-append}
 use Rattle.play_event.specs.declared.code.Code.{Code}
 use Rattle.play_event.specs.declared.code.Code.TheVariants as games
@@ -41,9 +41,10 @@ use Rattle.play_laws.proofs.KnownBoard.{board_known}
 use Rattle.canon_blocks.proofs.TracedSlots.{dealt_same, discarded_same}
 use Rattle.canon_laws.proofs.StreetDiscards.{out_finals}
 use Rattle.canon_laws.proofs.HeldSame.{held_script, any_held}
-use Rattle.canon_laws.proofs.LastPast.{is_in, not_in, shown_parts}
-use Rattle.play_laws.proofs.HeldFew.{holds_at, filter_less, held_seven, out_seven, holes_seven}
+use Rattle.canon_laws.proofs.LastPast.{shown_parts}
+use Rattle.play_laws.proofs.HeldFew.{is_held_at, filter_less, held_seven, out_seven, holes_seven}
 use Rattle.play_event.proofs.OwnerLaws.{is_same_owner-true}
+use Rattle.list_laws.proofs.NumbersOfRange.{is_in, not_above, not_in}
 
 few_board : (streets : List Street) (index : ℕ) → list_any (λ s. nat_lt 7 s.board) streets ≡ false → option_map_or (λ s. s.board) (slice_get streets index) 0 ≤ 7
 few_board [] index none = omega arith
@@ -127,7 +128,7 @@ few_cards setup rules events legal =
             length-map (filter (is_out_of 0 seat) finals) (λ (p : Place). p.slot),
             ap (λ (l : List Place). length l) (held_finals seat least most),
             held_seven setup rules events seat count legal,
-            filter_less (is_out_of 0 seat) (holds_at seat (count + 1)) placed (λ place among is.
+            filter_less (is_out_of 0 seat) (is_held_at seat (count + 1)) placed (λ place among is.
                 let parts = and_parts (is_same_owner place.owner (Some seat)) (place.discarded == 0) is in
                 let none : place.discarded ≡ 0 = eqb-true place.discarded 0 parts.1 in
                 and_from (is_same_owner place.owner (Some seat)) (nat_lt place.street (count + 1) && not (nat_lt 0 place.discarded && nat_lt place.discarded (count + 1))) parts.0
@@ -155,14 +156,6 @@ few_where p placed few = by_list (filter p placed) refl
     by_list : (l : List Place) → filter p placed ≡ l → length (filter p placed) ≤ 7
     by_list [] is = omega (arith, ap (λ (l : List Place). length l) is)
     by_list (first ∷ rest) is = let P : List Place → Type 0 = λ l. IsAmong l first in few first (passed p placed first (subst P (sym is) (inl refl)))
-
-not_above : (p : ℕ → Bool) (first count seat : ℕ) → first + count ≤ seat → list_any (λ other. other == seat) (filter p (range_with_len first count)) ≡ false
-not_above p first zero seat above = refl
-not_above p first (suc count) seat above = by_first (p first) (not_above p (first + 1) count seat (omega (arith, above)))
-  where
-    by_first : (b : Bool) → list_any (λ other. other == seat) (filter p (range_with_len (first + 1) count)) ≡ false → list_any (λ other. other == seat) (if b then (first ∷ filter p (range_with_len (first + 1) count)) else filter p (range_with_len (first + 1) count)) ≡ false
-    by_first true later = or_from (first == seat) (list_any (λ other. other == seat) (filter p (range_with_len (first + 1) count))) (ne_eqb first seat (λ same. omega (arith, same, above))) later
-    by_first false later = later
 
 -- the cards are tidy, for all owners and streets
 pub tidy_cards : (setup : Setup) (rules : Rules) (events : List Said) → AreLegal setup rules events → HasTidyCards (core_of setup (past_of setup events))

@@ -11,6 +11,7 @@ use Rattle.variant_table.specs.declared.table.GameTable.{GameTable}
 use Rattle.variant_table.specs.Tables.{no_street}
 use Rattle.variant_table.specs.Tables.{IsTableOf, street_at}
 use Rattle.card_places.specs.Marks.{IsStreetOf}
+use Rattle.list_laws.proofs.Entries.{past_end}
 
 -- a street that is read from those of the game has what they deal
 same_street : (code : Code) (number : ℕ) (row : Street) (found : Option Street) → slice_get (game_of code).streets (number - 1) ≡ found → row ≡ unwrap_or found no_street → IsStreetOf code number row
@@ -54,11 +55,6 @@ row_is code table number k d is at within inside =
     same_street code number (get_or table.rows k d) (slice_get (game_of code).streets (number - 1)) refl
     (by_index (game_of code) k (get_or table.rows k d) within (read_at table.rows _ k d is.rows inside)
     ∙ ap (λ n. unwrap_or (slice_get (game_of code).streets n) no_street) (sym at))
-
-past_end : {A : Type 0} (xs : List A) (k : ℕ) → length xs ≤ k → slice_get xs k ≡ None
-past_end [] k past = refl
-past_end (x ∷ xs) zero past = absurd (omega (arith, past))
-past_end (x ∷ xs) (suc k) past = past_end xs k (omega (arith, past))
 
 five_streets : (code : Code) → length (game_of code).streets ≤ 5
 five_streets games.FT = omega arith

@@ -23,6 +23,7 @@ use Rattle.card_places.specs.Placed.{placed}
 use Rattle.card_places.specs.Refusals.{owed_of, owed_in, board_owed_in, hole_why_on, board_why_on, hole_why, board_why}
 use Rattle.card_places.specs.Room.{is_seat_of, is_street, hole_most, most_of, AreNamedWithin, IsOwed}
 use Rattle.card_places.proofs.Rooms.{seat_parts, street_parts}
+use Rattle.list_laws.proofs.Tests.{first_holds}
 
 count_at : (zero_count over : Bool) (wrong taken : Bool) → (if wrong then Some reasons.WrongSeat else if (zero_count || over) then Some reasons.WrongCount else if taken then Some reasons.CardTaken else None) ≡ None → (wrong ≡ false) × (zero_count ≡ false) × (over ≡ false)
 count_at zero_count over true taken is = absurd cc
@@ -39,10 +40,6 @@ owed_few true live hole named dealt count some within = within
 owed_few false true hole named dealt count some within = within
 owed_few false false hole named dealt count some within = absurd (omega (arith, some, within))
 
-not_wrong : (b owes : Bool) → (not b || owes) ≡ false → b ≡ true
-not_wrong true owes is = refl
-not_wrong false owes is = absurd cc
-
 street_is : (code : Code) (on : ℕ) → 1 ≤ on → on ≤ street_count code → is_street code on ≡ true
 street_is code on first last = and_from (nat_le 1 on) (nat_le on (street_count code)) (le-leb 1 on first) (le-leb on (street_count code) last)
 
@@ -56,7 +53,7 @@ owed_on t live on seat cards first last is =
     let parts = count_at (length cards == 0) (nat_lt owed (length cards)) (not (is_seat_of t.seats seat) || (owed == 0)) (has_taken_card t.table.code (placed t.places) on cards) is in
     let some : 1 ≤ length cards = some_cards (length cards) parts.1 in
     record {
-      owner_in = not_wrong (is_seat_of t.seats seat) (owed == 0) parts.0;
+      owner_in = first_holds (is_seat_of t.seats seat) (owed == 0) parts.0;
       street_in = street_is t.table.code on first last;
       some = some;
       few = owed_few (has_draw t.table.code on) (flag_of live seat) (hole_cards_on t.table.code on) (named_at t.draws on seat) (count_by (is_in_group (Some seat) on) (placed t.places)) (length cards) some (ltb-false owed (length cards) parts.2);
@@ -122,9 +119,6 @@ owed_room code seats draws placed (Some seat) on count ten named owed =
 owed_room code seats draws placed None on count ten named owed =
     let room : count_by (is_in_group None on) placed + count ≤ board_cards_on code on = omega (arith, owed.some, owed.few) in
     subst (λ (b : Bool). count_by (is_in_group None on) placed + count ≤ (if b then board_cards_on code on else 0)) (sym owed.street_in) room
-
-pub same_some : (a b : ℕ) → Some a ≡ Some b → a ≡ b
-same_some a b is = cc
 
 pub due_within : (least most : ℕ) (due : Due) → least ≤ most → IsDueWithin least due → IsDueWithin most due
 due_within least most (dues.Deal on) less within = (within.0, omega (arith, less, within.1))

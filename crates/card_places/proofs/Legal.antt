@@ -1,8 +1,7 @@
 -- What holds where a discard has no reason against it.
-use Rattle.std.proofs.Common.{◌≡◌, ℕ, zero, suc, ◌+◌, ◌<◌, ◌≤◌, Bool, true, false, ◌==◌, not, cond, nat_le, find, filter, if◌then◌else◌, Option, Some, None, List, length, count_by, refl, sym, ap, subst, ◌∙◌, arith}
-use Rattle.std.specs.List.{range_with_len}
+use Rattle.std.proofs.Common.{◌≡◌, ℕ, ◌+◌, ◌≤◌, Bool, true, false, ◌==◌, not, nat_le, filter, if◌then◌else◌, Option, Some, None, List, length, count_by, refl, sym, ap, subst, arith}
 use Rattle.std.specs.Option.{option_map_or}
-use Rattle.std.proofs.lemmas.Bool.{and_parts, and_from, le-leb, eqb-true}
+use Rattle.std.proofs.lemmas.Bool.{and_from, and_parts, eqb-true, le-leb, not-true}
 use Rattle.card_set.specs.declared.card.Slot.{Slot}
 use Rattle.chip_ledger.specs.declared.rows.LiveRow.{LiveRow}
 use Rattle.chip_ledger.specs.LiveRow.{flag_of}
@@ -19,19 +18,7 @@ use Rattle.card_places.specs.Placed.{placed}
 use Rattle.card_places.specs.Refusals.{has_to_draw, next_to_draw_in, is_next_in, discard_why_on}
 use Rattle.card_places.specs.Room.{is_seat_of}
 use Rattle.card_places.proofs.HeldCards.{discard_takes}
-
--- a seat that is found passes, and is one of those that were looked at
-pub find_found : (p : ℕ → Bool) (first n k : ℕ) → find p (range_with_len first n) ≡ Some k → (p k ≡ true) × (first ≤ k) × (k < first + n)
-find_found p first zero k is = absurd cc
-find_found p first (suc n) k is = by_first (p first) refl is (λ (more : find p (range_with_len (first + 1) n) ≡ Some k). find_found p (first + 1) n k more)
-  where
-    by_first : (b : Bool) → p first ≡ b → cond b (Some first) (find p (range_with_len (first + 1) n)) ≡ Some k → (find p (range_with_len (first + 1) n) ≡ Some k → (p k ≡ true) × (first + 1 ≤ k) × (k < first + 1 + n)) → (p k ≡ true) × (first ≤ k) × (k < first + suc n)
-    by_first true here found later =
-        let same : first ≡ k = cc in
-        (ap p (sym same) ∙ here, omega (arith, same), omega (arith, same))
-    by_first false here found later =
-        let rest = later found in
-        (rest.0, omega (arith, rest.1), omega (arith, rest.2))
+use Rattle.list_laws.proofs.NumbersOfRange.{found_in_range}
 
 chain_parts : (next over taken lacking : Bool) → (if not next then Some reasons.WrongSeat else if over then Some reasons.WrongCount else if taken then Some reasons.CardTaken else if lacking then Some reasons.NotHeld else None) ≡ None → (next ≡ true) × (lacking ≡ false)
 chain_parts false over taken lacking is = absurd cc
@@ -44,10 +31,6 @@ by_found : (o : Option ℕ) (seat : ℕ) → option_map_or (λ next. next == sea
 by_found None seat is = absurd cc
 by_found (Some next) seat is = ap Some (eqb-true next seat is)
 
-not_false : (b : Bool) → not b ≡ true → b ≡ false
-not_false true is = absurd cc
-not_false false is = refl
-
 -- the seat that discards is one of the hand and did not draw, and its names find their places
 pub record IsDrawer (t : CardState) (on seat : ℕ) (cards : List Slot) : Type 0 where
   pub first : 1 ≤ seat
@@ -58,11 +41,11 @@ pub record IsDrawer (t : CardState) (on seat : ℕ) (cards : List Slot) : Type 0
 pub drawer_is : (t : CardState) (live : LiveRow) (on seat : ℕ) (cards : List Slot) → discard_why_on t live on seat cards ≡ None → IsDrawer t on seat cards
 drawer_is t live on seat cards is =
     let parts = chain_parts (is_next_in t live on seat) _ _ (has_no_place (filter (is_held_by seat) (placed t.places)) (known_cards cards) (blanks_in cards)) is in
-    let found = find_found (has_to_draw t live on) 1 t.seats seat (by_found (next_to_draw_in t live on) seat parts.0) in
+    let found = found_in_range (has_to_draw t live on) 1 t.seats seat (by_found (next_to_draw_in t live on) seat parts.0) in
     record {
       first = found.1;
       last = omega (arith, found.2);
-      undrawn = not_false (has_drawn_at t.draws on seat) (and_parts (flag_of live seat) (not (has_drawn_at t.draws on seat)) found.0).1;
+      undrawn = not-true (has_drawn_at t.draws on seat) (and_parts (flag_of live seat) (not (has_drawn_at t.draws on seat)) found.0).1;
       found = parts.1;
     }
 

@@ -13,7 +13,6 @@ pub mod Covered
 pub mod StillWithin
 pub mod StateKept
 pub mod Legal
-pub mod Outcomes
 pub mod InOrder
 pub mod RoomLeft
 pub mod NamesLeast

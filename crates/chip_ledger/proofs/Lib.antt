@@ -15,4 +15,3 @@ pub mod Flags
 pub mod PlainPots
 pub mod SolePot
 pub mod OneSeat
-pub mod NoRakes

@@ -5,10 +5,8 @@ use Rattle.std.proofs.Props.{props}
 use Rattle.std.proofs.lemmas.Bool.{cases_lt}
 use Rattle.std.proofs.lemmas.List.{ext_get_or}
 use Rattle.chip_ledger.specs.declared.numbers.Seat.{Seat}
-use Rattle.chip_ledger.specs.declared.numbers.Chips.{Chips}
 use Rattle.chip_ledger.specs.declared.rows.SeatRow.{SeatRow}
 use Rattle.chip_ledger.specs.declared.rows.LiveRow.{LiveRow}
-use Rattle.chip_ledger.specs.declared.numbers.TheConstants.{MOST_CHIPS}
 use Rattle.chip_ledger.specs.declared.rows.TheConstants.{MOST_AMOUNT}
 use Rattle.chip_ledger.specs.SeatRow.{amount_of}
 use Rattle.chip_ledger.specs.LiveRow.{flag_of}
@@ -22,12 +20,6 @@ seat_same a b e =
     ap (λ h. record a { first = h }) (le_prop a.first f)
     ∙ ap (λ h. record { number = a.number; first = f; last = h }) (le_prop a.last l) in
     subst P e here b.first b.last
-
-pub chips_same : (a b : Chips) → a.number ≡ b.number → a ≡ b
-chips_same a b e =
-    let P : ℕ → Type 0 = λ n. (m : n ≤ MOST_CHIPS) → a ≡ record { number = n; most = m } in
-    let here : P a.number = λ m. ap (λ h. record a { most = h }) (le_prop a.most m) in
-    subst P e here b.most
 
 -- what a row of amounts keeps
 record KeptAmounts (n : ℕ) (xs : List ℕ) : Type 0 where

@@ -1,5 +1,5 @@
 -- Walks over the seats of a hand, seat by seat.
-use Rattle.std.proofs.Common.{◌≡◌, ℕ, ◌+◌, ◌≤◌, Bool, true, false, ◌||◌, cond, List, [], ◌∷◌, ◌++◌, Option, Some, refl, ap, ◌∙◌, arith, map, count_by, max, find, reverse, unwrap_or, zero, suc, inl, inr, sym}
+use Rattle.std.proofs.Common.{◌≡◌, ℕ, ◌+◌, ◌≤◌, Bool, true, false, ◌||◌, cond, [], ◌∷◌, Option, Some, refl, ap, ◌∙◌, arith, map, count_by, max, find, reverse, unwrap_or, zero, suc, inl, inr, sym}
 use Rattle.std.proofs.lemmas.Bool.{or_parts, cases_lt}
 use Rattle.std.proofs.lemmas.List.{map-append, reverse-append}
 use Rattle.std.specs.List.{list_any}
@@ -8,10 +8,7 @@ use Rattle.chip_ledger.specs.Greatest.{greatest}
 use Rattle.chip_ledger.specs.Seat.{seats_of}
 use Rattle.list_laws.proofs.Counting.{count_by-push, count_agree}
 use Rattle.list_laws.proofs.Finding.{list_any-push, any_agree}
-
-greatest-push : (xs : List ℕ) (x : ℕ) → greatest (xs ++ x ∷ []) ≡ max (greatest xs) x
-greatest-push [] x = omega arith
-greatest-push (y ∷ xs) x = omega (arith, greatest-push xs x)
+use Rattle.chip_ledger.proofs.Stakes.{greatest-push}
 
 -- one seat more
 pub greatest_more : (f : ℕ → ℕ) (n : ℕ) → greatest (map f (seats_of (n + 1))) ≡ max (greatest (map f (seats_of n))) (f (n + 1))

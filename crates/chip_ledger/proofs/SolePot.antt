@@ -11,13 +11,11 @@ use Rattle.list_laws.proofs.Sums.{sum_by-map}
 use Rattle.chip_ledger.proofs.Different.{length-different}
 use Rattle.chip_ledger.proofs.PotLevels.{Rising-levels, level_reached, makes_level}
 use Rattle.chip_ledger.proofs.PotSums.{pot_chips, pots_at_levels, stake_chips}
+use Rattle.list_laws.proofs.Counting.{count_by-cons}
 
 -- how many of the seats are live
 abbrev pub live_stakes : List Stake → ℕ
 live_stakes stakes = count_by (λ (s : Stake). s.live) stakes
-
-count_by-cons : {X : Type 0} (p : X → Bool) (x : X) (xs : List X) → count_by p (x ∷ xs) ≡ cond (p x) 1 0 + count_by p xs
-count_by-cons p x xs = sum_by-cons (λ y. cond (p y) 1 0) x xs
 
 live_one : (live some : Bool) → cond (live && some) 1 0 ≤ cond live 1 0
 live_one true true = omega arith

@@ -39,7 +39,7 @@ sum_of_stakes_more f puts live n =
     ∙ sum_by_push f (stakes_upto puts live n) (stake_of puts live (n + 1))
 
 -- the greatest of some numbers and of one more
-greatest-push : (numbers : List ℕ) (n : ℕ) → greatest (numbers ++ n ∷ []) ≡ max (greatest numbers) n
+pub greatest-push : (numbers : List ℕ) (n : ℕ) → greatest (numbers ++ n ∷ []) ≡ max (greatest numbers) n
 greatest-push [] n = omega arith
 greatest-push (first ∷ rest) n = omega (arith, greatest-push rest n)
 

@@ -16,9 +16,6 @@ use Rattle.play_event.specs.Table.{places_of}
 use Rattle.card_places.specs.Held.{is_held, held_slots}
 use Rattle.deal_core.specs.Board.{board_cards}
 
-slot_of : Place → Slot
-slot_of place = place.slot
-
 -- a card of a seat is none of the board
 skip : (place : Place) (rest : List Place) → is_same_owner place.owner None ≡ false → held_slots None (place ∷ rest) ≡ held_slots None rest
 skip place rest is = ap (λ (b : Bool). map (λ (p : Place). p.slot) (if (b && is_none place.gone_after) then (place ∷ filter (is_held None) rest) else filter (is_held None) rest)) is
@@ -117,7 +114,3 @@ board_held code (Shown on seat cards ∷ before) =
     (λ place is. held_seats seat place (and_parts (is_held_by seat place) (all || not (is_up code place)) is).0) (λ place. refl)
     ∙ board_held code before
 board_held code (Mucked on seat ∷ before) = board_held code before
-
-pub all_known : (cards : List Card) → known_cards (known_slots cards) ≡ cards
-all_known [] = refl
-all_known (card ∷ rest) = ap (λ (l : List Card). card ∷ l) (all_known rest)

@@ -10,5 +10,4 @@ pub mod StandsMove
 pub mod DiscardTurn
 pub mod IsDone
 pub mod Boards
-pub mod Orders
 pub mod Games

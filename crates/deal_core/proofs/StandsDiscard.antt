@@ -14,9 +14,9 @@ use Rattle.play_event.specs.Scripts.{with_event}
 use Rattle.card_places.specs.declared.card_state.CardState.{CardState}
 use Rattle.card_places.specs.Drawn.{has_drawn_at, named_at}
 use Rattle.card_places.specs.Discarded.{IsDiscarded}
-use Rattle.street_laws.proofs.Undrawn.{undrawn_none}
 use Rattle.deal_core.proofs.Same.{back, same_places}
 use Rattle.deal_core.specs.Standing.{IsSeatOf, StandsFor}
+use Rattle.play_event.proofs.DealingLaws.{undrawn_none}
 
 other_one : (on street seat n : ℕ) → ((on == street) && (seat == n)) ≡ false → (street ≢ on) ⊎ (n ≢ seat)
 other_one on street seat n is = by_street (on == street) refl is

@@ -20,14 +20,13 @@ use Rattle.play_event.specs.Streets.{has_draw}
 use Rattle.play_event.specs.Said as said
 use Rattle.play_event.specs.Past.{Past, moves_of}
 use Rattle.play_event.specs.Seats.{is_live}
-use Rattle.play_event.specs.Dealing.{cards_discarded, cards_owed, board_cards_owed, is_deal_due, is_draw_due}
-use Rattle.play_event.specs.Due.{turn, is_bring_in_due, is_move_due}
+use Rattle.play_event.specs.Dealing.{cards_discarded, cards_owed, board_cards_owed}
+use Rattle.play_event.specs.Due.{turn}
 use Rattle.play_event.specs.Places.{Place, is_in_group}
 use Rattle.play_event.specs.Table.{places_of}
 use Rattle.play_event.specs.Taken.{has_taken_card}
 use Rattle.play_event.specs.CardReasons.{is_wrong_deal}
 use Rattle.play_event.specs.Reasons.{why, first_reason, all_reasons}
-use Rattle.play_event.proofs.StreetLaws.{due_is_first}
 use Rattle.card_places.specs.declared.card_state.CardState.{CardState}
 use Rattle.card_places.specs.Drawn.{named_at}
 use Rattle.card_places.specs.Placed.{placed}
@@ -37,33 +36,7 @@ use Rattle.card_places.specs.Room.{is_seat_of}
 use Rattle.street_laws.specs.Dues.{IsDueWithin}
 use Rattle.card_places.specs.DueStreet.{due_street}
 use Rattle.street_laws.proofs.Groups.{group_count}
-
--- what is due on a street is of that street
-by_deal : (street on : ℕ) (deal draw bring_in move : Bool) → (if deal then Some (dues.Deal street) else if draw then Some (dues.Draw street) else if bring_in then Some dues.BringIn else if move then Some dues.Move else None) ≡ Some (dues.Deal on) → on ≡ street
-by_deal street on true draw bring_in move is = cc
-by_deal street on false true bring_in move is = absurd cc
-by_deal street on false false true move is = absurd cc
-by_deal street on false false false true is = absurd cc
-by_deal street on false false false false is = absurd cc
-
-by_draw : (street on : ℕ) (deal draw bring_in move : Bool) → (if deal then Some (dues.Deal street) else if draw then Some (dues.Draw street) else if bring_in then Some dues.BringIn else if move then Some dues.Move else None) ≡ Some (dues.Draw on) → on ≡ street
-by_draw street on true draw bring_in move is = absurd cc
-by_draw street on false true bring_in move is = cc
-by_draw street on false false true move is = absurd cc
-by_draw street on false false false true is = absurd cc
-by_draw street on false false false false is = absurd cc
-
-pub deal_street : (setup : Setup) (past : Past) (on : ℕ) → (turn setup past).1 ≡ dues.Deal on → on ≡ (turn setup past).0
-deal_street setup past on due_is =
-    let street = (turn setup past).0 in
-    by_deal street on (is_deal_due setup past street) (is_draw_due setup past street) (is_bring_in_due setup (moves_of past) street) (is_move_due setup (moves_of past) street)
-    (due_is_first setup past street (dues.Deal on) (ap (λ (d : Due). ((turn setup past).0, d)) due_is) refl).is_due
-
-pub draw_street : (setup : Setup) (past : Past) (on : ℕ) → (turn setup past).1 ≡ dues.Draw on → on ≡ (turn setup past).0
-draw_street setup past on due_is =
-    let street = (turn setup past).0 in
-    by_draw street on (is_deal_due setup past street) (is_draw_due setup past street) (is_bring_in_due setup (moves_of past) street) (is_move_due setup (moves_of past) street)
-    (due_is_first setup past street (dues.Draw on) (ap (λ (d : Due). ((turn setup past).0, d)) due_is) refl).is_due
+use Rattle.street_laws.proofs.DueStreets.{deal_street, draw_street}
 
 -- a kind that may come
 by_kind : (k : Bool) (rest : Option Illegal) → (if not (k || false) then Some reasons.WrongKind else rest) ≡ (if k then rest else Some reasons.WrongKind)

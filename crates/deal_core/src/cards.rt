@@ -210,9 +210,11 @@ impl<V: Variant> Cards<V> {
         cards: &CardRow,
     ) -> Result<(), Illegal>
         requires { live.now.seats ≡ self.old.state.seats }
-        ensures right { OnOk result (refusals.show_why self.old.state live.now due settled seat.number
+        ensures right { OnOk result
+            (refusals.show_why self.old.state live.now due settled seat.number
             (cards_of cards.now) ≡ None) }
-        ensures wrong { IfErr result (λ reason. refusals.show_why self.old.state live.now due settled
+        ensures wrong { IfErr result
+            (λ reason. refusals.show_why self.old.state live.now due settled
             seat.number (cards_of cards.now) ≡ Some reason) }
         ensures shown { OnOk result
             (IsShown self.old.state self.new.state seat.number (cards_of cards.now)) }

@@ -1,5 +1,4 @@
--- Laws of reading one item after the other, as a loop does, of digits, and of rows that are written number by number.
+-- Laws of reading one item after the other, as a loop does, and of digits.
 pub mod EachItem
 pub mod Thread
 pub mod MoreDigits
-pub mod WrittenRows

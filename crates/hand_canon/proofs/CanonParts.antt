@@ -1,5 +1,5 @@
 -- The parts of the canonical script are what the rows of the trace give.
-use Rattle.std.proofs.Common.{◌≡◌, ℕ, ◌≤◌, ◌<◌, ◌==◌, Bool, true, false, not, ◌&&◌, nat_le, if◌then◌else◌, List, [], ◌∷◌, ◌++◌, map, filter, Some, None, refl, sym, ap, ◌∙◌, arith}
+use Rattle.std.proofs.Common.{◌≡◌, ℕ, ◌≤◌, ◌<◌, ◌==◌, true, false, nat_le, if◌then◌else◌, List, [], ◌∷◌, ◌++◌, map, filter, Some, None, sym, ap, ◌∙◌, arith}
 use Rattle.std.specs.List.{flat_map, list_any}
 use Rattle.std.proofs.lemmas.Bool.{le-leb}
 use Rattle.std.proofs.lemmas.Bool.Decides.{nat_tests}
@@ -9,7 +9,7 @@ use Rattle.chip_ledger.specs.declared.rows.LiveRow.{LiveRow}
 use Rattle.chip_ledger.specs.LiveRow.{flag_of, flagged}
 use Rattle.chip_ledger.specs.Seat.{seats_of}
 use Rattle.chip_ledger.proofs.Flags.{flag-from_flagged, flagged-from_flag}
-use Rattle.list_laws.proofs.Tests.{same_test}
+use Rattle.list_laws.proofs.Tests.{if_both, if_not, not_both, same_test}
 use Rattle.play_event.specs.declared.card_rows.HandRow.{HandRow}
 use Rattle.play_event.specs.declared.setup.Setup.{Setup}
 use Rattle.play_event.specs.Past.{Move, moves_before}
@@ -20,30 +20,15 @@ use Rattle.play_event.specs.Streets.{has_draw}
 use Rattle.play_event.specs.Trace.{TracedPlace}
 use Rattle.canonical_play.specs.CanonScript.{board_said, deal_said, deals_said, dealt_slots, discarded_slots, discards_said, held_slots, showdown_said, showing_said}
 use Rattle.hand_canon.specs.RowTests.{discards_from, showings_from, unfolded_count}
-use Rattle.hand_canon.proofs.OneByOne.{flat_agree, kept_flat}
+use Rattle.hand_canon.proofs.OneByOne.{flat_agree}
 use Rattle.hand_canon.proofs.MoveRows.{AreFolded, live_are}
-
-if_both : {X : Type 0} (a b : Bool) (x y : X) → a ≡ true → b ≡ true → (if a && b then x else y) ≡ x
-if_both a b x y first second = ap (λ c. if c && b then x else y) first ∙ ap (λ c. if c then x else y) second
-
-if_not : {X : Type 0} (b : Bool) (x y : X) → (if not b then x else y) ≡ (if b then y else x)
-if_not true x y = refl
-if_not false x y = refl
-
-not_both : {X : Type 0} (a b : Bool) (x y : X) → b ≡ false → (if a && b then x else y) ≡ y
-not_both true b x y second = ap (λ c. if c then x else y) second
-not_both false b x y second = refl
+use Rattle.list_laws.proofs.FlatMaps.{kept_flat}
 
 two : (n : ℕ) → 2 ≤ n → nat_le 2 n ≡ true
 two n few = le-leb 2 n few
 
 fewer : (n : ℕ) → n < 2 → nat_le 2 n ≡ false
 fewer n few = grind (arith, nat_tests)
-
--- no discards where the street does not draw
-pub no_draw : (setup : Setup) (placed : List TracedPlace) (moves : List Move) (street : ℕ) → has_draw setup.code street ≡ false → discards_said setup placed moves street ≡ []
-no_draw setup placed moves street none =
-    ap (λ b. if b && nat_le 2 (live_count setup (moves_before street moves)) then map (λ seat. Discard seat (discarded_slots placed seat street)) (filter (is_live (moves_before street moves)) (all_seats setup)) else []) none
 
 -- nor where fewer than two seats are live
 pub not_reached : (setup : Setup) (placed : List TracedPlace) (moves : List Move) (street : ℕ) (folded : LiveRow) → AreFolded (moves_before street moves) folded

@@ -13,7 +13,8 @@ use Rattle.play_event.specs.Played.{move_said}
 use Rattle.play_event.specs.Seats.{is_live, live_count}
 use Rattle.canonical_play.specs.CanonScript.{plain_move, plain_moves, moves_named, move_named}
 use Rattle.hand_canon.specs.RowTests.{is_fold_before, is_fold_of, said_on, unfolded_count}
-use Rattle.hand_canon.proofs.OneByOne.{filter-reverse, flat_map-map, kept_flat, list_any-reverse}
+use Rattle.list_laws.proofs.FlatMaps.{flat_map-map, kept_flat}
+use Rattle.list_laws.proofs.Reversed.{filter-reverse, list_any-reverse}
 
 -- the seats with the flag are those that are not live
 pub record AreFolded (moves : List Move) (folded : LiveRow) : Type 0 where

@@ -1,9 +1,8 @@
 -- A canonical script of few moves is short, so that its events have their numbers.
-use Rattle.std.proofs.Common.{◌≡◌, ℕ, zero, suc, ◌+◌, ◌*◌, ◌≤◌, Bool, true, false, ◌&&◌, ◌==◌, nat_le, if◌then◌else◌, List, [], ◌∷◌, ◌++◌, length, map, filter, reverse, Some, None, refl, ap, ◌∙◌, arith, length-append}
+use Rattle.std.proofs.Common.{◌≡◌, ℕ, zero, suc, ◌+◌, ◌*◌, ◌≤◌, Bool, ◌&&◌, ◌==◌, nat_le, List, [], ◌∷◌, ◌++◌, length, map, filter, reverse, Some, None, refl, ap, ◌∙◌, arith, length-append}
 use Rattle.std.specs.List.{flat_map, range_with_len}
 use Rattle.std.proofs.lemmas.List.{length-map, length-reverse}
 use Rattle.std.proofs.lemmas.List.FromFn.{length-range_with_len}
-use Rattle.std.proofs.lemmas.List.Sums.{count_by-le-length, length-filter}
 use Rattle.card_set.specs.declared.card.Slot.{Slot}
 use Rattle.play_event.specs.declared.setup.Setup.{Setup}
 use Rattle.play_event.specs.Past.{Move, moves_before}
@@ -15,14 +14,8 @@ use Rattle.play_event.specs.Trace.{TracedPlace, streets_of}
 use Rattle.canonical_play.specs.TraceCore.{TraceCore}
 use Rattle.canonical_play.specs.CanonScript.{board_said, canonical_script, deal_said, deals_said, dealt_slots, discarded_slots, discards_said, drawing_seats, is_reached, move_named, moves_named, plain_move, plain_moves, showdown_said, showing_said, street_said}
 use Rattle.hand_canon.specs.Numbers.{number_of}
-use Rattle.hand_canon.proofs.OneByOne.{flat_few}
-
-kept_few : {X : Type 0} (p : X → Bool) (xs : List X) → length (filter p xs) ≤ length xs
-kept_few p xs = omega (arith, length-filter p xs, count_by-le-length p xs)
-
-maybe_few : {X : Type 0} (b : Bool) (xs : List X) (most : ℕ) → length xs ≤ most → length (if b then xs else []) ≤ most
-maybe_few true xs most few = few
-maybe_few false xs most few = omega arith
+use Rattle.list_laws.proofs.Lists.{kept_few, maybe_few}
+use Rattle.list_laws.proofs.FlatMaps.{flat_few}
 
 one_deal : (seat : ℕ) (cards : List Slot) → length (deal_said seat cards) ≤ 1
 one_deal seat [] = omega arith

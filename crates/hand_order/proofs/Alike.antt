@@ -10,6 +10,7 @@ use Rattle.card_set.specs.Different.{Every, AllDifferent}
 use Rattle.card_set.specs.Ranks.{is_one_suit, ranks_occurring, ranks_of}
 use Rattle.card_set.proofs.Listing.{occurring-same, ranks_of-same}
 use Rattle.hand_order.proofs.SameChoices.{every_one_of, one_of_every}
+use Rattle.list_laws.proofs.Tests.{same_test}
 
 -- what passes a test
 abbrev pub Passes : (Card → Bool) → Card → Type 0
@@ -35,18 +36,6 @@ every_map P Q turn (card ∷ rest) every = (turn card every.0, every_map P Q tur
 pub every_same : (P : Card → Type 0) (a b : List Card) → AreSameCards a b → Every P a → Every P b
 every_same P a b same every = every_map (λ card. is_one_of card b ≡ true) P (λ card is. one_of_every P card a every (same card ∙ is)) b (every_one_of b)
 
--- tests that follow from one another are one
-pub both_ways : (a b : Bool) → (a ≡ true → b ≡ true) → (b ≡ true → a ≡ true) → a ≡ b
-both_ways true b one other = sym (one refl)
-both_ways false true one other = other refl
-both_ways false false one other = refl
-
-pub list_all-same : (p : Card → Bool) (a b : List Card) → AreSameCards a b → list_all p a ≡ list_all p b
-list_all-same p a b same =
-    both_ways (list_all p a) (list_all p b)
-    (λ all. all_every p b (every_same (Passes p) a b same (every_all p a all)))
-    (λ all. all_every p a (every_same (Passes p) b a (λ card. sym (same card)) (every_all p b all)))
-
 -- the same cards are of one suit
 suited_same : (a b : List Card) → 0 < length b → AreSameCards a b → is_one_suit a ≡ true → is_one_suit b ≡ true
 suited_same [] b some same suited = absurd (cc)
@@ -58,7 +47,7 @@ suited_same (card ∷ rest) (first ∷ others) some same suited =
     (subst (λ (s : ℕ). Every (Passes (λ other. suits_before other.suit == s)) (first ∷ others)) (sym at) every)
 
 pub is_one_suit-same : (a b : List Card) → 0 < length a → 0 < length b → AreSameCards a b → is_one_suit a ≡ is_one_suit b
-is_one_suit-same a b some_a some_b same = both_ways (is_one_suit a) (is_one_suit b) (suited_same a b some_b same) (suited_same b a some_a (λ card. sym (same card)))
+is_one_suit-same a b some_a some_b same = same_test (is_one_suit a) (is_one_suit b) (suited_same a b some_b same) (suited_same b a some_a (λ card. sym (same card)))
 
 -- what is told by how often ranks occur and whether the cards are of one suit
 pub told_alike : (f : ℕ → ℕ → ℕ → List ℕ → Bool → Option ℕ) (height : Rank → ℕ) (a b : List Card) → AllDifferent a → AllDifferent b → 0 < length a → 0 < length b → AreSameCards a b

@@ -68,9 +68,6 @@ needs [] hs k = 0
 needs (n ∷ ns) [] k = 0
 needs (n ∷ ns) (h ∷ hs) k = cond (h == k) n 0 + needs ns hs k
 
-without-here : (T : ℕ → ℕ) (h : ℕ) → without T h h ≡ 0
-without-here T h = ap (λ (b : Bool). cond b 0 (T h)) (eq-eqb h h refl)
-
 -- where heights fit, no more is needed than there is
 pub fits_needs : (T : ℕ → ℕ) (ns hs : List ℕ) → Fits T ns hs → Within (needs ns hs) T
 fits_needs T [] hs fits k = omega arith

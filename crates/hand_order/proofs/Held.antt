@@ -4,8 +4,8 @@ use Rattle.std.specs.List.{flat_map}
 use Rattle.std.proofs.lemmas.List.Concat.{flat_map-cons}
 use Rattle.card_set.specs.declared.card.Card.{Card}
 use Rattle.card_set.specs.Different.{Every, Lacks, AllDifferent}
-use Rattle.hand_order.specs.declared.best.Pick.{Pick}
-use Rattle.hand_order.specs.declared.best.Pick.TheVariants as picks
+use Rattle.card_set.specs.declared.pick.Pick.{Pick}
+use Rattle.card_set.specs.declared.pick.Pick.TheVariants as picks
 use Rattle.hand_order.specs.Choices.{choices, allowed, IsAmong, AreHeld, CanJoin, CanPick}
 
 -- a choice of two lists is one of the one or of the other

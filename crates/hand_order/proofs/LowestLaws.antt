@@ -5,6 +5,7 @@ use Rattle.hand_order.specs.Digits.{with_digits, AreDigits}
 use Rattle.hand_order.specs.Lowest.{lowest}
 use Rattle.hand_order.proofs.Digits.{with_digits-append, with_digits-cons, with_digits-nil}
 use Rattle.hand_order.proofs.FallingRanks.{FallingFrom}
+use Rattle.list_laws.proofs.Numbers.{one_less}
 
 -- each height passes the test, and is not below another
 abbrev pub Pass : (ℕ → Bool) → ℕ → List ℕ → Type 0
@@ -60,9 +61,6 @@ least_more : (found front ks : List ℕ) (m from last : ℕ) → IsLeast found f
 least_more found front ks m from last rest is below =
     let same = ap (with_digits 0) is ∙ digit_last front last in
     record { long = omega (arith, length-append found (from ∷ []), rest.long); least = omega (arith, digit_last found from, same, rest.least) }
-
-one_less : (m : ℕ) → suc m - 1 ≡ m
-one_less m = omega arith
 
 -- the lowest height is the last, where it passes
 pub lowest_some : (has : ℕ → Bool) (heights from m : ℕ) → lowest has (suc heights) from (suc m) ≡ cond (has from) (lowest has heights (from + 1) m ++ from ∷ []) (lowest has heights (from + 1) (suc m))
@@ -140,7 +138,3 @@ few_lowest has (suc heights) from (suc m) =
     by_test : (b : Bool) → length (lowest has heights (from + 1) m) ≤ m → length (lowest has heights (from + 1) (suc m)) ≤ suc m → length (cond b (lowest has heights (from + 1) m ++ from ∷ []) (lowest has heights (from + 1) (suc m))) ≤ suc m
     by_test true fewer same = omega (arith, fewer, length-append (lowest has heights (from + 1) m) (from ∷ []))
     by_test false fewer same = same
-
-pub empty_of : (xs : List ℕ) → length xs ≡ 0 → xs ≡ []
-empty_of [] none = refl
-empty_of (x ∷ xs) none = absurd (omega arith)

@@ -77,7 +77,7 @@ pattern_of height cards = several (ranks_occurring height cards 4) 4 ++ (several
 abbrev pub InRange : (Rank → ℕ) → Type 0
 InRange height = (rank : Rank) → (0 < height rank) × (height rank ≤ 14)
 
-all_down : falling_heights ≡ down 14
+pub all_down : falling_heights ≡ down 14
 unfolding falling_heights
 all_down = refl
 

@@ -17,7 +17,7 @@ pub IsHeight-with : (ace : Ace) → IsHeight (height_with ace)
 IsHeight-with aces.High = IsHeight-high_ace
 IsHeight-with aces.Low = IsHeight-low_ace
 
-AreDigits-append : (xs ys : List ℕ) → AreDigits xs → AreDigits ys → AreDigits (xs ++ ys)
+pub AreDigits-append : (xs ys : List ℕ) → AreDigits xs → AreDigits ys → AreDigits (xs ++ ys)
 AreDigits-append [] ys first second = second
 AreDigits-append (x ∷ xs) ys first second = (first.0, AreDigits-append xs ys first.1 second)
 
@@ -101,10 +101,6 @@ digits_le digits i =
 -- there are at most as many ranks as cards
 pub few_ranks : (ace : Ace) (cards : List Card) → length (occurring (height_with ace) cards 4) + length (occurring (height_with ace) cards 3) + length (occurring (height_with ace) cards 2) + length (occurring (height_with ace) cards 1) ≤ length cards
 few_ranks ace cards = omega (arith, length-ranks_of (height_with ace) cards, ranks_of-le (height_with ace) (IsHeight-with ace) cards)
-
--- a list that has grown by another
-pub length_grown : (row more next : List ℕ) → next ≡ row ++ more → length next ≡ length row + length more
-length_grown row more next is = ap (length {A = ℕ}) is ∙ length-append row more
 
 -- the ranks put one after the other
 pub all_grown : (height : Rank → ℕ) (cards : List Card) (none four three two one : List ℕ) → none ≡ [] → four ≡ none ++ occurring height cards 4 → three ≡ four ++ occurring height cards 3 → two ≡ three ++ occurring height cards 2 → one ≡ two ++ occurring height cards 1 → one ≡ ranks_of height cards

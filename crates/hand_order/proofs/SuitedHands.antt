@@ -9,15 +9,13 @@ use Rattle.hand_order.specs.declared.ladder.FlushPlace.TheVariants as flushes
 use Rattle.hand_order.specs.Choices.{choices, IsAmong, AreHeld}
 use Rattle.hand_order.specs.Digits.{with_digits}
 use Rattle.hand_order.proofs.Digits.{AreDigits}
-use Rattle.hand_order.proofs.RankDigits.{AreDigits-ranks_of}
 use Rattle.hand_order.proofs.Held.{choice_cases, one_choice, every_chosen, held_chosen}
 use Rattle.hand_order.proofs.HighLaw.{five_cards}
-use Rattle.hand_order.proofs.Fits.{picked_fits, picked_number}
 use Rattle.hand_order.proofs.Alike.{Passes, all_every, every_all}
 use Rattle.hand_order.proofs.SameChoices.{none_chosen, with_first, without_first}
 use Rattle.hand_order.proofs.FittingChoices.{fitting}
-use Rattle.hand_order.proofs.PlainHands.{class_of, hand_picked, plain_least, choice_within, ones_alone}
-use Rattle.hand_order.specs.Picks.{without, Fits, IsPicked, plain_class, pattern}
+use Rattle.hand_order.proofs.PlainHands.{class_of, plain_least, ones_alone}
+use Rattle.hand_order.specs.Picks.{without, Fits, plain_class, pattern}
 
 -- a choice of cards that pass is a choice of the cards
 pub filter_chosen : (p : Card → Bool) (n : ℕ) (cards choice : List Card) → IsAmong choice (choices n (filter p cards)) → IsAmong choice (choices n cards)
@@ -86,14 +84,6 @@ suited_class cards held suited =
     none_of (suc n) three two a b c = absurd (omega arith)
     none_of zero (suc n) two a b c = absurd (omega arith)
     none_of zero zero (suc n) a b c = absurd (omega arith)
-
--- the five heights that are picked from a suit are at least those of each choice of the suit
-pub suited_most : (s : ℕ) (cards choice : List Card) (hs : List ℕ) → IsPicked (times high_ace (filter (of_suit s) cards)) (pattern 0) hs → AreDigits hs → Every (Passes (of_suit s)) choice → is_one_suit choice ≡ true → IsAmong choice (choices 5 cards) → AreHeld 5 choice → with_digits 0 (ranks_of high_ace choice) ≤ with_digits 0 hs
-suited_most s cards choice hs picked digits every suited among held =
-    let inside = chosen_filter (of_suit s) 5 cards choice every among in
-    let within = choice_within high_ace 5 (filter (of_suit s) cards) choice inside in
-    let own = subst (λ (m : ℕ). IsPicked (times high_ace choice) (pattern m) (ranks_of high_ace choice)) (suited_class choice held suited) (hand_picked choice held) in
-    picked_number (times high_ace (filter (of_suit s) cards)) (times high_ace choice) (pattern 0) hs (ranks_of high_ace choice) within picked (picked_fits (times high_ace choice) (pattern 0) (ranks_of high_ace choice) own) digits (AreDigits-ranks_of high_ace choice)
 
 -- and those of some choice of the suit are as much
 pub record IsSuited (s : ℕ) (cards : List Card) (hs : List ℕ) : Type 0 where

@@ -31,10 +31,6 @@ sum_by-fewer wanted k (h ∷ hs) some =
     here true is = let same = ap wanted (eqb-true k h is) in omega arith
     here false is = omega arith
 
-none_falling : sum_by (λ h. 0) falling_heights ≡ 0
-unfolding falling_heights
-none_falling = refl
-
 -- a choice without the first card
 skipped : (height : Rank → ℕ) (card : Card) (rest : List Card) (wanted : ℕ → ℕ) (n : ℕ) → IsWanted height wanted n rest → IsWanted height wanted n (card ∷ rest)
 skipped height card rest wanted n is = record { choice = is.choice; among = without_first n card rest is.choice is.among; has = is.has }

@@ -4,8 +4,8 @@ use Rattle.std.specs.List.{flat_map}
 use Rattle.card_set.specs.declared.card.Card.{Card}
 use Rattle.card_set.specs.CardSet.{AreSameCards}
 use Rattle.card_set.specs.Different.{AllDifferent}
-use Rattle.hand_order.specs.declared.best.Pick.{Pick}
-use Rattle.hand_order.specs.declared.best.Pick.TheVariants as picks
+use Rattle.card_set.specs.declared.pick.Pick.{Pick}
+use Rattle.card_set.specs.declared.pick.Pick.TheVariants as picks
 
 -- all choices of so many of the cards
 unfoldable pub choices : ℕ → List Card → List (List Card)

@@ -10,19 +10,8 @@ ghost use Rattle.hand_order.specs.Best.{HasNoHand, IsPointsOfBest};
 ghost use Rattle.hand_order.specs.Points.{better, greatest};
 
 use crate::order::{HandOrder, Score};
-use card_set::{CardRow, CardSet};
+use card_set::{CardRow, CardSet, Pick};
 use std::marker::PhantomData;
-
-/// Which choices of cards a holding allows.
-#[derive(Clone, Copy, Debug, PartialEq, Eq)]
-pub enum Pick {
-    /// Any five cards of hole and board together.
-    AnyFive,
-    /// Exactly two hole cards and three board cards.
-    TwoAndThree,
-    /// All hole cards.
-    AllHeld,
-}
 
 /// The score of the best choice that the pick allows, none where no choice is a hand of the order.
 /// `AnyFive` takes five to seven cards, `TwoAndThree` at least two hole and three board cards,

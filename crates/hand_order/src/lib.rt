@@ -13,7 +13,8 @@ mod ranks;
 mod row;
 mod straights;
 
-pub use best::{Judge, Pick, best_choice, best_listed, best_of, better_score};
+pub use best::{Judge, best_choice, best_listed, best_of, better_score};
+pub use card_set::Pick;
 pub use high::{best_high, hand_points};
 pub use ladder::FlushPlace;
 pub use lowest::lowest_ranks;

@@ -1,6 +1,6 @@
 -- Lemmas on a test that passes at some element of a list, or at none.
-use Rattle.std.proofs.Common.{Bool, List, [], ap, cond, false, filter, get_or, map, refl, subst, true, ℕ, ⊎_elim, ◌&&◌, ◌==◌, ◌||◌, ◌∙◌, ◌∷◌, ◌≡◌, ◌≢◌}
-use Rattle.std.proofs.lemmas.Bool.{and_parts, eq-eqb, eqb-true, or_cases, or_left, or_parts, or_right}
+use Rattle.std.proofs.Common.{Bool, List, [], ap, arith, cond, false, filter, get_or, if◌then◌else◌, length, map, refl, subst, true, ℕ, ⊎_elim, ◌&&◌, ◌==◌, ◌||◌, ◌∙◌, ◌∷◌, ◌≡◌, ◌≢◌, ◌≤◌}
+use Rattle.std.proofs.lemmas.Bool.{and_parts, eq-eqb, eqb-true, or_cases, or_from, or_left, or_parts, or_right}
 use Rattle.std.proofs.lemmas.List.{get_or_default}
 use Rattle.std.proofs.lemmas.List.Folds.{Any-from_list_any, list_any_at}
 use Rattle.std.specs.List.{Contains, list_any}
@@ -97,3 +97,18 @@ contains_from_any xs x h =
     let one = Any-from_list_any (λ y. y == x) xs h in
     let same = eqb-true one.1 x one.4 in
     (one.0, one.2, get_or_default xs one.0 x one.1 one.2 ∙ one.3 ∙ same)
+
+-- tests that pass less
+pub none_still : (p q : ℕ → Bool) (numbers : List ℕ) → ((number : ℕ) → p number ≡ false → q number ≡ false) → list_any p numbers ≡ false → list_any q numbers ≡ false
+none_still p q [] less is = refl
+none_still p q (number ∷ rest) less is =
+    let parts = or_parts (p number) (list_any p rest) is in or_from (q number) (list_any q rest) (less number parts.0) (none_still p q rest less parts.1)
+
+-- where some elements are kept, some pass
+pub any_from_length : (p : ℕ → Bool) (numbers : List ℕ) → 1 ≤ length (filter p numbers) → list_any p numbers ≡ true
+any_from_length p [] some = absurd (omega (arith, some))
+any_from_length p (first ∷ rest) some = by_first (p first) some (any_from_length p rest)
+  where
+    by_first : (b : Bool) → 1 ≤ length (if b then (first ∷ filter p rest) else filter p rest) → (1 ≤ length (filter p rest) → list_any p rest ≡ true) → (b || list_any p rest) ≡ true
+    by_first true it later = refl
+    by_first false it later = later it

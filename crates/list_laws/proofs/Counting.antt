@@ -1,5 +1,5 @@
 -- Lemmas on how many elements of a list pass a test.
-use Rattle.std.proofs.Common.{◌≡◌, ℕ, zero, suc, ◌+◌, ◌<◌, ◌≤◌, Bool, cond, List, [], ◌∷◌, ◌++◌, refl, sym, ap, ◌∙◌, arith, count_by, true, false, ◌||◌, inl, inr, ◌⊎◌, ◌==◌, ◌*◌, sum_by, map, eqb-true}
+use Rattle.std.proofs.Common.{Bool, List, [], ap, arith, cond, count_by, eqb-true, false, inl, inr, length, map, not, refl, suc, sum_by, sym, true, zero, ℕ, ◌*◌, ◌++◌, ◌+◌, ◌<◌, ◌==◌, ◌||◌, ◌∙◌, ◌∷◌, ◌≡◌, ◌≤◌, ◌⊎◌}
 use Rattle.std.proofs.lemmas.Bool.{true≢false, eqb-true, eq-eqb, ne_eqb, cases_lt}
 use Rattle.std.specs.List.{range_with_len, list_any}
 use Rattle.std.proofs.lemmas.List.Sums.{sum_by-cons}
@@ -69,7 +69,7 @@ counts_either p q r h (x ∷ xs) =
     omega (arith, either_by (p x) (q x) (r x) (count_by p xs) (count_by q xs) (count_by r xs) (h x) (counts_either p q r h xs), count_by-cons p x xs, count_by-cons q x xs, count_by-cons r x xs)
 
 -- a number stands once at most among numbers in a row
-count_later : (k first n : ℕ) → k < first → count_by (λ x. k == x) (range_with_len first n) ≡ 0
+pub count_later : (k first n : ℕ) → k < first → count_by (λ x. k == x) (range_with_len first n) ≡ 0
 count_later k first zero less = refl
 count_later k first (suc n) less =
     let other : ◌≡◌ {A = ℕ} (cond (k == first) 1 0) 0 = ap (λ b. cond b 1 0) (ne_eqb k first (λ same. omega (arith, less, same))) in
@@ -152,3 +152,12 @@ count-le-sum T n (k ∷ ks) some = omega (arith, sum_by-cons T k ks, count_by-co
     here : (b : Bool) → (T k == n) ≡ b → cond b 1 0 ≤ T k
     here true is = let same = eqb-true (T k) n is in omega arith
     here false is = omega arith
+
+-- what passes and what does not are all
+pub count_both : {X : Type 0} (p : X → Bool) (xs : List X) → count_by p xs + count_by (λ x. not (p x)) xs ≡ length xs
+count_both p [] = refl
+count_both p (x ∷ rest) = omega (arith, count_by-cons p x rest, count_by-cons (λ y. not (p y)) x rest, count_both p rest, here (p x))
+  where
+    here : (b : Bool) → cond b 1 0 + cond (not b) 1 0 ≡ 1
+    here true = refl
+    here false = refl

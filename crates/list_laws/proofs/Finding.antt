@@ -1,10 +1,12 @@
 -- Lemmas on the first element of a list that passes a test.
-use Rattle.std.proofs.Common.{◌≡◌, Bool, true, false, ◌||◌, cond, List, [], ◌∷◌, Some, is_some, find, refl, sym, ◌∙◌, ℕ, zero, suc, ◌+◌, ◌-◌, ◌<◌, ◌≤◌, ◌++◌, ap, arith, filter, ◌&&◌}
+use Rattle.std.proofs.Common.{Bool, List, Some, [], ap, arith, cond, false, filter, find, if◌then◌else◌, is_some, refl, suc, sym, true, zero, ℕ, ◌&&◌, ◌++◌, ◌+◌, ◌-◌, ◌<◌, ◌||◌, ◌∙◌, ◌∷◌, ◌≡◌, ◌≤◌}
 use Rattle.std.proofs.lemmas.Bool.{false_from_ne_true, true≢false}
 use Rattle.std.specs.List.{list_any, range_with_len}
 use Rattle.std.proofs.lemmas.List.Folds.{list_any-append}
 use Rattle.list_laws.proofs.Any.{list_any-weaker}
-use Rattle.list_laws.proofs.Tests.{or_false}
+use Rattle.list_laws.proofs.Tests.{false_true, or_false}
+use Rattle.std.proofs.lemmas.Option.{same_Some}
+use Rattle.list_laws.proofs.Options.{some_is_none}
 
 found_by : {X : Type 0} (p : X → Bool) (x : X) (rest : List X) (b : Bool) → is_some (find p rest) ≡ list_any p rest → is_some (cond b (Some x) (find p rest)) ≡ (b || list_any p rest)
 found_by p x rest true later = refl
@@ -63,3 +65,22 @@ find_kept p q x rest false later = later
 pub find-filter : {X : Type 0} (p q : X → Bool) (xs : List X) → find q (filter p xs) ≡ find (λ x. p x && q x) xs
 find-filter p q [] = refl
 find-filter p q (x ∷ xs) = find_kept p q x xs (p x) (find-filter p q xs)
+
+found_at : (p : ℕ → Bool) (first : ℕ) (rest : List ℕ) (number : ℕ) (b : Bool) → p first ≡ b → (find p rest ≡ Some number → p number ≡ true) → (if b then Some first else find p rest) ≡ Some number → p number ≡ true
+found_at p first rest number true here later is = ap p (sym (same_Some first number is)) ∙ here
+found_at p first rest number false here later is = later is
+
+-- what is found passes
+pub found_passes : (p : ℕ → Bool) (numbers : List ℕ) (number : ℕ) → find p numbers ≡ Some number → p number ≡ true
+found_passes p [] number is = absurd (some_is_none (sym is))
+found_passes p (first ∷ rest) number is = found_at p first rest number (p first) refl (found_passes p rest number) is
+
+found_less : (p q : ℕ → Bool) (first : ℕ) (rest : List ℕ) (a b : Bool) → (b ≡ true → a ≡ true) → (is_some (find p rest) ≡ false → is_some (find q rest) ≡ false) → is_some (if a then Some first else find p rest) ≡ false → is_some (if b then Some first else find q rest) ≡ false
+found_less p q first rest true b less later is = false_true (sym is)
+found_less p q first rest false true less later is = false_true (less refl)
+found_less p q first rest false false less later is = later is
+
+-- a stronger test finds nothing where a weaker one does not
+pub none_found_still : (p q : ℕ → Bool) (numbers : List ℕ) → ((number : ℕ) → q number ≡ true → p number ≡ true) → is_some (find p numbers) ≡ false → is_some (find q numbers) ≡ false
+none_found_still p q [] less is = refl
+none_found_still p q (number ∷ rest) less is = found_less p q number rest (p number) (q number) (less number) (none_found_still p q rest less) is

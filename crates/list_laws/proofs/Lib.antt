@@ -5,11 +5,15 @@ pub mod Sums
 pub mod Ranges
 pub mod Numbers
 pub mod Lists
+pub mod Entries
+pub mod FlatMaps
 pub mod Rising
 pub mod Options
+pub mod Results
 pub mod Counting
 pub mod Finding
 pub mod Earliest
 pub mod Bits
 pub mod NumbersOfRange
-pub mod CountsReversed
+pub mod Reversed
+pub mod Words

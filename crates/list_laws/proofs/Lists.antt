@@ -1,6 +1,7 @@
 -- Lemmas on lists without elements, first elements and fronts.
-use Rattle.std.proofs.Common.{Bool, List, None, Some, [], ap, arith, cond, drop, false, length, map, refl, replicate, set, slice_get, suc, sym, take, true, zero, ℕ, ◌++◌, ◌+◌, ◌-◌, ◌<◌, ◌∙◌, ◌∷◌, ◌≡◌, ◌≢◌, filter}
-use Rattle.std.proofs.lemmas.List.{drop-drop, take-append-drop, take_at, take_rest}
+use Rattle.std.proofs.Common.{Bool, List, None, Some, [], ap, arith, cond, drop, false, filter, if◌then◌else◌, length, length-append, map, refl, slice_get, sym, take, true, ℕ, ◌++◌, ◌+◌, ◌-◌, ◌∙◌, ◌∷◌, ◌≡◌, ◌≢◌, ◌≤◌}
+use Rattle.std.proofs.lemmas.List.{append-nil, append_assoc, drop-drop, take-append-drop, take_at, take_rest}
+use Rattle.std.proofs.lemmas.List.Sums.{count_by-le-length, length-filter}
 
 -- what is mapped to nothing is nothing
 pub map_nothing : {X Y : Type 0} (f : X → Y) (xs : List X) → map f xs ≡ [] → xs ≡ []
@@ -21,12 +22,6 @@ pub empty_from : {X : Type 0} (xs : List X) → ¬ (xs ≢ []) → xs ≡ []
 empty_from [] not = refl
 empty_from (x ∷ xs) not = absurd (not (λ none. cc (none)))
 
--- a write at the first of the zeros behind a list
-pub set_behind : (xs : List ℕ) (n x : ℕ) → 0 < n → set (xs ++ replicate n 0) (length xs) x ≡ (xs ++ x ∷ []) ++ replicate (n - 1) 0
-set_behind [] zero x some = absurd (omega (arith, some))
-set_behind [] (suc n) x some = ap (λ (m : ℕ). x ∷ replicate m 0) (omega arith)
-set_behind (y ∷ xs) n x some = ap (λ (l : List ℕ). y ∷ l) (set_behind xs n x some)
-
 -- a front of what stands from a place on, and what stands behind it
 pub front_and_rest : (bytes front rest : List ℕ) (start n : ℕ) → front ≡ take n (take (length bytes - start) (drop start bytes)) → length front ≡ n
     → drop start bytes ≡ take n (front ++ rest) ++ drop (start + n) bytes
@@ -44,3 +39,35 @@ filter-agree p q (x ∷ xs) same = ap (λ (b : Bool). cond b (x ∷ filter p xs)
 -- nothing before a list adds nothing
 pub none_before : (start more : List ℕ) → start ≡ [] → start ++ more ≡ more
 none_before start more none = ap (λ (l : List ℕ). l ++ more) none
+
+-- a list with more behind it
+pub length_grown : (row more next : List ℕ) → next ≡ row ++ more → length next ≡ length row + length more
+length_grown row more next is = ap (length {A = ℕ}) is ∙ length-append row more
+
+-- a list with nothing behind it, with the same, with two parts, and with a part of what is wanted
+pub nothing_behind : {X : Type 0} (old more : List X) → more ≡ [] → old ≡ old ++ more
+nothing_behind old more none = sym (append-nil old) ∙ ap (λ l. old ++ l) (sym none)
+
+pub same_behind : {X : Type 0} (new old more other : List X) → more ≡ other → new ≡ old ++ more → new ≡ old ++ other
+same_behind new old more other same is = is ∙ ap (λ l. old ++ l) same
+
+pub two_behind : {X : Type 0} (old mid new first second : List X) → mid ≡ old ++ first → new ≡ mid ++ second → new ≡ old ++ (first ++ second)
+two_behind old mid new first second one other = other ∙ ap (λ l. l ++ second) one ∙ append_assoc old first second
+
+-- no more are kept than there are
+pub kept_few : {X : Type 0} (p : X → Bool) (xs : List X) → length (filter p xs) ≤ length xs
+kept_few p xs = omega (arith, length-filter p xs, count_by-le-length p xs)
+
+pub maybe_few : {X : Type 0} (b : Bool) (xs : List X) (most : ℕ) → length xs ≤ most → length (if b then xs else []) ≤ most
+maybe_few true xs most few = few
+maybe_few false xs most few = omega arith
+
+-- a map that tells all values apart tells all lists apart
+pub lists_same : {A B : Type 0} (f : A → B) → ((a b : A) → f a ≡ f b → a ≡ b) → (xs ys : List A) → map f xs ≡ map f ys → xs ≡ ys
+lists_same f apart [] [] same = refl
+lists_same f apart [] (y ∷ ys) same = absurd (cc)
+lists_same f apart (x ∷ xs) [] same = absurd (cc)
+lists_same f apart (x ∷ xs) (y ∷ ys) same =
+    let head : x ≡ y = apart x y (cc) in
+    let tail : xs ≡ ys = lists_same f apart xs ys (cc) in
+    ap (λ z. z ∷ xs) head ∙ ap (λ zs. y ∷ zs) tail

@@ -1,10 +1,11 @@
 -- Lemmas on numbers and their comparisons.
-use Rattle.std.proofs.Common.{Bool, List, [], arith, false, nat_le, nat_lt, refl, sym, true, ℕ, ◌&&◌, ◌*◌, ◌+◌, ◌<◌, ◌==◌, ◌∙◌, ◌∷◌, ◌≡◌, ◌≤◌, max, suc, ◌-◌, inl, inr}
-use Rattle.std.proofs.lemmas.Bool.{eq-eqb, eqb-true, le-leb, cases_lt}
+use Rattle.std.proofs.Common.{Bool, List, [], arith, false, inl, inr, max, nat_le, nat_lt, refl, suc, sym, true, ℕ, ◌&&◌, ◌*◌, ◌+◌, ◌-◌, ◌<◌, ◌==◌, ◌∙◌, ◌∷◌, ◌≡◌, ◌≢◌, ◌≤◌}
+use Rattle.std.proofs.lemmas.Bool.{cases_lt, eq-eqb, eqb-true, le-leb, leb-false, leb-true, lt-leb}
 use Rattle.std.proofs.lemmas.Bool.Decides.{nat_tests}
 use Rattle.std.specs.Char.{digit_value}
 use Rattle.std.specs.Str.Parse.{digits_value_after}
 use Rattle.list_laws.proofs.Tests.{false_true}
+use Rattle.std.specs.Prelude.{zero}
 
 -- neither equal nor below
 pub above_from_tests : (x y : ℕ) → (x == y) ≡ false → nat_lt x y ≡ false → y < x
@@ -40,3 +41,36 @@ positive n some = elim (cases_lt 0 n) [ inl is ↦ is | inr least ↦ absurd (so
 -- one more and one less
 pub one_less : (n : ℕ) → suc n - 1 ≡ n
 one_less n = omega arith
+
+-- more than one is two or more, and two or more is more than one
+pub two_or_more : (n : ℕ) → nat_le n 1 ≡ false → nat_le 2 n ≡ true
+two_or_more n more = le-leb 2 n (let two : 1 < n = leb-false n 1 more in omega (arith, two))
+
+pub many_not_few : (n : ℕ) → nat_le 2 n ≡ true → nat_le n 1 ≡ false
+many_not_few n many = lt-leb n 1 (omega (arith, leb-true 2 n many))
+
+different_by : (other mine : ℕ) → mine ≢ other → (b : Bool) → (other == mine) ≡ b → (other == mine) ≡ false
+different_by other mine differ true same = absurd (differ (sym (eqb-true other mine same)))
+different_by other mine differ false same = same
+
+-- numbers that differ, compared the other way round
+pub different_number : (other mine : ℕ) → mine ≢ other → (other == mine) ≡ false
+different_number other mine differ = different_by other mine differ (other == mine) refl
+
+-- one more and one less
+pub plus_one_less_one : (n : ℕ) → n + 1 - 1 ≡ n
+plus_one_less_one n = omega arith
+
+-- what holds of one and two, and of three
+pub by_two : (P : ℕ → Type 0) → P 1 → P 2 → (number : ℕ) → 1 ≤ number → number ≤ 2 → P number
+by_two P first second zero least most = absurd (omega (arith, least))
+by_two P first second (suc zero) least most = first
+by_two P first second (suc (suc zero)) least most = second
+by_two P first second (suc (suc (suc number))) least most = absurd (omega (arith, most))
+
+pub by_three : (P : ℕ → Type 0) → P 1 → P 2 → P 3 → (number : ℕ) → 1 ≤ number → number ≤ 3 → P number
+by_three P first second third zero least most = absurd (omega (arith, least))
+by_three P first second third (suc zero) least most = first
+by_three P first second third (suc (suc zero)) least most = second
+by_three P first second third (suc (suc (suc zero))) least most = third
+by_three P first second third (suc (suc (suc (suc number)))) least most = absurd (omega (arith, most))

@@ -1,7 +1,12 @@
 -- What holds for each number of a range holds of the lists that are made over it.
-use Rattle.std.proofs.lemmas.Bool.{or_left, or_right, cases_eq, cases_lt}
-use Rattle.std.proofs.Common.{inl, inr, sym, ◌≡◌, ℕ, zero, suc, ◌+◌, ◌≤◌, ◌<◌, Bool, true, false, ◌||◌, List, [], ◌∷◌, ◌++◌, map, filter, find, is_some, Some, refl, ◌∙◌, ap, arith, if◌then◌else◌}
+use Rattle.std.proofs.lemmas.Bool.{cases_eq, cases_lt, eq-eqb, ne_eqb, or_cases, or_from, or_left, or_parts, or_right}
+use Rattle.std.proofs.Common.{Bool, List, Some, [], ap, arith, false, filter, find, if◌then◌else◌, inl, inr, is_some, map, refl, suc, sum, sum_by, sym, true, zero, ℕ, ⊎_elim, ◌++◌, ◌+◌, ◌<◌, ◌==◌, ◌||◌, ◌∙◌, ◌∷◌, ◌≡◌, ◌≤◌}
 use Rattle.std.specs.List.{flat_map, list_any, range_with_len}
+use Rattle.std.proofs.lemmas.Option.{same_Some}
+use Rattle.list_laws.proofs.Options.{some_is_none}
+use Rattle.list_laws.proofs.Tests.{false_true}
+use Rattle.std.proofs.lemmas.List.Sums.{sum-map, sum_by-cons}
+use Rattle.std.proofs.lemmas.List.{append-nil, append_assoc}
 
 -- lists that agree for each number, one after another
 pub flat_same : {B : Type 0} (f g : ℕ → List B) (first count : ℕ) → ((number : ℕ) → first ≤ number → number < first + count → f number ≡ g number) → flat_map f (range_with_len first count) ≡ flat_map g (range_with_len first count)
@@ -55,3 +60,169 @@ any_in_range p first (suc count) number least most is = elim (cases_eq number fi
   where
     above : first ≤ number → (number ≡ first → ⊥) → first + 1 ≤ number
     above least differ = elim (cases_lt first number) [ inl more ↦ omega (arith, more) | inr less ↦ absurd (differ (omega (arith, less, least))) ]
+
+-- what passes nowhere in a range passes at none of its numbers
+pub at_range : (p : ℕ → Bool) (first count number : ℕ) → list_any p (range_with_len first count) ≡ false → first ≤ number → number < first + count → p number ≡ false
+at_range p first zero number is least most = absurd (omega (arith, least, most))
+at_range p first (suc count) number is least most =
+    let parts = or_parts (p first) (list_any p (range_with_len (first + 1) count)) is in
+    elim (cases_lt first number) [
+      | inl above ↦ at_range p (first + 1) count number parts.1 (omega (arith, above)) (omega (arith, most))
+      | inr below ↦ let same : number ≡ first = omega (arith, below, least) in ap p same ∙ parts.0
+    ]
+
+found_here : (p : ℕ → Bool) (first count number : ℕ) (b : Bool) → p first ≡ b → (find p (range_with_len (first + 1) count) ≡ Some number → (p number ≡ true) × ((first + 1 ≤ number) × (number < (first + 1) + count))) → (if b then Some first else find p (range_with_len (first + 1) count)) ≡ Some number → (p number ≡ true) × ((first ≤ number) × (number < first + suc count))
+found_here p first count number true here later is =
+    let same : first ≡ number = same_Some first number is in (ap p (sym same) ∙ here, (omega (arith, same), omega (arith, same)))
+found_here p first count number false here later is = let it = later is in (it.0, (omega (arith, it.1.0), omega (arith, it.1.1)))
+
+-- what is found in a range passes, and is of the range
+pub found_in_range : (p : ℕ → Bool) (first count number : ℕ) → find p (range_with_len first count) ≡ Some number → (p number ≡ true) × ((first ≤ number) × (number < first + count))
+found_in_range p first zero number is = absurd (some_is_none (sym is))
+found_in_range p first (suc count) number is = found_here p first count number (p first) refl (found_in_range p (first + 1) count number) is
+
+find_none_from : (p : ℕ → Bool) (first count number : ℕ) (b : Bool) → p first ≡ b → (is_some (find p (range_with_len (first + 1) count)) ≡ false → first < number → p number ≡ false) → first ≤ number → is_some (if b then Some first else find p (range_with_len (first + 1) count)) ≡ false → p number ≡ false
+find_none_from p first count number true here later least none = false_true (sym none)
+find_none_from p first count number false here later least none = elim (cases_lt first number) [
+  | inl above ↦ later none above
+  | inr below ↦ let same : number ≡ first = omega (arith, below, least) in ap p same ∙ here
+]
+
+-- what is found nowhere in a range passes nowhere in it
+pub find_none : (p : ℕ → Bool) (first count number : ℕ) → is_some (find p (range_with_len first count)) ≡ false → first ≤ number → number < first + count → p number ≡ false
+find_none p first zero number is least most = absurd (omega (arith, least, most))
+find_none p first (suc count) number is least most = find_none_from p first count number (p first) refl (λ none above. find_none p (first + 1) count number none (omega (arith, above)) (omega (arith, most))) least is
+
+-- the first number that passes is found
+pub find_first : (p : ℕ → Bool) (start count number : ℕ) → start ≤ number → number < start + count → p number ≡ true → ((other : ℕ) → start ≤ other → other < number → p other ≡ false) → find p (range_with_len start count) ≡ Some number
+find_first p start zero number least most is none = absurd (omega (arith, least, most))
+find_first p start (suc count) number least most is none = elim (cases_lt start number) [
+  | inl above ↦ ap (λ b. if b then Some start else find p (range_with_len (start + 1) count)) (none start (omega arith) above)
+      ∙ find_first p (start + 1) count number (omega (arith, above)) (omega (arith, most)) is (λ other from to. none other (omega (arith, from)) to)
+  | inr below ↦
+      let same : start ≡ number = omega (arith, below, least) in
+      ap (λ b. if b then Some start else find p (range_with_len (start + 1) count)) (ap p same ∙ is) ∙ ap Some same
+]
+
+-- where some number of a range passes, this one does
+pub some_in_range : (p : ℕ → Bool) (start count : ℕ) → list_any p (range_with_len start count) ≡ true → (number : ℕ) × ((start ≤ number) × ((number < start + count) × (p number ≡ true)))
+some_in_range p start zero is = false_true is
+some_in_range p start (suc count) is = elim (or_cases (p start) (list_any p (range_with_len (start + 1) count)) is) [
+  | inl here ↦ (start, (omega arith, (omega arith, here)))
+  | inr later ↦ let it = some_in_range p (start + 1) count later in (it.0, (omega (arith, it.1.0), (omega (arith, it.1.1.0), it.1.1.1)))
+]
+
+any_step : (f g : ℕ → Bool) (first : ℕ) (rest : List ℕ) (b : Bool) → (b ≡ true → f first ≡ g first) → list_any f rest ≡ list_any g rest → list_any f (if b then (first ∷ rest) else rest) ≡ list_any g (if b then (first ∷ rest) else rest)
+any_step f g first rest true same later = ap (λ b. b || list_any f rest) (same refl) ∙ ap (λ r. g first || r) later
+any_step f g first rest false same later = later
+
+-- tests that agree where another passes pass alike at what it keeps
+pub any_same : (p f g : ℕ → Bool) (start count : ℕ) → ((number : ℕ) → start ≤ number → number < start + count → p number ≡ true → f number ≡ g number) → list_any f (filter p (range_with_len start count)) ≡ list_any g (filter p (range_with_len start count))
+any_same p f g start zero same = refl
+any_same p f g start (suc count) same =
+    any_step f g start (filter p (range_with_len (start + 1) count)) (p start) (same start (omega arith) (omega arith))
+    (any_same p f g (start + 1) count (λ number least most. same number (omega (arith, least)) (omega (arith, most))))
+
+find_step : (f g : ℕ → Bool) (first : ℕ) (rest : List ℕ) (b : Bool) → (b ≡ true → f first ≡ g first) → find f rest ≡ find g rest → find f (if b then (first ∷ rest) else rest) ≡ find g (if b then (first ∷ rest) else rest)
+find_step f g first rest true same later = ap (λ b. if b then Some first else find f rest) (same refl) ∙ ap (λ r. if g first then Some first else r) later
+find_step f g first rest false same later = later
+
+-- and find the same
+pub find_same : (p f g : ℕ → Bool) (start count : ℕ) → ((number : ℕ) → start ≤ number → number < start + count → p number ≡ true → f number ≡ g number) → find f (filter p (range_with_len start count)) ≡ find g (filter p (range_with_len start count))
+find_same p f g start zero same = refl
+find_same p f g start (suc count) same =
+    find_step f g start (filter p (range_with_len (start + 1) count)) (p start) (same start (omega arith) (omega arith))
+    (find_same p f g (start + 1) count (λ number least most. same number (omega (arith, least)) (omega (arith, most))))
+
+-- where no kept number passes, none that is kept does
+pub none_kept_passes : (p q : ℕ → Bool) (start count number : ℕ) → list_any q (filter p (range_with_len start count)) ≡ false → start ≤ number → number < start + count → p number ≡ true → q number ≡ false
+none_kept_passes p q start zero number is least most passes = absurd (omega (arith, least, most))
+none_kept_passes p q start (suc count) number is least most passes = by_first (p start) refl (none_kept_passes p q (start + 1) count number) is
+  where
+    by_first : (b : Bool) → p start ≡ b → (list_any q (filter p (range_with_len (start + 1) count)) ≡ false → start + 1 ≤ number → number < (start + 1) + count → p number ≡ true → q number ≡ false) → list_any q (if b then (start ∷ filter p (range_with_len (start + 1) count)) else filter p (range_with_len (start + 1) count)) ≡ false → q number ≡ false
+    by_first true here later none =
+        let parts = or_parts (q start) (list_any q (filter p (range_with_len (start + 1) count))) none in
+        elim (cases_lt start number) [
+          | inl above ↦ later parts.1 (omega (arith, above)) (omega (arith, most)) passes
+          | inr below ↦ let same : number ≡ start = omega (arith, below, least) in ap q same ∙ parts.0
+        ]
+    by_first false here later none = elim (cases_lt start number) [
+      | inl above ↦ later none (omega (arith, above)) (omega (arith, most)) passes
+      | inr below ↦ let same : number ≡ start = omega (arith, below, least) in false_true (sym here ∙ (ap p (sym same) ∙ passes))
+    ]
+
+-- a number below a range is not among those of it that are kept
+pub not_in : (p : ℕ → Bool) (first count number : ℕ) → number < first → list_any (λ other. other == number) (filter p (range_with_len first count)) ≡ false
+not_in p first zero number less = refl
+not_in p first (suc count) number less = by_first (p first) (not_in p (first + 1) count number (omega (arith, less)))
+  where
+    by_first : (b : Bool) → list_any (λ other. other == number) (filter p (range_with_len (first + 1) count)) ≡ false → list_any (λ other. other == number) (if b then (first ∷ filter p (range_with_len (first + 1) count)) else filter p (range_with_len (first + 1) count)) ≡ false
+    by_first true later = ap (λ b. b || list_any (λ other. other == number) (filter p (range_with_len (first + 1) count))) (ne_eqb first number (λ same. omega (arith, same, less))) ∙ later
+    by_first false later = later
+
+-- nor is one above it
+pub not_above : (p : ℕ → Bool) (first count number : ℕ) → first + count ≤ number → list_any (λ other. other == number) (filter p (range_with_len first count)) ≡ false
+not_above p first zero number above = refl
+not_above p first (suc count) number above = by_first (p first) (not_above p (first + 1) count number (omega (arith, above)))
+  where
+    by_first : (b : Bool) → list_any (λ other. other == number) (filter p (range_with_len (first + 1) count)) ≡ false → list_any (λ other. other == number) (if b then (first ∷ filter p (range_with_len (first + 1) count)) else filter p (range_with_len (first + 1) count)) ≡ false
+    by_first true later = or_from (first == number) (list_any (λ other. other == number) (filter p (range_with_len (first + 1) count))) (ne_eqb first number (λ same. omega (arith, same, above))) later
+    by_first false later = later
+
+-- and a number of the range is where it passes
+pub is_in : (p : ℕ → Bool) (first count number : ℕ) → first ≤ number → number < first + count → list_any (λ other. other == number) (filter p (range_with_len first count)) ≡ p number
+is_in p first zero number from to = absurd (omega (arith, from, to))
+is_in p first (suc count) number from to = elim (cases_lt first number) [
+  | inl above ↦ skip (p first) above (is_in p (first + 1) count number (omega (arith, above)) (omega (arith, to)))
+  | inr below ↦ let same : first ≡ number = omega (arith, below, from) in hit (p first) same (not_in p (first + 1) count number (omega (arith, same))) ∙ ap p same
+]
+  where
+    skip : (b : Bool) → first < number → list_any (λ other. other == number) (filter p (range_with_len (first + 1) count)) ≡ p number → list_any (λ other. other == number) (if b then (first ∷ filter p (range_with_len (first + 1) count)) else filter p (range_with_len (first + 1) count)) ≡ p number
+    skip true above later = ap (λ b. b || list_any (λ other. other == number) (filter p (range_with_len (first + 1) count))) (ne_eqb first number (λ same. omega (arith, same, above))) ∙ later
+    skip false above later = later
+
+    hit : (b : Bool) → first ≡ number → list_any (λ other. other == number) (filter p (range_with_len (first + 1) count)) ≡ false → list_any (λ other. other == number) (if b then (first ∷ filter p (range_with_len (first + 1) count)) else filter p (range_with_len (first + 1) count)) ≡ b
+    hit true same later = or_left (first == number) (list_any (λ other. other == number) (filter p (range_with_len (first + 1) count))) (eq-eqb first number same)
+    hit false same later = later
+
+-- functions that agree along a range have the same values, and the same sum
+pub map_agree : {B : Type 0} (f g : ℕ → B) (first count : ℕ) → ((n : ℕ) → first ≤ n → n < first + count → f n ≡ g n) → map f (range_with_len first count) ≡ map g (range_with_len first count)
+map_agree f g first zero same = refl
+map_agree f g first (suc count) same =
+    ap (λ x. x ∷ map f (range_with_len (first + 1) count)) (same first (omega arith) (omega arith))
+    ∙ ap (λ l. g first ∷ l) (map_agree f g (first + 1) count (λ n from to. same n (omega (arith, from)) (omega (arith, to))))
+
+pub sum_agree : (f g : ℕ → ℕ) (first count : ℕ) → ((n : ℕ) → first ≤ n → n < first + count → f n ≡ g n) → sum_by f (range_with_len first count) ≡ sum_by g (range_with_len first count)
+sum_agree f g first count same = sym (sum-map f (range_with_len first count)) ∙ ap sum (map_agree f g first count same) ∙ sum-map g (range_with_len first count)
+
+-- a summand is no more than its sum
+pub one_of_sum : (f : ℕ → ℕ) (first count n : ℕ) → first ≤ n → n < first + count → f n ≤ sum_by f (range_with_len first count)
+one_of_sum f first zero n low high = absurd (omega (arith, low, high))
+one_of_sum f first (suc count) n low high = elim (cases_lt first n) [
+  | inl later ↦ omega (arith, sum_by-cons f first (range_with_len (first + 1) count), one_of_sum f (first + 1) count n (omega (arith, later)) (omega (arith, high)))
+  | inr here ↦ let same : n ≡ first = omega (arith, here, low) in omega (arith, sum_by-cons f first (range_with_len (first + 1) count), ap f same)
+]
+
+-- functions with the same values along a range agree on it
+pub along_range : (f g : ℕ → ℕ) (first count : ℕ) → map f (range_with_len first count) ≡ map g (range_with_len first count) → (k : ℕ) → first ≤ k → k < first + count → f k ≡ g k
+along_range f g first zero same k from to = absurd (omega (arith, from, to))
+along_range f g first (suc count) same k from to =
+    ⊎_elim
+    (λ (later : first < k). along_range f g (first + 1) count (cc) k (omega (arith, later)) (omega (arith, to)))
+    (λ (here : k ≤ first).
+    let is : k ≡ first = omega (arith, here, from) in
+    ap f is ∙ (let head : f first ≡ g first = cc in head ∙ ap g (sym is)))
+    (cases_lt first k)
+
+-- one number more
+pub flat_more : {B : Type 0} (f : ℕ → List B) (start count : ℕ) → flat_map f (range_with_len start (suc count)) ≡ flat_map f (range_with_len start count) ++ f (start + count)
+flat_more f start zero = append-nil (f start) ∙ ap f (here start)
+  where
+    here : (n : ℕ) → n ≡ n + 0
+    here n = omega arith
+flat_more f start (suc count) =
+    ap (λ l. f start ++ l) (flat_more f (start + 1) count ∙ ap (λ n. flat_map f (range_with_len (start + 1) count) ++ f n) (next start count))
+    ∙ sym (append_assoc (f start) (flat_map f (range_with_len (start + 1) count)) (f (start + suc count)))
+  where
+    next : (a b : ℕ) → (a + 1) + b ≡ a + suc b
+    next a b = omega arith

@@ -1,5 +1,5 @@
 -- Lemmas on tests that are joined by and, or and not.
-use Rattle.std.proofs.Common.{Bool, ap, arith, false, if◌then◌else◌, not, refl, sym, true, ℕ, ◌&&◌, ◌<◌, ◌||◌, ◌↔◌, ◌∙◌, ◌≡◌, ◌⊎◌, ◌≤◌, inl, inr}
+use Rattle.std.proofs.Common.{Bool, ap, arith, false, if◌then◌else◌, inl, inr, not, refl, sym, true, ℕ, ◌&&◌, ◌+◌, ◌<◌, ◌||◌, ◌↔◌, ◌∙◌, ◌≡◌, ◌≤◌, ◌⊎◌}
 
 -- what never holds proves anything
 pub false_true : {A : Type 0} → false ≡ true → A
@@ -114,3 +114,47 @@ all_five false b c d e is_a is_b is_c is_d is_e = absurd (cc)
 -- what holds and fails proves any bound
 pub not_set : {b : Bool} (top : ℕ) → b ≡ true → b ≡ false → top ≤ 0
 not_set top set off = let different : true ≡ false = sym set ∙ off in absurd (cc)
+
+-- if the first test passes, so does the second
+pub implied : (a b : Bool) → (not a || b) ≡ true → a ≡ true → b ≡ true
+implied true b passes is = passes
+implied false b passes is = false_true is
+
+-- where the second of two tests does not follow from the first, the first holds
+pub first_holds : (b owes : Bool) → (not b || owes) ≡ false → b ≡ true
+first_holds true owes is = refl
+first_holds false owes is = absurd cc
+
+-- four tests in two pairs
+pub and_group : (a b c d : Bool) → (a && b && c && d) ≡ ((a && b) && (c && d))
+and_group true true c d = refl
+and_group true false c d = refl
+and_group false b c d = refl
+
+-- two tests in the other order
+pub and_swap : (a b : Bool) → (a && b) ≡ (b && a)
+and_swap true true = refl
+and_swap true false = refl
+and_swap false true = refl
+and_swap false false = refl
+
+-- nothing holds and does not
+pub and_not : (b : Bool) → (b && not b) ≡ false
+and_not true = refl
+and_not false = refl
+
+-- a choice by two tests that hold, by a test that is turned, and by two of which one does not hold
+pub if_both : {X : Type 0} (a b : Bool) (x y : X) → a ≡ true → b ≡ true → (if a && b then x else y) ≡ x
+if_both a b x y first second = ap (λ c. if c && b then x else y) first ∙ ap (λ c. if c then x else y) second
+
+pub if_not : {X : Type 0} (b : Bool) (x y : X) → (if not b then x else y) ≡ (if b then y else x)
+if_not true x y = refl
+if_not false x y = refl
+
+pub not_both : {X : Type 0} (a b : Bool) (x y : X) → b ≡ false → (if a && b then x else y) ≡ y
+not_both true b x y second = ap (λ c. if c then x else y) second
+not_both false b x y second = refl
+
+pub none_added : (b : Bool) (n rest : ℕ) → b ≡ false → rest ≡ 0 → (if b then n else 0) + rest ≡ 0
+none_added true n rest is none = absurd (cc)
+none_added false n rest is none = omega (arith, none)

@@ -21,14 +21,15 @@ use Rattle.hand_order.proofs.FallingRanks.{FallingFrom, falling_picked, picked_s
 use Rattle.hand_order.proofs.FittingChoices.{fits_counts, fitting, times_of_ranks}
 use Rattle.hand_order.proofs.Greatest.{Says, says_greatest}
 use Rattle.hand_order.proofs.Held.{every_chosen, held_chosen}
-use Rattle.hand_order.proofs.LowestLaws.{Pass, digits_within, empty_of, few_lowest, lowest_least, lowest_passes}
-use Rattle.hand_order.proofs.OwnRanks.{InRange, down, own_picked, pattern_of, several}
+use Rattle.hand_order.proofs.LowestLaws.{Pass, digits_within, few_lowest, lowest_least, lowest_passes}
+use Rattle.hand_order.proofs.OwnRanks.{InRange, all_down, down, own_picked, pattern_of, several}
 use Rattle.hand_order.proofs.PlainHands.{choice_within, ones_alone}
 use Rattle.hand_order.proofs.StraightBits.{Occur, ones_fit}
 use Rattle.hand_order.proofs.SuitedHands.{chosen_filter, every_filter, filter_chosen}
 use Rattle.low_rank.specs.EightLow.{is_qualified, points}
 use Rattle.low_rank.specs.Low.{low_points}
 use Rattle.low_rank.specs.LowLaw.{best_class}
+use Rattle.std.proofs.lemmas.List.{nil_from_length}
 
 -- the card is at most an eight
 abbrev pub is_low : Card → Bool
@@ -83,19 +84,15 @@ filter_passes q has turn (suc b) = by_test (q (suc b)) refl (filter_passes q has
     by_test true is rest = (turn (suc b) (omega arith) is, omega arith, rest)
     by_test false is rest = rest
 
-pub all_down : falling_heights ≡ down 14
-unfolding falling_heights
-all_down = refl
-
 -- the ranks of a hand without a pair occur once
 ones_only : (cards : List Card) → has_no_pair low_ace cards ≡ true → ranks_of low_ace cards ≡ occurring low_ace cards 1
 unfolding ranks_of
 ones_only cards none =
     let two = and_parts (ranks_occurring low_ace cards 4 == 0 && ranks_occurring low_ace cards 3 == 0) (ranks_occurring low_ace cards 2 == 0) none in
     let three = and_parts (ranks_occurring low_ace cards 4 == 0) (ranks_occurring low_ace cards 3 == 0) two.0 in
-    ap (λ (l : List ℕ). l ++ (occurring low_ace cards 3 ++ (occurring low_ace cards 2 ++ occurring low_ace cards 1))) (empty_of (occurring low_ace cards 4) (eqb-true (ranks_occurring low_ace cards 4) 0 three.0))
-    ∙ ap (λ (l : List ℕ). l ++ (occurring low_ace cards 2 ++ occurring low_ace cards 1)) (empty_of (occurring low_ace cards 3) (eqb-true (ranks_occurring low_ace cards 3) 0 three.1))
-    ∙ ap (λ (l : List ℕ). l ++ occurring low_ace cards 1) (empty_of (occurring low_ace cards 2) (eqb-true (ranks_occurring low_ace cards 2) 0 two.1))
+    ap (λ (l : List ℕ). l ++ (occurring low_ace cards 3 ++ (occurring low_ace cards 2 ++ occurring low_ace cards 1))) (nil_from_length (occurring low_ace cards 4) (eqb-true (ranks_occurring low_ace cards 4) 0 three.0))
+    ∙ ap (λ (l : List ℕ). l ++ (occurring low_ace cards 2 ++ occurring low_ace cards 1)) (nil_from_length (occurring low_ace cards 3) (eqb-true (ranks_occurring low_ace cards 3) 0 three.1))
+    ∙ ap (λ (l : List ℕ). l ++ occurring low_ace cards 1) (nil_from_length (occurring low_ace cards 2) (eqb-true (ranks_occurring low_ace cards 2) 0 two.1))
 
 five_ranks : (cards : List Card) → AreHeld 5 cards → has_no_pair low_ace cards ≡ true → ranks_occurring low_ace cards 1 ≡ 5
 five_ranks cards held none =

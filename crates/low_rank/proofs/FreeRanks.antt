@@ -10,6 +10,7 @@ use Rattle.hand_order.proofs.FallingRanks.{FallingFrom}
 use Rattle.hand_order.proofs.LowestLaws.{IsLeast, Pass, digits_within, few_lowest, lowest_least, lowest_passes, lowest_some}
 use Rattle.list_laws.proofs.Tests.{and_false, and_true}
 use Rattle.low_rank.specs.RazzBest.{both_ranks, class_ranks, first_ranks, is_free, is_height_of, lowest_ranks, often, often_ranks, seldom, seldom_ranks}
+use Rattle.hand_order.proofs.RankDigits.{AreDigits-append}
 
 -- how many heights pass a test, among as many from one on
 abbrev passing : (ℕ → Bool) → ℕ → ℕ → ℕ
@@ -136,10 +137,6 @@ both_at_most a b xs ys (inr lower) rest = inr (before a b lower)
     before (x ∷ a) (y ∷ b) (inl less) = inl less
     before (x ∷ a) (y ∷ b) (inr same) = inr (same.0, before a b same.1)
 
-pub digits_both : (xs ys : List ℕ) → AreDigits xs → AreDigits ys → AreDigits (xs ++ ys)
-digits_both [] ys digits others = others
-digits_both (x ∷ xs) ys digits others = (digits.0, digits_both xs ys digits.1 others)
-
 -- what passes one test passes another that is as easy
 pub pass_easier : (has easier : ℕ → Bool) (from : ℕ) (hs : List ℕ) → ((h : ℕ) → has h ≡ true → easier h ≡ true) → Pass has from hs → Pass easier from hs
 pass_easier has easier from [] turn pass = tt
@@ -200,7 +197,7 @@ both_least T m n o k a b less long_a long_b falls_a falls_b pass_a pass_b =
     at_most rest b (full ∙ sym long_b) digits_rest digits_b again.least) in
     record {
       long = omega (arith, length-append first rest, least.long, full);
-      least = number_at_most (first ++ rest) (a ++ b) (omega (arith, length-append first rest, length-append a b, least.long, full)) (digits_both first rest digits_first digits_rest) (digits_both a b digits_a digits_b) most;
+      least = number_at_most (first ++ rest) (a ++ b) (omega (arith, length-append first rest, length-append a b, least.long, full)) (AreDigits-append first rest digits_first digits_rest) (AreDigits-append a b digits_a digits_b) most;
     }
 
 -- the ranks of a shape that is a class's

@@ -21,8 +21,8 @@ use Rattle.hand_order.proofs.FallingRanks.{FallingFrom}
 use Rattle.hand_order.proofs.FittingChoices.{times_of_ranks}
 use Rattle.hand_order.proofs.Greatest.{Says, says_greatest}
 use Rattle.hand_order.proofs.Held.{held_chosen}
-use Rattle.hand_order.proofs.LowestLaws.{Pass, digits_within, empty_of}
-use Rattle.hand_order.proofs.OwnRanks.{down}
+use Rattle.hand_order.proofs.LowestLaws.{Pass, digits_within}
+use Rattle.hand_order.proofs.OwnRanks.{all_down, down}
 use Rattle.hand_order.proofs.PlainHands.{choice_within}
 use Rattle.hand_order.proofs.SameChoices.{none_chosen, with_first}
 use Rattle.hand_order.proofs.Shapes.{by_counts}
@@ -33,8 +33,10 @@ use Rattle.list_laws.proofs.Tests.{passes_or_not}
 use Rattle.low_rank.specs.Low.{low_points, low_table}
 use Rattle.low_rank.specs.Razz.{points}
 use Rattle.low_rank.specs.RazzBest.{HasClass, class_ranks, first_ranks, is_free, is_height_of, lowest_ranks, often, often_ranks, seldom, seldom_ranks}
-use Rattle.low_rank.proofs.EightBest.{all_down, falls_within, filter_falls, filter_passes}
-use Rattle.low_rank.proofs.FreeRanks.{both_least, digits_both, few_ranks, ranks_shape}
+use Rattle.low_rank.proofs.EightBest.{falls_within, filter_falls, filter_passes}
+use Rattle.low_rank.proofs.FreeRanks.{both_least, few_ranks, ranks_shape}
+use Rattle.std.proofs.lemmas.List.{nil_from_length}
+use Rattle.hand_order.proofs.RankDigits.{AreDigits-append}
 
 -- the lists of ranks by how often they occur have the shape of a class
 record HasShape (list : ℕ → List ℕ) (class : ℕ) : Type 0 where
@@ -48,16 +50,16 @@ abbrev Shaped : ℕ → ℕ → ℕ → ℕ → Type 0
 Shaped four three two one = (list : ℕ → List ℕ) → length (list 4) ≡ four → length (list 3) ≡ three → length (list 2) ≡ two → length (list 1) ≡ one → 4 * four + 3 * three + 2 * two + one ≡ 5 → HasShape list (place (low_table four three two))
 
 no_four : (list : ℕ → List ℕ) → length (list 4) ≡ 0 → list 4 ++ (list 3 ++ (list 2 ++ list 1)) ≡ list 3 ++ (list 2 ++ list 1)
-no_four list none = ap (λ (l : List ℕ). l ++ (list 3 ++ (list 2 ++ list 1))) (empty_of (list 4) none)
+no_four list none = ap (λ (l : List ℕ). l ++ (list 3 ++ (list 2 ++ list 1))) (nil_from_length (list 4) none)
 
 no_three : (list : ℕ → List ℕ) → length (list 4) ≡ 0 → length (list 3) ≡ 0 → list 4 ++ (list 3 ++ (list 2 ++ list 1)) ≡ list 2 ++ list 1
-no_three list four three = no_four list four ∙ ap (λ (l : List ℕ). l ++ (list 2 ++ list 1)) (empty_of (list 3) three)
+no_three list four three = no_four list four ∙ ap (λ (l : List ℕ). l ++ (list 2 ++ list 1)) (nil_from_length (list 3) three)
 
 shaped : (four three two one : ℕ) → 4 * four + 3 * three + 2 * two + one ≤ 5 → Shaped four three two one
 shaped = by_counts Shaped
-    (λ one list four three two single all. record { within = omega arith; same = ap (λ (l : List ℕ). list 4 ++ (l ++ (list 2 ++ list 1))) (empty_of (list 3) three) ∙ ap (λ (l : List ℕ). list 4 ++ (l ++ list 1)) (empty_of (list 2) two); first = four; others = omega (arith, single); less = (omega arith, omega arith) })
-    (λ one list four three two single all. record { within = omega arith; same = no_four list four ∙ ap (λ (l : List ℕ). list 3 ++ (list 2 ++ l)) (empty_of (list 1) (omega (arith, single))) ∙ ap (λ (l : List ℕ). list 3 ++ l) (append-nil (list 2)); first = three; others = two; less = (omega arith, omega arith) })
-    (λ one list four three two single all. record { within = omega arith; same = no_four list four ∙ ap (λ (l : List ℕ). list 3 ++ (l ++ list 1)) (empty_of (list 2) two); first = three; others = omega (arith, single); less = (omega arith, omega arith) })
+    (λ one list four three two single all. record { within = omega arith; same = ap (λ (l : List ℕ). list 4 ++ (l ++ (list 2 ++ list 1))) (nil_from_length (list 3) three) ∙ ap (λ (l : List ℕ). list 4 ++ (l ++ list 1)) (nil_from_length (list 2) two); first = four; others = omega (arith, single); less = (omega arith, omega arith) })
+    (λ one list four three two single all. record { within = omega arith; same = no_four list four ∙ ap (λ (l : List ℕ). list 3 ++ (list 2 ++ l)) (nil_from_length (list 1) (omega (arith, single))) ∙ ap (λ (l : List ℕ). list 3 ++ l) (append-nil (list 2)); first = three; others = two; less = (omega arith, omega arith) })
+    (λ one list four three two single all. record { within = omega arith; same = no_four list four ∙ ap (λ (l : List ℕ). list 3 ++ (l ++ list 1)) (nil_from_length (list 2) two); first = three; others = omega (arith, single); less = (omega arith, omega arith) })
     (λ one list four three two single all. record { within = omega arith; same = no_three list four three; first = two; others = omega (arith, single); less = (omega arith, omega arith) })
     (λ one list four three two single all. record { within = omega arith; same = no_three list four three; first = two; others = omega (arith, single); less = (omega arith, omega arith) })
     (λ one list four three two single all. record { within = omega arith; same = no_three list four three; first = two; others = omega (arith, single); less = (omega arith, omega arith) })
@@ -370,7 +372,7 @@ class_number T class few =
     let few_a = few_ranks (is_free T (often class) []) (often_ranks class) in
     let few_b = few_ranks (is_free T (seldom class) a) (seldom_ranks class) in
     number_below (a ++ b) (omega (arith, length-append a b, few_a, few_b, (of_class class few).few))
-    (digits_both a b (digits_within 14 a (omega arith) (ranks_shape (is_free T (often class) []) (often_ranks class)).0) (digits_within 14 b (omega arith) (ranks_shape (is_free T (seldom class) a) (seldom_ranks class)).0))
+    (AreDigits-append a b (digits_within 14 a (omega arith) (ranks_shape (is_free T (often class) []) (often_ranks class)).0) (digits_within 14 b (omega arith) (ranks_shape (is_free T (seldom class) a) (seldom_ranks class)).0))
 
 -- the points of the best class are the greatest
 pub razz_best : (T : ℕ → ℕ) (cards : List Card) (class : ℕ) → AllDifferent cards → 5 ≤ length cards → Counts T cards → class ≤ 5 → ((better : ℕ) → 0 ≤ better → better < class → HasClass T better → ⊥) → ((class ≡ 5) ⊎ HasClass T class) → Some (16 ^ 6 - class_above class (class_ranks T class)) ≡ greatest points (choices 5 cards)

@@ -1,5 +1,5 @@
 -- The three low orders are lawful.
-use Rattle.std.proofs.Common.{◌≡◌, ℕ, ◌-◌, ◌^◌, ◌<◌, ◌≤◌, Bool, true, false, cond, List, [], ◌∷◌, length, Some, None, IsSome, inl, inr, ◌↔◌, refl, sym, ◌∙◌, ap, subst, arith}
+use Rattle.std.proofs.Common.{◌≡◌, ℕ, ◌-◌, ◌^◌, ◌<◌, ◌≤◌, Bool, true, List, [], ◌∷◌, length, Some, inl, inr, ◌↔◌, refl, sym, ◌∙◌, ap, subst, arith}
 use Rattle.std.specs.List.{list_all}
 use Rattle.std.specs.Prelude.{nat_le}
 use Rattle.std.proofs.lemmas.Bool.{and_parts}
@@ -23,11 +23,13 @@ use Rattle.low_rank.specs.Low.{low_points, low_table}
 use Rattle.low_rank.specs.Razz as razz
 use Rattle.low_rank.specs.EightLow as eight
 use Rattle.low_rank.specs.DeuceSeven as deuce
+use Rattle.list_laws.proofs.Options.{some_where}
 
 -- how many ranks fewer than the cards decide in each class
 abbrev pub low_missing : List ℕ
 low_missing = 0 ∷ 1 ∷ 2 ∷ 2 ∷ 3 ∷ 3 ∷ []
 
+-- each class of low hands has the ranks that decide in it
 low_says : (four three two one : ℕ) → PlainSays low_table low_missing 5 5 four three two one
 low_says four three two one few =
     by_counts (PlainSays low_table low_missing 5 5)
@@ -45,9 +47,11 @@ low_ordered a b few same different_a different_b =
     ranked_low_law low_class (ranks_of low_ace) low_missing 5 (length b) a b (omega arith)
     (subst (λ (n : ℕ). IsRanked low_class (ranks_of low_ace) low_missing 5 n a) same (low_ranked a few different_a)) (low_ranked b (omega arith) different_b)
 
+-- the order of razz is lawful
 pub lawful_razz : IsLawful (AreHeld 5) razz.IsHand razz.IsWeaker razz.points
 lawful_razz = lawful_by_numbers (AreHeld 5) razz.IsWeaker low_points (λ a b held_a held_b. low_ordered a b (omega (arith, held_a.0)) (held_a.0 ∙ sym held_b.0) held_a.1 held_b.1)
 
+-- the order of deuce to seven is lawful: the weaker high hand is better
 pub lawful_deuce_seven : IsLawful (AreHeld 5) deuce.IsHand deuce.IsWeaker deuce.points
 lawful_deuce_seven = lawful_by_numbers (AreHeld 5) deuce.IsWeaker (λ cards. 16 ^ 6 - high_points straights.Nothing cards) (λ a b held_a held_b.
     let law = high_ordered straights.Nothing b a held_b held_a in
@@ -60,13 +64,11 @@ pub best_class : (cards : List Card) → has_no_pair low_ace cards ≡ true → 
 unfolding low_class
 best_class cards none = ap (λ (b : Bool). place (b ∷ has_one_pair low_ace cards ∷ has_two_pair low_ace cards ∷ has_three_of_a_kind low_ace cards ∷ has_full_house low_ace cards ∷ has_four_of_a_kind low_ace cards ∷ [])) none
 
+-- a hand with points qualifies, and has the number of its ranks
 qualified_points : (cards : List Card) (value : ℕ) → eight.points cards ≡ Some value → (eight.is_qualified cards ≡ true) × (low_points cards ≡ value)
 qualified_points cards value is = cond_some (eight.is_qualified cards) (low_points cards) value is
 
-points_there : (test : Bool) (value : ℕ) → IsSome (cond test (Some value) None) ↔ (test ≡ true)
-points_there true value = (λ some. refl, λ is. refl)
-points_there false value = (λ some. some, λ is. is)
-
+-- the points of low hands that qualify are less exactly where the hand is weaker
 eight_ordered : (a b : List Card) (low high : ℕ) → AreHeld 5 a → AreHeld 5 b → eight.points a ≡ Some low → eight.points b ≡ Some high → (low < high) ↔ eight.IsWeaker a b
 eight_ordered a b low high held_a held_b is_low is_high =
     let good_a = qualified_points a low is_low in
@@ -78,5 +80,6 @@ eight_ordered a b low high held_a held_b is_low is_high =
       λ weaker. let less = law.1 (inr (class_a ∙ sym class_b, weaker)) in omega (arith, good_a.1, good_b.1),
     )
 
+-- the order of eight or better is lawful
 pub lawful_eight_low : IsLawful (AreHeld 5) eight.IsHand eight.IsWeaker eight.points
-lawful_eight_low = lawful_by_order (AreHeld 5) eight.IsHand eight.IsWeaker eight.points (λ cards are. points_there (eight.is_qualified cards) (low_points cards)) eight_ordered
+lawful_eight_low = lawful_by_order (AreHeld 5) eight.IsHand eight.IsWeaker eight.points (λ cards held. some_where (eight.is_qualified cards) (low_points cards)) eight_ordered

@@ -6,11 +6,10 @@ ghost use Rattle.play_event.specs.Said.{kind_said};
 ghost use Rattle.play_event.specs.ValidSetup.{IsValid};
 ghost use Rattle.street_laws.specs.CardEvents.{is_card_said};
 
-use crate::setups::setup_of;
-use crate::words;
 use betting_core::{Betting, Moved};
 use card_set::read_slots;
 use chip_ledger::Seat;
+use hand_rows::{first_and_rest, seat_of, setup_of};
 use play_event::{Code, Due, Event, Illegal, Kind, Rules, Setup, Spelled, UpRow};
 use std::alloc::{AllocError, Global};
 use variant_table::{F2L3D, F7S, F7S8, FB, FO8, FR, FT, N2L1D, NS, NT, PO, Variant, is_valid};
@@ -72,7 +71,7 @@ fn answered<V: Variant>(
     up: &mut UpRow,
     event: &str,
 ) -> Result<String, AllocError> {
-    let (word, rest) = words::first_and_rest(event);
+    let (word, rest) = first_and_rest(event);
     match word.as_bytes() {
         b"dealt" => ended(alloc, betting),
         b"up" => shown(alloc, up, rest),
@@ -107,8 +106,8 @@ fn ended<V: Variant>(alloc: Global, betting: &mut Betting<V>) -> Result<String, 
 
 // Gives a seat its up-cards.
 fn shown(alloc: Global, up: &mut UpRow, words: &str) -> Result<String, AllocError> {
-    let (seat, cards) = words::first_and_rest(words);
-    let seat = words::seat_of(seat);
+    let (seat, cards) = first_and_rest(words);
+    let seat = seat_of(seat);
     let cards = read_slots(cards.as_bytes()).ok();
     match (seat, cards) {
         (Some(seat), Some(cards)) if seat.number <= up.seats => {
@@ -186,7 +185,7 @@ fn reason_text(alloc: Global, reason: Illegal) -> Result<String, AllocError> {
 fn move_of(word: &str, rest: &str) -> Option<Kind>
     ensures { IfSome result (λ kind. is_card_said (kind_said kind) ≡ false) }
 {
-    let (actor, rest) = words::first_and_rest(rest);
+    let (actor, rest) = first_and_rest(rest);
     let actor = actor_of(actor)?;
     match word.as_bytes() {
         b"fold" => Some(Kind::Fold { actor }),
@@ -207,7 +206,7 @@ fn move_of(word: &str, rest: &str) -> Option<Kind>
 fn actor_of(word: &str) -> Option<Option<Seat>> {
     match word.as_bytes() {
         b"-" => Some(None),
-        _ => Some(Some(words::seat_of(word)?)),
+        _ => Some(Some(seat_of(word)?)),
     }
 }
 
@@ -220,7 +219,7 @@ fn stated_of(word: &str) -> Option<Option<u64>> {
 }
 
 fn amount_of(words: &str) -> Option<Spelled> {
-    let (spelling, chips) = words::first_and_rest(words);
+    let (spelling, chips) = first_and_rest(words);
     match spelling.as_bytes() {
         b"to" => Some(Spelled::To(chips.parse::<u64>().ok()?)),
         b"added" => Some(Spelled::Added(chips.parse::<u64>().ok()?)),

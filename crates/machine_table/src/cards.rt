@@ -7,10 +7,10 @@ ghost use Rattle.play_event.specs.Said.{kind_said};
 ghost use Rattle.street_laws.specs.CardEvents.{is_showing};
 ghost use Rattle.street_laws.specs.Dues.{IsDueWithin};
 
-use crate::words;
 use card_set::{CardRow, Slot, SlotRow, read_slots, slot_text};
 use chip_ledger::{LiveRow, Seat};
 use deal_core::Cards;
+use hand_rows::{first_and_rest, seat_of};
 use play_event::{Code, Due, Event, Illegal, Kind};
 use std::alloc::{AllocError, Global};
 use variant_table::{F2L3D, F7S, F7S8, FB, FO8, FR, FT, N2L1D, NS, NT, PO, Variant};
@@ -20,7 +20,7 @@ pub fn answer_to(alloc: Global, row: &str) -> Result<Option<String>, AllocError>
     let Some((game, events)) = row.split_once(": ") else {
         return Ok(None);
     };
-    let (code, seats) = words::first_and_rest(game);
+    let (code, seats) = first_and_rest(game);
     let (Some(code), Ok(seats)) = (Code::read(code), seats.parse::<u8>()) else {
         return Ok(None);
     };
@@ -88,7 +88,7 @@ fn answered<V: Variant>(
     told: &mut Told,
     event: &str,
 ) -> Result<String, AllocError> {
-    let (word, rest) = words::first_and_rest(event);
+    let (word, rest) = first_and_rest(event);
     match word.as_bytes() {
         b"due" => {
             let Some(due) = due_of(rest) else {
@@ -115,7 +115,7 @@ fn answered<V: Variant>(
 
 // What is due by its words.
 fn due_of(text: &str) -> Option<Due> {
-    let (word, street) = words::first_and_rest(text);
+    let (word, street) = first_and_rest(text);
     match word.as_bytes() {
         b"Deal" => Some(Due::Deal(street.parse::<u8>().ok()?)),
         b"Draw" => Some(Due::Draw(street.parse::<u8>().ok()?)),
@@ -193,7 +193,7 @@ fn told_event<V: Variant>(
             ),
             None => no_event(alloc),
         },
-        b"muck" => match words::seat_of(rest) {
+        b"muck" => match seat_of(rest) {
             Some(seat) => shown(alloc, cards, told, Kind::Muck { seat }),
             None => no_event(alloc),
         },
@@ -206,8 +206,8 @@ fn no_event(alloc: Global) -> Result<String, AllocError> {
 }
 
 fn seat_and_slots(text: &str) -> Option<(Seat, SlotRow)> {
-    let (seat, slots) = words::first_and_rest(text);
-    Some((words::seat_of(seat)?, read_slots(slots.as_bytes()).ok()?))
+    let (seat, slots) = first_and_rest(text);
+    Some((seat_of(seat)?, read_slots(slots.as_bytes()).ok()?))
 }
 
 // The known cards of a row.
@@ -280,7 +280,7 @@ fn folded<V: Variant>(
     told: &mut Told,
     seat: &str,
 ) -> Result<String, AllocError> {
-    match words::seat_of(seat) {
+    match seat_of(seat) {
         Some(seat) if seat.number <= told.live.seats => {
             told.live.set(seat, false);
             cards.folded(seat);

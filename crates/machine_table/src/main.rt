@@ -4,9 +4,8 @@
 
 mod betting;
 mod cards;
-mod setups;
-mod words;
 
+use hand_rows::first_and_rest;
 use std::alloc::{AllocError, Global};
 use std::io;
 
@@ -33,7 +32,7 @@ fn answered(alloc: Global, row: &str) -> Result<String, AllocError> {
 
 // The answer of the machine that the first word names, none where the row has no meaning there.
 fn answer_to(alloc: Global, row: &str) -> Result<Option<String>, AllocError> {
-    let (machine, rest) = words::first_and_rest(row);
+    let (machine, rest) = first_and_rest(row);
     match machine.as_bytes() {
         b"betting" => betting::answer_to(alloc, rest),
         b"cards" => cards::answer_to(alloc, rest),

@@ -7,7 +7,7 @@ use Rattle.play_event.specs.declared.code.Code.TheVariants as games
 use Rattle.play_event.specs.Code.{code_text}
 use Rattle.phh_fields.specs.SetupFields.{all_games, game_named}
 
-own_code : (code : Code) → game_named (code_text code) ≡ Some code
+pub own_code : (code : Code) → game_named (code_text code) ≡ Some code
 unfolding game_named
 own_code games.FT = refl
 own_code games.NT = refl

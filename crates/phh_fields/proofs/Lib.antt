@@ -1,6 +1,5 @@
 -- Laws of what the fields of a hand say.
 pub mod Lists
-pub mod SetEach
 pub mod Zeros
 pub mod Taken
 pub mod Games

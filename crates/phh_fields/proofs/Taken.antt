@@ -1,5 +1,5 @@
 -- The amounts of a row are those of its seats, one after the other.
-use Rattle.std.proofs.Common.{◌≡◌, ℕ, zero, suc, ◌+◌, ◌-◌, ◌≤◌, ◌||◌, Bool, List, [], ◌∷◌, length, replicate, take, get_or, refl, ap, sym, ◌∙◌, arith}
+use Rattle.std.proofs.Common.{◌≡◌, ℕ, zero, suc, ◌+◌, ◌-◌, ◌≤◌, ◌||◌, Bool, List, [], ◌∷◌, length, take, get_or, refl, ap, sym, ◌∙◌, arith}
 use Rattle.std.specs.List.{list_any, range_with_len}
 
 seats_from : (p : ℕ → Bool) (row xs : List ℕ) (start n : ℕ) → n ≤ length xs → ((k : ℕ) → get_or row (start + k) 0 ≡ get_or xs k 0) → list_any p (take n xs) ≡ list_any (λ seat. p (get_or row (seat - 1) 0)) (range_with_len (start + 1) n)
@@ -14,13 +14,3 @@ seats_from p row (x ∷ xs) start (suc n) few same =
 -- some amount of the first seats passes a test where some seat's does
 pub any_seat : (p : ℕ → Bool) (row : List ℕ) (n : ℕ) → n ≤ length row → list_any p (take n row) ≡ list_any (λ seat. p (get_or row (seat - 1) 0)) (range_with_len 1 n)
 any_seat p row n few = seats_from p row row 0 n few (λ k. ap (λ j. get_or row j 0) (omega arith))
-
--- one more and one less
-pub plus_one_less_one : (n : ℕ) → n + 1 - 1 ≡ n
-plus_one_less_one n = omega arith
-
--- the first entries of a list of one value
-pub take_same : {A : Type 0} (x : A) (n m : ℕ) → n ≤ m → take n (replicate m x) ≡ replicate n x
-take_same x zero m few = refl
-take_same x (suc n) zero few = absurd (omega (arith, few))
-take_same x (suc n) (suc m) few = ap (λ rest. x ∷ rest) (take_same x n m (omega (arith, few)))

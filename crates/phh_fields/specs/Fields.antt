@@ -41,6 +41,7 @@ key_text keys.TimeZone = codes "time_zone"
 abbrev pub at_key : Key → Place
 at_key key = record { key = key; item = 0 }
 
+-- an item of the list of a key, counted from 1
 abbrev pub at_item : Key → ℕ → Place
 at_item key n = record { key = key; item = n }
 

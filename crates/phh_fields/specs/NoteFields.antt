@@ -89,6 +89,7 @@ or_none form (Some value) = form value
 abbrev pub names_from : List Data → Result (List (Option (List ℕ))) Fault
 names_from items = each_from (λ n value. text_note_said (default_name n) (at_item keys.Players n) value) 1 items
 
+-- the names of the players, none where the key does not stand
 unfoldable pub names_said : ℕ → Option Data → Result (List (Option (List ℕ))) Fault
 names_said count None = Ok (replicate count None)
 names_said count (Some value) = items_said count keys.Players value >>= names_from
@@ -97,9 +98,11 @@ names_said count (Some value) = items_said count keys.Players value >>= names_fr
 abbrev pub numbers_from : List Data → Result (List ℕ) Fault
 numbers_from items = each_from (λ n value. number_said 1 255 (at_item keys.Seats n) value) 1 items
 
+-- numbers of seats, none where they are the usual ones from 1 on
 abbrev pub unless_usual : ℕ → List ℕ → Option (List ℕ)
 unless_usual count numbers = if bytes_eq numbers (range_with_len 1 count) then None else Some numbers
 
+-- the numbers that the players have at the table
 unfoldable pub seats_said : ℕ → Data → Result (Option (List ℕ)) Fault
 seats_said count value = items_said count keys.Seats value >>= numbers_from >>= λ numbers. Ok (unless_usual count numbers)
 

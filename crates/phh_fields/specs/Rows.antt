@@ -40,6 +40,7 @@ ante_said stack place value = amount_said 0 MOST_CHIPS place value >>= λ ante. 
 abbrev pub antes_from : List ℕ → List Data → Result (List ℕ) Fault
 antes_from stacks items = each_from (λ n value. ante_said (slice_index stacks (n - 1)) (at_item keys.Antes n) value) 1 items
 
+-- the antes of the seats
 unfoldable pub antes_said : List ℕ → Data → Result (List ℕ) Fault
 antes_said stacks value = items_said (length stacks) keys.Antes value >>= antes_from stacks
 

@@ -29,6 +29,7 @@ pub record PlainSetup : Type 0 where
   pub blinds : List ℕ
   pub sizes : Sizes
 
+-- a setup as plain values
 abbrev pub plain_setup : Setup → PlainSetup
 plain_setup setup =
     record {

@@ -20,14 +20,15 @@ use Rattle.phh_reading.specs.Hand.{hand_said, rakes_at}
 use Rattle.phh_table.specs.Document.{hand_table}
 use Rattle.phh_table.specs.HandFields.{hand_field, hand_fields, label, local_time, names_field, number_field, numbers, rakes_field, script_of}
 use Rattle.phh_table.proofs.Puts.{field_at}
-use Rattle.phh_fields.proofs.Zeros.{cut_zeros, with_zeros}
+use Rattle.phh_fields.proofs.Zeros.{with_zeros}
 use Rattle.phh_format.specs.Readable.{IsReadable}
 use Rattle.phh_format.specs.Again.{hand_again, kept_name, notes_again}
-use Rattle.phh_format.proofs.RowsAgain.{IsBetween, amount_count, amounts_again, each_amount, each_taken, list_again, listed_again, number_data, row_again}
+use Rattle.phh_format.proofs.RowsAgain.{IsBetween, amount_count, amounts_again, each_amount, list_again, listed_again, number_data, row_again}
 use Rattle.phh_format.proofs.SetupAgain.{at, field_alone, setup_again}
 use Rattle.phh_format.proofs.NotesAgain.{calendar_again, name_again, said_again, table_again, text_note_again, time_again}
 use Rattle.phh_format.proofs.SeatingAgain.{names_again, seat_count_again, seats_again}
 use Rattle.phh_format.proofs.EventsAgain.{HaveRoom, counts_with, events_again}
+use Rattle.list_laws.proofs.Entries.{cut_zeros, each_taken}
 
 zero_taken : (n : ℕ) (all : List ℕ) → list_any (nat_lt 0) (take n all) ≡ false → (k : ℕ) → k < n → get_or all k 0 ≡ 0
 zero_taken zero all none k within = absurd (omega (arith, within))

@@ -17,6 +17,7 @@ use Rattle.phh_fields.specs.Fields.{number_said, kept_within, text_said}
 use Rattle.phh_fields.specs.NoteFields.{clock_said, is_in_calendar, label_said, note_said, noted, or_none, or_zero, text_note_said, time_said}
 use Rattle.phh_table.specs.HandFields.{hand_field, label, local_time, number_field, number_written}
 use Rattle.phh_format.specs.Again.{kept_name}
+use Rattle.list_laws.proofs.Tests.{implied}
 
 -- a text of a note that is not the default stays
 noted_again : (default text : List ℕ) → IsNoteText text → bytes_eq text default ≡ false → noted default text ≡ Some text
@@ -53,10 +54,6 @@ own_digits = record { to = λ digits all. all; from = λ digits all. all; same =
 none_is_some : {A : Type 0} {P : Type 0} {x : A} → None ≡ Some x → P
 none_is_some e = absurd (true≢false (ap is_some (sym e)))
 
-second_holds : (a b : Bool) → (not a || b) ≡ true → a ≡ true → b ≡ true
-second_holds true b either holds = either
-second_holds false b either holds = absurd (true≢false (sym holds))
-
 -- a number within the greatest is what its digits say
 of_number : (most : ℕ) (digits : List ℕ) (number : ℕ) → number_of most digits ≡ Some number → (digits_value 10 digits ≡ number) × (number ≤ most)
 unfolding number_of
@@ -79,7 +76,7 @@ number_is text number is = go (are_digits text && (not (slice_index text 0 == 48
         let parts = and_parts (are_digits text) (not (slice_index text 0 == 48) || (length text == 1)) test in
         let digits = and_parts (nat_lt 0 (length text)) (list_all (λ sign. is_digit sign 10) text) parts.0 in
         let value = of_number 999999999999999999 text number found in
-        let no_zero : slice_index text 0 ≡ 48 → length text ≡ 1 = λ zero_first. eqb-true (length text) 1 (second_holds (slice_index text 0 == 48) (length text == 1) parts.1 (eq-eqb (slice_index text 0) 48 zero_first)) in
+        let no_zero : slice_index text 0 ≡ 48 → length text ≡ 1 = λ zero_first. eqb-true (length text) 1 (implied (slice_index text 0 == 48) (length text == 1) parts.1 (eq-eqb (slice_index text 0) 48 zero_first)) in
         let small : digits_value 10 text < 2 ^ 64 = omega (arith, value.0, value.1) in
         ap decimal (sym value.0) ∙ decimal-digits_value own_digits text (all_digits text digits.1) (ltb-true 0 (length text) digits.0) no_zero small
 

@@ -1,5 +1,5 @@
 -- Lists of numbers that were written read back as these numbers.
-use Rattle.std.proofs.Common.{◌≡◌, ℕ, zero, suc, ◌+◌, ◌≤◌, ◌<◌, List, [], ◌∷◌, length, map, take, get_or, pos, Ok, refl, ap, subst, ◌∙◌, arith}
+use Rattle.std.proofs.Common.{◌≡◌, ℕ, ◌+◌, ◌≤◌, List, [], ◌∷◌, length, map, get_or, pos, Ok, refl, ap, subst, ◌∙◌, arith}
 use Rattle.std.specs.List.{AllByRecursion}
 use Rattle.std.proofs.lemmas.Bool.{le-leb, eq-eqb}
 use Rattle.std.proofs.lemmas.List.{length-map, length-take}
@@ -13,6 +13,7 @@ use Rattle.phh_fields.specs.declared.fault.Place.{Place}
 use Rattle.phh_fields.specs.Fields.{amount_said, at_item, items_said, kept_within, list_said, listed}
 use Rattle.phh_fields.specs.Rows.{amounts_in, amounts_said, row_said}
 use Rattle.phh_table.specs.HandFields.{numbers}
+use Rattle.list_laws.proofs.Entries.{each_taken}
 
 -- the items of a list, in order
 pub listed_again : (all : List Data) → listed (items_of all) ≡ all
@@ -54,11 +55,6 @@ items_again seats key all count = rw (list_again (record { key = key; item = 0 }
 pub row_again : (seats most : ℕ) (key : Key) (all : List ℕ) → length all ≡ seats → AllByRecursion (IsBetween 0 most) all → row_said seats most key (numbers all) ≡ Ok all
 unfolding row_said
 row_again seats most key all count each = rw (items_again seats key all count) (amounts_again 0 most key all each)
-
-pub each_taken : (P : ℕ → Type 0) (n : ℕ) (all : List ℕ) → n ≤ length all → ((k : ℕ) → k < n → P (get_or all k 0)) → AllByRecursion P (take n all)
-each_taken P zero all within each = tt
-each_taken P (suc n) [] within each = absurd (omega (arith, within))
-each_taken P (suc n) (x ∷ rest) within each = (each 0 (omega arith), each_taken P n rest (omega (arith, within)) (λ k h. each (suc k) (omega (arith, h))))
 
 -- what holds for the amount of each seat holds for the amounts of the row
 pub each_amount : (P : ℕ → Type 0) (row : SeatRow) → ((seat : ℕ) → 1 ≤ seat → seat ≤ row.seats → P (amount_of row seat)) → AllByRecursion P (amounts_in row)

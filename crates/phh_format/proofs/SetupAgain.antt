@@ -6,10 +6,8 @@ use Rattle.std.proofs.lemmas.List.{length-map}
 use Rattle.toml.specs.Data.{Data, integer, Members}
 use Rattle.chip_ledger.specs.declared.numbers.TheConstants.{MOST_CHIPS}
 use Rattle.chip_ledger.specs.SeatRow.{amount_of}
-use Rattle.play_event.specs.declared.code.Code.{Code}
 use Rattle.play_event.specs.declared.code.Code.TheVariants as games
 use Rattle.play_event.specs.declared.setup.Setup.{Setup}
-use Rattle.play_event.specs.Code.{code_text}
 use Rattle.play_event.specs.Games.{game_of}
 use Rattle.play_event.specs.Streets.{is_stud, limit_of}
 use Rattle.play_event.specs.ValidSetup.{IsSizeWhere, IsValid, is_fixed}
@@ -19,26 +17,13 @@ use Rattle.phh_fields.specs.declared.fault.Key.{Key}
 use Rattle.phh_fields.specs.declared.fault.Key.TheVariants as keys
 use Rattle.phh_fields.specs.Fields.{at_item, at_key, field, flag_said, key_text, needed, text_said}
 use Rattle.phh_fields.specs.Rows.{amounts_in, ante_said, antes_said, posted, stacks_said}
-use Rattle.phh_fields.specs.SetupFields.{are_dead, blinds_said, game_named, plain_setup, setup_said, size_said, sizes_said, trimming_said, variant_said}
+use Rattle.phh_fields.specs.SetupFields.{are_dead, blinds_said, plain_setup, setup_said, size_said, sizes_said, trimming_said, variant_said}
 use Rattle.phh_table.specs.Document.{hand_table}
 use Rattle.phh_table.specs.HandFields.{blinds_written, hand_fields, numbers, size_field}
 use Rattle.phh_table.proofs.Puts.{field_at, get_member-table_of, or_later}
 use Rattle.phh_fields.proofs.Taken.{any_seat}
 use Rattle.phh_format.proofs.RowsAgain.{IsBetween, amount_again, amount_count, amounts_again, each_amount, items_again, list_again, number_data, row_again}
-
-game_again : (code : Code) → game_named (code_text code) ≡ Some code
-unfolding game_named
-game_again games.FT = refl
-game_again games.NT = refl
-game_again games.NS = refl
-game_again games.PO = refl
-game_again games.FO8 = refl
-game_again games.F7S = refl
-game_again games.F7S8 = refl
-game_again games.FR = refl
-game_again games.N2L1D = refl
-game_again games.F2L3D = refl
-game_again games.FB = refl
+use Rattle.phh_fields.proofs.Games.{own_code}
 
 -- an ante that is no more than the stack stands as it is
 ante_again : (stack ante n : ℕ) → ante ≤ stack → ante ≤ MOST_CHIPS → ante_said stack (at_item keys.Antes n) (integer (pos ante)) ≡ Ok ante
@@ -125,7 +110,7 @@ module _ (place : ℕ) (play : Play) (valid : IsValid play.trace.setup) where
 
   variant_again : (needed keys.Variant members >>= variant_said) ≡ Ok setup.code
   unfolding needed variant_said text_said
-  variant_again = rw (at keys.Variant, game_again setup.code) refl
+  variant_again = rw (at keys.Variant, own_code setup.code) refl
 
   stacks_count : length (amounts_in setup.stacks) ≡ setup.stacks.seats
   stacks_count = amount_count setup.stacks

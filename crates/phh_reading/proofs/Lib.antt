@@ -2,5 +2,4 @@
 pub mod NumberOrder
 pub mod Placing
 pub mod Counting
-pub mod Tables
 pub mod Documents

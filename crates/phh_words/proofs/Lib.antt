@@ -3,5 +3,4 @@ pub mod LetterLaws
 pub mod PartsAgain
 pub mod SaidAgain
 pub mod SeatLaws
-pub mod WordLaws
 pub mod WordsAgain

@@ -14,7 +14,7 @@ use Rattle.card_set.specs.declared.card.Suit.{Suit}
 use Rattle.card_set.specs.declared.card.Suit.TheVariants as suits
 use Rattle.card_set.specs.declared.card.Slot.{Slot}
 use Rattle.card_set.specs.declared.card.Slot.TheVariants as slots
-use Rattle.card_set.specs.Known.{is_unknown, known_cards, known_slots}
+use Rattle.card_set.specs.Known.{is_unknown, known_slots}
 use Rattle.card_set.specs.Spelling.{rank_letter, spelling, suit_letter}
 use Rattle.chip_ledger.specs.declared.numbers.TheConstants.{MOST_CHIPS}
 use Rattle.first_fault.specs.Digits.{are_digits, number_of}
@@ -22,6 +22,7 @@ use Rattle.phh_words.specs.Action.{amount_said, cards_said, seat_named, seat_sai
 use Rattle.phh_words.specs.Words.{seat_name}
 use Rattle.phh_words.proofs.CardLaws.{slots_read}
 use Rattle.phh_words.proofs.WordsAgain.{IsWord, is_plain}
+use Rattle.card_set.proofs.KnownCards.{all_known}
 
 -- digits are bytes of a word
 digit_plain : (sign : ℕ) → digit_value sign < 10 → is_plain sign ≡ true
@@ -127,10 +128,6 @@ slots_again most cards some few = slots_read most (spelling cards) cards refl �
 none_unknown : (cards : List Card) → list_any is_unknown (known_slots cards) ≡ false
 none_unknown [] = refl
 none_unknown (card ∷ rest) = none_unknown rest
-
-all_known : (cards : List Card) → known_cards (known_slots cards) ≡ cards
-all_known [] = refl
-all_known (card ∷ rest) = ap (λ (cards : List Card). card ∷ cards) (all_known rest)
 
 -- cards that are spelled are those cards
 pub cards_again : (most : ℕ) (cards : List Card) → 1 ≤ length cards → length cards ≤ most → cards_said most (spelling (known_slots cards)) ≡ Ok cards

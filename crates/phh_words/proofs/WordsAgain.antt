@@ -1,7 +1,7 @@
 -- Words that are written with a space between two read back as these words.
-use Rattle.std.proofs.Common.{◌≡◌, ℕ, ◌<◌, Bool, true, false, ◌&&◌, ◌==◌, not, true≢false, nat_lt, List, [], ◌∷◌, length, get_or, filter, take_all, All, refl, sym, ap, ◌∙◌, arith}
+use Rattle.std.proofs.Common.{◌≡◌, ℕ, ◌<◌, Bool, true, false, ◌&&◌, ◌==◌, not, nat_lt, List, [], ◌∷◌, length, get_or, filter, take_all, All, refl, ap, ◌∙◌, arith}
 use Rattle.std.specs.List.{slice_split, join_with_byte, list_all, position_or_len, AllByRecursion}
-use Rattle.std.proofs.lemmas.Bool.{and_parts, lt-ltb}
+use Rattle.std.proofs.lemmas.Bool.{and_parts, lt-ltb, not-true}
 use Rattle.std.proofs.lemmas.List.Folds.{list_all-append}
 use Rattle.std.proofs.lemmas.List.Splits.{slice_split_at, slice_split_none}
 use Rattle.std.proofs.lemmas.List.Sums.{AllPass-from_list_all, position_or_len_is}
@@ -16,14 +16,10 @@ pub record IsWord (word : List ℕ) : Type 0 where
   pub some : 0 < length word
   pub plain : list_all is_plain word ≡ true
 
-off : (b : Bool) → not b ≡ true → b ≡ false
-off false on = refl
-off true on = absurd (true≢false (sym on))
-
 no_space : (word : List ℕ) → list_all is_plain word ≡ true → All (λ sign. divides sign ≡ false) word
 no_space word plain k d within =
     let sign = get_or word k d in
-    off (divides sign) (and_parts (not (divides sign)) (not (sign == commentary_sign)) (AllPass-from_list_all is_plain word plain k d within)).0
+    not-true (divides sign) (and_parts (not (divides sign)) (not (sign == commentary_sign)) (AllPass-from_list_all is_plain word plain k d within)).0
 
 kept : (word : List ℕ) (parts : List (List ℕ)) → IsWord word → filter (λ part. nat_lt 0 (length part)) (word ∷ parts) ≡ word ∷ filter (λ part. nat_lt 0 (length part)) parts
 kept word parts is = rw (lt-ltb 0 (length word) is.some) refl
@@ -55,7 +51,7 @@ all_said (word ∷ next ∷ more) each =
 
 uncommented : (text : List ℕ) → list_all is_said text ≡ true → before_commentary text ≡ text
 uncommented text all =
-    let none = λ (k : ℕ) (within : k < length text). off (get_or text k 0 == commentary_sign) (AllPass-from_list_all is_said text all k 0 within) in
+    let none = λ (k : ℕ) (within : k < length text). not-true (get_or text k 0 == commentary_sign) (AllPass-from_list_all is_said text all k 0 within) in
     let whole : position_or_len (λ sign. sign == commentary_sign) text ≡ length text =
     position_or_len_is (λ sign. sign == commentary_sign) text (length text) 0 (omega arith) none (λ within. absurd (omega (arith, within))) in
     rw whole (take_all (length text) text (omega arith))

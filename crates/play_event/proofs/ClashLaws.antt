@@ -1,9 +1,9 @@
 -- No legal event makes two places clash.
 use Rattle.std.proofs.Common.{◌≡◌, ◌≢◌, ℕ, ◌+◌, ◌≤◌, ◌==◌, Bool, true, false, ◌&&◌, ◌||◌, not, inl, inr, ◌⊎◌, Option, Some, None, is_some, List, [], ◌∷◌, ◌++◌, length, count_by, refl, sym, ◌∙◌, ap, subst, arith}
 use Rattle.std.specs.List.{list_any}
-use Rattle.std.proofs.lemmas.Bool.{or_parts, le-leb, eqb-true}
+use Rattle.std.proofs.lemmas.Bool.{or_parts, le-leb}
 use Rattle.std.proofs.Math.Bool.{or_comm}
-use Rattle.list_laws.proofs.Numbers.{eq_true_both}
+use Rattle.list_laws.proofs.Numbers.{different_number, eq_true_both}
 use Rattle.list_laws.proofs.Tests.{and_false, false_true}
 use Rattle.card_set.specs.declared.card.Slot.{Slot}
 use Rattle.card_set.specs.declared.card.Slot.TheVariants as slots
@@ -30,14 +30,6 @@ pub not_at : (p : Place → Bool) (placed : List Place) (place : Place) → list
 not_at p [] place none among = absurd among
 not_at p (first ∷ rest) place none (inl is) = ap p (sym is) ∙ (or_parts (p first) (list_any p rest) none).0
 not_at p (first ∷ rest) place none (inr later) = not_at p rest place (or_parts (p first) (list_any p rest) none).1 later
-
--- an event that keeps each place, and by which no card that became known is misplaced
-different_by : (other mine : ℕ) → mine ≢ other → (b : Bool) → (other == mine) ≡ b → (other == mine) ≡ false
-different_by other mine differ true same = absurd (differ (sym (eqb-true other mine same)))
-different_by other mine differ false same = same
-
-different_number : (other mine : ℕ) → mine ≢ other → (other == mine) ≡ false
-different_number other mine differ = different_by other mine differ (other == mine) refl
 
 fresh_fits : (code : Code) (before after : List Place) (a b : Place) → has_misplaced_card code before after ≡ false → IsAmong (newly_known before after) a → IsAmong after b → a.number ≢ b.number → is_clash a b ≡ false
 fresh_fits code before after a b fits fresh among differ =

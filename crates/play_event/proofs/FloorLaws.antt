@@ -1,7 +1,7 @@
 -- In no limit and pot limit the least raise that is not all-in goes above the price, and no further above it than a full raise.
 use Rattle.std.proofs.Common.{◌≡◌, ℕ, zero, suc, ◌+◌, ◌-◌, ◌*◌, ◌<◌, ◌≤◌, ◌==◌, Bool, true, false, ◌&&◌, ◌||◌, not, inl, inr, ◌⊎◌, min, max, nat_le, nat_lt, Option, Some, None, List, [], ◌∷◌, ◌++◌, map, find, refl, sym, ◌∙◌, ap, subst, arith, cond, if◌then◌else◌}
 use Rattle.std.specs.List.{list_any, range_with_len}
-use Rattle.std.proofs.lemmas.Bool.{cases_lt, and_parts, or_left, or_right, ltb-true, ltb-false, leb-true, le-leb, eqb-true, eq-eqb, or_cases}
+use Rattle.std.proofs.lemmas.Bool.{and_parts, cases_lt, eq-eqb, eqb-true, le-leb, leb-true, ltb-false, ltb-true, not-false, or_cases, or_left, or_right}
 use Rattle.std.proofs.lemmas.List.Folds.{list_any-append}
 use Rattle.std.proofs.lemmas.Option.{same_Some}
 use Rattle.list_laws.proofs.Options.{some_is_none}
@@ -45,6 +45,7 @@ use Rattle.play_event.proofs.MoverLaws.{mover_is_able, found_in_turn}
 use Rattle.play_event.proofs.ReasonLaws.{no_reason_holds}
 use Rattle.play_event.proofs.StreetLaws.{due_is_first}
 use Rattle.play_event.proofs.TargetLaws.{greatest_is_legal}
+use Rattle.list_laws.proofs.NumbersOfRange.{any_in_range}
 
 -- the greatest of some numbers, each of which is bounded by another or by one bound
 greatest_within : (f g : ℕ → ℕ) (bound : ℕ) → ((x : ℕ) → g x ≤ max (f x) bound) → (xs : List ℕ) → greatest (map g xs) ≤ max (greatest (map f xs)) bound
@@ -271,15 +272,6 @@ some_passes p first (suc count) any = elim (or_cases (p first) (list_any p (rang
   | inr later ↦ let found = some_passes p (first + 1) count later in record { seat = found.seat; low = omega (arith, found.low); high = omega (arith, found.high); passes = found.passes }
 ]
 
-any_passes : (p : ℕ → Bool) (first count seat : ℕ) → first ≤ seat → seat < first + count → p seat ≡ true → list_any p (range_with_len first count) ≡ true
-any_passes p first zero seat low high passes = absurd (omega (arith, low, high))
-any_passes p first (suc count) seat low high passes = elim (cases_lt first seat) [
-  | inl later ↦ or_right (p first) (list_any p (range_with_len (first + 1) count)) (any_passes p (first + 1) count seat (omega (arith, later)) (omega (arith, high)) passes)
-  | inr now ↦
-      let same : seat ≡ first = omega (arith, low, now) in
-      or_left (p first) (list_any p (range_with_len (first + 1) count)) (ap p (sym same) ∙ passes)
-]
-
 -- going round from any seat, some seat passes where some seat of the hand does
 round_passes : (p : ℕ → Bool) (setup : Setup) (start : ℕ) → list_any p (all_seats setup) ≡ true → list_any p (seats_from setup start) ≡ true
 round_passes p setup start any =
@@ -287,8 +279,8 @@ round_passes p setup start any =
     let first = range_with_len start (setup.stacks.seats + 1 - start) in
     let second = range_with_len 1 (start - 1) in
     list_any-append p first second ∙ elim (cases_lt found.seat start) [
-      | inl before ↦ or_right (list_any p first) (list_any p second) (any_passes p 1 (start - 1) found.seat found.low (omega (arith, before, found.low)) found.passes)
-      | inr from ↦ or_left (list_any p first) (list_any p second) (any_passes p start (setup.stacks.seats + 1 - start) found.seat from (omega (arith, from, found.high)) found.passes)
+      | inl before ↦ or_right (list_any p first) (list_any p second) (any_in_range p 1 (start - 1) found.seat found.low (omega (arith, before, found.low)) found.passes)
+      | inr from ↦ or_left (list_any p first) (list_any p second) (any_in_range p start (setup.stacks.seats + 1 - start) found.seat from (omega (arith, from, found.high)) found.passes)
     ]
 
 -- in a game with blinds somebody is in turn where a move is due, and it is a seat of the hand
@@ -378,7 +370,7 @@ bet_by false false true move street due is bet = inl refl
 bet_by false false false true street due is bet = inr refl
 bet_by false false false false street due is bet = absurd (some_is_none (sym is))
 
-bet_unfinished : (due : Due) → is_bet_due due ≡ true → is_unfinished due ≡ true
+pub bet_unfinished : (due : Due) → is_bet_due due ≡ true → is_unfinished due ≡ true
 bet_unfinished dues.BringIn is = refl
 bet_unfinished dues.Move is = refl
 bet_unfinished (dues.Deal street) is = false_true is
@@ -413,17 +405,13 @@ pub may_come_by : (kind other : Bool) → not (kind || (false && other)) ≡ fal
 may_come_by true other is = refl
 may_come_by false other is = sym is
 
-pub not_false : (b : Bool) → not b ≡ false → b ≡ true
-not_false true is = refl
-not_false false is = sym is
-
 -- a legal raise is of a seat of the hand
 mover_of : (setup : Setup) (moves : List Move) (named : Option ℕ) (turn : InTurn) → is_other_seat setup moves named turn ≡ false → is_undecided turn ≡ false → (turn ≡ TheSeat (actor_of named turn)) ⊎ (turn ≡ NoSeat)
 mover_of setup moves named Undecided own known = false_true (sym known)
 mover_of setup moves (Some seat) NoSeat own known = false_true (sym own)
 mover_of setup moves None NoSeat own known = inr refl
 mover_of setup moves None (TheSeat other) own known = inl refl
-mover_of setup moves (Some seat) (TheSeat other) own known = inl (ap TheSeat (sym (eqb-true seat other (not_false (seat == other) own))))
+mover_of setup moves (Some seat) (TheSeat other) own known = inl (ap TheSeat (sym (eqb-true seat other (not-false (seat == other) own))))
 
 -- a legal target goes above the price
 legal_by : (legal below above : Bool) → (not legal && below) ≡ false → (below ≡ false → above ≡ false → legal ≡ true) → above ≡ false → legal ≡ true
@@ -463,7 +451,7 @@ module _ (setup : Setup) (rules : Rules) (blinds : is_stud setup.code ≡ false)
       let reasons = no_reason_holds setup rules before (said.Raise named amount) legal in
       let bet = raise_bet setup.code named amount due (may_come_by (is_due_kind setup.code due (said.Raise named amount)) (is_settled setup moves (turn setup before)) reasons.1.0) in
       let due_move = move_is_due setup before blinds bet in
-      let may = not_false (may_raise setup rules moves street seat) reasons.1.1.1.1.1.1.1.1.0 in
+      let may = not-false (may_raise setup rules moves street seat) reasons.1.1.1.1.1.1.1.1.0 in
       let chips = ltb-true (price setup moves street) (all_in setup moves street seat) (and_parts (has_able_opponent setup moves seat) (nat_lt (price setup moves street) (all_in setup moves street seat)) (and_parts (has_able_opponent setup moves seat && nat_lt (price setup moves street) (all_in setup moves street seat)) (is_within_cap rules.caps moves street) (and_parts (has_able_opponent setup moves seat && nat_lt (price setup moves street) (all_in setup moves street seat) && is_within_cap rules.caps moves street) (is_reopened rules.reopen setup moves street seat) may).0).0).1 in
       let target_legal = legal_by (is_legal_target rules.reopen setup moves street seat target) (nat_lt target (greatest_target setup moves street seat)) (nat_lt (greatest_target setup moves street seat) target) reasons.1.1.1.1.1.1.1.1.1.0 (is_legal_by rules.reopen setup moves street seat target) reasons.1.1.1.1.1.1.1.1.1.1.0 in (
         target_above (limit_of setup.code) rules.reopen setup moves street seat target bounded (floor_above rules.reopen setup moves street some fits) some chips target_legal,

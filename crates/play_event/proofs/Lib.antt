@@ -14,3 +14,8 @@ pub mod ScriptLaws
 pub mod PackedScripts
 pub mod SpellingLaws
 pub mod StakeLaws
+pub mod OpenerOrder
+pub mod StillAble
+pub mod DueStreets
+pub mod DealingLaws
+pub mod SaidSoFar

@@ -1,7 +1,6 @@
 -- The seat whose turn it is has a move to make, and so is able.
-use Rattle.std.proofs.Common.{◌≡◌, ℕ, Bool, true, false, Option, Some, None, List, [], ◌∷◌, find, refl, sym, ◌∙◌, ap, nat_lt, nat_le, ◌||◌, if◌then◌else◌}
+use Rattle.std.proofs.Common.{◌≡◌, ℕ, Bool, true, false, Option, Some, None, List, find, sym, ap, nat_lt, nat_le, ◌||◌, if◌then◌else◌}
 use Rattle.std.proofs.lemmas.Bool.{and_parts}
-use Rattle.std.proofs.lemmas.Option.{same_Some}
 use Rattle.list_laws.proofs.Options.{some_is_none}
 use Rattle.play_event.specs.declared.setup.Setup.{Setup}
 use Rattle.play_event.specs.Streets.{opener_of}
@@ -11,15 +10,7 @@ use Rattle.play_event.specs.Price.{owed}
 use Rattle.play_event.specs.Due.{has_to_move, has_moved_since_rise}
 use Rattle.play_event.specs.Openers.{InTurn, NoSeat, TheSeat, Undecided, in_turn, UpCards, opener_by}
 use Rattle.play_event.specs.Mover.{mover, first_in_turn, next_in_turn, seats_from}
-
--- what is found passes
-found_at : (p : ℕ → Bool) (first : ℕ) (rest : List ℕ) (seat : ℕ) (b : Bool) → p first ≡ b → (find p rest ≡ Some seat → p seat ≡ true) → (if b then Some first else find p rest) ≡ Some seat → p seat ≡ true
-found_at p first rest seat true here later is = ap p (sym (same_Some first seat is)) ∙ here
-found_at p first rest seat false here later is = later is
-
-pub found_passes : (p : ℕ → Bool) (seats : List ℕ) (seat : ℕ) → find p seats ≡ Some seat → p seat ≡ true
-found_passes p [] seat is = absurd (some_is_none (sym is))
-found_passes p (first ∷ rest) seat is = found_at p first rest seat (p first) refl (found_passes p rest seat) is
+use Rattle.list_laws.proofs.Finding.{found_passes}
 
 seat_of : InTurn → Option ℕ
 seat_of NoSeat = None

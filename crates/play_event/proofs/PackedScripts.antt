@@ -1,6 +1,6 @@
 -- A script grows by the packed form of an event, and a cursor over it gives its events one after the other.
-use Rattle.std.proofs.Common.{◌≡◌, ℕ, zero, suc, ◌+◌, ◌<◌, ◌≤◌, List, [], ◌∷◌, ◌++◌, length, drop, slice_get, Option, Some, None, refl, sym, ◌∙◌, ap, arith, append_assoc, length-append}
-use Rattle.std.specs.Prelude.{IfNone, IfSome, Result, Ok, Err, OnErr}
+use Rattle.std.proofs.Common.{◌≡◌, ℕ, ◌+◌, ◌<◌, ◌≤◌, List, [], ◌∷◌, ◌++◌, length, drop, slice_get, Option, Some, None, refl, sym, ◌∙◌, ap, arith, append_assoc, length-append}
+use Rattle.std.specs.Prelude.{IfNone, IfSome}
 use Rattle.std.proofs.lemmas.Option.{some_pair_parts}
 use Rattle.std.proofs.lemmas.List.{append-nil, length-drop}
 use Rattle.play_event.specs.declared.event.Event.{Event}
@@ -10,6 +10,7 @@ use Rattle.play_event.specs.PackedReading.{event_at}
 use Rattle.play_event.specs.Said.{Numbered, numbered}
 use Rattle.play_event.specs.PackedScript.{PackedScript}
 use Rattle.play_event.specs.PackedOnce.{event_again, event_same, events_same}
+use Rattle.list_laws.proofs.Entries.{drop_first}
 
 -- where bytes are the packed form of events, they are the events of the bytes
 pub events_are : (bytes : List ℕ) (script : PackedScript bytes) (events : List Event) → AreEvents events → bytes ≡ packed_events events → script.events ≡ events
@@ -103,26 +104,7 @@ nothing_left bytes (first ∷ later) fit packed read =
 pub none_read : (bytes : List ℕ) (script : PackedScript bytes) → None ≡ event_at bytes → script.events ≡ []
 none_read bytes script read = nothing_left bytes script.events script.fit script.packed read
 
-pub on_none : {A : Type 0} (found : Option A) (P : Type 0) → P → IfNone found P
-on_none None P p = p
-on_none (Some x) P p = tt
-
-pub on_err : {A B : Type 0} (answer : Result A B) (P : Type 0) → P → OnErr answer P
-on_err (Ok x) P p = tt
-on_err (Err e) P p = p
-
 -- ---- the event at an index
-
-pub drop_first : {A : Type 0} (xs rest : List A) (index : ℕ) (x : A) → drop index xs ≡ x ∷ rest → (slice_get xs index ≡ Some x) × (drop (index + 1) xs ≡ rest)
-drop_first [] rest zero x is = absurd cc
-drop_first [] rest (suc index) x is = absurd cc
-drop_first (y ∷ ys) rest zero x is = (cc, cc)
-drop_first (y ∷ ys) rest (suc index) x is =
-    let later = drop_first ys rest index x is in
-    (later.0, ap (λ n. drop n (y ∷ ys)) (suc_later index) ∙ later.1)
-  where
-    suc_later : (n : ℕ) → suc n + 1 ≡ suc (n + 1)
-    suc_later n = omega arith
 
 -- a cursor that stands before the event at this index gave what it gave, and stands before what it stands before
 pub record Stands {A : Type 0} (xs : List A) (index : ℕ) (found : Option A) (here rest : List A) : Type 0 where

@@ -1,6 +1,6 @@
 -- The seat in turn has targets exactly where it may raise to some amount, and it may raise to each legal target.
 use Rattle.std.proofs.Common.{◌≡◌, ℕ, ◌==◌, Bool, true, false, ◌&&◌, not, nat_lt, Option, Some, None, List, refl, sym, ◌∙◌, ap, if◌then◌else◌}
-use Rattle.std.proofs.lemmas.Bool.{and_parts, and_from, le-ltb, eqb-true, eq-eqb}
+use Rattle.std.proofs.lemmas.Bool.{and_from, and_parts, eq-eqb, eqb-true, le-ltb, not-false}
 use Rattle.list_laws.proofs.Tests.{false_true}
 use Rattle.play_event.specs.declared.event.Spelled.{Spelled}
 use Rattle.play_event.specs.declared.event.Spelled.TheVariants as spelled
@@ -22,7 +22,7 @@ use Rattle.play_event.specs.Table.{places_of, up_cards}
 use Rattle.play_event.specs.Targets.{is_legal_target, greatest_target}
 use Rattle.play_event.specs.TurnTargets.{is_bet_due, may_raise_now, has_targets}
 use Rattle.play_event.specs.Laws.{IsInTurn}
-use Rattle.play_event.proofs.FloorLaws.{raise_bet, may_come_by, not_false}
+use Rattle.play_event.proofs.FloorLaws.{raise_bet, may_come_by}
 use Rattle.play_event.proofs.ReasonLaws.{no_reason_holds}
 use Rattle.play_event.proofs.TargetLaws.{none_beyond}
 
@@ -30,7 +30,7 @@ use Rattle.play_event.proofs.TargetLaws.{none_beyond}
 named_in_turn : (setup : Setup) (moves : List Move) (seat : ℕ) (now : InTurn) → is_other_seat setup moves (Some seat) now ≡ false → is_undecided now ≡ false → now ≡ TheSeat seat
 named_in_turn setup moves seat NoSeat own known = false_true (sym own)
 named_in_turn setup moves seat Undecided own known = false_true (sym known)
-named_in_turn setup moves seat (TheSeat other) own known = ap TheSeat (sym (eqb-true seat other (not_false (seat == other) own)))
+named_in_turn setup moves seat (TheSeat other) own known = ap TheSeat (sym (eqb-true seat other (not-false (seat == other) own)))
 
 pub has_target : (setup : Setup) (rules : Rules) (past : Past) (seat : ℕ) (amount : Spelled) → why setup rules past (said.Raise (Some seat) amount) ≡ None → has_targets setup rules past ≡ true
 has_target setup rules past seat amount legal =
@@ -40,7 +40,7 @@ has_target setup rules past seat amount legal =
     let none = no_reason_holds setup rules past (said.Raise (Some seat) amount) legal in
     let bet = raise_bet setup.code (Some seat) amount now.1 (may_come_by (is_due_kind setup.code now.1 (said.Raise (Some seat) amount)) (is_settled setup moves now) none.1.0) in
     let mine = named_in_turn setup moves seat in_turn_now none.1.1.0 none.1.1.1.1.1.1.0 in
-    let may = not_false (may_raise setup rules moves now.0 seat) none.1.1.1.1.1.1.1.1.0 in
+    let may = not-false (may_raise setup rules moves now.0 seat) none.1.1.1.1.1.1.1.1.0 in
     and_from (is_bet_due now.1) (may_raise_now setup rules moves now.0 in_turn_now) bet (ap (may_raise_now setup rules moves now.0) mine ∙ may)
 
 -- the reasons of a raise where a move or a bring-in is due, as far as they are open

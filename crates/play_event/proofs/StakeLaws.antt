@@ -56,7 +56,7 @@ may_win_last setup moves seat =
     may_win-one_pot (stakes_after setup moves) (dead_antes_of setup) seat
     ∙ list_any-map (λ (s : Stake). s.live && (s.seat == seat)) (stake_after setup moves) (all_seats setup)
 
-counted_by : (dead : Bool) (put ante : ℕ → ℕ) (seats : List ℕ)
+pub counted_by : (dead : Bool) (put ante : ℕ → ℕ) (seats : List ℕ)
     → ((n : ℕ) → ante n ≤ put n)
     → sum_by (λ n. counted dead (put n) (ante n)) seats + dead_chips dead (map ante seats) ≡ sum (map put seats)
 counted_by true put ante seats within =
@@ -67,7 +67,7 @@ counted_by true put ante seats within =
 counted_by false put ante seats within = omega (arith, sum-map put seats)
 
 -- the counted and the dead chips are all that were put
-all_counted : (setup : Setup) (moves : List Move) → stake_chips (stakes_after setup moves) + dead_antes_of setup ≡ all_chips_put setup moves
+pub all_counted : (setup : Setup) (moves : List Move) → stake_chips (stakes_after setup moves) + dead_antes_of setup ≡ all_chips_put setup moves
 all_counted setup moves =
     let each : stake_chips (stakes_after setup moves) ≡ sum_by (counted_put setup moves) (all_seats setup) =
     sum_by-map (λ (s : Stake). s.chips) (stake_after setup moves) (all_seats setup) in

@@ -61,7 +61,7 @@ first_street on (suc rest) street found due first within = elim (cases_lt street
 ]
 
 -- a showdown may end the hand
-shown_unfinished : (b : Bool) → is_unfinished (if b then dues.Show else dues.Over) ≡ false
+pub shown_unfinished : (b : Bool) → is_unfinished (if b then dues.Show else dues.Over) ≡ false
 shown_unfinished true = refl
 shown_unfinished false = refl
 

@@ -31,7 +31,7 @@ has_to_move setup moves street seat =
 abbrev pub is_move_due : Setup → List Move → ℕ → Bool
 is_move_due setup moves street = list_any (has_to_move setup moves street) (all_seats setup)
 
--- a move opened the betting: it is a bring-in or a raise
+-- a bring-in, a bet or a raise opens the betting
 abbrev pub has_opened_betting : Act → Bool
 has_opened_betting act = is_raise act || is_bring_in act
 

@@ -1,6 +1,8 @@
 -- The eleven games: deck, limit, who opens, the cards and what may be chosen of them, how many seats there may be, and the streets with their cards and bet sizes.
 use Rattle.std.specs.Prelude.{ℕ, ◌+◌, ◌-◌, Bool, true, false, List, [], ◌∷◌, length, slice_get}
 use Rattle.std.specs.Option.{option_map_or}
+use Rattle.card_set.specs.declared.pick.Pick.{Pick}
+use Rattle.card_set.specs.declared.pick.Pick.TheVariants as picks
 use Rattle.play_event.specs.declared.code.Code.{Code}
 use Rattle.play_event.specs.declared.code.Code.TheVariants as games
 use Rattle.play_event.specs.declared.limit.Limit.{Limit}
@@ -10,12 +12,6 @@ use Rattle.play_event.specs.declared.limit.Opener.TheVariants as openers
 use Rattle.play_event.specs.declared.street.Size.{Size}
 use Rattle.play_event.specs.declared.street.Size.TheVariants as sizes
 use Rattle.play_event.specs.declared.street.Street.{Street}
-
--- which five of a seat's cards and the board's count: any, or two of the seat and three of the board; or all cards of the seat
-pub data Pick : Type 0 where
-  AnyFive : Pick
-  TwoAndThree : Pick
-  AllHeld : Pick
 
 -- a game: its deck, limit and opener; the cards of a seat and of the board at the end, which of them count, and
 -- whether half of each pot goes to the best low hand; the most seats, and the streets
@@ -60,17 +56,17 @@ draw_streets cards = hole_street cards sizes.Small ∷ draw_street sizes.Small �
 
 -- the game with a code
 abbrev pub game_of : Code → Game
-game_of games.FT = record { deck = 52; limit = limits.Fixed; opener = openers.Blinds; hole = 2; board = 5; pick = AnyFive; split = false; seats = 10; streets = flop_streets 2 sizes.Small sizes.Big }
-game_of games.NT = record { deck = 52; limit = limits.No; opener = openers.Blinds; hole = 2; board = 5; pick = AnyFive; split = false; seats = 10; streets = flop_streets 2 sizes.Least sizes.Least }
-game_of games.NS = record { deck = 36; limit = limits.No; opener = openers.Blinds; hole = 2; board = 5; pick = AnyFive; split = false; seats = 10; streets = flop_streets 2 sizes.Least sizes.Least }
-game_of games.PO = record { deck = 52; limit = limits.Pot; opener = openers.Blinds; hole = 4; board = 5; pick = TwoAndThree; split = false; seats = 10; streets = flop_streets 4 sizes.Least sizes.Least }
-game_of games.FO8 = record { deck = 52; limit = limits.Fixed; opener = openers.Blinds; hole = 4; board = 5; pick = TwoAndThree; split = true; seats = 10; streets = flop_streets 4 sizes.Small sizes.Big }
-game_of games.F7S = record { deck = 52; limit = limits.Fixed; opener = openers.LowUp; hole = 7; board = 0; pick = AnyFive; split = false; seats = 7; streets = stud_streets }
-game_of games.F7S8 = record { deck = 52; limit = limits.Fixed; opener = openers.LowUp; hole = 7; board = 0; pick = AnyFive; split = true; seats = 7; streets = stud_streets }
-game_of games.FR = record { deck = 52; limit = limits.Fixed; opener = openers.HighUp; hole = 7; board = 0; pick = AnyFive; split = false; seats = 7; streets = stud_streets }
-game_of games.N2L1D = record { deck = 52; limit = limits.No; opener = openers.Blinds; hole = 5; board = 0; pick = AllHeld; split = false; seats = 6; streets = hole_street 5 sizes.Least ∷ draw_street sizes.Least ∷ [] }
-game_of games.F2L3D = record { deck = 52; limit = limits.Fixed; opener = openers.Blinds; hole = 5; board = 0; pick = AllHeld; split = false; seats = 6; streets = draw_streets 5 }
-game_of games.FB = record { deck = 52; limit = limits.Fixed; opener = openers.Blinds; hole = 4; board = 0; pick = AllHeld; split = false; seats = 6; streets = draw_streets 4 }
+game_of games.FT = record { deck = 52; limit = limits.Fixed; opener = openers.Blinds; hole = 2; board = 5; pick = picks.AnyFive; split = false; seats = 10; streets = flop_streets 2 sizes.Small sizes.Big }
+game_of games.NT = record { deck = 52; limit = limits.No; opener = openers.Blinds; hole = 2; board = 5; pick = picks.AnyFive; split = false; seats = 10; streets = flop_streets 2 sizes.Least sizes.Least }
+game_of games.NS = record { deck = 36; limit = limits.No; opener = openers.Blinds; hole = 2; board = 5; pick = picks.AnyFive; split = false; seats = 10; streets = flop_streets 2 sizes.Least sizes.Least }
+game_of games.PO = record { deck = 52; limit = limits.Pot; opener = openers.Blinds; hole = 4; board = 5; pick = picks.TwoAndThree; split = false; seats = 10; streets = flop_streets 4 sizes.Least sizes.Least }
+game_of games.FO8 = record { deck = 52; limit = limits.Fixed; opener = openers.Blinds; hole = 4; board = 5; pick = picks.TwoAndThree; split = true; seats = 10; streets = flop_streets 4 sizes.Small sizes.Big }
+game_of games.F7S = record { deck = 52; limit = limits.Fixed; opener = openers.LowUp; hole = 7; board = 0; pick = picks.AnyFive; split = false; seats = 7; streets = stud_streets }
+game_of games.F7S8 = record { deck = 52; limit = limits.Fixed; opener = openers.LowUp; hole = 7; board = 0; pick = picks.AnyFive; split = true; seats = 7; streets = stud_streets }
+game_of games.FR = record { deck = 52; limit = limits.Fixed; opener = openers.HighUp; hole = 7; board = 0; pick = picks.AnyFive; split = false; seats = 7; streets = stud_streets }
+game_of games.N2L1D = record { deck = 52; limit = limits.No; opener = openers.Blinds; hole = 5; board = 0; pick = picks.AllHeld; split = false; seats = 6; streets = hole_street 5 sizes.Least ∷ draw_street sizes.Least ∷ [] }
+game_of games.F2L3D = record { deck = 52; limit = limits.Fixed; opener = openers.Blinds; hole = 5; board = 0; pick = picks.AllHeld; split = false; seats = 6; streets = draw_streets 5 }
+game_of games.FB = record { deck = 52; limit = limits.Fixed; opener = openers.Blinds; hole = 4; board = 0; pick = picks.AllHeld; split = false; seats = 6; streets = draw_streets 4 }
 
 -- what the street with this number, from 1, deals to each live seat
 abbrev pub hole_cards_on : Code → ℕ → ℕ

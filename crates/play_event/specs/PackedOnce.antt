@@ -36,14 +36,17 @@ use Rattle.play_event.specs.PackedScript.{PackedScript}
 
 -- ---- cards
 
+-- the byte of a rank, of a suit, of a card and of a slot is read as what was packed
 rank_again : (rank : Rank) → unwrap_or (slice_get all_ranks (ranks_below rank)) ranks.Ace ≡ rank
 rank_again ranks.Two = refl
 rank_again _ = refl
 
+-- a suit
 suit_again : (suit : Suit) → unwrap_or (slice_get all_suits (suits_before suit)) suits.S ≡ suit
 suit_again suits.C = refl
 suit_again _ = refl
 
+-- a card
 card_again : (card : Card) → card_of (card_byte card) ≡ card
 unfolding card_placed
 card_again card =
@@ -52,27 +55,32 @@ card_again card =
     let remainder : (card_byte card - 1) % 4 ≡ suits_before card.suit = omega arith in
     rw (quotient, remainder, rank_again card.rank, suit_again card.suit) refl
 
+-- a slot, known or unknown
 slot_again : (slot : Slot) → slot_of (slot_byte slot) ≡ slot
 slot_again slots.Unknown = refl
 slot_again (slots.Known card) =
     let known : nat_eq (card_byte card) 0 ≡ false = grind arith in
     rw (known, card_again card) refl
 
+-- a list of such bytes is read as the list
 each_again : {A : Type 0} (read : ℕ → A) (byte : A → ℕ) → ((x : A) → read (byte x) ≡ x) → (xs : List A) → map read (map byte xs) ≡ xs
 each_again read byte again [] = refl
 each_again read byte again (x ∷ xs) = ap (λ first. first ∷ map read (map byte xs)) (again x) ∙ ap (λ rest. x ∷ rest) (each_again read byte again xs)
 
+-- a counted row is read, and what stands behind it is left
 counted_again : (row rest : List ℕ) → length row ≤ 7 → counted_at (counted row ++ rest) ≡ Some (row, rest)
 unfolding counted_at
 counted_again row rest few =
     rw (le-leb (length row) 7 few, le-leb (length row) (length (row ++ rest)) (omega (arith, length-append row rest)), take_at row rest (length row) refl, drop_at row rest (length row) refl) refl
 
+-- a row of slots
 slots_again : (row : SlotRow) (rest : List ℕ) → slots_at (counted (map slot_byte (slots_of row)) ++ rest) ≡ Some (slots_of row, rest)
 unfolding slots_at
 slots_again row rest =
     let few : length (map slot_byte (slots_of row)) ≤ 7 = omega (arith, row.fits, length-map (slots_of row) slot_byte, length-take row.len row.slots) in
     rw (counted_again (map slot_byte (slots_of row)) rest few, each_again slot_of slot_byte slot_again (slots_of row)) refl
 
+-- a row of cards
 cards_again : (row : CardRow) (rest : List ℕ) → cards_at (counted (map card_byte (cards_of row)) ++ rest) ≡ Some (cards_of row, rest)
 unfolding cards_at
 cards_again row rest =
@@ -81,13 +89,16 @@ cards_again row rest =
 
 -- ---- seats and numbers
 
+-- a seat is the seat of its number
 seat_within : (seat : Seat) → seat_numbered seat.number ≡ Some seat.number
 seat_within seat = rw (le-leb 1 seat.number seat.first, le-leb seat.number 10 seat.last) refl
 
+-- a seat
 seat_again : (seat : Seat) (rest : List ℕ) → seat_at (seat.number ∷ rest) ≡ Some (seat.number, rest)
 unfolding seat_at
 seat_again seat rest = rw (seat_within seat) refl
 
+-- an actor, where there is one
 actor_again : (actor : Option Seat) (rest : List ℕ) → actor_at (actor_byte actor ∷ rest) ≡ Some (seat_named actor, rest)
 unfolding actor_at
 actor_again None rest = refl
@@ -100,12 +111,15 @@ pub record IsWide (width : Width) (limit : ℕ) : Type 0 where
   pub len : (n : ℕ) → length (to_be_bytes width n) ≡ byte_len width
   pub again : (n : ℕ) → n < limit → from_be_bytes width (to_be_bytes width n) ≡ n
 
+-- numbers of 32 bits
 wide32 : IsWide w32 (2 ^ 32)
 wide32 = record { len = λ n. refl; again = from_be_bytes-to_be_bytes_4 }
 
+-- numbers of 64 bits
 wide64 : IsWide w64 (2 ^ 64)
 wide64 = record { len = λ n. refl; again = from_be_bytes-to_be_bytes_8 }
 
+-- a number of so many bits
 number_again : (width : Width) (limit : ℕ) → IsWide width limit → (n : ℕ) (rest : List ℕ) → n < limit → number_at width (to_be_bytes width n ++ rest) ≡ Some (n, rest)
 unfolding number_at
 number_again width limit wide n rest fits =
@@ -113,14 +127,17 @@ number_again width limit wide n rest fits =
     let long : ltb (length (to_be_bytes width n ++ rest)) (byte_len width) ≡ false = le-ltb _ _ (omega (arith, length-append (to_be_bytes width n) rest)) in
     rw (long, take_at (to_be_bytes width n) rest (byte_len width) len, drop_at (to_be_bytes width n) rest (byte_len width) len, wide.again n fits) refl
 
+-- chips
 chips_again : (chips : ℕ) (rest : List ℕ) → chips < 2 ^ 64 → number_at w64 (to_be_bytes w64 chips ++ rest) ≡ Some (chips, rest)
 chips_again = number_again w64 (2 ^ 64) wide64
 
+-- stated chips, where they are stated
 stated_again : (stated : Option ℕ) (rest : List ℕ) → IfSome stated (λ chips. chips < 2 ^ 64) → stated_at (stated_bytes stated ++ rest) ≡ Some (stated, rest)
 unfolding stated_at
 stated_again None rest fits = refl
 stated_again (Some chips) rest fits = rw (chips_again chips rest fits) refl
 
+-- an amount in its spelling
 amount_again : (amount : Spelled) (rest : List ℕ) → AmountFits amount → amount_at (amount_bytes amount ++ rest) ≡ Some (amount, rest)
 unfolding amount_at
 amount_again (spelled.To chips) rest fits = rw (chips_again chips rest fits) refl
@@ -130,6 +147,7 @@ amount_again spelled.Unit rest fits = refl
 
 -- ---- events
 
+-- a kind of event
 kind_again : (kind : Kind) (rest : List ℕ) → ChipsFit kind → kind_at (kind_byte kind) (kind_bytes kind ++ rest) ≡ Some (kind_said kind, rest)
 unfolding kind_at move_at hand_at
 kind_again (kinds.Hole seat cards) rest fits = rw (seat_again seat (counted (map slot_byte (slots_of cards)) ++ rest), slots_again cards rest) refl
@@ -150,12 +168,14 @@ event_again event rest fits =
 
 -- ---- what is said of an event is the event
 
+-- actors with the same name are one
 actor_same : (a b : Option Seat) → seat_named a ≡ seat_named b → a ≡ b
 actor_same None None same = refl
 actor_same None (Some seat) same = absurd cc
 actor_same (Some seat) None same = absurd cc
 actor_same (Some seat) (Some other) same = let number : seat.number ≡ other.number = cc in cc (seat_same seat other number)
 
+-- kinds that say the same are one
 kind_same : (a b : Kind) → kind_said a ≡ kind_said b → a ≡ b
 kind_same (kinds.Hole seat cards) (kinds.Hole other others) same =
     let number : seat.number ≡ other.number = cc in
@@ -212,24 +232,29 @@ events_same (event ∷ rest) (other ∷ others) fit fits same =
 
 -- ---- the events of packed bytes are one list
 
+-- what holds of an amount, of stated chips, of a kind and of events holds in one way
 AmountFits-prop : (amount : Spelled) → IsProp (AmountFits amount)
 AmountFits-prop (spelled.To chips) = le_prop
 AmountFits-prop (spelled.Added chips) = le_prop
 AmountFits-prop (spelled.HandTotal chips) = le_prop
 AmountFits-prop spelled.Unit = Unit-prop
 
+-- stated chips
 StatedFits-prop : (stated : Option ℕ) → IsProp (IfSome stated (λ chips. chips < 2 ^ 64))
 StatedFits-prop None = Unit-prop
 StatedFits-prop (Some chips) = le_prop
 
+-- a kind
 ChipsFit-prop : (kind : Kind) → IsProp (ChipsFit kind)
 ChipsFit-prop (kinds.Call actor stated) = StatedFits-prop stated
 ChipsFit-prop (kinds.Raise actor amount) = AmountFits-prop amount
 ChipsFit-prop _ = Unit-prop
 
+-- an event
 IsEvent-prop : (event : Event) → IsProp (IsEvent event)
 IsEvent-prop event = hlevel (ChipsFit-prop event.kind, props)
 
+-- events
 AreEvents-prop : (events : List Event) → IsProp (AreEvents events)
 AreEvents-prop [] = Unit-prop
 AreEvents-prop (event ∷ rest) = ×_prop (IsEvent-prop event) (AreEvents-prop rest)
@@ -238,10 +263,12 @@ AreEvents-prop (event ∷ rest) = ×_prop (IsEvent-prop event) (AreEvents-prop r
 Kept : List ℕ → List Event → Type 0
 Kept bytes events = AreEvents events × (bytes ≡ packed_events events)
 
+-- bytes keep events in one way
 Kept-prop : (bytes : List ℕ) (events : List Event) → IsProp (Kept bytes events)
 unfolding Kept
 Kept-prop bytes events = hlevel (AreEvents-prop events, props)
 
+-- the script of bytes that keep events
 script_of : (bytes : List ℕ) (events : List Event) → Kept bytes events → PackedScript bytes
 unfolding Kept
 script_of bytes events kept = record { events = events; fit = kept.0; packed = kept.1 }

@@ -28,7 +28,7 @@ full_raise setup (move ∷ before) street =
     then max (rise setup move before) (full_raise setup before street)
     else full_raise setup before street
 
--- twice the target less the price before, for the raises on this street
+-- for each raise of this street, its target and once more what it went above the price before it
 abbrev pub doubled_raises : Setup → List Move → ℕ → List ℕ
 doubled_raises setup [] street = []
 doubled_raises setup (move ∷ before) street =

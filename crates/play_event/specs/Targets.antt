@@ -12,9 +12,9 @@ use Rattle.play_event.specs.Chips.{all_in}
 use Rattle.play_event.specs.Price.{price, owed, full_raise, doubled_raises, starting_price, full_bet, all_chips_put}
 use Rattle.chip_ledger.specs.Greatest.{greatest}
 
--- The least target of a raise in no limit that is not all-in: a full raise above the price. If betting always reopens,
--- it is the least bet above the starting price, or, if that is more, the greatest of twice the target less the price
--- before it, over the raises of this street.
+-- The least target of a raise in no limit that is not all-in. If full raises alone reopen the betting, it is a full raise
+-- above the price. If betting always reopens, it is at least the least bet above the starting price, and as far above the
+-- target of each raise of this street as that raise went above the price before it.
 abbrev pub floor : Reopen → Setup → List Move → ℕ → ℕ
 floor reopen.Full setup moves street = price setup moves street + full_raise setup moves street
 floor reopen.Always setup moves street = max (starting_price setup street + setup.min_bet) (greatest (doubled_raises setup moves street))

@@ -1,53 +1,25 @@
 -- Betting that is closed on a street stays closed there under moves of other streets.
-use Rattle.std.proofs.Common.{◌≡◌, ◌≢◌, ℕ, ◌+◌, ◌-◌, ◌≤◌, Bool, true, false, ◌&&◌, ◌||◌, ◌==◌, not, nat_lt, nat_le, inl, inr, List, [], ◌∷◌, map, filter, length, count_by, refl, sym, ◌∙◌, ap, arith, if◌then◌else◌}
+use Rattle.std.proofs.Common.{◌≡◌, ◌≢◌, ℕ, ◌+◌, ◌-◌, ◌≤◌, Bool, true, false, ◌&&◌, ◌||◌, ◌==◌, not, nat_lt, nat_le, inl, inr, List, ◌∷◌, map, refl, sym, ◌∙◌, ap, arith, if◌then◌else◌}
 use Rattle.std.specs.List.{list_any}
-use Rattle.std.proofs.lemmas.Bool.{and_parts, and_from, and_right, ne_eqb, lt-ltb, ltb-true, le-leb, leb-true, false_from_ne_true, both_ways, or_left, or_cases, or_right}
-use Rattle.std.proofs.lemmas.List.Sums.{length-filter}
+use Rattle.std.proofs.lemmas.Bool.{and_parts, and_from, and_right, ne_eqb, le-leb, leb-true, false_from_ne_true, both_ways, or_left, or_cases, or_right}
 use Rattle.play_event.specs.declared.setup.Setup.{Setup}
 use Rattle.play_event.specs.Streets.{is_stud}
-use Rattle.play_event.specs.Past.{Past, Resolved, Move, Dealt, Boarded, Moved, Discarded, Shown, Mucked, moves_of, moves_on, is_fold, street_of}
-use Rattle.play_event.specs.Chips.{chips_added, chips_left, brought}
-use Rattle.play_event.specs.Seats.{is_live, is_able, all_seats, able_count}
+use Rattle.play_event.specs.Past.{Past, Resolved, Move, Dealt, Boarded, Moved, Discarded, Shown, Mucked, moves_of, moves_on, street_of}
+use Rattle.play_event.specs.Chips.{chips_added, brought}
+use Rattle.play_event.specs.Seats.{is_able, all_seats, able_count}
 use Rattle.play_event.specs.Price.{price, owed}
 use Rattle.chip_ledger.specs.Greatest.{greatest}
 use Rattle.play_event.specs.Due.{has_to_move, has_moved_since_rise, is_move_due, is_bring_in_due, has_opened_betting}
-use Rattle.list_laws.proofs.Tests.{false_true}
+use Rattle.list_laws.proofs.Tests.{and_group, false_true}
 use Rattle.play_laws.proofs.DueAtEvents.{IsNotDue}
-use Rattle.play_laws.proofs.SettledStreets.{none_still, deal_still, draw_still, is_discard_on}
-
--- who is able was able
-live_first : (folded before : Bool) → not (folded || before) ≡ true → not before ≡ true
-live_first true before is = false_true is
-live_first false before is = is
-
--- who is live after a move was live before it
-pub live_still : (move : Move) (moves : List Move) (seat : ℕ) → is_live (move ∷ moves) seat ≡ true → is_live moves seat ≡ true
-live_still move moves seat is = live_first (is_fold move.act && (move.seat == seat)) (list_any (λ (move : Move). is_fold move.act && (move.seat == seat)) moves) is
-
--- and who is able was able
-pub able_still : (setup : Setup) (move : Move) (moves : List Move) (seat : ℕ) → is_able setup (move ∷ moves) seat ≡ true → is_able setup moves seat ≡ true
-able_still setup move moves seat is =
-    let parts = and_parts (is_live (move ∷ moves) seat) (nat_lt 0 (chips_left setup (move ∷ moves) seat)) is in
-    and_from (is_live moves seat) (nat_lt 0 (chips_left setup moves seat)) (live_still move moves seat parts.0) (lt-ltb 0 (chips_left setup moves seat) (omega (arith, ltb-true 0 (chips_left setup (move ∷ moves) seat) parts.1)))
-
--- fewer pass
-fewer_step : (first : ℕ) (less more : List ℕ) (a b : Bool) → (a ≡ true → b ≡ true) → length less ≤ length more → length (if a then (first ∷ less) else less) ≤ length (if b then (first ∷ more) else more)
-fewer_step first less more true true both later = omega (arith, later)
-fewer_step first less more true false both later = false_true (both refl)
-fewer_step first less more false true both later = omega (arith, later)
-fewer_step first less more false false both later = later
-
-fewer_length : (p q : ℕ → Bool) (seats : List ℕ) → ((seat : ℕ) → p seat ≡ true → q seat ≡ true) → length (filter p seats) ≤ length (filter q seats)
-fewer_length p q [] both = omega arith
-fewer_length p q (first ∷ rest) both = fewer_step first (filter p rest) (filter q rest) (p first) (q first) (both first) (fewer_length p q rest both)
-
--- where one test is stronger fewer seats pass it
-pub fewer : (p q : ℕ → Bool) (seats : List ℕ) → ((seat : ℕ) → p seat ≡ true → q seat ≡ true) → count_by p seats ≤ count_by q seats
-fewer p q seats both = omega (arith, length-filter p seats, length-filter q seats, fewer_length p q seats both)
+use Rattle.play_laws.proofs.SettledStreets.{deal_still, draw_still, is_discard_on}
+use Rattle.list_laws.proofs.Any.{none_still}
+use Rattle.play_event.proofs.StillAble.{able_still}
+use Rattle.list_laws.proofs.Counting.{counts_fewer}
 
 -- no move makes more seats able
 pub able_fewer : (setup : Setup) (move : Move) (moves : List Move) → able_count setup (move ∷ moves) ≤ able_count setup moves
-able_fewer setup move moves = fewer (is_able setup (move ∷ moves)) (is_able setup moves) (all_seats setup) (able_still setup move moves)
+able_fewer setup move moves = counts_fewer (is_able setup (move ∷ moves)) (is_able setup moves) (able_still setup move moves) (all_seats setup)
 
 -- the street's moves are the same
 pub other_moves : (move : Move) (moves : List Move) (street : ℕ) → move.street ≢ street → moves_on street (move ∷ moves) ≡ moves_on street moves
@@ -92,12 +64,6 @@ bring_by : (first opened : Bool) (less more : ℕ) → less ≤ more → (first 
 bring_by false opened less more on is = refl
 bring_by true true less more on is = and_right (nat_le 2 less) false refl
 bring_by true false less more on is = false_from_ne_true (nat_le 2 less && true) (λ now. both_ways (nat_le 2 more && true) is (and_from (nat_le 2 more) true (two_still less more on (and_parts (nat_le 2 less) true now).0) refl))
-
--- four tests in two pairs
-pub and_group : (a b c d : Bool) → (a && b && c && d) ≡ ((a && b) && (c && d))
-and_group true true c d = refl
-and_group true false c d = refl
-and_group false b c d = refl
 
 -- a bring-in that is not due on a street does not come due by a move of another one
 pub bring_still : (setup : Setup) (move : Move) (moves : List Move) (street : ℕ) → move.street ≢ street → is_bring_in_due setup moves street ≡ false → is_bring_in_due setup (move ∷ moves) street ≡ false

@@ -11,7 +11,7 @@ use Rattle.play_event.specs.Taken.{is_gone_before}
 use Rattle.play_event.specs.Laws.{IsAmong}
 use Rattle.list_laws.proofs.Tests.{false_true}
 use Rattle.play_event.proofs.ClashLaws.{among_append}
-use Rattle.play_laws.specs.LegalPlaces.{owner_folded, gone_by, PlacesLaw}
+use Rattle.play_laws.specs.LegalPlaces.{has_owner_folded, is_gone_by, PlacesLaw}
 use Rattle.play_laws.proofs.QuietEvents.{folded_back, folded_own, folded_first}
 use Rattle.play_laws.proofs.PlaceGroups.{more_count}
 use Rattle.list_laws.proofs.Options.{some_is_none}
@@ -46,18 +46,18 @@ dealt_length owner street late index number [] = refl
 dealt_length owner street late index number (slot ∷ rest) = ap suc (dealt_length owner street late (index + 1) (number + 1) rest)
 
 -- who has not folded had not folded before a street
-not_folded : (moves : List Move) (by : ℕ) (owner : Option ℕ) → owner_folded (moves_before by moves) owner ≡ true → owner_folded moves owner ≡ true
+not_folded : (moves : List Move) (by : ℕ) (owner : Option ℕ) → has_owner_folded (moves_before by moves) owner ≡ true → has_owner_folded moves owner ≡ true
 not_folded [] by owner is = is
 not_folded (move ∷ rest) by owner is = elim (folded_back move rest by owner is) [
   | inl before ↦ first_more move rest owner (not_folded rest by owner before)
   | inr now ↦ folded_own move rest owner now.0 now.1.0
 ]
   where
-    first_more : (move : Move) (rest : List Move) (owner : Option ℕ) → owner_folded rest owner ≡ true → owner_folded (move ∷ rest) owner ≡ true
+    first_more : (move : Move) (rest : List Move) (owner : Option ℕ) → has_owner_folded rest owner ≡ true → has_owner_folded (move ∷ rest) owner ≡ true
     first_more move rest owner was = folded_first move rest owner was
 
 -- a deal keeps the law of places
-pub deal_law : (code : Code) (moves : List Move) (newest street : ℕ) (owner : Option ℕ) (cards : List Slot) (placed : List Place) → PlacesLaw code moves newest placed → newest ≤ street → 1 ≤ street → owner_folded moves owner ≡ false → moves_before street moves ≡ moves → PlacesLaw code moves street (after_deal code owner street cards placed)
+pub deal_law : (code : Code) (moves : List Move) (newest street : ℕ) (owner : Option ℕ) (cards : List Slot) (placed : List Place) → PlacesLaw code moves newest placed → newest ≤ street → 1 ≤ street → has_owner_folded moves owner ≡ false → moves_before street moves ≡ moves → PlacesLaw code moves street (after_deal code owner street cards placed)
 deal_law code moves newest street owner cards placed law on some live early =
     let late : Bool = is_past_deck code placed street in
     let news : List Place = places_dealt owner street late (count_by (is_in_group owner street) placed) (length placed) cards in
@@ -86,7 +86,7 @@ deal_law code moves newest street owner cards placed law on some live early =
       ];
       gone_is = λ place among. elim (among_append placed news place among) [
         | inl old ↦ law.gone_is place old
-        | inr here ↦ let it = new place here in ap is_some it.gone_after ∙ sym (ap (λ d. nat_lt 0 d || owner_folded moves place.owner) it.discarded ∙ ap (owner_folded moves) it.owner ∙ live)
+        | inr here ↦ let it = new place here in ap is_some it.gone_after ∙ sym (ap (λ d. nat_lt 0 d || has_owner_folded moves place.owner) it.discarded ∙ ap (has_owner_folded moves) it.owner ∙ live)
       ];
       out_after = λ place among out. elim (among_append placed news place among) [
         | inl old ↦ law.out_after place old out
@@ -94,14 +94,14 @@ deal_law code moves newest street owner cards placed law on some live early =
       ];
       folded_after = λ place by among is. elim (among_append placed news place among) [
         | inl old ↦ law.folded_after place by old is
-        | inr here ↦ false_true (sym live ∙ not_folded moves by owner (sym (ap (owner_folded (moves_before by moves)) (new place here).owner) ∙ is))
+        | inr here ↦ false_true (sym live ∙ not_folded moves by owner (sym (ap (has_owner_folded (moves_before by moves)) (new place here).owner) ∙ is))
       ];
       gone_when = λ a b in_a in_b is. elim (among_append placed news a in_a) [
         | inr new_a ↦ false_true (sym (ap (λ g. is_gone_before g b.number) (new a new_a).gone_after) ∙ is)
         | inl old_a ↦ elim (among_append placed news b in_b) [
           | inl old_b ↦ law.gone_when a b old_a old_b is
           | inr new_b ↦
-              let P : ℕ → Type 0 = λ k. gone_by moves k a ≡ true in
+              let P : ℕ → Type 0 = λ k. is_gone_by moves k a ≡ true in
               subst P (sym (new b new_b).street) (gone_here a old_a (some_gone a.gone_after b.number is))
         ]
       ];
@@ -119,8 +119,8 @@ deal_law code moves newest street owner cards placed law on some live early =
     some_gone (Some count) number is = refl
     some_gone None number is = is
 
-    gone_here : (a : Place) → IsAmong placed a → is_some a.gone_after ≡ true → gone_by moves street a ≡ true
-    gone_here a among is = elim (or_cases (nat_lt 0 a.discarded) (owner_folded moves a.owner) (sym (law.gone_is a among) ∙ is)) [
-      | inl out ↦ or_left (nat_lt 0 a.discarded && nat_le a.discarded street) (owner_folded (moves_before street moves) a.owner) (and_from (nat_lt 0 a.discarded) (nat_le a.discarded street) out (le-leb a.discarded street (omega (arith, law.out_reached a among, on))))
-      | inr folded ↦ or_right (nat_lt 0 a.discarded && nat_le a.discarded street) (owner_folded (moves_before street moves) a.owner) (ap (λ m. owner_folded m a.owner) early ∙ folded)
+    gone_here : (a : Place) → IsAmong placed a → is_some a.gone_after ≡ true → is_gone_by moves street a ≡ true
+    gone_here a among is = elim (or_cases (nat_lt 0 a.discarded) (has_owner_folded moves a.owner) (sym (law.gone_is a among) ∙ is)) [
+      | inl out ↦ or_left (nat_lt 0 a.discarded && nat_le a.discarded street) (has_owner_folded (moves_before street moves) a.owner) (and_from (nat_lt 0 a.discarded) (nat_le a.discarded street) out (le-leb a.discarded street (omega (arith, law.out_reached a among, on))))
+      | inr folded ↦ or_right (nat_lt 0 a.discarded && nat_le a.discarded street) (has_owner_folded (moves_before street moves) a.owner) (ap (λ m. has_owner_folded m a.owner) early ∙ folded)
     ]

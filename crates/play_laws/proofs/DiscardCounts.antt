@@ -19,7 +19,7 @@ use Rattle.play_event.specs.Table.{places_of}
 use Rattle.play_event.specs.Taken.{may_repeat, is_gone_before, is_one_card}
 use Rattle.play_event.specs.Scripts.{with_event, past_of}
 use Rattle.play_event.specs.Laws.{IsAmong, AreLegal, NoneClash}
-use Rattle.list_laws.proofs.Tests.{false_true}
+use Rattle.list_laws.proofs.Tests.{and_swap, false_true}
 use Rattle.play_event.proofs.SafePlaces.{none_clash}
 use Rattle.play_laws.specs.PastLaws.{PastLaw}
 use Rattle.play_laws.proofs.DueAtEvents.{Reaches, turn_reaches}
@@ -29,7 +29,7 @@ use Rattle.play_laws.proofs.LegalPlaces.{PlacesOf, legal_past, group_step}
 use Rattle.play_laws.proofs.PlaceLists.{rising}
 use Rattle.play_laws.proofs.InDeck.{legal_cards}
 use Rattle.play_laws.proofs.PlaceGroups.{AreRising, Passed, passed, rising_filter}
-use Rattle.play_laws.proofs.QuietEvents.{IsMarked, HowMarked, kept, marked, AreMarked, discard_marks, show_marks, nothing, held_parts}
+use Rattle.play_laws.proofs.QuietEvents.{IsMarked, HowMarked, kept, marked, AreMarked, discard_marks, show_marks, is_nothing, held_parts}
 use Rattle.play_laws.proofs.DrawnDiscards.{covers_hand}
 use Rattle.play_laws.proofs.DealtPlaces.{are_new}
 use Rattle.play_laws.proofs.NamedCounts.{AllApart, IsMarking, discard_count}
@@ -66,19 +66,12 @@ out_same : (street seat : ℕ) (old new : Place) → new.owner ≡ old.owner →
 out_same street seat old new owner same = ap (λ o. is_same_owner o (Some seat) && (new.discarded == street)) owner ∙ ap (λ d. is_same_owner old.owner (Some seat) && (d == street)) same
 
 -- a show takes nothing
-shown_out : (count draw street seat : ℕ) (old new : Place) → IsMarked nothing count draw old new → is_out_of street seat new ≡ is_out_of street seat old
+shown_out : (count draw street seat : ℕ) (old new : Place) → IsMarked is_nothing count draw old new → is_out_of street seat new ≡ is_out_of street seat old
 shown_out count draw street seat old new is = by_how is.how
   where
-    by_how : HowMarked nothing count draw old new → is_out_of street seat new ≡ is_out_of street seat old
+    by_how : HowMarked is_nothing count draw old new → is_out_of street seat new ≡ is_out_of street seat old
     by_how (kept gone same) = out_same street seat old new is.owner same
     by_how (marked covered now on) = false_true covered
-
--- a discard takes nothing of another draw
-swap : (a b : Bool) → (a && b) ≡ (b && a)
-swap true true = refl
-swap true false = refl
-swap false true = refl
-swap false false = refl
 
 other_out : (at who street seat count : ℕ) (old new : Place) → 1 ≤ street → ((at == street) && (who == seat)) ≡ false → (is_held_by who old ≡ true → (old.owner ≡ Some who) × (old.discarded ≡ 0)) → IsMarked (is_held_by who) count at old new → is_out_of street seat new ≡ is_out_of street seat old
 other_out at who street seat count old new some other held is = by_how is.how
@@ -89,7 +82,7 @@ other_out at who street seat count old new some other held is = by_how is.how
         let it = held covered in
         let was : is_out_of street seat old ≡ false = and_right (is_same_owner old.owner (Some seat)) (old.discarded == street) (ne_eqb old.discarded street (λ same. omega (arith, same, it.1, some))) in
         let now_is : is_out_of street seat new ≡ ((who == seat) && (at == street)) = ap (λ o. is_same_owner o (Some seat) && (new.discarded == street)) (is.owner ∙ it.0) ∙ ap (λ d. (who == seat) && (d == street)) on in
-        now_is ∙ (swap (who == seat) (at == street) ∙ (other ∙ sym was))
+        now_is ∙ (and_swap (who == seat) (at == street) ∙ (other ∙ sym was))
 
 fold_out : (street seat who count : ℕ) (placed : List Place) → length (filter (is_out_of street seat) (map (folded_place who count) placed)) ≡ length (filter (is_out_of street seat) placed)
 fold_out street seat who count [] = refl
@@ -130,7 +123,7 @@ out_step setup before at _ past law come (moves move no_deal no_draw on) apart u
 out_step setup before at _ past law come (shows who cards may free) apart up counts street seat some =
     let placed = places_of setup.code before in
     let covers : Place → Bool = is_covered setup.code who (is_show_of_all placed who cards) in
-    marked_alike (is_out_of street seat) nothing (length placed) at placed (after_show setup.code who cards placed) (λ old new among is. shown_out (length placed) at street seat old new is)
+    marked_alike (is_out_of street seat) is_nothing (length placed) at placed (after_show setup.code who cards placed) (λ old new among is. shown_out (length placed) at street seat old new is)
     (show_marks covers (length placed) at cards (other_names (filter covers placed) cards) 0 placed) ∙ counts street seat some
 out_step setup before at _ past law come (discards who cards no_deal draw next few free held) apart up counts street seat some =
     let placed = places_of setup.code before in

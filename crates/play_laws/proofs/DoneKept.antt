@@ -1,6 +1,6 @@
 -- Legal events keep what is done in a legal past.
-use Rattle.std.proofs.Common.{◌≡◌, ℕ, zero, suc, ◌+◌, ◌-◌, ◌≤◌, ◌<◌, Bool, true, false, ◌&&◌, ◌||◌, ◌==◌, not, nat_lt, nat_le, inl, inr, ◌⊎◌, Some, is_some, List, [], ◌∷◌, length, find, refl, sym, ◌∙◌, ap, arith, if◌then◌else◌}
-use Rattle.std.specs.List.{list_any, range_with_len}
+use Rattle.std.proofs.Common.{◌≡◌, ℕ, ◌-◌, ◌≤◌, ◌<◌, Bool, true, false, ◌&&◌, ◌||◌, ◌==◌, not, nat_lt, nat_le, inl, inr, ◌⊎◌, is_some, List, [], ◌∷◌, length, refl, sym, ◌∙◌, ap, arith, if◌then◌else◌}
+use Rattle.std.specs.List.{list_any}
 use Rattle.std.proofs.lemmas.Bool.{or_parts, and_parts, eq-eqb, eqb-true, cases_eq, cases_lt, cases_Bool, both_ways, lt-ltb, le-ltb, ltb-false, leb-false, lt-leb, false_from_ne_true, not-true, not-false, or_left, or_right}
 use Rattle.play_event.specs.declared.setup.Setup.{Setup}
 use Rattle.play_event.specs.Games.{hole_cards_on, board_cards_on}
@@ -9,11 +9,12 @@ use Rattle.play_event.specs.Past.{Past, Resolved, Move, Dealt, Boarded, Moved, D
 use Rattle.play_event.specs.Seats.{is_live, all_seats, live_count}
 use Rattle.play_event.specs.Dealing.{is_deal_due, is_draw_due, hole_cards_dealt, board_cards_dealt, hole_cards_owed, board_cards_owed, cards_owed, replacements_owed, has_drawn, next_to_draw}
 use Rattle.list_laws.proofs.Tests.{false_true}
-use Rattle.play_laws.specs.PastLaws.{AreReached, has_move, PastLaw, DoneLaw, plays_on}
+use Rattle.play_laws.specs.PastLaws.{AreReached, has_move, PastLaw, DoneLaw, is_played_on}
 use Rattle.play_laws.proofs.DueAtEvents.{Reaches, IsNotDue, not_due}
 use Rattle.play_laws.proofs.LegalEvents.{Stepped, deals, boards, moves, discards, shows, mucks}
-use Rattle.play_laws.proofs.ClosedBetting.{live_still, fewer}
-use Rattle.play_laws.proofs.SettledStreets.{at_range}
+use Rattle.list_laws.proofs.NumbersOfRange.{at_range, find_none}
+use Rattle.play_event.proofs.StillAble.{still_live}
+use Rattle.list_laws.proofs.Counting.{counts_fewer}
 
 -- an event takes place on the street of the turn
 pub on_street : (setup : Setup) (before : Past) (at : ℕ) (event : Resolved) → Stepped setup before at event → street_of event ≡ at
@@ -50,7 +51,7 @@ none_before setup before at street law come some less = elim (cases_lt street (n
 -- who is live was live before a street
 pub live_before : (list : List Move) (street seat : ℕ) → is_live list seat ≡ true → is_live (moves_before street list) seat ≡ true
 live_before [] street seat is = refl
-live_before (move ∷ rest) street seat is = by_street (nat_lt move.street street) (live_before rest street seat (live_still move rest seat is))
+live_before (move ∷ rest) street seat is = by_street (nat_lt move.street street) (live_before rest street seat (still_live move rest seat is))
   where
     by_street : (b : Bool) → is_live (moves_before street rest) seat ≡ true → is_live (if b then (move ∷ moves_before street rest) else moves_before street rest) seat ≡ true
     by_street true later = more (is_fold move.act && (move.seat == seat)) (list_any (λ (move : Move). is_fold move.act && (move.seat == seat)) rest) (list_any (λ (move : Move). is_fold move.act && (move.seat == seat)) (moves_before street rest)) is later
@@ -68,7 +69,7 @@ late_fold newest street seat (move ∷ rest) reached live folded = elim (cases_l
       let first : is_live (move ∷ moves_before street rest) seat ≡ true = sym (ap (λ b. is_live (if b then (move ∷ moves_before street rest) else moves_before street rest) seat) (lt-ltb move.street street early)) ∙ live in
       let none : (is_fold move.act && (move.seat == seat)) ≡ false = (or_parts (is_fold move.act && (move.seat == seat)) (list_any (λ (move : Move). is_fold move.act && (move.seat == seat)) (moves_before street rest)) (not-true (list_any (λ (move : Move). is_fold move.act && (move.seat == seat)) (move ∷ moves_before street rest)) first)).0 in
       let rest_folded : is_live rest seat ≡ false = sym (ap (λ b. not (b || list_any (λ (move : Move). is_fold move.act && (move.seat == seat)) rest)) none) ∙ folded in
-      elim (late_fold newest street seat rest reached.1 (live_still move (moves_before street rest) seat first) rest_folded) [
+      elim (late_fold newest street seat rest reached.1 (still_live move (moves_before street rest) seat first) rest_folded) [
         | inl less ↦ inl less
         | inr has ↦ inr (or_right (move.street == street) (has_move street rest) has)
       ]
@@ -113,18 +114,6 @@ done_or_live setup before at street seat _ past law come (moves move no_deal no_
     reached [] all = tt
     reached (first ∷ rest) all = (omega (arith, all.0, come.on, on), reached rest all.1)
 
-find_first : (p : ℕ → Bool) (first count seat : ℕ) (b : Bool) → p first ≡ b → (is_some (find p (range_with_len (first + 1) count)) ≡ false → first < seat → p seat ≡ false) → first ≤ seat → is_some (if b then Some first else find p (range_with_len (first + 1) count)) ≡ false → p seat ≡ false
-find_first p first count seat true here later least none = false_true (sym none)
-find_first p first count seat false here later least none = elim (cases_lt first seat) [
-  | inl above ↦ later none above
-  | inr below ↦ let same : seat ≡ first = omega (arith, below, least) in ap p same ∙ here
-]
-
--- what is found nowhere in a range passes nowhere in it
-pub find_none : (p : ℕ → Bool) (first count seat : ℕ) → is_some (find p (range_with_len first count)) ≡ false → first ≤ seat → seat < first + count → p seat ≡ false
-find_none p first zero seat is least most = absurd (omega (arith, least, most))
-find_none p first (suc count) seat is least most = find_first p first count seat (p first) refl (λ none above. find_none p (first + 1) count seat none (omega (arith, above)) (omega (arith, most))) least is
-
 -- where no deal is due each live seat has its cards of the street
 pub live_dealt : (setup : Setup) (before : Past) (street seat : ℕ) → is_deal_due setup before street ≡ false → is_live (moves_of before) seat ≡ true → 1 ≤ seat → seat ≤ setup.stacks.seats → hole_cards_on setup.code street ≤ hole_cards_dealt before street seat
 live_dealt setup before street seat is live least most =
@@ -158,16 +147,16 @@ drawn_still before (Shown on owner cards) street seat is = is
 drawn_still before (Mucked on owner) street seat is = is
 
 -- who is live before a street with one event more, was so
-pub was_live : (event : Resolved) (before : Past) (street seat : ℕ) → is_live (moves_before street (moves_of (event ∷ before))) seat ≡ true → is_live (moves_before street (moves_of before)) seat ≡ true
-was_live (Dealt on owner cards) before street seat is = is
-was_live (Boarded on cards) before street seat is = is
-was_live (Discarded on owner cards) before street seat is = is
-was_live (Shown on owner cards) before street seat is = is
-was_live (Mucked on owner) before street seat is = is
-was_live (Moved move) before street seat is = by_street (nat_lt move.street street) is
+pub is_live_at_start : (event : Resolved) (before : Past) (street seat : ℕ) → is_live (moves_before street (moves_of (event ∷ before))) seat ≡ true → is_live (moves_before street (moves_of before)) seat ≡ true
+is_live_at_start (Dealt on owner cards) before street seat is = is
+is_live_at_start (Boarded on cards) before street seat is = is
+is_live_at_start (Discarded on owner cards) before street seat is = is
+is_live_at_start (Shown on owner cards) before street seat is = is
+is_live_at_start (Mucked on owner) before street seat is = is
+is_live_at_start (Moved move) before street seat is = by_street (nat_lt move.street street) is
   where
     by_street : (b : Bool) → is_live (if b then (move ∷ moves_before street (moves_of before)) else moves_before street (moves_of before)) seat ≡ true → is_live (moves_before street (moves_of before)) seat ≡ true
-    by_street true it = live_still move (moves_before street (moves_of before)) seat it
+    by_street true it = still_live move (moves_before street (moves_of before)) seat it
     by_street false it = it
 
 -- no more than the street deals
@@ -203,9 +192,9 @@ most_board setup before at _ (boards cards due some few free) law street = elim 
 ]
 
 -- an event that is played is played by two live seats or more
-pub played_several : (setup : Setup) (before : Past) (at street : ℕ) (event : Resolved) → Stepped setup before at event → (nat_le (live_count setup (moves_of before)) 1 ≡ true → plays_on street event ≡ true → ⊥) → plays_on street event ≡ true → nat_le (live_count setup (moves_before street (moves_of before))) 1 ≡ false
+pub played_several : (setup : Setup) (before : Past) (at street : ℕ) (event : Resolved) → Stepped setup before at event → (nat_le (live_count setup (moves_of before)) 1 ≡ true → is_played_on street event ≡ true → ⊥) → is_played_on street event ≡ true → nat_le (live_count setup (moves_before street (moves_of before))) 1 ≡ false
 played_several setup before at street event step never plays =
-    lt-leb (live_count setup (moves_before street (moves_of before))) 1 (omega (arith, more, fewer (is_live (moves_of before)) (is_live (moves_before street (moves_of before))) (all_seats setup) (live_before (moves_of before) street)))
+    lt-leb (live_count setup (moves_before street (moves_of before))) 1 (omega (arith, more, counts_fewer (is_live (moves_of before)) (is_live (moves_before street (moves_of before))) (live_before (moves_of before) street) (all_seats setup)))
   where
     more : 1 < live_count setup (moves_of before)
     more = leb-false (live_count setup (moves_of before)) 1 (false_from_ne_true (nat_le (live_count setup (moves_of before)) 1) (λ one. never one plays))

@@ -19,12 +19,13 @@ use Rattle.play_event.specs.Scripts.{with_event, past_of, resolved_on}
 use Rattle.play_event.specs.Laws.{AreLegal}
 use Rattle.play_event.proofs.ReasonLaws.{no_reason_holds}
 use Rattle.list_laws.proofs.Tests.{false_true}
-use Rattle.play_laws.specs.PastLaws.{PastLaw, DoneLaw, plays_on}
+use Rattle.play_laws.specs.PastLaws.{PastLaw, DoneLaw, is_played_on}
 use Rattle.play_laws.proofs.DueAtEvents.{Reaches, IsNotDue, turn_reaches}
-use Rattle.play_laws.proofs.LegalEvents.{Stepped, stepped, kind_true}
+use Rattle.play_laws.proofs.LegalEvents.{Stepped, stepped}
 use Rattle.play_laws.proofs.ClosedBetting.{not_due_still}
 use Rattle.play_laws.proofs.LegalPlaces.{legal_past}
-use Rattle.play_laws.proofs.DoneKept.{on_street, before_same, all_early, none_before, done_or_live, live_dealt, live_drawn, dealt_more, drawn_still, was_live, most_dealt, most_board, played_several}
+use Rattle.play_laws.proofs.DoneKept.{on_street, before_same, all_early, none_before, done_or_live, live_dealt, live_drawn, dealt_more, drawn_still, is_live_at_start, most_dealt, most_board, played_several}
+use Rattle.play_event.proofs.FloorLaws.{may_come_by}
 
 -- with one live seat nothing is played
 over_turn : (setup : Setup) (before : Past) → nat_le (live_count setup (moves_of before)) 1 ≡ true → (turn setup before).1 ≡ dues.Over
@@ -37,19 +38,19 @@ not_over : (setup : Setup) (before : Past) (event : Said) → nat_le (live_count
 not_over setup before event one kind = sym (ap (λ d. is_due_kind setup.code d event) (over_turn setup before one)) ∙ kind
 
 -- an event that is no show or muck is legal only where two or more seats are live
-pub several_now : (setup : Setup) (rules : Rules) (before : Past) (street : ℕ) (event : Said) → why setup rules before event ≡ None → nat_le (live_count setup (moves_of before)) 1 ≡ true → plays_on street (resolved_on setup before (turn setup before).0 event) ≡ true → ⊥
-several_now setup rules before street (said.Hole seat cards) legal one plays = both_ways false refl (not_over setup before (said.Hole seat cards) one (kind_true (is_due_kind setup.code (turn setup before).1 (said.Hole seat cards)) false (no_reason_holds setup rules before (said.Hole seat cards) legal).1.0))
-several_now setup rules before street (said.Board cards) legal one plays = both_ways false refl (not_over setup before (said.Board cards) one (kind_true (is_due_kind setup.code (turn setup before).1 (said.Board cards)) false (no_reason_holds setup rules before (said.Board cards) legal).1.0))
-several_now setup rules before street (said.Fold named) legal one plays = both_ways false refl (not_over setup before (said.Fold named) one (kind_true (is_due_kind setup.code (turn setup before).1 (said.Fold named)) false (no_reason_holds setup rules before (said.Fold named) legal).1.0))
-several_now setup rules before street (said.Call named stated) legal one plays = both_ways false refl (not_over setup before (said.Call named stated) one (kind_true (is_due_kind setup.code (turn setup before).1 (said.Call named stated)) false (no_reason_holds setup rules before (said.Call named stated) legal).1.0))
-several_now setup rules before street (said.Raise named amount) legal one plays = both_ways false refl (not_over setup before (said.Raise named amount) one (kind_true (is_due_kind setup.code (turn setup before).1 (said.Raise named amount)) false (no_reason_holds setup rules before (said.Raise named amount) legal).1.0))
-several_now setup rules before street (said.BringIn named) legal one plays = both_ways false refl (not_over setup before (said.BringIn named) one (kind_true (is_due_kind setup.code (turn setup before).1 (said.BringIn named)) false (no_reason_holds setup rules before (said.BringIn named) legal).1.0))
-several_now setup rules before street (said.Discard seat cards) legal one plays = both_ways false refl (not_over setup before (said.Discard seat cards) one (kind_true (is_due_kind setup.code (turn setup before).1 (said.Discard seat cards)) false (no_reason_holds setup rules before (said.Discard seat cards) legal).1.0))
+pub several_now : (setup : Setup) (rules : Rules) (before : Past) (street : ℕ) (event : Said) → why setup rules before event ≡ None → nat_le (live_count setup (moves_of before)) 1 ≡ true → is_played_on street (resolved_on setup before (turn setup before).0 event) ≡ true → ⊥
+several_now setup rules before street (said.Hole seat cards) legal one plays = both_ways false refl (not_over setup before (said.Hole seat cards) one (may_come_by (is_due_kind setup.code (turn setup before).1 (said.Hole seat cards)) false (no_reason_holds setup rules before (said.Hole seat cards) legal).1.0))
+several_now setup rules before street (said.Board cards) legal one plays = both_ways false refl (not_over setup before (said.Board cards) one (may_come_by (is_due_kind setup.code (turn setup before).1 (said.Board cards)) false (no_reason_holds setup rules before (said.Board cards) legal).1.0))
+several_now setup rules before street (said.Fold named) legal one plays = both_ways false refl (not_over setup before (said.Fold named) one (may_come_by (is_due_kind setup.code (turn setup before).1 (said.Fold named)) false (no_reason_holds setup rules before (said.Fold named) legal).1.0))
+several_now setup rules before street (said.Call named stated) legal one plays = both_ways false refl (not_over setup before (said.Call named stated) one (may_come_by (is_due_kind setup.code (turn setup before).1 (said.Call named stated)) false (no_reason_holds setup rules before (said.Call named stated) legal).1.0))
+several_now setup rules before street (said.Raise named amount) legal one plays = both_ways false refl (not_over setup before (said.Raise named amount) one (may_come_by (is_due_kind setup.code (turn setup before).1 (said.Raise named amount)) false (no_reason_holds setup rules before (said.Raise named amount) legal).1.0))
+several_now setup rules before street (said.BringIn named) legal one plays = both_ways false refl (not_over setup before (said.BringIn named) one (may_come_by (is_due_kind setup.code (turn setup before).1 (said.BringIn named)) false (no_reason_holds setup rules before (said.BringIn named) legal).1.0))
+several_now setup rules before street (said.Discard seat cards) legal one plays = both_ways false refl (not_over setup before (said.Discard seat cards) one (may_come_by (is_due_kind setup.code (turn setup before).1 (said.Discard seat cards)) false (no_reason_holds setup rules before (said.Discard seat cards) legal).1.0))
 several_now setup rules before street (said.Show seat cards) legal one plays = both_ways false refl plays
 several_now setup rules before street (said.Muck seat) legal one plays = both_ways false refl plays
 
 -- an event that is played on a street is on it
-plays_here : (street : ℕ) (event : Resolved) → plays_on street event ≡ true → street_of event ≡ street
+plays_here : (street : ℕ) (event : Resolved) → is_played_on street event ≡ true → street_of event ≡ street
 plays_here street (Dealt on owner cards) is = eqb-true on street is
 plays_here street (Boarded on cards) is = eqb-true on street is
 plays_here street (Moved move) is = eqb-true move.street street is
@@ -67,9 +68,9 @@ on_more newest street [] most on = tt
 on_more newest street (event ∷ before) most on = (omega (arith, most, on.0), on_more newest street before most on.1)
 
 -- an event of a street stands no later than the newest street
-pub played_on : (newest street : ℕ) (before : Past) → AreOn newest before → list_any (plays_on street) before ≡ true → street ≤ newest
+pub played_on : (newest street : ℕ) (before : Past) → AreOn newest before → list_any (is_played_on street) before ≡ true → street ≤ newest
 played_on newest street [] on is = false_true is
-played_on newest street (event ∷ before) on is = elim (or_cases (plays_on street event) (list_any (plays_on street) before) is) [
+played_on newest street (event ∷ before) on is = elim (or_cases (is_played_on street event) (list_any (is_played_on street) before) is) [
   | inl now ↦ omega (arith, plays_here street event now, on.0)
   | inr earlier ↦ played_on newest street before on.1 earlier
 ]
@@ -92,17 +93,17 @@ closed_still setup before at event past law come on street later some less most 
 dealt_still : (setup : Setup) (before : Past) (at : ℕ) (event : Resolved) → PastLaw setup before → DoneLaw setup before → Reaches setup before at → Stepped setup before at event → (street seat : ℕ) → 1 ≤ street → 1 ≤ seat → seat ≤ setup.stacks.seats → is_deal_due setup (event ∷ before) street ≡ false → is_live (moves_before street (moves_of (event ∷ before))) seat ≡ true → hole_cards_on setup.code street ≤ hole_cards_dealt (event ∷ before) street seat
 dealt_still setup before at event past law come step street seat some least most none live = elim (done_or_live setup before at street seat event past law come step some live) [
   | inl live_now ↦ live_dealt setup (event ∷ before) street seat none live_now least most
-  | inr done ↦ omega (arith, law.dealt street seat some least most done.0 (was_live event before street seat live), dealt_more before event street seat)
+  | inr done ↦ omega (arith, law.dealt street seat some least most done.0 (is_live_at_start event before street seat live), dealt_more before event street seat)
 ]
 
 drawn_again : (setup : Setup) (before : Past) (at : ℕ) (event : Resolved) → PastLaw setup before → DoneLaw setup before → Reaches setup before at → Stepped setup before at event → (street seat : ℕ) → 1 ≤ street → 1 ≤ seat → seat ≤ setup.stacks.seats → has_draw setup.code street ≡ true → is_draw_due setup (event ∷ before) street ≡ false → is_live (moves_before street (moves_of (event ∷ before))) seat ≡ true → has_drawn (event ∷ before) street seat ≡ true
 drawn_again setup before at event past law come step street seat some least most draws_there none live = elim (done_or_live setup before at street seat event past law come step some live) [
   | inl live_now ↦ live_drawn setup (event ∷ before) street seat draws_there none live_now least most
-  | inr done ↦ drawn_still before event street seat (law.drawn street seat some least most draws_there done.1 (was_live event before street seat live))
+  | inr done ↦ drawn_still before event street seat (law.drawn street seat some least most draws_there done.1 (is_live_at_start event before street seat live))
 ]
 
 -- a legal event keeps what is done
-pub done_law : (setup : Setup) (before : Past) (at : ℕ) (event : Resolved) → PastLaw setup before → DoneLaw setup before → AreOn (newest_street before) before → Reaches setup before at → Stepped setup before at event → ((street : ℕ) → nat_le (live_count setup (moves_of before)) 1 ≡ true → plays_on street event ≡ true → ⊥) → DoneLaw setup (event ∷ before)
+pub done_law : (setup : Setup) (before : Past) (at : ℕ) (event : Resolved) → PastLaw setup before → DoneLaw setup before → AreOn (newest_street before) before → Reaches setup before at → Stepped setup before at event → ((street : ℕ) → nat_le (live_count setup (moves_of before)) 1 ≡ true → is_played_on street event ≡ true → ⊥) → DoneLaw setup (event ∷ before)
 done_law setup before at event past law are_on come step never =
     let on = on_street setup before at event step in
     record {
@@ -112,7 +113,7 @@ done_law setup before at event past law are_on come step never =
       board_most = most_board setup before at event step law.board_most;
       dealt = dealt_still setup before at event past law come step;
       drawn = drawn_again setup before at event past law come step;
-      several = λ street is. elim (or_cases (plays_on street event) (list_any (plays_on street) before) is) [
+      several = λ street is. elim (or_cases (is_played_on street event) (list_any (is_played_on street) before) is) [
         | inl now ↦
             ap (λ l. nat_le (live_count setup l) 1) (before_same event before street (omega (arith, plays_here street event now)))
             ∙ played_several setup before at street event step (never street) now

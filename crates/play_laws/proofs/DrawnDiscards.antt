@@ -16,10 +16,10 @@ use Rattle.play_event.specs.Laws.{IsAmong}
 use Rattle.list_laws.proofs.Tests.{false_true}
 use Rattle.play_event.proofs.ClashLaws.{among_append}
 use Rattle.std.proofs.lemmas.Option.{same_Some}
-use Rattle.play_laws.specs.LegalPlaces.{owner_folded}
+use Rattle.play_laws.specs.LegalPlaces.{has_owner_folded}
 use Rattle.play_laws.proofs.PlaceChanges.{HowGone, stays, out, folds, AreChanged}
 use Rattle.play_laws.proofs.KeptPlaces.{ChangedFrom, changed_from, none_out}
-use Rattle.play_laws.proofs.QuietEvents.{discard_marks, show_marks, nothing, marked_changed, held_parts}
+use Rattle.play_laws.proofs.QuietEvents.{discard_marks, show_marks, is_nothing, marked_changed, held_parts}
 use Rattle.play_laws.proofs.DealtPlaces.{are_new}
 use Rattle.play_laws.proofs.LegalPlaces.{PlacesOf}
 use Rattle.play_laws.proofs.PastLawKept.{DrawsNext}
@@ -45,10 +45,6 @@ old_out count draw who street seat olds news place drew changed among is before 
         here (folds there now same mine) = still same
         here (out there now on mine) =
             or_left ((draw == street) && (who == seat)) drew (and_from (draw == street) (who == seat) (eq-eqb draw street (sym on ∙ is.1.0)) (eq-eqb who seat (same_Some who seat (sym mine ∙ (sym from.change.owner ∙ is.0)))))
-
--- events that are no draw
-kept_out : (count draw who street seat : ℕ) (olds news : List Place) (place : Place) → AreChanged count draw who olds news → ((new : Place) → IsAmong news new → HowGone count draw who new new → ⊥) → IsAmong news place → ⊥
-kept_out count draw who street seat olds news place changed never among = never place among (stays refl refl)
 
 new_not_out : (code : Code) (owner : Option ℕ) (on : ℕ) (cards : List Slot) (placed : List Place) (street seat : ℕ) (place : Place) → IsAmong (after_deal code owner on cards placed) place → IsOut street seat place → IsAmong placed place
 new_not_out code owner on cards placed street seat place among is = elim (among_append placed (places_dealt owner on (is_past_deck code placed on) (count_by (is_in_group owner on) placed) (length placed) cards) place among) [
@@ -88,7 +84,7 @@ out_drawn code (Shown on owner cards ∷ before) street seat place among is =
     let covers : Place → Bool = is_covered code owner (is_show_of_all placed owner cards) in
     let marks = show_marks covers (length placed) 0 cards (other_names (filter covers placed) cards) 0 placed in
     elim (or_cases ((0 == street) && (owner == seat)) (has_drawn before street seat) (old_out (length placed) 0 owner street seat placed (after_show code owner cards placed) place (has_drawn before street seat)
-    (marked_changed nothing (length placed) 0 owner placed (after_show code owner cards placed) (λ old it. false_true it) marks) among is (λ old in_it was. out_drawn code before street seat old in_it was))) [
+    (marked_changed is_nothing (length placed) 0 owner placed (after_show code owner cards placed) (λ old it. false_true it) marks) among is (λ old in_it was. out_drawn code before street seat old in_it was))) [
       | inl zero_street ↦ absurd (omega (arith, is.1.1, eqb-true 0 street (and_parts (0 == street) (owner == seat) zero_street).0))
       | inr drew ↦ drew
     ]
@@ -106,8 +102,8 @@ covers_hand setup before at seat past law come who =
     is_gone None b is not_covered = false_true (sym not_covered ∙ ap (λ c. c && true) is)
 
     is_gone_before : (place : Place) → IsAmong (places_of setup.code before) place → place.owner ≡ Some seat → is_some place.gone_after ≡ true → (0 < place.discarded) × (place.discarded < at)
-    is_gone_before place among mine is = elim (or_cases (nat_lt 0 place.discarded) (owner_folded (moves_of before) place.owner) (sym (law.gone_is place among) ∙ is)) [
-      | inr folded ↦ absurd (both_ways (owner_folded (moves_of before) (Some seat)) (not_from_true (is_live (moves_of before) seat) who.live) (sym (ap (owner_folded (moves_of before)) mine) ∙ folded))
+    is_gone_before place among mine is = elim (or_cases (nat_lt 0 place.discarded) (has_owner_folded (moves_of before) place.owner) (sym (law.gone_is place among) ∙ is)) [
+      | inr folded ↦ absurd (both_ways (has_owner_folded (moves_of before) (Some seat)) (not_from_true (is_live (moves_of before) seat) who.live) (sym (ap (has_owner_folded (moves_of before)) mine) ∙ folded))
       | inl out_there ↦
           let some : 0 < place.discarded = ltb-true 0 place.discarded out_there in (
             some,

@@ -1,23 +1,19 @@
 -- What is due when an event is legal, and on which street it takes place.
-use Rattle.std.proofs.Common.{◌≡◌, ℕ, zero, suc, ◌+◌, ◌-◌, ◌≤◌, ◌<◌, Bool, true, false, nat_le, inl, inr, ◌⊎◌, Option, Some, None, List, refl, sym, ◌∙◌, ap, subst, arith, unwrap_or, if◌then◌else◌}
+use Rattle.std.proofs.Common.{◌≡◌, ℕ, zero, suc, ◌+◌, ◌-◌, ◌≤◌, ◌<◌, Bool, true, false, nat_le, Option, Some, None, refl, sym, ap, subst, arith, unwrap_or, if◌then◌else◌}
 use Rattle.std.specs.Option.{option_map}
-use Rattle.std.proofs.lemmas.Bool.{cases_lt}
-use Rattle.card_set.specs.declared.card.Slot.{Slot}
 use Rattle.play_event.specs.declared.reason.Due.{Due}
 use Rattle.play_event.specs.declared.reason.Due.TheVariants as dues
 use Rattle.play_event.specs.declared.setup.Setup.{Setup}
 use Rattle.play_event.specs.Games.{street_count}
 use Rattle.play_event.specs.Said as said
-use Rattle.play_event.specs.Said.{Said}
 use Rattle.play_event.specs.Past.{Past, moves_of, newest_street}
 use Rattle.play_event.specs.Seats.{live_count}
 use Rattle.play_event.specs.Dealing.{is_deal_due, is_draw_due}
 use Rattle.play_event.specs.Due.{turn, due_on, first_due, found_or, showdown, is_bring_in_due, is_move_due, is_unfinished}
-use Rattle.play_event.specs.Reasons.{is_due_kind}
 use Rattle.list_laws.proofs.Options.{some_is_none}
 use Rattle.std.proofs.lemmas.Option.{same_Some}
 use Rattle.play_event.proofs.StreetLaws.{street_found, due_is_first}
-use Rattle.list_laws.proofs.Tests.{false_true}
+use Rattle.play_event.proofs.DueStreets.{none_found}
 
 -- what is due on a street
 pub data IsDue (setup : Setup) (before : Past) (street : ℕ) : Due → Type 0 where
@@ -61,21 +57,6 @@ pub record Reaches (setup : Setup) (before : Past) (street : ℕ) : Type 0 where
   pub within : street ≤ street_count setup.code
   pub quiet : (between : ℕ) → newest_street before ≤ between → between < street → due_on setup before between ≡ None
 
--- where nothing is found, nothing is due on any of the streets
-none_step : (on : ℕ → Option Due) (rest street : ℕ) (here : Option Due) → on street ≡ here → found_or (option_map (λ d. (street, d)) here) (first_due on rest (street + 1)) ≡ None → (on street ≡ None) × (first_due on rest (street + 1) ≡ None)
-none_step on rest street (Some due) here is = absurd (some_is_none is)
-none_step on rest street None here is = (here, is)
-
--- where no street is found nothing is due on any of them
-pub none_found : (on : ℕ → Option Due) (rest street : ℕ) → first_due on rest street ≡ None → (between : ℕ) → street ≤ between → between < street + rest → on between ≡ None
-none_found on zero street is between least most = absurd (omega (arith, least, most))
-none_found on (suc rest) street is between least most =
-    let both = none_step on rest street (on street) refl is in
-    elim (cases_lt street between) [
-      | inl above ↦ none_found on rest (street + 1) both.1 between (omega (arith, above)) (omega (arith, most))
-      | inr below ↦ let same : between ≡ street = omega (arith, below, least) in ap on same ∙ both.0
-    ]
-
 -- what is found is found within the streets
 within_step : (on : ℕ → Option Due) (rest street found : ℕ) (due : Due) (here : Option Due) → (first_due on rest (street + 1) ≡ Some (found, due) → found < (street + 1) + rest) → found_or (option_map (λ d. (street, d)) here) (first_due on rest (street + 1)) ≡ Some (found, due) → found < street + suc rest
 within_step on rest street found due (Some first) later is = omega (arith, ap (λ (p : ℕ × Due). p.0) (same_Some (street, first) (found, due) is))
@@ -107,12 +88,3 @@ pub unfinished_due : (setup : Setup) (before : Past) (due : Due) → (turn setup
 unfinished_due setup before due is unfinished =
     let first = due_is_first setup before (turn setup before).0 due (ap (λ d. ((turn setup before).0, d)) is) unfinished in
     is_due setup before (turn setup before).0 due first.is_due
-
--- the kinds that may come
-hole_kind : (setup : Setup) (seat : ℕ) (cards : List Slot) (due : Due) → is_due_kind setup.code due (said.Hole seat cards) ≡ true → (is_unfinished due ≡ true) × (((street : ℕ) × (due ≡ dues.Deal street)) ⊎ ((street : ℕ) × (due ≡ dues.Draw street)))
-hole_kind setup seat cards (dues.Deal street) is = (refl, inl (street, refl))
-hole_kind setup seat cards (dues.Draw street) is = (refl, inr (street, refl))
-hole_kind setup seat cards dues.BringIn is = false_true is
-hole_kind setup seat cards dues.Move is = false_true is
-hole_kind setup seat cards dues.Show is = false_true is
-hole_kind setup seat cards dues.Over is = false_true is

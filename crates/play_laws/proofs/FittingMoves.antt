@@ -1,8 +1,8 @@
 -- A legal move fits the moves before it and the places of its time.
-use Rattle.std.proofs.Common.{◌≡◌, ℕ, zero, suc, ◌+◌, ◌-◌, ◌≤◌, ◌<◌, Bool, true, false, ◌&&◌, ◌||◌, ◌==◌, nat_lt, nat_le, inl, inr, ◌⊎◌, Option, Some, None, is_some, is_none, List, [], ◌∷◌, map, filter, slice_get, refl, sym, ◌∙◌, ap, arith, if◌then◌else◌}
-use Rattle.std.specs.List.{list_any, range_with_len}
+use Rattle.std.proofs.Common.{◌≡◌, ℕ, zero, suc, ◌-◌, ◌≤◌, Bool, true, false, ◌&&◌, ◌||◌, ◌==◌, nat_lt, nat_le, inl, inr, ◌⊎◌, Option, Some, is_none, List, [], ◌∷◌, map, filter, slice_get, refl, sym, ◌∙◌, ap, arith, if◌then◌else◌}
+use Rattle.std.specs.List.{list_any}
 use Rattle.std.specs.Option.{option_map_or}
-use Rattle.std.proofs.lemmas.Bool.{or_parts, or_from, and_parts, and_right, cases_Bool, cases_lt, both_ways, ltb-true, ltb-false, le-leb, false_from_ne_true, not_from_true}
+use Rattle.std.proofs.lemmas.Bool.{or_parts, or_from, and_parts, and_right, cases_Bool, both_ways, ltb-true, ltb-false, le-leb, false_from_ne_true, not_from_true}
 use Rattle.play_event.specs.declared.code.Code.{Code}
 use Rattle.play_event.specs.declared.code.Code.TheVariants as games
 use Rattle.play_event.specs.declared.setup.Setup.{Setup}
@@ -22,13 +22,15 @@ use Rattle.play_event.specs.Places.{Place, is_same_owner, is_held_by, is_up}
 use Rattle.play_event.specs.Table.{places_of, up_cards}
 use Rattle.play_event.specs.Laws.{IsAmong}
 use Rattle.list_laws.proofs.Tests.{false_true}
-use Rattle.play_laws.specs.LegalPlaces.{owner_folded}
+use Rattle.play_laws.specs.LegalPlaces.{has_owner_folded}
 use Rattle.play_laws.specs.PastLaws.{has_move, PastLaw}
 use Rattle.play_laws.proofs.LegalPlaces.{PlacesOf}
 use Rattle.play_laws.proofs.MoverUps.{SameUps, mover_same}
 use Rattle.play_laws.proofs.MovesLaw.{is_up_by, ups_by, IsMover, free, shown}
 use Rattle.play_laws.proofs.DrawnDiscards.{out_drawn}
 use Rattle.play_event.proofs.OwnerLaws.{is_same_owner-true}
+use Rattle.list_laws.proofs.Options.{none_some}
+use Rattle.list_laws.proofs.NumbersOfRange.{none_kept_passes}
 
 -- where somebody has moved on the street, who moves is told by the moves alone
 some_on : (street : ℕ) (list : List Move) → has_move street list ≡ true → (first : Move) × ((rest : List Move) × (moves_on street list ≡ first ∷ rest))
@@ -57,14 +59,14 @@ no_moves_on street (move ∷ rest) is =
     let parts = or_parts (move.street == street) (has_move street rest) is in
     ap (λ b. if b then (move ∷ moves_on street rest) else moves_on street rest) parts.0 ∙ no_moves_on street rest parts.1
 
-seat_of : InTurn → Bool
-seat_of NoSeat = false
-seat_of Undecided = false
-seat_of (TheSeat seat) = true
+is_one_seat : InTurn → Bool
+is_one_seat NoSeat = false
+is_one_seat Undecided = false
+is_one_seat (TheSeat seat) = true
 
 decided_by : (setup : Setup) (ups : UpCards) (list : List Move) (street seat : ℕ) (unknown : Bool) (found : Option ℕ) → first_in_turn setup (has_to_move setup list street) (if unknown then Undecided else in_turn found) ≡ TheSeat seat → unknown ≡ false
-unfolding seat_of
-decided_by setup ups list street seat true found is = false_true (ap seat_of is)
+unfolding is_one_seat
+decided_by setup ups list street seat true found is = false_true (ap is_one_seat is)
 decided_by setup ups list street seat false found is = refl
 
 decided : (opener : Opener) (setup : Setup) (ups : UpCards) (list : List Move) (street seat : ℕ) → has_move street list ≡ false → mover_after setup (opener_by opener setup ups list street) list street ≡ TheSeat seat → (opener ≡ openers.Blinds) ⊎ (has_unknown_up_card setup ups list ≡ false)
@@ -74,22 +76,6 @@ decided openers.LowUp setup ups list street seat none is =
 decided openers.HighUp setup ups list street seat none is =
     inr (decided_by setup ups list street seat (has_unknown_up_card setup ups list) (up_cards_opener setup ups list street) (sym (ap (λ l. first_in_turn setup (has_to_move setup list street) (next_in_turn setup (opener_by openers.HighUp setup ups list street) l)) (no_moves_on street list none)) ∙ is))
 
-able_known : (p q : ℕ → Bool) (start count seat : ℕ) → list_any q (filter p (range_with_len start count)) ≡ false → start ≤ seat → seat < start + count → p seat ≡ true → q seat ≡ false
-able_known p q start zero seat is least most passes = absurd (omega (arith, least, most))
-able_known p q start (suc count) seat is least most passes = by_first (p start) refl (able_known p q (start + 1) count seat) is
-  where
-    by_first : (b : Bool) → p start ≡ b → (list_any q (filter p (range_with_len (start + 1) count)) ≡ false → start + 1 ≤ seat → seat < (start + 1) + count → p seat ≡ true → q seat ≡ false) → list_any q (if b then (start ∷ filter p (range_with_len (start + 1) count)) else filter p (range_with_len (start + 1) count)) ≡ false → q seat ≡ false
-    by_first true here later none =
-        let parts = or_parts (q start) (list_any q (filter p (range_with_len (start + 1) count))) none in
-        elim (cases_lt start seat) [
-          | inl above ↦ later parts.1 (omega (arith, above)) (omega (arith, most)) passes
-          | inr below ↦ let same : seat ≡ start = omega (arith, below, least) in ap q same ∙ parts.0
-        ]
-    by_first false here later none = elim (cases_lt start seat) [
-      | inl above ↦ later none (omega (arith, above)) (omega (arith, most)) passes
-      | inr below ↦ let same : seat ≡ start = omega (arith, below, least) in false_true (sym here ∙ (ap p (sym same) ∙ passes))
-    ]
-
 -- the seat in turn by the up-cards of able seats is so by the places
 pub is_mover : (setup : Setup) (placed : List Place) (ups : UpCards) (list : List Move) (street seat : ℕ) → SameUps setup list (ups_by setup.code placed street) ups → mover setup ups list street ≡ TheSeat seat → IsMover setup placed list street seat
 is_mover setup placed ups list street seat same is = elim (cases_Bool (has_move street list)) [
@@ -97,7 +83,7 @@ is_mover setup placed ups list street seat same is = elim (cases_Bool (has_move 
   | inr none ↦ elim (decided (opener_of setup.code) setup ups list street seat none is) [
     | inl blinds ↦ free (λ others. blinds_free setup ups others list street seat blinds is)
     | inr known ↦ shown
-        (λ other least most able. ap (list_any is_unknown) (same other least most able) ∙ able_known (is_able setup list) (λ seat. list_any is_unknown (ups seat)) 1 setup.stacks.seats other known least (omega (arith, most)) able)
+        (λ other least most able. ap (list_any is_unknown) (same other least most able) ∙ none_kept_passes (is_able setup list) (λ seat. list_any is_unknown (ups seat)) 1 setup.stacks.seats other known least (omega (arith, most)) able)
         (mover_same setup list street (ups_by setup.code placed street) ups same ∙ is)
   ]
 ]
@@ -144,11 +130,6 @@ up_by false none up early there is = refl
 up_by true none false early there is = sym (and_right none false refl)
 up_by true none true early there is = is ∙ sym (ap (λ b. b && true) (there refl refl))
 
--- what is not some is none
-pub none_some : (gone : Option ℕ) → is_some gone ≡ false → is_none gone ≡ true
-none_some None is = refl
-none_some (Some count) is = false_true (sym is)
-
 -- the up-cards of an able seat are those of its places
 pub ups_now : (setup : Setup) (before : Past) (at seat : ℕ) → PastLaw setup before → PlacesOf setup before → newest_street before ≤ at → ((street other : ℕ) → has_drawn before street other ≡ true → has_draw setup.code street ≡ true) → is_live (moves_of before) seat ≡ true → ups_by setup.code (places_of setup.code before) at seat ≡ up_cards setup.code before seat
 ups_now setup before at seat past law on drew live =
@@ -158,7 +139,12 @@ ups_now setup before at seat past law on drew live =
     still : (place : Place) → IsAmong (places_of setup.code before) place → is_same_owner place.owner (Some seat) ≡ true → is_up setup.code place ≡ true → is_none place.gone_after ≡ true
     still place among mine up =
         let owner = is_same_owner-true place.owner (Some seat) mine in
-        none_some place.gone_after (law.gone_is place among ∙ or_from (nat_lt 0 place.discarded) (owner_folded (moves_of before) place.owner)
+        none_some place.gone_after (law.gone_is place among ∙ or_from (nat_lt 0 place.discarded) (has_owner_folded (moves_of before) place.owner)
         (false_from_ne_true (nat_lt 0 place.discarded) (λ out. both_ways (has_draw setup.code place.discarded) (up_no_draw setup.code place place.discarded up)
         (drew place.discarded seat (out_drawn setup.code before place.discarded seat place among (owner, (refl, omega (arith, ltb-true 0 place.discarded out)))))))
-        (ap (owner_folded (moves_of before)) owner ∙ not_from_true (is_live (moves_of before) seat) live))
+        (ap (has_owner_folded (moves_of before)) owner ∙ not_from_true (is_live (moves_of before) seat) live))
+
+-- where no place passes none is kept
+pub none_pass : (p : Place → Bool) (places : List Place) → ((place : Place) → IsAmong places place → p place ≡ false) → filter p places ≡ []
+none_pass p [] pass = refl
+none_pass p (first ∷ rest) pass = ap (λ b. if b then (first ∷ filter p rest) else filter p rest) (pass first (inl refl)) ∙ none_pass p rest (λ place among. pass place (inr among))

@@ -1,7 +1,7 @@
 -- The moves of every legal past fit, by induction over its events.
-use Rattle.std.proofs.Common.{◌≡◌, ◌≢◌, ℕ, ◌≤◌, Bool, true, false, ◌&&◌, ◌||◌, ◌==◌, not, nat_lt, nat_le, inl, inr, None, List, [], ◌∷◌, filter, length, refl, sym, ◌∙◌, ap, arith, if◌then◌else◌}
+use Rattle.std.proofs.Common.{◌≡◌, ◌≢◌, ℕ, ◌≤◌, Bool, true, false, ◌&&◌, ◌||◌, ◌==◌, not, nat_lt, nat_le, inl, inr, None, List, [], ◌∷◌, refl, sym, ◌∙◌, ap, arith, if◌then◌else◌}
 use Rattle.std.specs.List.{list_any}
-use Rattle.std.proofs.lemmas.Bool.{or_parts, or_cases, or_left, or_right, or_from, and_parts, and_from, both_ways, cases_Bool, eq-eqb, eqb-true, leb-true, le-leb, false_from_ne_true, not-true, not_from_false}
+use Rattle.std.proofs.lemmas.Bool.{or_parts, or_right, or_from, and_parts, and_from, both_ways, cases_Bool, eq-eqb, eqb-true, leb-true, le-leb, false_from_ne_true, not-true, not_from_false}
 use Rattle.std.proofs.lemmas.List.Sums.{length-filter}
 use Rattle.play_event.specs.declared.reason.Due.{Due}
 use Rattle.play_event.specs.declared.reason.Due.TheVariants as dues
@@ -20,18 +20,20 @@ use Rattle.play_event.specs.Places.{Place}
 use Rattle.play_event.specs.Reasons.{why, is_due_kind}
 use Rattle.play_event.specs.Scripts.{with_event, past_of, resolved_on, resolved_by}
 use Rattle.play_event.specs.Laws.{AreLegal}
-use Rattle.list_laws.proofs.Tests.{false_true}
+use Rattle.list_laws.proofs.Tests.{and_group, false_true}
 use Rattle.play_event.proofs.ReasonLaws.{no_reason_holds}
 use Rattle.play_laws.specs.PastLaws.{has_move}
-use Rattle.play_laws.proofs.ClosedBetting.{able_fewer, other_moves, and_group}
+use Rattle.play_laws.proofs.ClosedBetting.{able_fewer, other_moves}
 use Rattle.play_laws.proofs.MoveKinds.{IsMoveSaid, fold_said, call_said, raise_said, bring_said}
 use Rattle.play_laws.proofs.MovesLaw.{IsBetDue, bring_first, move_now, FitsMove, MovesLaw}
-use Rattle.play_laws.proofs.LegalEvents.{stepped, kind_true}
+use Rattle.play_laws.proofs.LegalEvents.{stepped}
 use Rattle.play_laws.proofs.DueAtEvents.{turn_reaches}
 use Rattle.play_laws.proofs.LegalPlaces.{legal_past}
 use Rattle.play_laws.proofs.DonePasts.{several_now}
 use Rattle.play_laws.proofs.FittingSteps.{HasMovers, FitsIf, fit_move, moves_step}
 use Rattle.play_laws.proofs.Movers.{mover_found}
+use Rattle.play_event.proofs.FloorLaws.{may_come_by}
+use Rattle.list_laws.proofs.Any.{any_from_length, list_any-weaker}
 
 -- a bring-in is due only before any move of the first street
 record IsBring (setup : Setup) (list : List Move) (street : ℕ) : Type 0 where
@@ -73,7 +75,7 @@ opened_by : (setup : Setup) (rules : Rules) (placed : List Place) (older : List 
 opened_by setup rules placed older move _ fits same (move_now no_bring so) bring = false_true (sym no_bring ∙ bring)
 opened_by setup rules placed older move _ fits same (bring_first so) bring =
     made_act setup older move.street (TheSeat move.seat) fits.event move fits.is_move
-    (ap (λ d. is_due_kind setup.code d fits.event) (sym same) ∙ kind_true (is_due_kind setup.code fits.due fits.event) false (or_false fits.none.1.0)) fits.place
+    (ap (λ d. is_due_kind setup.code d fits.event) (sym same) ∙ may_come_by (is_due_kind setup.code fits.due fits.event) false (or_false fits.none.1.0)) fits.place
   where
     or_false : not (is_due_kind setup.code fits.due fits.event || false) ≡ false → not (is_due_kind setup.code fits.due fits.event || (false && false)) ≡ false
     or_false is = is
@@ -101,30 +103,16 @@ none_moved setup (move ∷ older) street seat none =
     ap (λ b. if b then ((move.seat == seat) || (nat_le move.to (price setup older street) && has_moved_since_rise setup older street seat)) else has_moved_since_rise setup older street seat) parts.0
     ∙ none_moved setup older street seat parts.1
 
-some_count : (p : ℕ → Bool) (seats : List ℕ) → 1 ≤ length (filter p seats) → list_any p seats ≡ true
-some_count p [] some = absurd (omega (arith, some))
-some_count p (first ∷ rest) some = by_first (p first) some (some_count p rest)
-  where
-    by_first : (b : Bool) → 1 ≤ length (if b then (first ∷ filter p rest) else filter p rest) → (1 ≤ length (filter p rest) → list_any p rest ≡ true) → (b || list_any p rest) ≡ true
-    by_first true it later = refl
-    by_first false it later = later it
-
-any_more : (p q : ℕ → Bool) (seats : List ℕ) → ((seat : ℕ) → p seat ≡ true → q seat ≡ true) → list_any p seats ≡ true → list_any q seats ≡ true
-any_more p q [] both is = false_true is
-any_more p q (first ∷ rest) both is = elim (or_cases (p first) (list_any p rest) is) [
-  | inl here ↦ or_left (q first) (list_any q rest) (both first here)
-  | inr later ↦ or_right (q first) (list_any q rest) (any_more p q rest both later)
-]
-
 to_bring : (setup : Setup) (rules : Rules) (placed : List Place) (list : List Move) (street : ℕ) → MovesLaw setup rules placed list → is_bring_in_due setup list street ≡ true → list_any (has_to_move setup list street) (all_seats setup) ≡ true
 to_bring setup rules placed list street law is =
     let bring = bring_parts setup list street is in
     let none = no_first setup rules placed list street law bring in
-    any_more (is_able setup list) (has_to_move setup list street) (all_seats setup)
+    list_any-weaker (is_able setup list) (has_to_move setup list street)
     (λ seat able. and_from (is_able setup list seat) (if has_moved_since_rise setup list street seat then false else (nat_lt 0 (owed setup list street seat) || nat_le 2 (able_count setup list))) able
     (ap (λ b. if b then false else (nat_lt 0 (owed setup list street seat) || nat_le 2 (able_count setup list))) (none_moved setup list street seat none)
     ∙ or_right (nat_lt 0 (owed setup list street seat)) (nat_le 2 (able_count setup list)) (le-leb 2 (able_count setup list) bring.two)))
-    (some_count (is_able setup list) (all_seats setup) (omega (arith, bring.two, length-filter (is_able setup list) (all_seats setup))))
+    (all_seats setup)
+    (any_from_length (is_able setup list) (all_seats setup) (omega (arith, bring.two, length-filter (is_able setup list) (all_seats setup))))
 
 -- where a bring-in or a move is due some seat is in turn, or it is not known which
 pub has_movers : (setup : Setup) (rules : Rules) → HasMovers setup rules
@@ -139,10 +127,10 @@ some_now setup rules before _ legal (raise_said named amount) street = false_fro
 some_now setup rules before _ legal (bring_said named) street = false_from_ne_true (nat_le (live_count setup (moves_of before)) 1) (λ one. several_now setup rules before (turn setup before).0 (said.BringIn named) legal one (eq-eqb (turn setup before).0 (turn setup before).0 refl))
 
 kind_now : (setup : Setup) (rules : Rules) (before : Past) (event : Said) → why setup rules before event ≡ None → IsMoveSaid event → is_due_kind setup.code (turn setup before).1 event ≡ true
-kind_now setup rules before _ legal (fold_said named) = kind_true (is_due_kind setup.code (turn setup before).1 (said.Fold named)) false (no_reason_holds setup rules before (said.Fold named) legal).1.0
-kind_now setup rules before _ legal (call_said named stated) = kind_true (is_due_kind setup.code (turn setup before).1 (said.Call named stated)) false (no_reason_holds setup rules before (said.Call named stated) legal).1.0
-kind_now setup rules before _ legal (raise_said named amount) = kind_true (is_due_kind setup.code (turn setup before).1 (said.Raise named amount)) false (no_reason_holds setup rules before (said.Raise named amount) legal).1.0
-kind_now setup rules before _ legal (bring_said named) = kind_true (is_due_kind setup.code (turn setup before).1 (said.BringIn named)) false (no_reason_holds setup rules before (said.BringIn named) legal).1.0
+kind_now setup rules before _ legal (fold_said named) = may_come_by (is_due_kind setup.code (turn setup before).1 (said.Fold named)) false (no_reason_holds setup rules before (said.Fold named) legal).1.0
+kind_now setup rules before _ legal (call_said named stated) = may_come_by (is_due_kind setup.code (turn setup before).1 (said.Call named stated)) false (no_reason_holds setup rules before (said.Call named stated) legal).1.0
+kind_now setup rules before _ legal (raise_said named amount) = may_come_by (is_due_kind setup.code (turn setup before).1 (said.Raise named amount)) false (no_reason_holds setup rules before (said.Raise named amount) legal).1.0
+kind_now setup rules before _ legal (bring_said named) = may_come_by (is_due_kind setup.code (turn setup before).1 (said.BringIn named)) false (no_reason_holds setup rules before (said.BringIn named) legal).1.0
 
 fit_if : (setup : Setup) (rules : Rules) (events : List Said) (event : Said) → MovesLaw setup rules (places_of setup.code (past_of setup events)) (moves_of (past_of setup events)) → AreLegal setup rules events → why setup rules (past_of setup events) event ≡ None → FitsIf setup rules (places_of setup.code (past_of setup events)) (moves_of (past_of setup events)) (resolved_on setup (past_of setup events) (turn setup (past_of setup events)).0 event)
 fit_if setup rules events (said.Hole seat cards) law legal_before legal = tt

@@ -69,8 +69,8 @@ pub holes_seven : (code : Code) (street : ℕ) → 1 ≤ street → hole_cards_o
 holes_seven code street some = omega (arith, one_more (game_of code).streets (street - 1), not_more (game_of code).streets (suc (street - 1)), leb-true (all_holes (game_of code).streets) 7 (seven code))
 
 -- a card that a seat holds when a street begins
-abbrev pub holds_at : ℕ → ℕ → Place → Bool
-holds_at seat street place = is_same_owner place.owner (Some seat) && (nat_lt place.street street && not (nat_lt 0 place.discarded && nat_lt place.discarded street))
+abbrev pub is_held_at : ℕ → ℕ → Place → Bool
+is_held_at seat street place = is_same_owner place.owner (Some seat) && (nat_lt place.street street && not (nat_lt 0 place.discarded && nat_lt place.discarded street))
 
 -- tests that pass no more
 pub less_step : (p q : Place → Bool) (place : Place) (rest : List Place) (a b : Bool) → (a ≡ true → b ≡ true) → length (filter p rest) ≤ length (filter q rest) → length (if a then (place ∷ filter p rest) else filter p rest) ≤ length (if b then (place ∷ filter q rest) else filter q rest)
@@ -162,20 +162,20 @@ sum_step p q r t place rest a b c d is later = omega (arith, is, later, counted 
     counted p place rest false = omega arith
 
 -- what a seat holds after a street and discarded there is what it held and was dealt
-pub balance : (seat street : ℕ) (placed : List Place) → 1 ≤ street → ((place : Place) → IsAmong placed place → 0 < place.discarded → place.street < place.discarded) → length (filter (holds_at seat (street + 1)) placed) + length (filter (is_out_of street seat) placed) ≡ length (filter (holds_at seat street) placed) + length (filter (is_in_group (Some seat) street) placed)
+pub balance : (seat street : ℕ) (placed : List Place) → 1 ≤ street → ((place : Place) → IsAmong placed place → 0 < place.discarded → place.street < place.discarded) → length (filter (is_held_at seat (street + 1)) placed) + length (filter (is_out_of street seat) placed) ≡ length (filter (is_held_at seat street) placed) + length (filter (is_in_group (Some seat) street) placed)
 balance seat street [] some after = refl
 balance seat street (place ∷ rest) some after =
-    sum_step (holds_at seat (street + 1)) (is_out_of street seat) (holds_at seat street) (is_in_group (Some seat) street) place rest (holds_at seat (street + 1) place) (is_out_of street seat place) (holds_at seat street place) (is_in_group (Some seat) street place)
+    sum_step (is_held_at seat (street + 1)) (is_out_of street seat) (is_held_at seat street) (is_in_group (Some seat) street) place rest (is_held_at seat (street + 1) place) (is_out_of street seat place) (is_held_at seat street place) (is_in_group (Some seat) street place)
     (one_place seat street place (is_same_owner place.owner (Some seat)) some (after place (inl refl)))
     (balance seat street rest some (λ other among. after other (inr among)))
 
 -- a seat holds no more than its hole cards
-pub held_most : (setup : Setup) (rules : Rules) (events : List Said) (seat count : ℕ) → AreLegal setup rules events → length (filter (holds_at seat (count + 1)) (places_of setup.code (past_of setup events))) ≤ first_holes (game_of setup.code).streets count
+pub held_most : (setup : Setup) (rules : Rules) (events : List Said) (seat count : ℕ) → AreLegal setup rules events → length (filter (is_held_at seat (count + 1)) (places_of setup.code (past_of setup events))) ≤ first_holes (game_of setup.code).streets count
 held_most setup rules events seat zero legal =
     let law = (legal_past setup rules events legal).places in
     omega (
       arith,
-      none_pass (holds_at seat (0 + 1)) (places_of setup.code (past_of setup events)) (λ place among.
+      none_pass (is_held_at seat (0 + 1)) (places_of setup.code (past_of setup events)) (λ place among.
           and_right (is_same_owner place.owner (Some seat)) (nat_lt place.street (0 + 1) && not (nat_lt 0 place.discarded && nat_lt place.discarded (0 + 1)))
           (and_left (nat_lt place.street (0 + 1)) (not (nat_lt 0 place.discarded && nat_lt place.discarded (0 + 1))) (le-ltb place.street (0 + 1) (omega (arith, law.since place among))))),
     )
@@ -190,16 +190,16 @@ held_most setup rules events seat (suc count) legal =
     let next : suc count ≡ count + 1 = omega arith in
     let index : (count + 1) - 1 ≡ count = omega arith in
     let step = one_more (game_of setup.code).streets count in
-    let same = ap (λ k. length (filter (holds_at seat (k + 1)) placed)) next in
+    let same = ap (λ k. length (filter (is_held_at seat (k + 1)) placed)) next in
     let nth = ap (λ k. option_map_or (λ (s : Street). s.down + s.up) (slice_get (game_of setup.code).streets k) 0) index in
     by_draw (has_draw setup.code (count + 1)) refl before all dealt out step same nth law
   where
-    by_draw : (b : Bool) → has_draw setup.code (count + 1) ≡ b → length (filter (holds_at seat (count + 1)) (places_of setup.code (past_of setup events))) ≤ first_holes (game_of setup.code).streets count → length (filter (holds_at seat ((count + 1) + 1)) (places_of setup.code (past_of setup events))) + length (filter (is_out_of (count + 1) seat) (places_of setup.code (past_of setup events))) ≡ length (filter (holds_at seat (count + 1)) (places_of setup.code (past_of setup events))) + length (filter (is_in_group (Some seat) (count + 1)) (places_of setup.code (past_of setup events))) → length (filter (is_in_group (Some seat) (count + 1)) (places_of setup.code (past_of setup events))) ≡ hole_cards_dealt (past_of setup events) (count + 1) seat → length (filter (is_out_of (count + 1) seat) (places_of setup.code (past_of setup events))) ≡ cards_discarded (past_of setup events) (count + 1) seat → first_holes (game_of setup.code).streets (suc count) ≡ first_holes (game_of setup.code).streets count + option_map_or (λ s. s.down + s.up) (slice_get (game_of setup.code).streets count) 0 → length (filter (holds_at seat (suc count + 1)) (places_of setup.code (past_of setup events))) ≡ length (filter (holds_at seat ((count + 1) + 1)) (places_of setup.code (past_of setup events))) → hole_cards_on setup.code (count + 1) ≡ option_map_or (λ s. s.down + s.up) (slice_get (game_of setup.code).streets count) 0 → LegalPast setup (past_of setup events) → length (filter (holds_at seat (suc count + 1)) (places_of setup.code (past_of setup events))) ≤ first_holes (game_of setup.code).streets (suc count)
+    by_draw : (b : Bool) → has_draw setup.code (count + 1) ≡ b → length (filter (is_held_at seat (count + 1)) (places_of setup.code (past_of setup events))) ≤ first_holes (game_of setup.code).streets count → length (filter (is_held_at seat ((count + 1) + 1)) (places_of setup.code (past_of setup events))) + length (filter (is_out_of (count + 1) seat) (places_of setup.code (past_of setup events))) ≡ length (filter (is_held_at seat (count + 1)) (places_of setup.code (past_of setup events))) + length (filter (is_in_group (Some seat) (count + 1)) (places_of setup.code (past_of setup events))) → length (filter (is_in_group (Some seat) (count + 1)) (places_of setup.code (past_of setup events))) ≡ hole_cards_dealt (past_of setup events) (count + 1) seat → length (filter (is_out_of (count + 1) seat) (places_of setup.code (past_of setup events))) ≡ cards_discarded (past_of setup events) (count + 1) seat → first_holes (game_of setup.code).streets (suc count) ≡ first_holes (game_of setup.code).streets count + option_map_or (λ s. s.down + s.up) (slice_get (game_of setup.code).streets count) 0 → length (filter (is_held_at seat (suc count + 1)) (places_of setup.code (past_of setup events))) ≡ length (filter (is_held_at seat ((count + 1) + 1)) (places_of setup.code (past_of setup events))) → hole_cards_on setup.code (count + 1) ≡ option_map_or (λ s. s.down + s.up) (slice_get (game_of setup.code).streets count) 0 → LegalPast setup (past_of setup events) → length (filter (is_held_at seat (suc count + 1)) (places_of setup.code (past_of setup events))) ≤ first_holes (game_of setup.code).streets (suc count)
     by_draw true draws before all dealt out step same nth law = omega (arith, before, all, dealt, out, step, same, law.past.drawn_count (count + 1) seat draws)
     by_draw false draws before all dealt out step same nth law = omega (arith, before, all, dealt, out, step, same, nth, (legal_done setup rules events legal).done.dealt_most (count + 1) seat draws)
 
 -- and so no more than seven
-pub held_seven : (setup : Setup) (rules : Rules) (events : List Said) (seat count : ℕ) → AreLegal setup rules events → length (filter (holds_at seat (count + 1)) (places_of setup.code (past_of setup events))) ≤ 7
+pub held_seven : (setup : Setup) (rules : Rules) (events : List Said) (seat count : ℕ) → AreLegal setup rules events → length (filter (is_held_at seat (count + 1)) (places_of setup.code (past_of setup events))) ≤ 7
 held_seven setup rules events seat count legal =
     omega (arith, held_most setup rules events seat count legal, not_more (game_of setup.code).streets count, leb-true (all_holes (game_of setup.code).streets) 7 (seven setup.code))
 
@@ -212,8 +212,8 @@ out_seven setup rules events seat street legal some =
     omega (
       arith,
       held_seven setup rules events seat (street - 1) legal,
-      ap (λ k. length (filter (holds_at seat k) placed)) same,
-      filter_less (is_out_of street seat) (holds_at seat street) placed (λ place among is.
+      ap (λ k. length (filter (is_held_at seat k) placed)) same,
+      filter_less (is_out_of street seat) (is_held_at seat street) placed (λ place among is.
           let parts = and_parts (is_same_owner place.owner (Some seat)) (place.discarded == street) is in
           let here : place.discarded ≡ street = eqb-true place.discarded street parts.1 in
           and_from (is_same_owner place.owner (Some seat)) (nat_lt place.street street && not (nat_lt 0 place.discarded && nat_lt place.discarded street)) parts.0

@@ -20,7 +20,7 @@ use Rattle.play_event.specs.Laws.{IsAmong, AreLegal}
 use Rattle.play_event.proofs.Kept.{AreKept, ComesFrom, comes_from, names_keep, held_is_there}
 use Rattle.play_event.proofs.ClashLaws.{among_append, not_at}
 use Rattle.play_event.proofs.SafePlaces.{none_clash, discard_mark, show_mark}
-use Rattle.play_laws.specs.LegalPlaces.{owner_folded, gone_by, PlacesLaw, AreLawful}
+use Rattle.play_laws.specs.LegalPlaces.{has_owner_folded, is_gone_by, PlacesLaw, AreLawful}
 use Rattle.play_laws.proofs.DueAtEvents.{turn_reaches}
 use Rattle.play_laws.proofs.LegalEvents.{Stepped, deals, boards, moves, discards, shows, mucks, stepped}
 use Rattle.play_laws.proofs.LegalPlaces.{LegalPast, legal_past}
@@ -109,8 +109,8 @@ legal_cards setup rules (event ∷ events) legal =
       deck = deck_law setup before (turn setup before).0 _ step it.deck;
     }
 
-gone_later : (code : Code) (list : List Move) (newest : ℕ) (placed : List Place) (place : Place) (street : ℕ) → PlacesLaw code list newest placed → IsAmong placed place → gone_by list street place ≡ true → place.street < street
-gone_later code list newest placed place street law among gone = elim (or_cases (nat_lt 0 place.discarded && nat_le place.discarded street) (owner_folded (moves_before street list) place.owner) gone) [
+gone_later : (code : Code) (list : List Move) (newest : ℕ) (placed : List Place) (place : Place) (street : ℕ) → PlacesLaw code list newest placed → IsAmong placed place → is_gone_by list street place ≡ true → place.street < street
+gone_later code list newest placed place street law among gone = elim (or_cases (nat_lt 0 place.discarded && nat_le place.discarded street) (has_owner_folded (moves_before street list) place.owner) gone) [
   | inl out ↦
       let parts = and_parts (nat_lt 0 place.discarded) (nat_le place.discarded street) out in
       omega (arith, law.out_after place among (ltb-true 0 place.discarded parts.0), leb-true place.discarded street parts.1)

@@ -9,7 +9,7 @@ use Rattle.play_event.specs.Places.{Place}
 use Rattle.play_event.specs.Taken.{is_gone_before}
 use Rattle.play_event.specs.Laws.{IsAmong}
 use Rattle.list_laws.proofs.Tests.{false_true}
-use Rattle.play_laws.specs.LegalPlaces.{owner_folded, gone_by, PlacesLaw}
+use Rattle.play_laws.specs.LegalPlaces.{has_owner_folded, is_gone_by, PlacesLaw}
 use Rattle.play_laws.proofs.PlaceChanges.{HowGone, stays, out, folds, IsChange, AreChanged}
 use Rattle.std.proofs.lemmas.Option.{same_Some}
 
@@ -58,9 +58,9 @@ pub record IsQuietEvent (code : Code) (moves after : List Move) (newest street s
   pub changed : AreChanged (length olds) street seat olds news
   pub on : newest ≤ street
   pub some : 1 ≤ street
-  pub still : (owner : Option ℕ) (by : ℕ) → owner_folded (moves_before by moves) owner ≡ true → owner_folded (moves_before by after) owner ≡ true
-  pub back : (place : Place) (by : ℕ) → IsAmong olds place → owner_folded (moves_before by after) place.owner ≡ true → (owner_folded (moves_before by moves) place.owner ≡ true) ⊎ (place.street < by)
-  pub gone_is : (new : Place) → IsAmong news new → is_some new.gone_after ≡ (nat_lt 0 new.discarded || owner_folded after new.owner)
+  pub still : (owner : Option ℕ) (by : ℕ) → has_owner_folded (moves_before by moves) owner ≡ true → has_owner_folded (moves_before by after) owner ≡ true
+  pub back : (place : Place) (by : ℕ) → IsAmong olds place → has_owner_folded (moves_before by after) place.owner ≡ true → (has_owner_folded (moves_before by moves) place.owner ≡ true) ⊎ (place.street < by)
+  pub gone_is : (new : Place) → IsAmong news new → is_some new.gone_after ≡ (nat_lt 0 new.discarded || has_owner_folded after new.owner)
   pub out_after : (new : Place) → IsAmong news new → 0 < new.discarded → new.street < new.discarded
 
 -- the discarded stay
@@ -75,20 +75,20 @@ out_still old new count street seat change none some = by_how change.how
 -- a card that is there was not discarded
 pub none_out : (code : Code) (moves : List Move) (newest : ℕ) (placed : List Place) (place : Place) → PlacesLaw code moves newest placed → IsAmong placed place → place.gone_after ≡ None → place.discarded ≡ 0
 none_out code moves newest placed place law among there =
-    let is : (nat_lt 0 place.discarded || owner_folded moves place.owner) ≡ false = sym (law.gone_is place among) ∙ ap is_some there in
-    omega (arith, ltb-false 0 place.discarded (or_parts (nat_lt 0 place.discarded) (owner_folded moves place.owner) is).0)
+    let is : (nat_lt 0 place.discarded || has_owner_folded moves place.owner) ≡ false = sym (law.gone_is place among) ∙ ap is_some there in
+    omega (arith, ltb-false 0 place.discarded (or_parts (nat_lt 0 place.discarded) (has_owner_folded moves place.owner) is).0)
 
 -- what was gone by a street is
-gone_by_still : (moves after : List Move) (street : ℕ) (old new : Place) → new.owner ≡ old.owner → new.discarded ≡ old.discarded → ((owner : Option ℕ) (by : ℕ) → owner_folded (moves_before by moves) owner ≡ true → owner_folded (moves_before by after) owner ≡ true) → gone_by moves street old ≡ true → gone_by after street new ≡ true
-gone_by_still moves after street old new owner same still gone = elim (or_cases (nat_lt 0 old.discarded && nat_le old.discarded street) (owner_folded (moves_before street moves) old.owner) gone) [
-  | inl is ↦ or_left (nat_lt 0 new.discarded && nat_le new.discarded street) (owner_folded (moves_before street after) new.owner) (ap (λ d. nat_lt 0 d && nat_le d street) same ∙ is)
-  | inr is ↦ or_right (nat_lt 0 new.discarded && nat_le new.discarded street) (owner_folded (moves_before street after) new.owner) (ap (owner_folded (moves_before street after)) owner ∙ still old.owner street is)
+gone_by_still : (moves after : List Move) (street : ℕ) (old new : Place) → new.owner ≡ old.owner → new.discarded ≡ old.discarded → ((owner : Option ℕ) (by : ℕ) → has_owner_folded (moves_before by moves) owner ≡ true → has_owner_folded (moves_before by after) owner ≡ true) → is_gone_by moves street old ≡ true → is_gone_by after street new ≡ true
+gone_by_still moves after street old new owner same still gone = elim (or_cases (nat_lt 0 old.discarded && nat_le old.discarded street) (has_owner_folded (moves_before street moves) old.owner) gone) [
+  | inl is ↦ or_left (nat_lt 0 new.discarded && nat_le new.discarded street) (has_owner_folded (moves_before street after) new.owner) (ap (λ d. nat_lt 0 d && nat_le d street) same ∙ is)
+  | inr is ↦ or_right (nat_lt 0 new.discarded && nat_le new.discarded street) (has_owner_folded (moves_before street after) new.owner) (ap (has_owner_folded (moves_before street after)) owner ∙ still old.owner street is)
 ]
 
-changed_when : (code : Code) (moves after : List Move) (newest street seat : ℕ) (olds news : List Place) (a b old_a old_b : Place) → PlacesLaw code moves newest olds → IsQuietEvent code moves after newest street seat olds news → IsAmong olds old_a → IsAmong olds old_b → IsChange (length olds) street seat old_a a → IsChange (length olds) street seat old_b b → HowGone (length olds) street seat old_a a → is_gone_before a.gone_after b.number ≡ true → gone_by after b.street a ≡ true
+changed_when : (code : Code) (moves after : List Move) (newest street seat : ℕ) (olds news : List Place) (a b old_a old_b : Place) → PlacesLaw code moves newest olds → IsQuietEvent code moves after newest street seat olds news → IsAmong olds old_a → IsAmong olds old_b → IsChange (length olds) street seat old_a a → IsChange (length olds) street seat old_b b → HowGone (length olds) street seat old_a a → is_gone_before a.gone_after b.number ≡ true → is_gone_by after b.street a ≡ true
 changed_when code moves after newest street seat olds news a b old_a old_b law event in_a in_b change_a change_b (stays gone same) is =
     let was : is_gone_before old_a.gone_after old_b.number ≡ true = ap (λ g. is_gone_before g old_b.number) (sym gone) ∙ (ap (is_gone_before a.gone_after) (sym change_b.number) ∙ is) in
-    let P : ℕ → Type 0 = λ k. gone_by after k a ≡ true in
+    let P : ℕ → Type 0 = λ k. is_gone_by after k a ≡ true in
     subst P (sym change_b.street) (gone_by_still moves after old_b.street old_a a change_a.owner same event.still (law.gone_when old_a old_b in_a in_b was))
 changed_when code moves after newest street seat olds news a b old_a old_b law event in_a in_b change_a change_b (out there now on mine) is =
     absurd (omega (arith, law.number_within old_b in_b, change_b.number, leb-true (length olds) b.number (sym (ap (λ g. is_gone_before g b.number) now) ∙ is)))
@@ -121,7 +121,7 @@ change_law code moves after newest street seat olds news law event =
       out_after = event.out_after;
       folded_after = λ place by among is.
           let it = from place among in
-          let was : owner_folded (moves_before by after) it.old.owner ≡ true = ap (owner_folded (moves_before by after)) (sym it.change.owner) ∙ is in
+          let was : has_owner_folded (moves_before by after) it.old.owner ≡ true = ap (has_owner_folded (moves_before by after)) (sym it.change.owner) ∙ is in
           elim (event.back it.old by it.among was) [
             | inl old ↦ omega (arith, it.change.street, law.folded_after it.old by it.among old)
             | inr early ↦ omega (arith, it.change.street, early)

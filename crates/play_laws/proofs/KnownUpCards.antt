@@ -81,11 +81,6 @@ pub fold_sure : (seat count : ℕ) (placed : List Place) → AreSureOf placed (m
 fold_sure seat count [] = tt
 fold_sure seat count (place ∷ rest) = (sure_maybe place (gone_now count place) (is_held_by seat place) (record { owner = refl; street = refl; index = refl; slot = λ known. refl }), fold_sure seat count rest)
 
--- places are sure of themselves
-pub all_sure : (placed : List Place) → AreSureOf placed placed
-all_sure [] = tt
-all_sure (place ∷ rest) = (sure_same place, all_sure rest)
-
 -- known up-cards are the same
 up_same : (code : Code) (street seat : ℕ) (old new : Place) → IsSureOf old new → is_up_by code street seat new ≡ is_up_by code street seat old
 up_same code street seat old new sure =

@@ -1,5 +1,5 @@
 -- What a legal event tells of the past before it.
-use Rattle.std.proofs.Common.{◌≡◌, ℕ, zero, suc, ◌≤◌, Bool, true, false, ◌&&◌, ◌||◌, ◌==◌, not, nat_lt, inl, inr, ◌⊎◌, Option, Some, None, List, map, length, refl, sym, ap, arith}
+use Rattle.std.proofs.Common.{◌≡◌, ℕ, zero, suc, ◌≤◌, Bool, true, false, ◌==◌, not, nat_lt, inl, inr, ◌⊎◌, Option, Some, None, List, map, length, refl, sym, ap, arith}
 use Rattle.std.specs.Option.{option_map_or}
 use Rattle.std.proofs.lemmas.Bool.{or_parts, not-false, eqb-true, ltb-false}
 use Rattle.card_set.specs.declared.card.Slot.{Slot}
@@ -22,8 +22,9 @@ use Rattle.play_event.specs.CardReasons.{is_seat, is_wrong_deal, may_show, is_no
 use Rattle.play_event.specs.Reasons.{why, is_due_kind}
 use Rattle.play_event.specs.Scripts.{resolved_on}
 use Rattle.play_event.proofs.ReasonLaws.{no_reason_holds}
-use Rattle.list_laws.proofs.Tests.{false_true}
+use Rattle.list_laws.proofs.Tests.{false_true, first_holds}
 use Rattle.play_laws.proofs.DueAtEvents.{IsDue, deal, draw, bring, move, unfinished_due}
+use Rattle.play_event.proofs.FloorLaws.{may_come_by}
 
 -- what an event tells, by its kind
 pub data Stepped (setup : Setup) (before : Past) (street : ℕ) : Resolved → Type 0 where
@@ -33,11 +34,6 @@ pub data Stepped (setup : Setup) (before : Past) (street : ℕ) : Resolved → T
   discards : (seat : ℕ) (cards : List Slot) → is_deal_due setup before street ≡ false → is_draw_due setup before street ≡ true → next_to_draw setup before street ≡ Some seat → length cards ≤ held_count (places_of setup.code before) seat → has_misplaced_card setup.code (places_of setup.code before) (after_discard street seat cards (places_of setup.code before)) ≡ false → is_not_held setup.code (places_of setup.code before) (said.Discard seat cards) ≡ false → Stepped setup before street (Discarded street seat cards)
   shows : (seat : ℕ) (cards : List Card) → may_show setup before seat ≡ true → has_misplaced_card setup.code (places_of setup.code before) (after_show setup.code seat cards (places_of setup.code before)) ≡ false → Stepped setup before street (Shown street seat cards)
   mucks : (seat : ℕ) → may_show setup before seat ≡ true → Stepped setup before street (Mucked street seat)
-
--- the kind may come
-pub kind_true : (kind other : Bool) → not (kind || (false && other)) ≡ false → kind ≡ true
-kind_true true other is = refl
-kind_true false other is = sym is
 
 -- a deal
 deal_by : (setup : Setup) (before : Past) (seat : ℕ) (cards : List Slot) (due : Due) → (turn setup before).1 ≡ due → is_due_kind setup.code due (said.Hole seat cards) ≡ true → (is_deal_due setup before (turn setup before).0 ≡ true) ⊎ ((is_deal_due setup before (turn setup before).0 ≡ false) × (is_draw_due setup before (turn setup before).0 ≡ true))
@@ -166,24 +162,20 @@ count_by owed count is =
     some zero is = false_true (sym is)
     some (suc n) is = omega arith
 
-seat_by : (is_one owed : Bool) → (not is_one || owed) ≡ false → is_one ≡ true
-seat_by true owed is = refl
-seat_by false owed is = sym is
-
 -- a legal event tells the facts of its kind
 pub stepped : (setup : Setup) (rules : Rules) (before : Past) (event : Said) → why setup rules before event ≡ None → Stepped setup before (turn setup before).0 (resolved_on setup before (turn setup before).0 event)
 stepped setup rules before (said.Hole seat cards) legal =
     let none = no_reason_holds setup rules before (said.Hole seat cards) legal in
     let counted = count_by (cards_owed setup before (turn setup before).0 seat) (length cards) none.1.1.1.0 in
-    deals seat cards (deal_by setup before seat cards (turn setup before).1 refl (kind_true (is_due_kind setup.code (turn setup before).1 (said.Hole seat cards)) false none.1.0))
-    (seat_by (is_seat setup seat) (cards_owed setup before (turn setup before).0 seat == 0) none.1.1.0) counted.0 counted.1 none.1.1.1.1.0
+    deals seat cards (deal_by setup before seat cards (turn setup before).1 refl (may_come_by (is_due_kind setup.code (turn setup before).1 (said.Hole seat cards)) false none.1.0))
+    (first_holds (is_seat setup seat) (cards_owed setup before (turn setup before).0 seat == 0) none.1.1.0) counted.0 counted.1 none.1.1.1.1.0
 stepped setup rules before (said.Board cards) legal =
     let none = no_reason_holds setup rules before (said.Board cards) legal in
     let counted = count_by (board_cards_owed setup before (turn setup before).0) (length cards) none.1.1.1.0 in
-    boards cards (board_by setup before cards (turn setup before).1 refl (kind_true (is_due_kind setup.code (turn setup before).1 (said.Board cards)) false none.1.0)) counted.0 counted.1 none.1.1.1.1.0
+    boards cards (board_by setup before cards (turn setup before).1 refl (may_come_by (is_due_kind setup.code (turn setup before).1 (said.Board cards)) false none.1.0)) counted.0 counted.1 none.1.1.1.1.0
 stepped setup rules before (said.Discard seat cards) legal =
     let none = no_reason_holds setup rules before (said.Discard seat cards) legal in
-    let due = draw_by setup before seat cards (turn setup before).1 refl (kind_true (is_due_kind setup.code (turn setup before).1 (said.Discard seat cards)) false none.1.0) in
+    let due = draw_by setup before seat cards (turn setup before).1 refl (may_come_by (is_due_kind setup.code (turn setup before).1 (said.Discard seat cards)) false none.1.0) in
     discards seat cards due.0 due.1 (next_by seat (next_to_draw setup before (turn setup before).0) none.1.1.0) (ltb-false (held_count (places_of setup.code before) seat) (length cards) none.1.1.1.0) none.1.1.1.1.0 none.1.1.1.1.1.0
 stepped setup rules before (said.Show seat cards) legal =
     let none = no_reason_holds setup rules before (said.Show seat cards) legal in
@@ -193,17 +185,17 @@ stepped setup rules before (said.Muck seat) legal =
     mucks seat (not-false (may_show setup before seat) none.1.1.0)
 stepped setup rules before (said.Fold named) legal =
     let none = no_reason_holds setup rules before (said.Fold named) legal in
-    let due = move_by setup before (fold_kind setup named (turn setup before).1 (kind_true (is_due_kind setup.code (turn setup before).1 (said.Fold named)) false none.1.0)) in
+    let due = move_by setup before (fold_kind setup named (turn setup before).1 (may_come_by (is_due_kind setup.code (turn setup before).1 (said.Fold named)) false none.1.0)) in
     moves _ due.0 due.1 refl
 stepped setup rules before (said.Call named stated) legal =
     let none = no_reason_holds setup rules before (said.Call named stated) legal in
-    let due = move_by setup before (call_kind setup named stated (turn setup before).1 (kind_true (is_due_kind setup.code (turn setup before).1 (said.Call named stated)) false none.1.0)) in
+    let due = move_by setup before (call_kind setup named stated (turn setup before).1 (may_come_by (is_due_kind setup.code (turn setup before).1 (said.Call named stated)) false none.1.0)) in
     moves _ due.0 due.1 refl
 stepped setup rules before (said.Raise named amount) legal =
     let none = no_reason_holds setup rules before (said.Raise named amount) legal in
-    let due = move_by setup before (raise_kind setup named amount (turn setup before).1 (kind_true (is_due_kind setup.code (turn setup before).1 (said.Raise named amount)) false none.1.0)) in
+    let due = move_by setup before (raise_kind setup named amount (turn setup before).1 (may_come_by (is_due_kind setup.code (turn setup before).1 (said.Raise named amount)) false none.1.0)) in
     moves _ due.0 due.1 refl
 stepped setup rules before (said.BringIn named) legal =
     let none = no_reason_holds setup rules before (said.BringIn named) legal in
-    let due = move_by setup before (bring_kind setup named (turn setup before).1 (kind_true (is_due_kind setup.code (turn setup before).1 (said.BringIn named)) false none.1.0)) in
+    let due = move_by setup before (bring_kind setup named (turn setup before).1 (may_come_by (is_due_kind setup.code (turn setup before).1 (said.BringIn named)) false none.1.0)) in
     moves _ due.0 due.1 refl

@@ -6,16 +6,15 @@ use Rattle.card_set.specs.declared.card.Slot.{Slot}
 use Rattle.card_set.specs.declared.card.Slot.TheVariants as slots
 use Rattle.std.proofs.lemmas.List.Elements.{filter-append}
 use Rattle.play_event.specs.declared.code.Code.{Code}
-use Rattle.play_event.specs.declared.code.Code.TheVariants as games
 use Rattle.play_event.specs.declared.setup.Setup.{Setup}
 use Rattle.play_event.specs.declared.setup.Rules.{Rules}
-use Rattle.play_event.specs.Games.{street_count, hole_cards_on}
+use Rattle.play_event.specs.Games.{hole_cards_on}
 use Rattle.play_event.specs.Streets.{has_draw}
 use Rattle.play_event.specs.Said.{Said}
 use Rattle.play_event.specs.Past.{Past, Resolved, Move, Dealt, Boarded, Moved, Discarded, Shown, Mucked, moves_of, newest_street, is_fold, moves_before}
 use Rattle.play_event.specs.Seats.{is_live}
 use Rattle.card_set.specs.Known.{known_cards}
-use Rattle.play_event.specs.Dealing.{hole_cards_dealt, hole_cards_owed, cards_discarded, cards_owed, has_drawn}
+use Rattle.play_event.specs.Dealing.{hole_cards_dealt, hole_cards_owed, cards_owed}
 use Rattle.play_event.specs.Due.{turn}
 use Rattle.play_event.specs.Places.{Place, is_same_owner, is_in_group, is_past_deck, places_dealt, after_deal, is_held_by, after_fold}
 use Rattle.play_event.specs.Naming.{after_discard, after_show, other_names, blanks_in, is_covered, is_show_of_all}
@@ -24,14 +23,15 @@ use Rattle.play_event.specs.CardReasons.{is_seat}
 use Rattle.play_event.specs.Scripts.{with_event, past_of}
 use Rattle.play_event.specs.Laws.{IsAmong, AreLegal}
 use Rattle.list_laws.proofs.Tests.{false_true}
-use Rattle.play_laws.specs.LegalPlaces.{owner_folded, PlacesLaw}
+use Rattle.play_laws.specs.LegalPlaces.{has_owner_folded, PlacesLaw}
 use Rattle.play_laws.proofs.PlaceChanges.{IsChange, AreChanged}
 use Rattle.play_laws.specs.PastLaws.{AreReached, has_move, PastLaw}
 use Rattle.play_laws.proofs.DueAtEvents.{Reaches, turn_reaches}
 use Rattle.play_laws.proofs.LegalEvents.{Stepped, deals, boards, moves, discards, shows, mucks, stepped}
 use Rattle.play_laws.proofs.PastLawKept.{past_law, unmoved_deal, DrawsNext, is_next_to_draw}
-use Rattle.play_laws.proofs.QuietEvents.{discard_marks, show_marks, nothing, marked_changed, held_parts, marks_law, fold_law, move_law, fold_changed}
+use Rattle.play_laws.proofs.QuietEvents.{discard_marks, show_marks, is_nothing, marked_changed, held_parts, marks_law, fold_law, move_law, fold_changed}
 use Rattle.play_laws.proofs.DealtPlaces.{deal_law}
+use Rattle.play_event.proofs.DealingLaws.{dealt_group, some_street, undrawn_none}
 
 -- groups are as long as the deals to them
 same_group : (owner : Option ℕ) (street count draw seat : ℕ) (old new : Place) → IsChange count draw seat old new → is_in_group owner street new ≡ is_in_group owner street old
@@ -51,21 +51,6 @@ changed_group owner street count draw seat [] (new ∷ news) changed = absurd ch
 changed_group owner street count draw seat (old ∷ olds) [] changed = absurd changed
 changed_group owner street count draw seat (old ∷ olds) (new ∷ news) changed =
     group_step old new (filter (is_in_group owner street) olds) (filter (is_in_group owner street) news) (is_in_group owner street new) (is_in_group owner street old) (same_group owner street count draw seat old new changed.0) (changed_group owner street count draw seat olds news changed.1)
-
-dealt_group : (owner to : Option ℕ) (street on : ℕ) (late : Bool) (index number : ℕ) (cards : List Slot) → length (filter (is_in_group owner street) (places_dealt to on late index number cards)) ≡ (if is_same_owner to owner && (on == street) then length cards else 0)
-dealt_group owner to street on late index number [] = by_pass (is_same_owner to owner && (on == street))
-  where
-    by_pass : (b : Bool) → ◌≡◌ {A = ℕ} 0 (if b then 0 else 0)
-    by_pass true = refl
-    by_pass false = refl
-dealt_group owner to street on late index number (slot ∷ rest) = by_pass (is_same_owner to owner && (on == street)) (dealt_group owner to street on late (index + 1) (number + 1) rest)
-  where
-    place : Place
-    place = record { owner = to; street = on; index = index; number = number; slot = slot; past_deck = late; gone_after = None; discarded = 0 }
-
-    by_pass : (b : Bool) → length (filter (is_in_group owner street) (places_dealt to on late (index + 1) (number + 1) rest)) ≡ (if b then length rest else 0) → length (if b then (place ∷ filter (is_in_group owner street) (places_dealt to on late (index + 1) (number + 1) rest)) else filter (is_in_group owner street) (places_dealt to on late (index + 1) (number + 1) rest)) ≡ (if b then length (slot ∷ rest) else 0)
-    by_pass true later = ap suc later
-    by_pass false later = later
 
 -- a deal adds its cards to its owner's of the street
 pub deal_group : (code : Code) (owner to : Option ℕ) (street on : ℕ) (cards : List Slot) (placed : List Place) → length (filter (is_in_group owner street) (after_deal code to on cards placed)) ≡ (if is_same_owner to owner && (on == street) then length cards else 0) + length (filter (is_in_group owner street) placed)
@@ -102,21 +87,9 @@ group_count code (Shown on owner cards ∷ before) street seat =
     let placed = places_of code before in
     let covers : Place → Bool = is_covered code owner (is_show_of_all placed owner cards) in
     changed_group (Some seat) street (length placed) on owner placed (after_show code owner cards placed)
-    (marked_changed nothing (length placed) on owner placed (after_show code owner cards placed) (λ old is. false_true is) (show_marks covers (length placed) on cards (other_names (filter covers placed) cards) 0 placed))
+    (marked_changed is_nothing (length placed) on owner placed (after_show code owner cards placed) (λ old is. false_true is) (show_marks covers (length placed) on cards (other_names (filter covers placed) cards) 0 placed))
     ∙ group_count code before street seat
 group_count code (Mucked on owner ∷ before) street seat = group_count code before street seat
-
--- who did not draw discarded nothing
-undrawn_none : (before : Past) (street seat : ℕ) → has_drawn before street seat ≡ false → cards_discarded before street seat ≡ 0
-undrawn_none [] street seat is = refl
-undrawn_none (Dealt on owner cards ∷ before) street seat is = undrawn_none before street seat is
-undrawn_none (Boarded on cards ∷ before) street seat is = undrawn_none before street seat is
-undrawn_none (Moved move ∷ before) street seat is = undrawn_none before street seat is
-undrawn_none (Shown on owner cards ∷ before) street seat is = undrawn_none before street seat is
-undrawn_none (Mucked on owner ∷ before) street seat is = undrawn_none before street seat is
-undrawn_none (Discarded on owner cards ∷ before) street seat is =
-    let parts = or_parts ((on == street) && (owner == seat)) (has_drawn before street seat) is in
-    omega (arith, ap (λ b. if b then length cards else 0) parts.0, undrawn_none before street seat parts.1)
 
 -- a place among those that pass makes their number one at least
 some_at : (p : Place → Bool) (first place : Place) (rest : List Place) (b : Bool) → p first ≡ b → p place ≡ true → ((first ≡ place) ⊎ (1 ≤ length (filter p rest))) → 1 ≤ length (if b then (first ∷ filter p rest) else filter p rest)
@@ -143,7 +116,7 @@ all_before newest street (move ∷ rest) reached on none =
     ∙ ap (λ l. move ∷ l) (all_before newest street rest reached.1 on parts.1)
 
 -- a seat that is owed cards is live
-owed_live : (setup : Setup) (before : Past) (street seat : ℕ) → PastLaw setup before → is_seat setup seat ≡ true → 1 ≤ cards_owed setup before street seat → owner_folded (moves_of before) (Some seat) ≡ false
+owed_live : (setup : Setup) (before : Past) (street seat : ℕ) → PastLaw setup before → is_seat setup seat ≡ true → 1 ≤ cards_owed setup before street seat → has_owner_folded (moves_of before) (Some seat) ≡ false
 owed_live setup before street seat law is owed = by_live (is_live (moves_of before) seat) refl
   where
     none : is_live (moves_of before) seat ≡ false → cards_owed setup before street seat ≡ 0
@@ -157,7 +130,7 @@ owed_live setup before street seat law is owed = by_live (is_live (moves_of befo
         by_draw true = refl
         by_draw false = refl
 
-    by_live : (b : Bool) → is_live (moves_of before) seat ≡ b → owner_folded (moves_of before) (Some seat) ≡ false
+    by_live : (b : Bool) → is_live (moves_of before) seat ≡ b → has_owner_folded (moves_of before) (Some seat) ≡ false
     by_live true live = not_from_true (is_live (moves_of before) seat) live
     by_live false folded = absurd (omega (arith, owed, none folded))
 
@@ -193,7 +166,7 @@ places_law setup before at _ past law come (boards cards due some few free) =
 places_law setup before at _ past law come (shows seat cards may free) =
     let placed = places_of setup.code before in
     let covers : Place → Bool = is_covered setup.code seat (is_show_of_all placed seat cards) in
-    marks_law setup.code (moves_of before) (newest_street before) at seat nothing placed (after_show setup.code seat cards placed) law come.on (omega (arith, past.since, come.on)) (λ old is. false_true is) (λ old among is. false_true is)
+    marks_law setup.code (moves_of before) (newest_street before) at seat is_nothing placed (after_show setup.code seat cards placed) law come.on (omega (arith, past.since, come.on)) (λ old is. false_true is) (λ old among is. false_true is)
     (show_marks covers (length placed) at cards (other_names (filter covers placed) cards) 0 placed)
 places_law setup before at _ past law come (mucks seat may) = later_law setup.code (moves_of before) (newest_street before) at (places_of setup.code before) law come.on
 places_law setup before at _ past law come (discards seat cards no_deal draw next few free held) =
@@ -218,24 +191,10 @@ places_law setup before at _ past law come (moves move no_deal no_draw on) = by_
     by_fold true is = fold_law setup.code move (moves_of before) (newest_street before) (places_of setup.code before) law is (omega (arith, on, come.on)) (omega (arith, on, come.on, past.since))
     by_fold false is = move_law setup.code move (moves_of before) (newest_street before) (places_of setup.code before) law is (omega (arith, on, come.on)) (omega (arith, on, come.on, past.since))
 
--- and so it holds of every legal past
-some_streets : (code : Code) → 1 ≤ street_count code
-some_streets games.FT = omega arith
-some_streets games.NT = omega arith
-some_streets games.NS = omega arith
-some_streets games.PO = omega arith
-some_streets games.FO8 = omega arith
-some_streets games.F7S = omega arith
-some_streets games.F7S8 = omega arith
-some_streets games.FR = omega arith
-some_streets games.N2L1D = omega arith
-some_streets games.F2L3D = omega arith
-some_streets games.FB = omega arith
-
 at_start : (setup : Setup) → PastLaw setup []
 at_start setup =
     record {
-      within = some_streets setup.code;
+      within = some_street setup.code;
       since = omega arith;
       moved = tt;
       moved_done = λ street has. false_true has;

@@ -1,7 +1,7 @@
 -- A script has no illegal event exactly where its events, the newest first, are legal one by one.
-use Rattle.std.proofs.Common.{◌≡◌, ℕ, zero, suc, ◌+◌, ◌-◌, ◌<◌, ◌≤◌, ◌↔◌, List, [], ◌∷◌, get_or, length, option_and_then, refl, reverse, take, sym, ◌∙◌, ap, subst, arith}
+use Rattle.std.proofs.Common.{◌≡◌, ℕ, zero, suc, ◌+◌, ◌-◌, ◌<◌, ◌≤◌, ◌↔◌, List, [], ◌∷◌, get_or, length, option_and_then, reverse, take, sym, ◌∙◌, ap, subst, arith}
 use Rattle.std.proofs.Math.Seq.{take-suc}
-use Rattle.std.proofs.lemmas.List.{reverse-append}
+use Rattle.std.proofs.lemmas.List.{reverse-append, take_all}
 use Rattle.std.proofs.lemmas.Option.{slice_get-get_or}
 use Rattle.play_event.specs.Laws.{AreLegal}
 use Rattle.play_event.specs.Reasons.{why}
@@ -19,11 +19,6 @@ one_more : (script : List Said) (count : ℕ) → count < length script → reve
 unfolding event_at
 one_more script count within =
     ap reverse (take-suc script count (Board []) within) ∙ reverse-append (take count script) (get_or script count (Board []) ∷ [])
-
--- the whole of a list
-all_taken : (script : List Said) → take (length script) script ≡ script
-all_taken [] = refl
-all_taken (event ∷ rest) = ap (λ l. event ∷ l) (all_taken rest)
 
 -- why an event is illegal, by its index and after the events before it
 why_there : (setup : Setup) (rules : Rules) (script : List Said) (index : ℕ) → index < length script → why_at setup rules script index ≡ why setup rules (past_of setup (reverse (take index script))) (event_at script index)
@@ -44,7 +39,7 @@ first_of_legal : (setup : Setup) (rules : Rules) (script : List Said) → AreLeg
 first_of_legal setup rules script legal zero count whole =
     let all : length script ≡ count = omega (arith, whole) in
     let P : List Said → Type 0 = λ l. AreLegal setup rules (reverse l) in
-    subst P (sym (all_taken script) ∙ ap (λ n. take n script) all) legal
+    subst P (sym (take_all (length script) script (omega arith)) ∙ ap (λ n. take n script) all) legal
 first_of_legal setup rules script legal (suc left) count whole =
     let P : List Said → Type 0 = AreLegal setup rules in
     (subst P (one_more script count (omega (arith, whole))) (first_of_legal setup rules script legal left (suc count) (omega (arith, whole)))).1
@@ -52,7 +47,7 @@ first_of_legal setup rules script legal (suc left) count whole =
 -- one way and the other
 pub legal_script : (setup : Setup) (rules : Rules) (script : List Said) → HasNoIllegalEvent setup rules script ↔ AreLegal setup rules (reverse script)
 legal_script setup rules script = (
-  (λ none. let P : List Said → Type 0 = λ l. AreLegal setup rules (reverse l) in subst P (all_taken script) (first_legal setup rules script none (length script) (omega arith))),
+  (λ none. let P : List Said → Type 0 = λ l. AreLegal setup rules (reverse l) in subst P (take_all (length script) script (omega arith)) (first_legal setup rules script none (length script) (omega arith))),
   (λ legal index within.
       let P : List Said → Type 0 = AreLegal setup rules in
       why_there setup rules script index within

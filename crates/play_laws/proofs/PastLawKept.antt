@@ -11,8 +11,9 @@ use Rattle.play_event.specs.Dealing.{is_deal_due, is_draw_due, hole_cards_dealt,
 use Rattle.play_laws.specs.PastLaws.{AreReached, has_move, PastLaw}
 use Rattle.play_laws.proofs.DueAtEvents.{Reaches, not_due}
 use Rattle.play_laws.proofs.LegalEvents.{Stepped, deals, boards, moves, discards, shows, mucks}
-use Rattle.play_laws.proofs.SettledStreets.{deal_still, draw_still, is_discard_on, replaced_still, none_owed, found_in_range}
+use Rattle.play_laws.proofs.SettledStreets.{deal_still, draw_still, is_discard_on, replaced_still, none_owed}
 use Rattle.std.specs.Option.{is_some}
+use Rattle.list_laws.proofs.NumbersOfRange.{found_in_range}
 
 -- on another street than that of the turn no seat is owed cards for its discards
 pub owed_elsewhere : (setup : Setup) (before : Past) (at street seat : ℕ) → PastLaw setup before → Reaches setup before at → 1 ≤ seat → seat ≤ setup.stacks.seats → street ≢ at → replacements_owed before street seat ≡ 0
@@ -59,10 +60,6 @@ reached_more newest street (move ∷ rest) on all = (omega (arith, on, all.0), r
 -- no draw is begun on a street that does not draw
 pub drawing : (setup : Setup) (before : Past) (street : ℕ) → is_draw_due setup before street ≡ true → has_draw setup.code street ≡ true
 drawing setup before street is = (and_parts (has_draw setup.code street) (is_some (next_to_draw setup before street) || list_any (λ seat. nat_lt 0 (replacements_owed before street seat)) (all_seats setup)) is).0
-
--- no move is on a street where something is to be dealt or drawn
-pub record IsUnmoved (setup : Setup) (before : Past) (street : ℕ) : Type 0 where
-  pub none : has_move street (moves_of before) ≡ false
 
 unmoved_by : (setup : Setup) (before : Past) (street : ℕ) → PastLaw setup before → (is_deal_due setup before street ≡ false → is_draw_due setup before street ≡ false → ⊥) → has_move street (moves_of before) ≡ false
 unmoved_by setup before street law never = false_from_ne_true (has_move street (moves_of before)) (λ is. let done = law.moved_done street is in never done.0 done.1)

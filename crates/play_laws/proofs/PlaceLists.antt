@@ -24,7 +24,7 @@ use Rattle.play_laws.proofs.LegalEvents.{Stepped, deals, boards, moves, discards
 use Rattle.play_laws.proofs.PastLawKept.{is_next_to_draw}
 use Rattle.play_laws.proofs.LegalPlaces.{PlacesOf}
 use Rattle.play_laws.proofs.DealtPlaces.{are_new}
-use Rattle.play_laws.proofs.QuietEvents.{AreMarked, discard_marks, show_marks, nothing}
+use Rattle.play_laws.proofs.QuietEvents.{AreMarked, discard_marks, show_marks, is_nothing}
 use Rattle.play_laws.proofs.PlaceGroups.{AreRising, group_of, AreIndexed}
 use Rattle.play_laws.proofs.UnknownCards.{discard_unknowns}
 use Rattle.play_laws.proofs.DrawnDiscards.{covers_hand}
@@ -273,7 +273,7 @@ list_law setup before at _ past law come (mucks seat may) list = list
 list_law setup before at _ past law come (shows seat cards may free) list =
     let placed = places_of setup.code before in
     let covers : Place → Bool = is_covered setup.code seat (is_show_of_all placed seat cards) in
-    let alike = marked_alike nothing (length placed) at placed (after_show setup.code seat cards placed) (show_marks covers (length placed) at cards (other_names (filter covers placed) cards) 0 placed) in
+    let alike = marked_alike is_nothing (length placed) at placed (after_show setup.code seat cards placed) (show_marks covers (length placed) at cards (other_names (filter covers placed) cards) 0 placed) in
     record {
       numbered = alike_numbered 0 placed (after_show setup.code seat cards placed) alike list.numbered;
       indexed = λ owner street. alike_indexed owner street 0 placed (after_show setup.code seat cards placed) alike (list.indexed owner street);

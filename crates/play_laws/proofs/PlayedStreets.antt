@@ -21,17 +21,18 @@ use Rattle.play_event.specs.Table.{places_of}
 use Rattle.play_event.specs.Laws.{IsAmong}
 use Rattle.list_laws.proofs.Tests.{false_true}
 use Rattle.play_event.proofs.StreetLaws.{street_found}
-use Rattle.play_laws.specs.LegalPlaces.{owner_folded}
+use Rattle.play_laws.specs.LegalPlaces.{has_owner_folded}
 use Rattle.play_laws.specs.PastLaws.{has_move, PastLaw, DoneLaw, AreReached}
-use Rattle.play_laws.proofs.DueAtEvents.{IsNotDue, not_due, IsDue, deal, draw, bring, move, is_due, none_found, turned_by}
+use Rattle.play_laws.proofs.DueAtEvents.{IsNotDue, not_due, IsDue, deal, draw, bring, move, is_due, turned_by}
 use Rattle.play_laws.proofs.DoneKept.{late_fold, all_early}
 use Rattle.play_laws.proofs.SettledStreets.{none_owed}
 use Rattle.play_laws.proofs.LegalPlaces.{PlacesOf, group_count, deal_group, changed_group}
-use Rattle.play_laws.proofs.QuietEvents.{discard_marks, show_marks, nothing, marked_changed, held_parts, fold_changed}
+use Rattle.play_laws.proofs.QuietEvents.{discard_marks, show_marks, is_nothing, marked_changed, held_parts, fold_changed}
 use Rattle.play_laws.proofs.PlaceGroups.{group_of, Passed, passed}
 use Rattle.play_laws.proofs.DiscardCounts.{is_out_of}
 use Rattle.play_event.proofs.OwnerLaws.{is_same_owner-true}
 use Rattle.std.proofs.lemmas.List.{length-map}
+use Rattle.play_event.proofs.DueStreets.{none_found}
 
 -- what is due on a street leaves a script unfinished
 due_open : (setup : Setup) (before : Past) (street : ℕ) (due : Due) → IsDue setup before street due → is_unfinished due ≡ true
@@ -138,7 +139,7 @@ board_count code (Shown on owner cards ∷ before) street =
     let placed = places_of code before in
     let covers : Place → Bool = is_covered code owner (is_show_of_all placed owner cards) in
     changed_group None street (length placed) on owner placed (after_show code owner cards placed)
-    (marked_changed nothing (length placed) on owner placed (after_show code owner cards placed) (λ old is. false_true is) (show_marks covers (length placed) on cards (other_names (filter covers placed) cards) 0 placed))
+    (marked_changed is_nothing (length placed) on owner placed (after_show code owner cards placed) (λ old is. false_true is) (show_marks covers (length placed) on cards (other_names (filter covers placed) cards) 0 placed))
     ∙ board_count code before street
 board_count code (Mucked on owner ∷ before) street = board_count code before street
 
@@ -154,7 +155,7 @@ folded_group setup before street seat law folded = none_of (group_of (places_of 
     in_it : (place : Place) → Passed (is_in_group (Some seat) street) (places_of setup.code before) place → ⊥
     in_it place it =
         let parts = and_parts (is_same_owner place.owner (Some seat)) (place.street == street) it.passes in
-        omega (arith, eqb-true place.street street parts.1, law.folded_after place street it.among (ap (owner_folded (moves_before street (moves_of before))) (is_same_owner-true place.owner (Some seat) parts.0) ∙ not_from_false (is_live (moves_before street (moves_of before)) seat) folded))
+        omega (arith, eqb-true place.street street parts.1, law.folded_after place street it.among (ap (has_owner_folded (moves_before street (moves_of before))) (is_same_owner-true place.owner (Some seat) parts.0) ∙ not_from_false (is_live (moves_before street (moves_of before)) seat) folded))
 
     none_of : (places : List Place) → ((place : Place) → IsAmong places place → ⊥) → length places ≡ 0
     none_of [] never = refl

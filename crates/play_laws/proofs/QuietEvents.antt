@@ -13,42 +13,43 @@ use Rattle.play_event.specs.Naming.{found_by, after_names, discarded_now, is_nam
 use Rattle.play_event.specs.Laws.{IsAmong}
 use Rattle.list_laws.proofs.Tests.{false_true}
 use Rattle.play_event.proofs.Kept.{held_is_there}
-use Rattle.play_laws.specs.LegalPlaces.{owner_folded, PlacesLaw}
+use Rattle.play_laws.specs.LegalPlaces.{has_owner_folded, PlacesLaw}
 use Rattle.play_laws.proofs.PlaceChanges.{HowGone, stays, out, folds, IsChange, AreChanged}
 use Rattle.play_laws.proofs.KeptPlaces.{change_law}
 use Rattle.play_event.proofs.OwnerLaws.{is_same_owner-true}
+use Rattle.list_laws.proofs.Options.{some_or_none}
 
 -- a seat that a move folds
-abbrev pub folds_seat : ℕ → Move → Bool
-folds_seat seat move = is_fold move.act && (move.seat == seat)
+abbrev pub is_fold_of : ℕ → Move → Bool
+is_fold_of seat move = is_fold move.act && (move.seat == seat)
 
 -- who folded has folded with one move more
-pub folded_first : (move : Move) (moves : List Move) (owner : Option ℕ) → owner_folded moves owner ≡ true → owner_folded (move ∷ moves) owner ≡ true
+pub folded_first : (move : Move) (moves : List Move) (owner : Option ℕ) → has_owner_folded moves owner ≡ true → has_owner_folded (move ∷ moves) owner ≡ true
 folded_first move moves None is = is
 folded_first move moves (Some seat) is =
-    ap not (not_from_true (folds_seat seat move || list_any (folds_seat seat) moves) (or_right (folds_seat seat move) (list_any (folds_seat seat) moves) (not-false (list_any (folds_seat seat) moves) (not-true (is_live moves seat) is))))
+    ap not (not_from_true (is_fold_of seat move || list_any (is_fold_of seat) moves) (or_right (is_fold_of seat move) (list_any (is_fold_of seat) moves) (not-false (list_any (is_fold_of seat) moves) (not-true (is_live moves seat) is))))
 
 -- who has folded has folded after a further move
-pub folded_more : (move : Move) (moves : List Move) (by : ℕ) (owner : Option ℕ) → owner_folded (moves_before by moves) owner ≡ true → owner_folded (moves_before by (move ∷ moves)) owner ≡ true
+pub folded_more : (move : Move) (moves : List Move) (by : ℕ) (owner : Option ℕ) → has_owner_folded (moves_before by moves) owner ≡ true → has_owner_folded (moves_before by (move ∷ moves)) owner ≡ true
 folded_more move moves by owner is = by_street (nat_lt move.street by)
   where
-    by_street : (b : Bool) → owner_folded (if b then (move ∷ moves_before by moves) else moves_before by moves) owner ≡ true
+    by_street : (b : Bool) → has_owner_folded (if b then (move ∷ moves_before by moves) else moves_before by moves) owner ≡ true
     by_street true = folded_first move (moves_before by moves) owner is
     by_street false = is
 
 -- who has folded by a move more, folded before, or by it
-folded_either : (move : Move) (moves : List Move) (owner : Option ℕ) → owner_folded (move ∷ moves) owner ≡ true → (owner_folded moves owner ≡ true) ⊎ ((is_fold move.act ≡ true) × (owner ≡ Some move.seat))
+folded_either : (move : Move) (moves : List Move) (owner : Option ℕ) → has_owner_folded (move ∷ moves) owner ≡ true → (has_owner_folded moves owner ≡ true) ⊎ ((is_fold move.act ≡ true) × (owner ≡ Some move.seat))
 folded_either move moves None is = inl is
-folded_either move moves (Some seat) is = elim (or_cases (folds_seat seat move) (list_any (folds_seat seat) moves) (not-false (folds_seat seat move || list_any (folds_seat seat) moves) (not-true (is_live (move ∷ moves) seat) is))) [
+folded_either move moves (Some seat) is = elim (or_cases (is_fold_of seat move) (list_any (is_fold_of seat) moves) (not-false (is_fold_of seat move || list_any (is_fold_of seat) moves) (not-true (is_live (move ∷ moves) seat) is))) [
   | inl now ↦ let parts = and_parts (is_fold move.act) (move.seat == seat) now in inr (parts.0, ap Some (sym (eqb-true move.seat seat parts.1)))
-  | inr before ↦ inl (ap not (not_from_true (list_any (folds_seat seat) moves) before))
+  | inr before ↦ inl (ap not (not_from_true (list_any (is_fold_of seat) moves) before))
 ]
 
 -- who has folded with a further move folded before, or by it
-pub folded_back : (move : Move) (moves : List Move) (by : ℕ) (owner : Option ℕ) → owner_folded (moves_before by (move ∷ moves)) owner ≡ true → (owner_folded (moves_before by moves) owner ≡ true) ⊎ ((is_fold move.act ≡ true) × ((owner ≡ Some move.seat) × (move.street < by)))
+pub folded_back : (move : Move) (moves : List Move) (by : ℕ) (owner : Option ℕ) → has_owner_folded (moves_before by (move ∷ moves)) owner ≡ true → (has_owner_folded (moves_before by moves) owner ≡ true) ⊎ ((is_fold move.act ≡ true) × ((owner ≡ Some move.seat) × (move.street < by)))
 folded_back move moves by owner = by_street (nat_lt move.street by) refl
   where
-    by_street : (b : Bool) → nat_lt move.street by ≡ b → owner_folded (if b then (move ∷ moves_before by moves) else moves_before by moves) owner ≡ true → (owner_folded (moves_before by moves) owner ≡ true) ⊎ ((is_fold move.act ≡ true) × ((owner ≡ Some move.seat) × (move.street < by)))
+    by_street : (b : Bool) → nat_lt move.street by ≡ b → has_owner_folded (if b then (move ∷ moves_before by moves) else moves_before by moves) owner ≡ true → (has_owner_folded (moves_before by moves) owner ≡ true) ⊎ ((is_fold move.act ≡ true) × ((owner ≡ Some move.seat) × (move.street < by)))
     by_street true early is = elim (folded_either move (moves_before by moves) owner is) [
       | inl before ↦ inl before
       | inr now ↦ inr (now.0, (now.1, ltb-true move.street by early))
@@ -56,9 +57,9 @@ folded_back move moves by owner = by_street (nat_lt move.street by) refl
     by_street false late is = inl is
 
 -- a move that folds nobody changes nothing
-pub unfolded_first : (move : Move) (moves : List Move) (owner : Option ℕ) → is_fold move.act ≡ false → owner_folded (move ∷ moves) owner ≡ owner_folded moves owner
+pub unfolded_first : (move : Move) (moves : List Move) (owner : Option ℕ) → is_fold move.act ≡ false → has_owner_folded (move ∷ moves) owner ≡ has_owner_folded moves owner
 unfolded_first move moves None is = refl
-unfolded_first move moves (Some seat) is = ap (λ b. not (not ((b && (move.seat == seat)) || list_any (folds_seat seat) moves))) is
+unfolded_first move moves (Some seat) is = ap (λ b. not (not ((b && (move.seat == seat)) || list_any (is_fold_of seat) moves))) is
 
 -- marks
 pub data HowMarked (covers : Place → Bool) (count draw : ℕ) (old new : Place) : Type 0 where
@@ -126,14 +127,14 @@ show_step covers other count draw names others blanks place rest true later =
 show_step covers other count draw names others blanks place rest false later = (marked_same other count draw place, later others blanks)
 
 -- for the cover that covers nothing
-abbrev pub nothing : Place → Bool
-nothing place = false
+abbrev pub is_nothing : Place → Bool
+is_nothing place = false
 
 -- a show discards nothing
-pub show_marks : (covers : Place → Bool) (count draw : ℕ) (names others : List Card) (blanks : ℕ) (placed : List Place) → AreMarked nothing count draw placed (after_names covers (λ (p : Place). p) names others blanks placed)
+pub show_marks : (covers : Place → Bool) (count draw : ℕ) (names others : List Card) (blanks : ℕ) (placed : List Place) → AreMarked is_nothing count draw placed (after_names covers (λ (p : Place). p) names others blanks placed)
 show_marks covers count draw names others blanks [] = tt
 show_marks covers count draw names others blanks (place ∷ rest) =
-    show_step covers nothing count draw names others blanks place rest (covers place) (λ os n. show_marks covers count draw names os n rest)
+    show_step covers is_nothing count draw names others blanks place rest (covers place) (λ os n. show_marks covers count draw names os n rest)
 
 -- marks are changes
 marked_how : (covers : Place → Bool) (count draw seat : ℕ) (old new : Place) → (covers old ≡ true → (old.gone_after ≡ None) × (old.owner ≡ Some seat)) → HowMarked covers count draw old new → HowGone count draw seat old new
@@ -151,18 +152,18 @@ marked_changed covers count draw seat (old ∷ olds) [] there is = absurd is
 marked_changed covers count draw seat (old ∷ olds) (new ∷ news) there is = (marked_change covers count draw seat old new (there old) is.0, marked_changed covers count draw seat olds news there is.1)
 
 -- and what is gone is told as before
-gone_how : (code : Code) (moves : List Move) (newest : ℕ) (covers : Place → Bool) (count draw : ℕ) (placed : List Place) (old new : Place) → PlacesLaw code moves newest placed → IsAmong placed old → 1 ≤ draw → new.owner ≡ old.owner → HowMarked covers count draw old new → is_some new.gone_after ≡ (nat_lt 0 new.discarded || owner_folded moves new.owner)
+gone_how : (code : Code) (moves : List Move) (newest : ℕ) (covers : Place → Bool) (count draw : ℕ) (placed : List Place) (old new : Place) → PlacesLaw code moves newest placed → IsAmong placed old → 1 ≤ draw → new.owner ≡ old.owner → HowMarked covers count draw old new → is_some new.gone_after ≡ (nat_lt 0 new.discarded || has_owner_folded moves new.owner)
 gone_how code moves newest covers count draw placed old new law among some owner (kept gone same) =
-    ap is_some gone ∙ law.gone_is old among ∙ ap (λ d. nat_lt 0 d || owner_folded moves old.owner) (sym same) ∙ ap (λ o. nat_lt 0 new.discarded || owner_folded moves o) (sym owner)
+    ap is_some gone ∙ law.gone_is old among ∙ ap (λ d. nat_lt 0 d || has_owner_folded moves old.owner) (sym same) ∙ ap (λ o. nat_lt 0 new.discarded || has_owner_folded moves o) (sym owner)
 gone_how code moves newest covers count draw placed old new law among some owner (marked covered now on) =
-    ap is_some now ∙ sym (or_left (nat_lt 0 new.discarded) (owner_folded moves new.owner) (lt-ltb 0 new.discarded (omega (arith, on, some))))
+    ap is_some now ∙ sym (or_left (nat_lt 0 new.discarded) (has_owner_folded moves new.owner) (lt-ltb 0 new.discarded (omega (arith, on, some))))
 
-gone_marked : (code : Code) (moves : List Move) (newest : ℕ) (covers : Place → Bool) (count draw : ℕ) (placed olds news : List Place) → PlacesLaw code moves newest placed → ((old : Place) → IsAmong olds old → IsAmong placed old) → 1 ≤ draw → AreMarked covers count draw olds news → (new : Place) → IsAmong news new → is_some new.gone_after ≡ (nat_lt 0 new.discarded || owner_folded moves new.owner)
+gone_marked : (code : Code) (moves : List Move) (newest : ℕ) (covers : Place → Bool) (count draw : ℕ) (placed olds news : List Place) → PlacesLaw code moves newest placed → ((old : Place) → IsAmong olds old → IsAmong placed old) → 1 ≤ draw → AreMarked covers count draw olds news → (new : Place) → IsAmong news new → is_some new.gone_after ≡ (nat_lt 0 new.discarded || has_owner_folded moves new.owner)
 gone_marked code moves newest covers count draw placed [] [] law sub some is new among = absurd among
 gone_marked code moves newest covers count draw placed [] (first ∷ news) law sub some is new among = absurd is
 gone_marked code moves newest covers count draw placed (old ∷ olds) [] law sub some is new among = absurd among
 gone_marked code moves newest covers count draw placed (old ∷ olds) (first ∷ news) law sub some is new (inl same) =
-    let P : Place → Type 0 = λ place. is_some place.gone_after ≡ (nat_lt 0 place.discarded || owner_folded moves place.owner) in
+    let P : Place → Type 0 = λ place. is_some place.gone_after ≡ (nat_lt 0 place.discarded || has_owner_folded moves place.owner) in
     subst P same (gone_how code moves newest covers count draw placed old first law (sub old (inl refl)) some is.0.owner is.0.how)
 gone_marked code moves newest covers count draw placed (old ∷ olds) (first ∷ news) law sub some is new (inr later) =
     gone_marked code moves newest covers count draw placed olds news law (λ other in_olds. sub other (inr in_olds)) some is.1 new later
@@ -210,30 +211,25 @@ pub fold_changed : (seat count draw : ℕ) (placed : List Place) → AreChanged 
 fold_changed seat count draw [] = tt
 fold_changed seat count draw (place ∷ rest) = (fold_change seat count draw place (is_held_by seat place) (held_parts seat place), fold_changed seat count draw rest)
 
--- a fold makes the seat's cards gone, and tells so
-pub some_or_none : (gone : Option ℕ) → is_none gone ≡ not (is_some gone)
-some_or_none None = refl
-some_or_none (Some count) = refl
-
 -- who folds has folded
-pub folded_own : (move : Move) (moves : List Move) (owner : Option ℕ) → is_fold move.act ≡ true → owner ≡ Some move.seat → owner_folded (move ∷ moves) owner ≡ true
+pub folded_own : (move : Move) (moves : List Move) (owner : Option ℕ) → is_fold move.act ≡ true → owner ≡ Some move.seat → has_owner_folded (move ∷ moves) owner ≡ true
 folded_own move moves owner is mine =
-    let P : Option ℕ → Type 0 = λ o. owner_folded (move ∷ moves) o ≡ true in
-    subst P (sym mine) (ap not (not_from_true (folds_seat move.seat move || list_any (folds_seat move.seat) moves) (or_left (folds_seat move.seat move) (list_any (folds_seat move.seat) moves) (and_from (is_fold move.act) (move.seat == move.seat) is (eq-eqb move.seat move.seat refl)))))
+    let P : Option ℕ → Type 0 = λ o. has_owner_folded (move ∷ moves) o ≡ true in
+    subst P (sym mine) (ap not (not_from_true (is_fold_of move.seat move || list_any (is_fold_of move.seat) moves) (or_left (is_fold_of move.seat move) (list_any (is_fold_of move.seat) moves) (and_from (is_fold move.act) (move.seat == move.seat) is (eq-eqb move.seat move.seat refl)))))
 
 -- no other owner has
-pub folded_other : (move : Move) (moves : List Move) (owner : Option ℕ) (b : Bool) → is_same_owner owner (Some move.seat) ≡ b → b ≡ false → owner_folded (move ∷ moves) owner ≡ owner_folded moves owner
+pub folded_other : (move : Move) (moves : List Move) (owner : Option ℕ) (b : Bool) → is_same_owner owner (Some move.seat) ≡ b → b ≡ false → has_owner_folded (move ∷ moves) owner ≡ has_owner_folded moves owner
 folded_other move moves None b same is = refl
 folded_other move moves (Some seat) b same is =
     let differ : (move.seat == seat) ≡ false = ne_eqb move.seat seat (λ one. false_true (sym is ∙ (sym same ∙ eq-eqb seat move.seat (sym one)))) in
-    ap (λ b. not (not (b || list_any (folds_seat seat) moves))) (and_right (is_fold move.act) (move.seat == seat) differ)
+    ap (λ b. not (not (b || list_any (is_fold_of seat) moves))) (and_right (is_fold move.act) (move.seat == seat) differ)
 
-gone_fold : (move : Move) (moves : List Move) (count : ℕ) (place : Place) (o g : Bool) → is_fold move.act ≡ true → is_same_owner place.owner (Some move.seat) ≡ o → is_none place.gone_after ≡ g → is_some place.gone_after ≡ (nat_lt 0 place.discarded || owner_folded moves place.owner) → is_some (if o && g then gone_now count place else place).gone_after ≡ (nat_lt 0 place.discarded || owner_folded (move ∷ moves) place.owner)
+gone_fold : (move : Move) (moves : List Move) (count : ℕ) (place : Place) (o g : Bool) → is_fold move.act ≡ true → is_same_owner place.owner (Some move.seat) ≡ o → is_none place.gone_after ≡ g → is_some place.gone_after ≡ (nat_lt 0 place.discarded || has_owner_folded moves place.owner) → is_some (if o && g then gone_now count place else place).gone_after ≡ (nat_lt 0 place.discarded || has_owner_folded (move ∷ moves) place.owner)
 gone_fold move moves count place true true fold owner gone was =
-    sym (or_right (nat_lt 0 place.discarded) (owner_folded (move ∷ moves) place.owner) (folded_own move moves place.owner fold (is_same_owner-true place.owner (Some move.seat) owner)))
+    sym (or_right (nat_lt 0 place.discarded) (has_owner_folded (move ∷ moves) place.owner) (folded_own move moves place.owner fold (is_same_owner-true place.owner (Some move.seat) owner)))
 gone_fold move moves count place true false fold owner gone was =
     not-false (is_some place.gone_after) (sym (some_or_none place.gone_after) ∙ gone)
-    ∙ sym (or_right (nat_lt 0 place.discarded) (owner_folded (move ∷ moves) place.owner) (folded_own move moves place.owner fold (is_same_owner-true place.owner (Some move.seat) owner)))
+    ∙ sym (or_right (nat_lt 0 place.discarded) (has_owner_folded (move ∷ moves) place.owner) (folded_own move moves place.owner fold (is_same_owner-true place.owner (Some move.seat) owner)))
 gone_fold move moves count place false g fold owner gone was =
     was ∙ ap (λ f. nat_lt 0 place.discarded || f) (sym (folded_other move moves place.owner false owner refl))
 
@@ -245,14 +241,14 @@ same_place_owner : (count : ℕ) (place : Place) (b : Bool) → (if b then gone_
 same_place_owner count place true = refl
 same_place_owner count place false = refl
 
-gone_folds : (code : Code) (move : Move) (moves : List Move) (newest count : ℕ) (placed olds : List Place) → PlacesLaw code moves newest placed → is_fold move.act ≡ true → ((old : Place) → IsAmong olds old → IsAmong placed old) → (new : Place) → IsAmong (map (folded_place move.seat count) olds) new → is_some new.gone_after ≡ (nat_lt 0 new.discarded || owner_folded (move ∷ moves) new.owner)
+gone_folds : (code : Code) (move : Move) (moves : List Move) (newest count : ℕ) (placed olds : List Place) → PlacesLaw code moves newest placed → is_fold move.act ≡ true → ((old : Place) → IsAmong olds old → IsAmong placed old) → (new : Place) → IsAmong (map (folded_place move.seat count) olds) new → is_some new.gone_after ≡ (nat_lt 0 new.discarded || has_owner_folded (move ∷ moves) new.owner)
 gone_folds code move moves newest count placed [] law fold sub new among = absurd among
 gone_folds code move moves newest count placed (old ∷ olds) law fold sub new (inl same) =
-    let P : Place → Type 0 = λ place. is_some place.gone_after ≡ (nat_lt 0 place.discarded || owner_folded (move ∷ moves) place.owner) in
+    let P : Place → Type 0 = λ place. is_some place.gone_after ≡ (nat_lt 0 place.discarded || has_owner_folded (move ∷ moves) place.owner) in
     let held : Bool = is_held_by move.seat old in
     subst P same (gone_fold move moves count old (is_same_owner old.owner (Some move.seat)) (is_none old.gone_after) fold refl refl (law.gone_is old (sub old (inl refl)))
-    ∙ ap (λ d. nat_lt 0 d || owner_folded (move ∷ moves) old.owner) (sym (same_discarded count old held))
-    ∙ ap (λ o. nat_lt 0 (if held then gone_now count old else old).discarded || owner_folded (move ∷ moves) o) (sym (same_place_owner count old held)))
+    ∙ ap (λ d. nat_lt 0 d || has_owner_folded (move ∷ moves) old.owner) (sym (same_discarded count old held))
+    ∙ ap (λ o. nat_lt 0 (if held then gone_now count old else old).discarded || has_owner_folded (move ∷ moves) o) (sym (same_place_owner count old held)))
 gone_folds code move moves newest count placed (old ∷ olds) law fold sub new (inr later) = gone_folds code move moves newest count placed olds law fold (λ other among. sub other (inr among)) new later
 
 out_folds : (code : Code) (moves : List Move) (newest count seat : ℕ) (placed olds : List Place) → PlacesLaw code moves newest placed → ((old : Place) → IsAmong olds old → IsAmong placed old) → (new : Place) → IsAmong (map (folded_place seat count) olds) new → 0 < new.discarded → new.street < new.discarded
@@ -283,15 +279,11 @@ fold_law code move moves newest placed law fold on some =
       out_after = out_folds code moves newest (length placed) move.seat placed placed law (λ old among. among);
     })
 
--- a move that folds nobody keeps the law
-abbrev stays_before : Move → List Move → ℕ → Type 0
-stays_before move moves by = (owner : Option ℕ) → owner_folded (moves_before by (move ∷ moves)) owner ≡ owner_folded (moves_before by moves) owner
-
 -- a move that is no fold changes who has folded nowhere
-pub other_before : (move : Move) (moves : List Move) (by : ℕ) (owner : Option ℕ) → is_fold move.act ≡ false → owner_folded (moves_before by (move ∷ moves)) owner ≡ owner_folded (moves_before by moves) owner
+pub other_before : (move : Move) (moves : List Move) (by : ℕ) (owner : Option ℕ) → is_fold move.act ≡ false → has_owner_folded (moves_before by (move ∷ moves)) owner ≡ has_owner_folded (moves_before by moves) owner
 other_before move moves by owner is = by_street (nat_lt move.street by)
   where
-    by_street : (b : Bool) → owner_folded (if b then (move ∷ moves_before by moves) else moves_before by moves) owner ≡ owner_folded (moves_before by moves) owner
+    by_street : (b : Bool) → has_owner_folded (if b then (move ∷ moves_before by moves) else moves_before by moves) owner ≡ has_owner_folded (moves_before by moves) owner
     by_street true = unfolded_first move (moves_before by moves) owner is
     by_street false = refl
 

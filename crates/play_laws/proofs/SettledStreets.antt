@@ -1,7 +1,7 @@
 -- What is not due on a street does not come due there by later events.
-use Rattle.std.proofs.Common.{◌≡◌, ℕ, zero, suc, ◌+◌, ◌-◌, ◌≤◌, ◌<◌, Bool, true, false, ◌&&◌, ◌||◌, ◌==◌, not, nat_lt, inl, inr, Some, is_some, List, [], ◌∷◌, length, find, refl, sym, ◌∙◌, ap, arith, if◌then◌else◌}
-use Rattle.std.specs.List.{list_any, range_with_len}
-use Rattle.std.proofs.lemmas.Bool.{or_parts, or_from, ltb-false, le-ltb, cases_lt}
+use Rattle.std.proofs.Common.{◌≡◌, ℕ, ◌+◌, ◌-◌, ◌≤◌, Bool, true, false, ◌&&◌, ◌||◌, ◌==◌, not, nat_lt, is_some, ◌∷◌, length, refl, sym, ◌∙◌, ap, arith, if◌then◌else◌}
+use Rattle.std.specs.List.{list_any}
+use Rattle.std.proofs.lemmas.Bool.{or_parts, or_from, ltb-false, le-ltb}
 use Rattle.play_event.specs.declared.setup.Setup.{Setup}
 use Rattle.play_event.specs.Games.{hole_cards_on}
 use Rattle.play_event.specs.Streets.{has_draw}
@@ -9,24 +9,9 @@ use Rattle.play_event.specs.Past.{Past, Resolved, Move, Dealt, Boarded, Moved, D
 use Rattle.play_event.specs.Seats.{is_live, all_seats}
 use Rattle.play_event.specs.Dealing.{is_deal_due, is_draw_due, hole_cards_dealt, has_drawn, hole_cards_owed, board_cards_owed, replacements_owed, next_to_draw}
 use Rattle.list_laws.proofs.Tests.{false_true}
-use Rattle.list_laws.proofs.Options.{some_is_none}
-use Rattle.std.proofs.lemmas.Option.{same_Some}
-
--- tests that pass less
-pub none_still : (p q : ℕ → Bool) (seats : List ℕ) → ((seat : ℕ) → p seat ≡ false → q seat ≡ false) → list_any p seats ≡ false → list_any q seats ≡ false
-none_still p q [] less is = refl
-none_still p q (seat ∷ rest) less is =
-    let parts = or_parts (p seat) (list_any p rest) is in or_from (q seat) (list_any q rest) (less seat parts.0) (none_still p q rest less parts.1)
-
-found_less : (p q : ℕ → Bool) (first : ℕ) (rest : List ℕ) (a b : Bool) → (b ≡ true → a ≡ true) → (is_some (find p rest) ≡ false → is_some (find q rest) ≡ false) → is_some (if a then Some first else find p rest) ≡ false → is_some (if b then Some first else find q rest) ≡ false
-found_less p q first rest true b less later is = false_true (sym is)
-found_less p q first rest false true less later is = false_true (less refl)
-found_less p q first rest false false less later is = later is
-
--- a stronger test finds nothing where a weaker one does not
-pub none_found_still : (p q : ℕ → Bool) (seats : List ℕ) → ((seat : ℕ) → q seat ≡ true → p seat ≡ true) → is_some (find p seats) ≡ false → is_some (find q seats) ≡ false
-none_found_still p q [] less is = refl
-none_found_still p q (seat ∷ rest) less is = found_less p q seat rest (p seat) (q seat) (less seat) (none_found_still p q rest less) is
+use Rattle.list_laws.proofs.Any.{none_still}
+use Rattle.list_laws.proofs.Finding.{none_found_still}
+use Rattle.list_laws.proofs.NumbersOfRange.{at_range}
 
 -- hole cards owed do not grow
 owed_less : (folded before : Bool) (owed : ℕ) → (if not (folded || before) then owed else 0) ≤ (if not before then owed else 0)
@@ -119,30 +104,9 @@ draw_still setup before event street no_discard is =
     (none_found_still (λ seat. is_live (moves_of before) seat && not (has_drawn before street seat)) (λ seat. is_live (moves_of (event ∷ before)) seat && not (has_drawn (event ∷ before) street seat)) (all_seats setup) (to_draw_still before event street))
     (none_still (λ seat. nat_lt 0 (replacements_owed before street seat)) (λ seat. nat_lt 0 (replacements_owed (event ∷ before) street seat)) (all_seats setup) (λ seat. less_than (replacements_owed before street seat) (replacements_owed (event ∷ before) street seat) (replaced_still before event street seat no_discard))) is
 
--- where no draw is due on a street, no seat is owed cards there
-pub at_range : (p : ℕ → Bool) (first count seat : ℕ) → list_any p (range_with_len first count) ≡ false → first ≤ seat → seat < first + count → p seat ≡ false
-at_range p first zero seat is least most = absurd (omega (arith, least, most))
-at_range p first (suc count) seat is least most =
-    let parts = or_parts (p first) (list_any p (range_with_len (first + 1) count)) is in
-    elim (cases_lt first seat) [
-      | inl above ↦ at_range p (first + 1) count seat parts.1 (omega (arith, above)) (omega (arith, most))
-      | inr below ↦ let same : seat ≡ first = omega (arith, below, least) in ap p same ∙ parts.0
-    ]
-
 -- where no draw is due no replacement is owed
 pub none_owed : (setup : Setup) (before : Past) (street seat : ℕ) → has_draw setup.code street ≡ true → is_draw_due setup before street ≡ false → 1 ≤ seat → seat ≤ setup.stacks.seats → replacements_owed before street seat ≡ 0
 none_owed setup before street seat draws is least most =
     let inside : (is_some (next_to_draw setup before street) || list_any (λ seat. nat_lt 0 (replacements_owed before street seat)) (all_seats setup)) ≡ false = sym (ap (λ b. b && (is_some (next_to_draw setup before street) || list_any (λ seat. nat_lt 0 (replacements_owed before street seat)) (all_seats setup))) draws) ∙ is in
     let parts = or_parts (is_some (next_to_draw setup before street)) (list_any (λ seat. nat_lt 0 (replacements_owed before street seat)) (all_seats setup)) inside in
     omega (arith, ltb-false 0 (replacements_owed before street seat) (at_range (λ seat. nat_lt 0 (replacements_owed before street seat)) 1 setup.stacks.seats seat parts.1 least (omega (arith, most))))
-
--- what is found passes, and is in the range
-found_here : (p : ℕ → Bool) (first count seat : ℕ) (b : Bool) → p first ≡ b → (find p (range_with_len (first + 1) count) ≡ Some seat → (p seat ≡ true) × ((first + 1 ≤ seat) × (seat < (first + 1) + count))) → (if b then Some first else find p (range_with_len (first + 1) count)) ≡ Some seat → (p seat ≡ true) × ((first ≤ seat) × (seat < first + suc count))
-found_here p first count seat true here later is =
-    let same : first ≡ seat = same_Some first seat is in (ap p (sym same) ∙ here, (omega (arith, same), omega (arith, same)))
-found_here p first count seat false here later is = let it = later is in (it.0, (omega (arith, it.1.0), omega (arith, it.1.1)))
-
--- what is found in a range passes, and is of the range
-pub found_in_range : (p : ℕ → Bool) (first count seat : ℕ) → find p (range_with_len first count) ≡ Some seat → (p seat ≡ true) × ((first ≤ seat) × (seat < first + count))
-found_in_range p first zero seat is = absurd (some_is_none (sym is))
-found_in_range p first (suc count) seat is = found_here p first count seat (p first) refl (found_in_range p (first + 1) count seat) is

@@ -18,15 +18,15 @@ abbrev pub places_by : Setup → List Said → List Place
 places_by setup events = places_of setup.code (past_of setup events)
 
 -- the owner of a card has folded: the board never does
-abbrev pub owner_folded : List Move → Option ℕ → Bool
-owner_folded moves (Some seat) = not (is_live moves seat)
-owner_folded moves None = false
+abbrev pub has_owner_folded : List Move → Option ℕ → Bool
+has_owner_folded moves (Some seat) = not (is_live moves seat)
+has_owner_folded moves None = false
 
 -- a card is gone when the deals of a street come: it was discarded there or before, or its seat folded before
-abbrev pub gone_by : List Move → ℕ → Place → Bool
-gone_by moves street place =
+abbrev pub is_gone_by : List Move → ℕ → Place → Bool
+is_gone_by moves street place =
     (nat_lt 0 place.discarded && nat_le place.discarded street)
-    || owner_folded (moves_before street moves) place.owner
+    || has_owner_folded (moves_before street moves) place.owner
 
 -- how many cards a draw needs: those dealt on earlier streets, and those discarded in it
 abbrev pub cards_needed : List Place → ℕ → ℕ
@@ -43,7 +43,7 @@ NeedsMoreThanDeck code placed street =
 abbrev pub AreGoneByStreet : List Move → List Place → Type 0
 AreGoneByStreet moves placed =
     (a b : Place) → IsAmong placed a → IsAmong placed b
-    → is_gone_before a.gone_after b.number ≡ true → gone_by moves b.street a ≡ true
+    → is_gone_before a.gone_after b.number ≡ true → is_gone_by moves b.street a ≡ true
 
 -- the places of a legal past: no two clash; what was gone before a deal was so by its street; what is gone by a street
 -- was dealt before it; and what was dealt past the deck was dealt where the whole draw needs more cards than the deck has
@@ -51,7 +51,7 @@ pub record AreLawful (code : Code) (moves : List Move) (placed : List Place) : T
   pub apart : NoneClash placed
   pub gone_when : AreGoneByStreet moves placed
   pub gone_after : (place : Place) (street : ℕ) → IsAmong placed place
-      → gone_by moves street place ≡ true → place.street < street
+      → is_gone_by moves street place ≡ true → place.street < street
   pub late : (place : Place) → IsAmong placed place → place.past_deck ≡ true
       → NeedsMoreThanDeck code placed place.street
 
@@ -80,11 +80,11 @@ pub record PlacesLaw (code : Code) (moves : List Move) (newest : ℕ) (placed : 
   pub reached : (place : Place) → IsAmong placed place → place.street ≤ newest
   pub out_reached : (place : Place) → IsAmong placed place → place.discarded ≤ newest
   pub gone_is : (place : Place) → IsAmong placed place
-      → is_some place.gone_after ≡ (nat_lt 0 place.discarded || owner_folded moves place.owner)
+      → is_some place.gone_after ≡ (nat_lt 0 place.discarded || has_owner_folded moves place.owner)
   pub out_after : (place : Place) → IsAmong placed place → 0 < place.discarded
       → place.street < place.discarded
   pub folded_after : (place : Place) (street : ℕ) → IsAmong placed place
-      → owner_folded (moves_before street moves) place.owner ≡ true → place.street < street
+      → has_owner_folded (moves_before street moves) place.owner ≡ true → place.street < street
   pub gone_when : AreGoneByStreet moves placed
   pub late : (place : Place) → IsAmong placed place → place.past_deck ≡ true
       → NeedsMoreThanDeck code placed place.street

@@ -52,17 +52,17 @@ pub record PastLaw (setup : Setup) (before : Past) : Type 0 where
       → is_live (moves_of before) seat ≡ false → replacements_owed before street seat ≡ 0
 
 -- an event that is no show or muck takes place on a street
-abbrev pub plays_on : ℕ → Resolved → Bool
-plays_on street (Dealt on seat cards) = on == street
-plays_on street (Boarded on cards) = on == street
-plays_on street (Moved move) = move.street == street
-plays_on street (Discarded on seat cards) = on == street
-plays_on street (Shown on seat cards) = false
-plays_on street (Mucked on seat) = false
+abbrev pub is_played_on : ℕ → Resolved → Bool
+is_played_on street (Dealt on seat cards) = on == street
+is_played_on street (Boarded on cards) = on == street
+is_played_on street (Moved move) = move.street == street
+is_played_on street (Discarded on seat cards) = on == street
+is_played_on street (Shown on seat cards) = false
+is_played_on street (Mucked on seat) = false
 
 -- a seat was live when a street began
-abbrev pub was_live : Past → ℕ → ℕ → Bool
-was_live before street seat = is_live (moves_before street (moves_of before)) seat
+abbrev pub is_live_at_start : Past → ℕ → ℕ → Bool
+is_live_at_start before street seat = is_live (moves_before street (moves_of before)) seat
 
 -- What is done in a legal past: nothing is due on earlier streets, their betting was closed before the next one began,
 -- and where no deal or draw is due each seat that was live there has its cards and has drawn; and a street with events
@@ -76,10 +76,10 @@ pub record DoneLaw (setup : Setup) (before : Past) : Type 0 where
       → hole_cards_dealt before street seat ≤ hole_cards_on setup.code street
   pub board_most : (street : ℕ) → board_cards_dealt before street ≤ board_cards_on setup.code street
   pub dealt : (street seat : ℕ) → 1 ≤ street → 1 ≤ seat → seat ≤ setup.stacks.seats
-      → is_deal_due setup before street ≡ false → was_live before street seat ≡ true
+      → is_deal_due setup before street ≡ false → is_live_at_start before street seat ≡ true
       → hole_cards_on setup.code street ≤ hole_cards_dealt before street seat
   pub drawn : (street seat : ℕ) → 1 ≤ street → 1 ≤ seat → seat ≤ setup.stacks.seats
       → has_draw setup.code street ≡ true → is_draw_due setup before street ≡ false
-      → was_live before street seat ≡ true → has_drawn before street seat ≡ true
-  pub several : (street : ℕ) → list_any (plays_on street) before ≡ true
+      → is_live_at_start before street seat ≡ true → has_drawn before street seat ≡ true
+  pub several : (street : ℕ) → list_any (is_played_on street) before ≡ true
       → nat_le (live_count setup (moves_before street (moves_of before))) 1 ≡ false

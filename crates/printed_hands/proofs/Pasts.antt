@@ -1,8 +1,6 @@
 -- The past after each event of a script, and what the next event adds to it.
-use Rattle.std.proofs.Common.{◌≡◌, ℕ, zero, suc, ◌+◌, ◌≤◌, ◌<◌, Bool, true, false, List, [], ◌∷◌, ◌++◌, length, take, drop, reverse, map, get_or, slice_get, Option, Some, None, refl, sym, ap, ◌∙◌, append_assoc, arith, inl, inr}
-use Rattle.std.proofs.lemmas.Bool.{cases_lt}
-use Rattle.std.proofs.lemmas.List.{drop_more, drop_all, take_more, take_all, reverse-append, length-append, length-map}
-use Rattle.std.proofs.lemmas.Option.{get_or_from_slice_get, slice_get-get_or, slice_get-map, slice_get_within}
+use Rattle.std.proofs.Common.{◌≡◌, ℕ, zero, suc, ◌+◌, ◌≤◌, Bool, true, false, List, [], ◌∷◌, ◌++◌, length, take, drop, reverse, map, refl, sym, ap, ◌∙◌, append_assoc, arith}
+use Rattle.std.proofs.lemmas.List.{reverse-append}
 use Rattle.canonical_play.specs.PlayedScript.{is_move}
 use Rattle.play_event.specs.Laws.{AreLegal}
 use Rattle.play_event.specs.Past as past
@@ -18,62 +16,11 @@ use Rattle.play_event.specs.declared.event.Event.{Event}
 use Rattle.play_event.specs.declared.setup.Rules.{Rules}
 use Rattle.play_event.specs.declared.setup.Setup.{Setup}
 use Rattle.printed_hands.specs.Steps.{event_named}
-
--- the first events of a script, the newest first
-abbrev pub so_far : List Event → ℕ → List Said
-so_far script count = reverse (take count (map said_of script))
+use Rattle.play_event.proofs.SaidSoFar.{so_far}
 
 -- the events behind the first ones, the newest first
 abbrev pub later_than : List Event → ℕ → List Said
 later_than script count = reverse (drop count (map said_of script))
-
--- the events that are left begin with the next one
-pub record IsNext (script : List Event) (count : ℕ) (event : Event) (more : List Event) : Type 0 where
-  pub within : count < length script
-  pub left : more ≡ drop (count + 1) script
-  pub longer : so_far script (count + 1) ≡ said_of event ∷ so_far script count
-
-first_of : Event → List Event → Event
-first_of other [] = other
-first_of other (event ∷ more) = event
-
-behind_first : List Event → List Event
-behind_first [] = []
-behind_first (event ∷ more) = more
-
-no_event : (event : Event) (more : List Event) → event ∷ more ≡ [] → ⊥
-no_event event more is = cc
-
-more_said : (events : List Said) (count : ℕ) (event : Said) → slice_get events count ≡ Some event → reverse (take (count + 1) events) ≡ event ∷ reverse (take count events)
-more_said events count event is =
-    ap reverse (take_more events count event (slice_get_within events count event is))
-    ∙ reverse-append (take count events) (get_or events count event ∷ [])
-    ∙ ap (λ e. e ∷ reverse (take count events)) (get_or_from_slice_get events count event event is)
-
-pub is_next : (script : List Event) (count : ℕ) (event : Event) (more : List Event) → event ∷ more ≡ drop count script → IsNext script count event more
-unfolding first_of behind_first
-is_next script count event more left = elim (cases_lt count (length script)) [
-  | inr over ↦ absurd (no_event event more (left ∙ drop_all count script over))
-  | inl within ↦
-      let cut = left ∙ drop_more script count event within in
-      let at : slice_get script count ≡ Some event = slice_get-get_or script count event within ∙ ap Some (sym (ap (first_of event) cut)) in
-      record {
-        within = within;
-        left = ap behind_first cut;
-        longer = more_said (map said_of script) count (said_of event) (slice_get-map said_of script count ∙ ap (λ o. elim o [ None ↦ None | Some e ↦ Some (said_of e) ]) at);
-      }
-]
-
--- no event is left
-pub none_left : (script : List Event) (count : ℕ) → [] ≡ drop count script → length script ≤ count
-none_left script count left = elim (cases_lt count (length script)) [
-  | inr over ↦ over
-  | inl within ↦ absurd (nothing script count within left)
-]
-  where
-    nothing : (script : List Event) (count : ℕ) → count < length script → [] ≡ drop count script → ⊥
-    nothing [] count within left = omega (arith, within)
-    nothing (event ∷ rest) count within left = no_event (get_or (event ∷ rest) count event) (drop (count + 1) (event ∷ rest)) (sym (left ∙ drop_more (event ∷ rest) count event within))
 
 -- all events are those later than some, and these
 pub all_are : (script : List Event) (count : ℕ) → reverse (map said_of script) ≡ later_than script count ++ so_far script count

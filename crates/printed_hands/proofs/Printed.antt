@@ -1,11 +1,9 @@
 -- The lines of the events so far, and of one event more.
-use Rattle.std.proofs.Common.{◌≡◌, ℕ, ◌+◌, ◌-◌, ◌≤◌, ◌<◌, Bool, true, false, List, [], ◌∷◌, ◌++◌, length, map, take, drop, reverse, slice_get, Option, Some, None, refl, sym, subst, ap, ◌∙◌, append_assoc, count_by, not, decimal, arith}
+use Rattle.std.proofs.Common.{◌≡◌, ℕ, ◌+◌, ◌-◌, ◌≤◌, ◌<◌, true, false, List, [], ◌∷◌, ◌++◌, length, map, take, drop, reverse, slice_get, Option, Some, refl, sym, subst, ap, ◌∙◌, append_assoc, decimal, arith}
 use Rattle.std.specs.Option.{option_map}
 use Rattle.std.proofs.lemmas.List.{append-nil, length-map, length-reverse, length-take-le, take_all}
-use Rattle.std.proofs.lemmas.Option.{slice_get-map, slice_get_within}
-use Rattle.chip_ledger.specs.SeatRow.{amount_of}
+use Rattle.std.proofs.lemmas.Option.{slice_get-map}
 use Rattle.chip_ledger.specs.declared.rows.SeatRow.{SeatRow}
-use Rattle.chip_ledger.specs.declared.rows.TheConstants.{MOST_AMOUNT}
 use Rattle.canonical_play.specs.CanonScript.{move_named, plain_move}
 use Rattle.canonical_play.specs.PlayedScript.{is_move}
 use Rattle.canonical_play.specs.TraceCore.{TraceCore}
@@ -19,14 +17,16 @@ use Rattle.play_event.specs.Past as past
 use Rattle.play_event.specs.Past.{Move, Past, Resolved, moves_of}
 use Rattle.play_event.specs.Played.{move_said}
 use Rattle.play_event.specs.Said.{Said, said_of}
-use Rattle.play_event.specs.Scripts.{past_at_end, past_of, with_event}
+use Rattle.play_event.specs.Scripts.{past_at_end, past_of}
 use Rattle.play_event.specs.Trace.{TracedMove, traced_move, traced_moves}
 use Rattle.play_event.specs.declared.event.Event.{Event}
 use Rattle.play_event.specs.declared.played.Move as rows
 use Rattle.play_event.specs.declared.setup.Setup.{Setup}
 use Rattle.printed_hands.specs.Steps.{HasPut, MayAdd, chips_text, event_named, step_lines}
 use Rattle.printed_hands.proofs.Moves.{own_more, traced_here}
-use Rattle.printed_hands.proofs.Pasts.{all_are, by_move, is_next, later_than, legal_before, longer, none_left, on_cards, past_length, so_far}
+use Rattle.printed_hands.proofs.Pasts.{all_are, by_move, later_than, legal_before, longer, on_cards, past_length}
+use Rattle.list_laws.proofs.Counting.{count_both}
+use Rattle.play_event.proofs.SaidSoFar.{is_next, none_left, so_far}
 
 -- the past after so many events
 abbrev pub past_to : Play → ℕ → Past
@@ -186,16 +186,5 @@ steps_printed play count made put left before text printed none =
     ap reverse (take_all count (map said_of play.hand.script) (omega (arith, over, length-map play.hand.script said_of))) in
     printed.lines ∙ ap (λ (events : List Said). before ++ step_lines play.hand.setup (past_of play.hand.setup events)) all
 
--- a hand within the limits has few events
-counted_both : (events : List Said) → count_by is_move events + count_by (λ event. not (is_move event)) events ≡ length events
-counted_both [] = refl
-counted_both (event ∷ rest) = by_move (is_move event) refl (counted_both rest)
-  where
-    by_move : (b : Rattle.std.proofs.Common.Bool) → is_move event ≡ b → count_by is_move rest + count_by (λ event. not (is_move event)) rest ≡ length rest → count_by is_move (event ∷ rest) + count_by (λ event. not (is_move event)) (event ∷ rest) ≡ length (event ∷ rest)
-    by_move true is later =
-        omega (arith, later, Rattle.list_laws.proofs.Counting.count_by-cons is_move event rest, Rattle.list_laws.proofs.Counting.count_by-cons (λ (e : Said). not (is_move e)) event rest, ap {B = ℕ} (λ b. Rattle.std.proofs.Common.cond b 1 0) is, ap {B = ℕ} (λ b. Rattle.std.proofs.Common.cond (not b) 1 0) is)
-    by_move false is later =
-        omega (arith, later, Rattle.list_laws.proofs.Counting.count_by-cons is_move event rest, Rattle.list_laws.proofs.Counting.count_by-cons (λ (e : Said). not (is_move e)) event rest, ap {B = ℕ} (λ b. Rattle.std.proofs.Common.cond b 1 0) is, ap {B = ℕ} (λ b. Rattle.std.proofs.Common.cond (not b) 1 0) is)
-
 pub few_events : (play : Play) → IsSound play → length play.hand.script ≤ 4352
-few_events play sound = omega (arith, counted_both (map said_of play.hand.script), length-map play.hand.script said_of, sound.within.moves, sound.within.others)
+few_events play sound = omega (arith, count_both is_move (map said_of play.hand.script), length-map play.hand.script said_of, sound.within.moves, sound.within.others)

@@ -1,5 +1,5 @@
 -- The entry at an index of a map is a line of its rows.
-use Rattle.std.proofs.Common.{◌≡◌, ℕ, zero, suc, ◌+◌, List, [], ◌∷◌, ◌++◌, map, drop, slice_get, flat_map, Some, unwrap_or, bytes_eq, pos, ◌-ℤ◌, refl, sym, ap, ◌∙◌, arith, Bor}
+use Rattle.std.proofs.Common.{◌≡◌, ℕ, zero, suc, List, [], ◌∷◌, map, slice_get, flat_map, Some, unwrap_or, bytes_eq, pos, ◌-ℤ◌, refl, sym, ap, ◌∙◌, Bor}
 use Rattle.std.proofs.lemmas.List.{append-nil}
 use Rattle.std.specs.Option.{option_to_list, option_map}
 use Rattle.std.specs.Map.{lookup}
@@ -7,20 +7,6 @@ use Rattle.printed_report.specs.Report.{name_line}
 use Rattle.printed_report.specs.Tallies.{no_tally, row_names, tally_at, tally_line}
 use Rattle.printed_report.specs.declared.tally.Tally.{Tally}
 use Rattle.printed_report.proofs.Rows.{lookup_rows}
-
-part : {X Y : Type 0} (f : X → List Y) (xs : List X) (index : ℕ)
-    → flat_map f (option_to_list (slice_get xs index)) ++ flat_map f (drop (suc index) xs) ≡ flat_map f (drop index xs)
-part f [] zero = refl
-part f [] (suc index) = refl
-part f (x ∷ xs) zero = ap (λ first. first ++ flat_map f xs) (append-nil (f x))
-part f (x ∷ xs) (suc index) = part f xs index
-
--- an item and those behind it are what is left
-pub next_part : {X Y : Type 0} (f : X → List Y) (xs : List X) (index : ℕ)
-    → flat_map f (option_to_list (slice_get xs index)) ++ flat_map f (drop (index + 1) xs) ≡ flat_map f (drop index xs)
-next_part f xs index =
-    let on : index + 1 ≡ suc index = omega arith in
-    ap (λ n. flat_map f (option_to_list (slice_get xs index)) ++ flat_map f (drop n xs)) on ∙ part f xs index
 
 -- its tally is that of its name
 pub tally_here : (entries : List (Bor (List ℕ) × Tally)) (key : Bor (List ℕ)) (tally : Tally)

@@ -1,5 +1,5 @@
 -- What the seats put is what counts and the dead antes.
-use Rattle.std.proofs.Common.{◌≡◌, ℕ, zero, suc, ◌+◌, ◌-◌, ◌*◌, ◌≤◌, ◌<◌, Bool, true, false, List, ◌∷◌, map, sum, sum_by, refl, sym, ap, ◌∙◌, arith}
+use Rattle.std.proofs.Common.{◌≡◌, ℕ, zero, suc, ◌+◌, ◌-◌, ◌*◌, ◌≤◌, ◌<◌, Bool, true, false, List, map, sum_by, refl, ap, ◌∙◌, arith}
 use Rattle.std.specs.List.{range_with_len}
 use Rattle.std.proofs.lemmas.List.Sums.{sum-map, sum_by-cons}
 use Rattle.chip_ledger.specs.declared.rows.LiveRow.{LiveRow}
@@ -13,20 +13,9 @@ use Rattle.play_event.specs.declared.setup.Setup.{Setup}
 use Rattle.play_event.specs.Past.{Move}
 use Rattle.play_event.specs.Stakes.{counted_put, stake_after, stakes_after}
 use Rattle.replay_core.specs.EndRows.{AreRowsOf}
-
-pub map_same : {B : Type 0} (f g : ℕ → B) (first count : ℕ) → ((n : ℕ) → first ≤ n → n < first + count → f n ≡ g n) → map f (range_with_len first count) ≡ map g (range_with_len first count)
-map_same f g first zero same = refl
-map_same f g first (suc count) same =
-    ap (λ x. x ∷ map f (range_with_len (first + 1) count)) (same first (omega arith) (omega arith))
-    ∙ ap (λ l. g first ∷ l) (map_same f g (first + 1) count (λ n from to. same n (omega (arith, from)) (omega (arith, to))))
-
-pub sum_same : (f g : ℕ → ℕ) (first count : ℕ) → ((n : ℕ) → first ≤ n → n < first + count → f n ≡ g n) → sum_by f (range_with_len first count) ≡ sum_by g (range_with_len first count)
-sum_same f g first count same = sym (sum-map f (range_with_len first count)) ∙ ap sum (map_same f g first count same) ∙ sum-map g (range_with_len first count)
-
-pub sum_least : (f g : ℕ → ℕ) (first count : ℕ) → ((n : ℕ) → first ≤ n → n < first + count → f n ≤ g n) → sum_by f (range_with_len first count) ≤ sum_by g (range_with_len first count)
-sum_least f g first zero less = omega arith
-sum_least f g first (suc count) less =
-    omega (arith, sum_by-cons f first (range_with_len (first + 1) count), sum_by-cons g first (range_with_len (first + 1) count), less first (omega arith) (omega arith), sum_least f g (first + 1) count (λ n from to. less n (omega (arith, from)) (omega (arith, to))))
+use Rattle.list_laws.proofs.NumbersOfRange.{map_agree, sum_agree}
+use Rattle.chip_ledger.specs.declared.rows.TheConstants.{MOST_AMOUNT}
+use Rattle.chip_ledger.specs.declared.numbers.TheConstants.{MOST_CHIPS}
 
 -- what is counted and what is dead are all that was put
 counted_sum : (dead : Bool) (put ante : ℕ → ℕ) (first count : ℕ) → ((n : ℕ) → first ≤ n → n < first + count → ante n ≤ put n) → sum_by (λ n. counted dead (put n) (ante n)) (range_with_len first count) + dead_chips dead (map ante (range_with_len first count)) ≡ sum_by put (range_with_len first count)
@@ -53,18 +42,18 @@ pub all_counted : (setup : Setup) (puts counted_row : SeatRow) (dead : ℕ) → 
 all_counted setup puts counted_row dead same_antes same_puts same_counted dead_is counts posted =
     let n : ℕ = setup.stacks.seats in
     let row = ap (λ k. sum_by (amount_of counted_row) (seats_of k)) (same_counted ∙ same_puts) in
-    let each = sum_same (amount_of counted_row) (λ k. counted setup.dead_antes (amount_of puts k) (amount_of setup.antes k)) 1 n (λ k from to. counts k from (omega (arith, to, same_puts))) in
+    let each = sum_agree (amount_of counted_row) (λ k. counted setup.dead_antes (amount_of puts k) (amount_of setup.antes k)) 1 n (λ k from to. counts k from (omega (arith, to, same_puts))) in
     let all = counted_sum setup.dead_antes (amount_of puts) (amount_of setup.antes) 1 n (λ k from to. posted k from (omega (arith, to))) in
     let put = ap (λ k. sum_by (amount_of puts) (seats_of k)) same_puts in
     omega (arith, row, each, all, put, dead_is)
 
 -- all seats together put no more than a row may hold
-pub all_within : (setup : Setup) (puts : SeatRow) → puts.seats ≡ setup.stacks.seats → setup.stacks.seats ≤ 10 → ((n : ℕ) → 1 ≤ n → n ≤ setup.stacks.seats → amount_of puts n ≤ 1000000000000) → total_of puts ≤ 10000000000000
+pub all_within : (setup : Setup) (puts : SeatRow) → puts.seats ≡ setup.stacks.seats → setup.stacks.seats ≤ 10 → ((n : ℕ) → 1 ≤ n → n ≤ setup.stacks.seats → amount_of puts n ≤ MOST_CHIPS) → total_of puts ≤ MOST_AMOUNT
 all_within setup puts same few within =
     let put = ap (λ k. sum_by (amount_of puts) (seats_of k)) same in
     omega (arith, put, few, most_of (amount_of puts) 1 setup.stacks.seats (λ n from to. within n from (omega (arith, to))))
   where
-    most_of : (f : ℕ → ℕ) (first count : ℕ) → ((n : ℕ) → first ≤ n → n < first + count → f n ≤ 1000000000000) → sum_by f (range_with_len first count) ≤ count * 1000000000000
+    most_of : (f : ℕ → ℕ) (first count : ℕ) → ((n : ℕ) → first ≤ n → n < first + count → f n ≤ MOST_CHIPS) → sum_by f (range_with_len first count) ≤ count * MOST_CHIPS
     most_of f first zero less = omega arith
     most_of f first (suc count) less =
         omega (arith, sum_by-cons f first (range_with_len (first + 1) count), less first (omega arith) (omega arith), most_of f (first + 1) count (λ n from to. less n (omega (arith, from)) (omega (arith, to))))
@@ -83,4 +72,4 @@ pub stakes_are : (setup : Setup) (moves : List Move) (puts counted_row : SeatRow
     → stakes_of counted_row live ≡ stakes_after setup moves
 stakes_are setup moves puts counted_row live rows same_puts same_counted counts =
     ap (λ k. map (stake_of counted_row live) (seats_of k)) (same_counted ∙ same_puts)
-    ∙ map_same (stake_of counted_row live) (stake_after setup moves) 1 setup.stacks.seats (λ n from to. stake_is setup moves puts counted_row live rows same_puts counts n from (omega (arith, to)))
+    ∙ map_agree (stake_of counted_row live) (stake_after setup moves) 1 setup.stacks.seats (λ n from to. stake_is setup moves puts counted_row live rows same_puts counts n from (omega (arith, to)))

@@ -1,5 +1,5 @@
 -- Rows that say what the past says, field by field, are its trace.
-use Rattle.std.proofs.Common.{◌≡◌, ℕ, zero, suc, ◌+◌, ◌≤◌, ◌<◌, true, false, List, [], ◌∷◌, All, length, map, reverse, count_by, sum_by, take, not, IsTrue, inl, inr, refl, sym, ap, subst, ◌∙◌, arith}
+use Rattle.std.proofs.Common.{◌≡◌, ℕ, suc, ◌+◌, ◌≤◌, List, [], ◌∷◌, All, length, map, reverse, sum_by, sym, ap, ◌∙◌, arith}
 use Rattle.std.proofs.lemmas.List.{length-map, take_all}
 use Rattle.chip_ledger.specs.declared.pots.Pot.{Pot}
 use Rattle.chip_ledger.specs.declared.rakes.RakeRow.{RakeRow}
@@ -10,7 +10,7 @@ use Rattle.chip_ledger.specs.Rakes.{nets_from}
 use Rattle.chip_ledger.specs.SeatRow.{amount_of}
 use Rattle.canon_laws.proofs.SameCore.{plain_again}
 use Rattle.canonical_play.specs.CanonScript.{plain_moves}
-use Rattle.canonical_play.specs.PlayedScript.{IsWithinLimits, is_move}
+use Rattle.canonical_play.specs.PlayedScript.{IsWithinLimits}
 use Rattle.canonical_play.specs.TraceCore.{TraceCore, core_of}
 use Rattle.list_laws.proofs.Sums.{sum_by-map}
 use Rattle.play_event.specs.declared.event.Event.{Event}
@@ -24,6 +24,7 @@ use Rattle.play_event.specs.Trace.{TracedMove, TracedPlace}
 use Rattle.showdown_split.proofs.Flagged.{flagged_inside}
 use Rattle.replay_core.specs.Events.{said_by}
 use Rattle.replay_core.proofs.SameShowdown.{AreOfSeats}
+use Rattle.list_laws.proofs.Counting.{count_both}
 
 -- cores are one, field by field
 pub same_core : (a b : TraceCore) → a.places ≡ b.places → a.moves ≡ b.moves → a.shown ≡ b.shown → a.mucked ≡ b.mucked → a.pots ≡ b.pots → a.returned ≡ b.returned → a ≡ b
@@ -60,16 +61,5 @@ finish_is setup past rows left returned finish seat left_is returned_is is =
 pub at_end : (setup : Setup) (script : List Said) → past_after setup script (length script) ≡ past_at_end setup script
 at_end setup script = ap (λ events. past_of setup (reverse events)) (take_all (length script) script (omega arith))
 
--- a script within the limits has not many events
-counted_both : (events : List Said) → count_by is_move events + count_by (λ event. not (is_move event)) events ≡ length events
-counted_both [] = refl
-counted_both (event ∷ rest) = by_move (is_move event) refl (counted_both rest)
-  where
-    by_move : (b : Rattle.std.proofs.Common.Bool) → is_move event ≡ b → count_by is_move rest + count_by (λ event. not (is_move event)) rest ≡ length rest → count_by is_move (event ∷ rest) + count_by (λ event. not (is_move event)) (event ∷ rest) ≡ length (event ∷ rest)
-    by_move true is later =
-        omega (arith, later, Rattle.list_laws.proofs.Counting.count_by-cons is_move event rest, Rattle.list_laws.proofs.Counting.count_by-cons (λ (e : Said). not (is_move e)) event rest, ap {B = ℕ} (λ b. Rattle.std.proofs.Common.cond b 1 0) is, ap {B = ℕ} (λ b. Rattle.std.proofs.Common.cond (not b) 1 0) is)
-    by_move false is later =
-        omega (arith, later, Rattle.list_laws.proofs.Counting.count_by-cons is_move event rest, Rattle.list_laws.proofs.Counting.count_by-cons (λ (e : Said). not (is_move e)) event rest, ap {B = ℕ} (λ b. Rattle.std.proofs.Common.cond b 1 0) is, ap {B = ℕ} (λ b. Rattle.std.proofs.Common.cond (not b) 1 0) is)
-
 pub few_events : (script : List Event) → IsWithinLimits (said_by script) → length script ≤ 4352
-few_events script within = omega (arith, counted_both (said_by script), length-map script said_of, within.moves, within.others)
+few_events script within = omega (arith, count_both is_move (said_by script), length-map script said_of, within.moves, within.others)

@@ -33,7 +33,7 @@ use Rattle.play_event.specs.Table.{places_of}
 use Rattle.play_event.specs.Trace.{has_unknown_card}
 use Rattle.street_laws.specs.Seats.{IsSeat}
 use Rattle.replay_core.specs.AtEnd.{StandAtEnd}
-use Rattle.replay_core.specs.EndRows.{shown_by}
+use Rattle.replay_core.specs.EndRows.{is_shown_by}
 use Rattle.replay_core.proofs.EndTrace.{at_end}
 use Rattle.replay_core.proofs.ShownHands.{IsEnd}
 
@@ -80,7 +80,7 @@ module _ (setup : Setup) (rules : Rules) (script : List Said) (b : Table) (t : C
       → ((p : Past) → betting.StandsFor b p → (seat : ℕ) → IsSeat b.setup seat → flag_of live seat ≡ is_live (moves_of p) seat)
       → ((p : Past) (seat : ℕ) → cards.StandsFor t p → IsSeatOf t.seats seat → flag_of mucked seat ≡ has_mucked p seat)
       → ((s : Setup) (p : Past) (seat : ℕ) → s.code ≡ code → cards.StandsFor t p → IsSeatOf t.seats seat → flag_of unknown seat ≡ has_unknown_card s p seat)
-      → ((seat : ℕ) → 1 ≤ seat → seat ≤ live.seats → flag_of shown seat ≡ shown_by live mucked unknown seat)
+      → ((seat : ℕ) → 1 ≤ seat → seat ≤ live.seats → flag_of shown seat ≡ is_shown_by live mucked unknown seat)
       → ((p : Past) (seat : ℕ) → cards.StandsFor t p → IsSeatOf t.seats seat → slots_of_hand hands seat ≡ held_slots (Some seat) (places_of code p))
       → ((p : Past) → cards.StandsFor t p → cards_of board ≡ board_cards p)
       → IsEnd setup rules (reverse script) live mucked unknown shown hands board

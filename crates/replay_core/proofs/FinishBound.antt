@@ -1,8 +1,6 @@
 -- What a seat ends with is no more than all stacks together.
-use Rattle.std.proofs.Common.{◌≡◌, ℕ, zero, suc, ◌+◌, ◌-◌, ◌≤◌, ◌<◌, inl, inr, List, [], ◌∷◌, All, slice_get, sum_by, refl, ap, arith}
-use Rattle.std.specs.List.{range_with_len}
+use Rattle.std.proofs.Common.{◌≡◌, ℕ, suc, ◌+◌, ◌-◌, ◌≤◌, List, [], ◌∷◌, All, slice_get, sum_by, refl, ap, arith}
 use Rattle.std.specs.Option.{option_map_or}
-use Rattle.std.proofs.lemmas.Bool.{cases_lt}
 use Rattle.std.proofs.lemmas.List.Sums.{sum_by-cons}
 use Rattle.list_laws.proofs.Sums.{sum_by-map, sum_by-plus}
 use Rattle.chip_ledger.specs.declared.pots.Pot.{Pot}
@@ -16,18 +14,13 @@ use Rattle.chip_ledger.specs.Rakes.{chips_in}
 use Rattle.chip_ledger.specs.Seat.{seats_of}
 use Rattle.chip_ledger.specs.SeatRow.{amount_of, total_of}
 use Rattle.play_event.specs.declared.setup.Setup.{Setup}
-use Rattle.replay_core.proofs.Counted.{all_within, sum_same}
-
--- a summand is no more than its sum
-one_of : (f : ℕ → ℕ) (first count n : ℕ) → first ≤ n → n < first + count → f n ≤ sum_by f (range_with_len first count)
-one_of f first zero n low high = absurd (omega (arith, low, high))
-one_of f first (suc count) n low high = elim (cases_lt first n) [
-  | inl later ↦ omega (arith, sum_by-cons f first (range_with_len (first + 1) count), one_of f (first + 1) count n (omega (arith, later)) (omega (arith, high)))
-  | inr here ↦ let same : n ≡ first = omega (arith, here, low) in omega (arith, sum_by-cons f first (range_with_len (first + 1) count), ap f same)
-]
+use Rattle.replay_core.proofs.Counted.{all_within}
+use Rattle.list_laws.proofs.NumbersOfRange.{one_of_sum, sum_agree}
+use Rattle.chip_ledger.specs.declared.rows.TheConstants.{MOST_AMOUNT}
+use Rattle.chip_ledger.specs.declared.numbers.TheConstants.{MOST_CHIPS}
 
 amount_within : (row : SeatRow) (n : ℕ) → 1 ≤ n → n ≤ row.seats → amount_of row n ≤ total_of row
-amount_within row n low high = one_of (amount_of row) 1 row.seats n low (omega (arith, high))
+amount_within row n low high = one_of_sum (amount_of row) 1 row.seats n low (omega (arith, high))
 
 -- the shares of all pots are no more than the pots
 shares_within : (rows : List SeatRow) (pots : List PlainPot) → ((k : ℕ) → option_map_or total_of (slice_get rows k) 0 ≤ option_map_or (λ pot. pot.chips) (slice_get pots k) 0) → sum_by total_of rows ≤ sum_by (λ pot. pot.chips) pots
@@ -50,13 +43,13 @@ seat_within (row ∷ rows) seats n low high same =
     )
 
 pub finish_within : (setup : Setup) (puts left : SeatRow) (pots : PotRow) (shares : ShareRow) (n : ℕ) → setup.stacks.seats ≤ 10 → puts.seats ≡ setup.stacks.seats → left.seats ≡ setup.stacks.seats → pots.returned.seats ≡ setup.stacks.seats
-    → ((k : ℕ) → 1 ≤ k → k ≤ setup.stacks.seats → amount_of setup.stacks k ≤ 1000000000000)
+    → ((k : ℕ) → 1 ≤ k → k ≤ setup.stacks.seats → amount_of setup.stacks k ≤ MOST_CHIPS)
     → ((k : ℕ) → 1 ≤ k → k ≤ setup.stacks.seats → amount_of puts k + amount_of left k ≡ amount_of setup.stacks k)
     → sum_by (λ (pot : Pot). pot.chips) (pots_in pots) + total_of pots.returned ≡ total_of puts
     → ((number : ℕ) → shared_in shares number + rake_of setup.rakes number ≡ chips_in (plain_pots pots) number)
     → All (λ (row : SeatRow). row.seats ≡ setup.stacks.seats) (shares_in shares)
     → 1 ≤ n → n ≤ setup.stacks.seats
-    → amount_of left n + (amount_of pots.returned n + sum_by (λ row. amount_of row n) (shares_in shares)) ≤ 10000000000000
+    → amount_of left n + (amount_of pots.returned n + sum_by (λ row. amount_of row n) (shares_in shares)) ≤ MOST_AMOUNT
 finish_within setup puts left pots shares n few same_puts same_left same_returned most whole conserved shared same_shares low high =
     let seats : ℕ = setup.stacks.seats in
     let each : (k : ℕ) → option_map_or total_of (slice_get (shares_in shares) k) 0 ≤ option_map_or (λ (pot : PlainPot). pot.chips) (slice_get (plain_pots pots) k) 0 = λ k.
@@ -78,6 +71,6 @@ finish_within setup puts left pots shares n few same_puts same_left same_returne
       ap (λ k. sum_by (amount_of puts) (seats_of k)) same_puts,
       ap (λ k. sum_by (amount_of left) (seats_of k)) same_left,
       sum_by-plus (amount_of puts) (amount_of left) (seats_of seats),
-      sum_same (λ k. amount_of puts k + amount_of left k) (amount_of setup.stacks) 1 seats (λ k from to. whole k from (omega (arith, to))),
+      sum_agree (λ k. amount_of puts k + amount_of left k) (amount_of setup.stacks) 1 seats (λ k from to. whole k from (omega (arith, to))),
       all_within setup setup.stacks refl few most,
     )

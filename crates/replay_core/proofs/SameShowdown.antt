@@ -13,7 +13,6 @@ use Rattle.chip_ledger.proofs.SeatLists.{any_seats}
 use Rattle.showdown_split.specs.Alike.{AreAlike}
 use Rattle.showdown_split.proofs.Compared.{same_contested}
 use Rattle.variant_table.specs.Orders.{award_of, second_of}
-use Rattle.variant_table.specs.Plain.{pick_of}
 use Rattle.replay_core.specs.Showdowns.{ShowTheSame}
 use Rattle.variant_table.specs.Shares.{AllShared, AreContested, AreOfOne, AreSharesOf, HasHand, Showdown, choices_for, is_contender, first_unshown, first_unshown_from, is_unshown, ranking_of}
 
@@ -32,8 +31,8 @@ same_choices : (code : Code) (a b : Showdown) (pot : PlainPot) → ShowTheSame a
 same_choices code a b pot same inside seat contends_b =
     let parts = and_parts (may_win pot seat) (a.shown seat) (same_contends a b pot same inside seat ∙ contends_b) in
     let range = inside seat parts.0 in
-    ap (λ (hole : List Card). allowed (pick_of (game_of code).pick) hole a.board) (same.holding seat range.0 range.1 parts.1)
-    ∙ ap (allowed (pick_of (game_of code).pick) (b.holding seat)) same.board
+    ap (λ (hole : List Card). allowed (game_of code).pick hole a.board) (same.holding seat range.0 range.1 parts.1)
+    ∙ ap (allowed (game_of code).pick (b.holding seat)) same.board
 
 alike : (code : Code) (a b : Showdown) (pot : PlainPot) → ShowTheSame a b → IsOfSeats a.seats pot → AreAlike (is_contender b pot) (ranking_of code a) (ranking_of code b)
 alike code a b pot same inside = record {

@@ -1,7 +1,7 @@
 -- At the end of a hand each shown seat has cards that the game's pick can use, and the rows show what the trace shows.
-use Rattle.std.proofs.Common.{◌≡◌, ℕ, suc, ◌+◌, ◌≤◌, ◌<◌, Bool, true, false, ◌&&◌, ◌==◌, not, nat_le, Option, Some, None, List, [], ◌∷◌, ◌++◌, map, filter, length, refl, sym, ap, subst, ◌∙◌, arith}
+use Rattle.std.proofs.Common.{◌≡◌, ℕ, suc, ◌+◌, ◌≤◌, true, false, ◌&&◌, ◌==◌, not, nat_le, Some, None, List, [], ◌∷◌, ◌++◌, map, filter, length, refl, sym, ap, subst, ◌∙◌, arith}
 use Rattle.std.specs.List.{flat_map, list_any, range_with_len}
-use Rattle.std.proofs.lemmas.Bool.{and_parts, leb-true, not-true, or_parts, lt-ltb, le-leb}
+use Rattle.std.proofs.lemmas.Bool.{and_parts, not-true}
 use Rattle.std.proofs.lemmas.List.{length-map, map-append}
 use Rattle.canon_blocks.proofs.TracedSlots.{dealt_same, discarded_same}
 use Rattle.canon_blocks.proofs.TraceOrder.{finals_group, finals_of, the_board}
@@ -18,11 +18,11 @@ use Rattle.chip_ledger.specs.declared.rows.LiveRow.{LiveRow}
 use Rattle.chip_ledger.specs.LiveRow.{flag_of, flagged}
 use Rattle.chip_ledger.specs.Seat.{seats_of}
 use Rattle.deal_core.specs.Board.{board_cards}
-use Rattle.deal_core.proofs.Boards.{all_known, board_held}
+use Rattle.deal_core.proofs.Boards.{board_held}
 use Rattle.canonical_play.specs.CanonScript as canon
 use Rattle.hand_canon.specs.LegalHand.{showdown_in}
 use Rattle.canonical_play.specs.TraceCore.{core_of}
-use Rattle.hand_order.specs.declared.best.Pick.{Pick}
+use Rattle.card_set.specs.declared.pick.Pick.{Pick}
 use Rattle.list_laws.proofs.Tests.{false_true}
 use Rattle.play_event.specs.declared.card_rows.HandRow.{HandRow}
 use Rattle.play_event.specs.declared.setup.Rules.{Rules}
@@ -53,8 +53,10 @@ use Rattle.showdown_split.specs.Playable.{ArePlayable}
 use Rattle.showdown_split.proofs.Flagged.{is_flagged-flag}
 use Rattle.chip_ledger.proofs.SeatLists.{count_seats}
 use Rattle.variant_table.specs.Variants.{IsUsable}
-use Rattle.replay_core.specs.EndRows.{flag_count, mucked_by, shown_by}
+use Rattle.replay_core.specs.EndRows.{flag_count, is_mucked_by, is_shown_by}
 use Rattle.replay_core.specs.Showdowns.{ShowTheSame}
+use Rattle.list_laws.proofs.Numbers.{many_not_few}
+use Rattle.card_set.proofs.KnownCards.{all_known}
 
 -- a hand is played to its end, and the rows have what they say of it
 pub record IsEnd (setup : Setup) (rules : Rules) (events : List Said) (live mucked unknown shown : LiveRow) (hands : HandRow) (board : CardRow) : Type 0 where
@@ -65,7 +67,7 @@ pub record IsEnd (setup : Setup) (rules : Rules) (events : List Said) (live muck
   pub lives : (seat : ℕ) → 1 ≤ seat → seat ≤ setup.stacks.seats → flag_of live seat ≡ is_live (moves_of (past_of setup events)) seat
   pub mucks : (seat : ℕ) → 1 ≤ seat → seat ≤ setup.stacks.seats → flag_of mucked seat ≡ has_mucked (past_of setup events) seat
   pub unknowns : (seat : ℕ) → 1 ≤ seat → seat ≤ setup.stacks.seats → flag_of unknown seat ≡ has_unknown_card setup (past_of setup events) seat
-  pub shows : (seat : ℕ) → 1 ≤ seat → seat ≤ live.seats → flag_of shown seat ≡ shown_by live mucked unknown seat
+  pub shows : (seat : ℕ) → 1 ≤ seat → seat ≤ live.seats → flag_of shown seat ≡ is_shown_by live mucked unknown seat
   pub holds : (seat : ℕ) → 1 ≤ seat → seat ≤ setup.stacks.seats → slots_of_hand hands seat ≡ held_slots (Some seat) (places_of setup.code (past_of setup events))
   pub boards : cards_of board ≡ board_cards (past_of setup events)
 
@@ -88,7 +90,7 @@ shown_are setup rules events live mucked unknown shown hands board ends =
     ap (λ (n : ℕ). filter (flag_of shown) (seats_of n)) (ends.shown_seats ∙ ends.live_seats)
     ∙ filter_range (flag_of shown) (is_shown setup (past_of setup events)) 1 setup.stacks.seats (λ seat low high. shown_as setup rules events live mucked unknown shown hands board ends seat low (omega (arith, high)))
 
-pub mucked_are : (setup : Setup) (rules : Rules) (events : List Said) (live mucked unknown shown : LiveRow) (hands : HandRow) (board : CardRow) (row : LiveRow) → IsEnd setup rules events live mucked unknown shown hands board → row.seats ≡ live.seats → ((seat : ℕ) → 1 ≤ seat → seat ≤ live.seats → flag_of row seat ≡ mucked_by live shown seat) → flagged row ≡ filter (is_mucked setup (past_of setup events)) (all_seats setup)
+pub mucked_are : (setup : Setup) (rules : Rules) (events : List Said) (live mucked unknown shown : LiveRow) (hands : HandRow) (board : CardRow) (row : LiveRow) → IsEnd setup rules events live mucked unknown shown hands board → row.seats ≡ live.seats → ((seat : ℕ) → 1 ≤ seat → seat ≤ live.seats → flag_of row seat ≡ is_mucked_by live shown seat) → flagged row ≡ filter (is_mucked setup (past_of setup events)) (all_seats setup)
 mucked_are setup rules events live mucked unknown shown hands board row ends same flags =
     ap (λ (n : ℕ). filter (flag_of row) (seats_of n)) (same ∙ ends.live_seats)
     ∙ filter_range (flag_of row) (is_mucked setup (past_of setup events)) 1 setup.stacks.seats (λ seat low high.
@@ -104,15 +106,12 @@ record IsShownSeat (setup : Setup) (past : Past) (seat : ℕ) : Type 0 where
   live : is_live (moves_of past) seat ≡ true
   known : has_unknown_card setup past seat ≡ false
 
-more_than_one : (n : ℕ) → nat_le 2 n ≡ true → nat_le n 1 ≡ false
-more_than_one n two = Rattle.std.proofs.lemmas.Bool.lt-leb n 1 (omega (arith, leb-true 2 n two))
-
 shown_seat : (setup : Setup) (past : Past) (seat : ℕ) → is_shown setup past seat ≡ true → IsShownSeat setup past seat
 shown_seat setup past seat is =
     let last = and_parts (is_contested setup past && is_live (moves_of past) seat && not (has_mucked past seat)) (not (has_unknown_card setup past seat)) is in
     let middle = and_parts (is_contested setup past && is_live (moves_of past) seat) (not (has_mucked past seat)) last.0 in
     let first = and_parts (is_contested setup past) (is_live (moves_of past) seat) middle.0 in
-    record { several = more_than_one (live_count setup (moves_of past)) first.0; live = first.1; known = not-true (has_unknown_card setup past seat) last.1 }
+    record { several = many_not_few (live_count setup (moves_of past)) first.0; live = first.1; known = not-true (has_unknown_card setup past seat) last.1 }
 
 all_known_length : (list : List Slot) → list_any is_unknown list ≡ false → length (known_cards list) ≡ length list
 all_known_length [] none = refl

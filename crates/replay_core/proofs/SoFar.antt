@@ -1,9 +1,7 @@
--- The events of a script so far, and the next one.
-use Rattle.std.proofs.Common.{◌≡◌, ℕ, ◌+◌, ◌-◌, ◌≤◌, ◌<◌, inl, inr, Option, Some, None, List, [], ◌∷◌, length, take, drop, reverse, get_or, slice_get, option_and_then, sym, subst, ◌∙◌, ap, arith}
+-- Where the play of a script stands after so many events, and after one more.
+use Rattle.std.proofs.Common.{◌≡◌, ℕ, ◌+◌, ◌-◌, ◌<◌, inl, inr, Option, Some, None, List, slice_get, option_and_then, sym, subst, ◌∙◌, ap, arith}
 use Rattle.std.specs.Option.{option_map}
 use Rattle.std.proofs.lemmas.Bool.{cases_lt}
-use Rattle.std.proofs.lemmas.List.{drop_more, drop_all, take_more, take_all, reverse-append, length-map}
-use Rattle.std.proofs.lemmas.Option.{get_or_from_slice_get, slice_get-get_or, slice_get-map, slice_get_within}
 use Rattle.betting_numbers.specs.declared.table.Table.{Table}
 use Rattle.card_places.specs.declared.card_state.CardState.{CardState}
 use Rattle.replay_core.specs.Together.{StandTogether}
@@ -19,67 +17,7 @@ use Rattle.play_event.specs.Scripts.{IsFirstIllegal, past_of, past_after, with_e
 use Rattle.replay_core.specs.declared.fault.ReplayFault.{ReplayFault}
 use Rattle.replay_core.specs.declared.fault.ReplayFault.TheVariants as faults
 use Rattle.replay_core.specs.Events.{AreMovesOf, AreRefused, IsRefusedEvent, said_by}
-
--- the first events of a script, the newest first
-abbrev pub so_far : List Event → ℕ → List Said
-so_far script count = reverse (take count (said_by script))
-
--- the events that are left begin with the next one
-pub record IsNext (script : List Event) (count : ℕ) (event : Event) (more : List Event) : Type 0 where
-  pub within : count < length script
-  pub here : slice_get script count ≡ Some event
-  pub left : more ≡ drop (count + 1) script
-  pub longer : so_far script (count + 1) ≡ said_of event ∷ so_far script count
-
-first_of : Event → List Event → Event
-first_of other [] = other
-first_of other (event ∷ more) = event
-
-behind_first : List Event → List Event
-behind_first [] = []
-behind_first (event ∷ more) = more
-
-no_event : (event : Event) (more : List Event) → event ∷ more ≡ [] → ⊥
-no_event event more is = cc
-
-said_next : (script : List Event) (count : ℕ) (event : Event) → slice_get script count ≡ Some event → slice_get (said_by script) count ≡ Some (said_of event)
-said_next script count event is = slice_get-map said_of script count ∙ ap (option_map said_of) is
-
-more_said : (events : List Said) (count : ℕ) (event : Said) → slice_get events count ≡ Some event → reverse (take (count + 1) events) ≡ event ∷ reverse (take count events)
-more_said events count event is =
-    ap reverse (take_more events count event (slice_get_within events count event is))
-    ∙ reverse-append (take count events) (get_or events count event ∷ [])
-    ∙ ap (λ e. e ∷ reverse (take count events)) (get_or_from_slice_get events count event event is)
-
-pub is_next : (script : List Event) (count : ℕ) (event : Event) (more : List Event) → event ∷ more ≡ drop count script → IsNext script count event more
-unfolding first_of behind_first
-is_next script count event more left = elim (cases_lt count (length script)) [
-  | inr over ↦ absurd (no_event event more (left ∙ drop_all count script over))
-  | inl within ↦
-      let cut = left ∙ drop_more script count event within in
-      let at : slice_get script count ≡ Some event = slice_get-get_or script count event within ∙ ap Some (sym (ap (first_of event) cut)) in
-      record {
-        within = within;
-        here = at;
-        left = ap behind_first cut;
-        longer = more_said (said_by script) count (said_of event) (said_next script count event at);
-      }
-]
-
--- no event is left
-pub none_left : (script : List Event) (count : ℕ) → [] ≡ drop count script → length script ≤ count
-none_left script count left = elim (cases_lt count (length script)) [
-  | inr over ↦ over
-  | inl within ↦ absurd (nothing script count within left)
-]
-  where
-    nothing : (script : List Event) (count : ℕ) → count < length script → [] ≡ drop count script → ⊥
-    nothing [] count within left = omega (arith, within)
-    nothing (event ∷ rest) count within left = no_event (get_or (event ∷ rest) count event) (drop (count + 1) (event ∷ rest)) (sym (left ∙ drop_more (event ∷ rest) count event within))
-
--- all events are played
-pub all_played : (script : List Event) (count : ℕ) → length script ≤ count → so_far script count ≡ reverse (said_by script)
-all_played script count over = ap reverse (take_all count (said_by script) (omega (arith, over, length-map script said_of)))
+use Rattle.play_event.proofs.SaidSoFar.{IsNext, said_next, so_far}
 
 -- where the play of a script stands after so many events
 pub record IsPlayedTo (setup : Setup) (rules : Rules) (script : List Event) (count : ℕ) (b : Table) (t : CardState) (told : List rows.Move) : Type 0 where

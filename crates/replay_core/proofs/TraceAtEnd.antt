@@ -21,9 +21,9 @@ use Rattle.variant_table.specs.Shares.{AllShared, first_unshown}
 use Rattle.replay_core.specs.declared.ending.HandAtEnd.{HandAtEnd}
 use Rattle.replay_core.specs.AtEnd.{IsAtEnd}
 use Rattle.replay_core.specs.EndRows.{ArePotsOf}
-use Rattle.replay_core.proofs.Counted.{map_same}
 use Rattle.replay_core.proofs.EndTrace.{finish_is, nets_of_seats, pots_of_seats, same_core}
 use Rattle.replay_core.proofs.SameShowdown.{AreOfSeats, all_same, same_first}
+use Rattle.list_laws.proofs.NumbersOfRange.{map_agree}
 
 -- what is paid of the pots of a hand at its end
 pub record IsPaid (setup : Setup) (hand : HandAtEnd) (pots : PotRow) (shares : ShareRow) (finish : SeatRow) : Type 0 where
@@ -65,7 +65,7 @@ module _ (setup : Setup) (past : Past) (hand : HandAtEnd) (pots : PotRow) (is : 
           finish = paid.finish_seats ∙ is.seats.left;
         };
         core = same_core (core_said trace) (core_of setup past) is.places is.moves is.shown is.mucked are.pots
-            (map_same (amount_of pots.returned) (returned_after setup (moves_of past)) 1 setup.stacks.seats (λ n low high. are.returned n low (omega (arith, high))));
+            (map_agree (amount_of pots.returned) (returned_after setup (moves_of past)) 1 setup.stacks.seats (λ n low high. are.returned n low (omega (arith, high))));
         shares = record {
           shared = subst (λ (these : List PlainPot). AllShared setup.code rules_see (nets_of setup.rakes these) (plain_shares shares)) are.pots shared;
           finishes = λ seat low high.

@@ -5,7 +5,7 @@ use Rattle.std.proofs.lemmas.Bool.{eqb-true, ne_eqb}
 use Rattle.std.proofs.lemmas.List.{length-append, length-map, take_more, map-append}
 use Rattle.std.proofs.lemmas.Option.{get_or_from_slice_get, slice_get_within}
 use Rattle.std.proofs.lemmas.List.Sums.{length-filter}
-use Rattle.list_laws.proofs.Counting.{count_by-cons}
+use Rattle.list_laws.proofs.Counting.{count_by-cons, count_one}
 use Rattle.card_set.specs.declared.card.Slot.{Slot}
 use Rattle.hand_canon.specs.TraceRows.{place_said}
 use Rattle.play_event.specs.declared.played.Place as rows
@@ -70,24 +70,6 @@ owners_once : (setup : Setup) (owner : Option ℕ) (b : Bool) → count_by (λ o
 owners_once setup (Some seat) b = seats_once seat 1 setup.stacks.seats b
 owners_once setup None b = board_once 1 setup.stacks.seats b
 
-streets_none : (street first count : ℕ) → street < first → count_by (λ k. street == k) (range_with_len first count) ≡ 0
-streets_none street first zero less = refl
-streets_none street first (suc count) less =
-    let off : ◌≡◌ {A = ℕ} (cond (street == first) 1 0) 0 = ap {B = ℕ} (λ c. cond c 1 0) (ne_eqb street first (λ same. omega (arith, same, less))) in
-    omega (arith, count_by-cons (λ (k : ℕ). street == k) first (range_with_len (first + 1) count), off, streets_none street (first + 1) count (omega (arith, less)))
-
-streets_once : (street first count : ℕ) → count_by (λ k. street == k) (range_with_len first count) ≤ 1
-streets_once street first zero = omega arith
-streets_once street first (suc count) = by_street (street == first) refl (streets_once street (first + 1) count)
-  where
-    by_street : (c : Bool) → (street == first) ≡ c → count_by (λ k. street == k) (range_with_len (first + 1) count) ≤ 1 → count_by (λ k. street == k) (first ∷ range_with_len (first + 1) count) ≤ 1
-    by_street true is later =
-        let on : ◌≡◌ {A = ℕ} (cond (street == first) 1 0) 1 = ap {B = ℕ} (λ c. cond c 1 0) is in
-        omega (arith, count_by-cons (λ (k : ℕ). street == k) first (range_with_len (first + 1) count), on, streets_none street (first + 1) count (omega (arith, eqb-true street first is)))
-    by_street false is later =
-        let off : ◌≡◌ {A = ℕ} (cond (street == first) 1 0) 0 = ap {B = ℕ} (λ c. cond c 1 0) is in
-        omega (arith, count_by-cons (λ (k : ℕ). street == k) first (range_with_len (first + 1) count), off, later)
-
 longer : (f g : ℕ → List Place) (keys : List ℕ) → ((k : ℕ) → length (f k) ≤ length (g k)) → length (flat_map f keys) ≤ length (flat_map g keys)
 longer f g [] each = omega arith
 longer f g (key ∷ keys) each = omega (arith, length-append (f key) (flat_map f keys), length-append (g key) (flat_map g keys), each key, longer f g keys each)
@@ -100,7 +82,7 @@ traced_few setup past =
       arith,
       length-map (ordered_places setup past) traced_place,
       longer (places_on setup placed) on (streets_of setup) (λ street. pieces (λ owner. is_in_group owner street) (λ place. place.street == street) (owners setup) placed (λ place. owners_once setup place.owner (place.street == street))),
-      pieces (λ street place. place.street == street) (λ place. true) (streets_of setup) placed (λ place. streets_once place.street 1 (street_count setup.code)),
+      pieces (λ street place. place.street == street) (λ place. true) (streets_of setup) placed (λ place. count_one place.street 1 (street_count setup.code)),
       length-filter (λ (place : Place). true) placed,
       Rattle.std.proofs.lemmas.List.Sums.count_by-le-length (λ (place : Place). true) placed,
     )

@@ -18,12 +18,12 @@ abbrev pub flag_count : LiveRow → ℕ
 flag_count row = count_by (flag_of row) (seats_of row.seats)
 
 -- a seat is shown: the hand is contested, the seat is live and did not muck, and no card of it is unknown
-abbrev pub shown_by : (live mucked unknown : LiveRow) → ℕ → Bool
-shown_by live mucked unknown seat = nat_le 2 (flag_count live) && flag_of live seat && not (flag_of mucked seat) && not (flag_of unknown seat)
+abbrev pub is_shown_by : (live mucked unknown : LiveRow) → ℕ → Bool
+is_shown_by live mucked unknown seat = nat_le 2 (flag_count live) && flag_of live seat && not (flag_of mucked seat) && not (flag_of unknown seat)
 
 -- a seat is mucked: the hand is contested, and the seat is live and not shown
-abbrev pub mucked_by : (live shown : LiveRow) → ℕ → Bool
-mucked_by live shown seat = nat_le 2 (flag_count live) && flag_of live seat && not (flag_of shown seat)
+abbrev pub is_mucked_by : (live shown : LiveRow) → ℕ → Bool
+is_mucked_by live shown seat = nat_le 2 (flag_count live) && flag_of live seat && not (flag_of shown seat)
 
 -- the rows have the chips that each seat put in these moves, and the seats that are live after them
 pub record AreRowsOf (setup : Setup) (moves : List Move) (put : SeatRow) (live : LiveRow) : Type 0 where

@@ -1,7 +1,7 @@
 // Who is shown at the end of a hand, and who mucks, seat by seat.
 ghost use Rattle.std.specs.Prelude.{◌≡◌, ◌≤◌, ℕ};
 ghost use Rattle.chip_ledger.specs.LiveRow.{flag_of};
-ghost use Rattle.replay_core.specs.EndRows.{flag_count, mucked_by, shown_by};
+ghost use Rattle.replay_core.specs.EndRows.{flag_count, is_mucked_by, is_shown_by};
 
 use chip_ledger::{LiveRow, Seat};
 
@@ -26,7 +26,7 @@ pub fn shown_row(live: &LiveRow, mucked: &LiveRow, unknown: &LiveRow) -> LiveRow
     requires unknown { unknown.now.seats ≡ live.now.seats }
     ensures seats { result.seats ≡ live.now.seats }
     ensures flags { (n : ℕ) → 1 ≤ n → n ≤ live.now.seats
-        → flag_of result n ≡ shown_by live.now mucked.now unknown.now n }
+        → flag_of result n ≡ is_shown_by live.now mucked.now unknown.now n }
 {
     let contested = flag_count(live) >= 2;
     let mut row = LiveRow::new(live.seats);
@@ -45,7 +45,7 @@ pub fn mucked_row(live: &LiveRow, shown: &LiveRow) -> LiveRow
     requires { shown.now.seats ≡ live.now.seats }
     ensures seats { result.seats ≡ live.now.seats }
     ensures flags { (n : ℕ) → 1 ≤ n → n ≤ live.now.seats
-        → flag_of result n ≡ mucked_by live.now shown.now n }
+        → flag_of result n ≡ is_mucked_by live.now shown.now n }
 {
     let contested = flag_count(live) >= 2;
     let mut row = LiveRow::new(live.seats);

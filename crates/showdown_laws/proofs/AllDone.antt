@@ -15,10 +15,10 @@ use Rattle.play_event.specs.Scripts.{past_of}
 use Rattle.play_event.specs.Seats.{live_count}
 use Rattle.play_event.proofs.StreetLaws.{street_found}
 use Rattle.play_laws.proofs.DonePasts.{legal_done}
-use Rattle.street_laws.proofs.CardTurns.{first_none}
 use Rattle.street_laws.proofs.Showdown.{nothing_by}
 use Rattle.street_laws.proofs.TurnAfter.{due_by}
 use Rattle.showdown_laws.specs.ContestedEnd.{EndContested}
+use Rattle.play_event.proofs.DueStreets.{none_found}
 
 -- what is due on a street may not stay undone at the end
 unfinished_by : (street : ℕ) (deal draw bring_in move : Bool) (due : Due) → due_by street deal draw bring_in move ≡ Some due → is_unfinished due ≡ false → ⊥
@@ -48,7 +48,7 @@ quiet_by setup past street (Some there) walked finished low high =
     let first : IsFirstStreet (due_on setup past) (newest_street past) there.0 there.1 = street_found (due_on setup past) (street_count setup.code + 1 - newest_street past) (newest_street past) there.0 there.1 walked in
     absurd (unfinished_by there.0 (is_deal_due setup past there.0) (is_draw_due setup past there.0) (is_bring_in_due setup (moves_of past) there.0) (is_move_due setup (moves_of past) there.0) there.1 first.is_due finished)
 quiet_by setup past street None walked finished low high =
-    first_none (due_on setup past) (street_count setup.code + 1 - newest_street past) (newest_street past) walked street low (omega (arith, low, high))
+    none_found (due_on setup past) (street_count setup.code + 1 - newest_street past) (newest_street past) walked street low (omega (arith, low, high))
 
 quiet : (setup : Setup) (past : Past) (street : ℕ) → nat_le (live_count setup (moves_of past)) 1 ≡ false → is_unfinished (turn setup past).1 ≡ false → newest_street past ≤ street → street ≤ street_count setup.code → due_on setup past street ≡ None
 unfolding turn

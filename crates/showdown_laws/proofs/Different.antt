@@ -11,7 +11,7 @@ use Rattle.card_set.specs.Deck.{is_same_card}
 use Rattle.card_set.specs.Different.{AllDifferent, Lacks}
 use Rattle.card_set.specs.Known.{known_cards}
 use Rattle.card_set.proofs.DeckLaws.{is_same_card-self}
-use Rattle.list_laws.proofs.Options.{some_is_none}
+use Rattle.list_laws.proofs.Options.{is_none_none, some_is_none}
 use Rattle.list_laws.proofs.Tests.{false_true}
 use Rattle.play_event.specs.declared.setup.Rules.{Rules}
 use Rattle.play_event.specs.declared.setup.Setup.{Setup}
@@ -26,6 +26,7 @@ use Rattle.play_event.proofs.SafePlaces.{none_clash}
 use Rattle.play_laws.proofs.InDeck.{legal_cards}
 use Rattle.play_laws.proofs.PlaceGroups.{AreRising, one_number, passed, rising_filter}
 use Rattle.play_laws.proofs.PlaceLists.{rising}
+use Rattle.card_set.proofs.KnownCards.{known_append}
 
 -- no two of the places have one number
 abbrev AreApart : List Place → Type 0
@@ -87,16 +88,12 @@ apart_append (x ∷ xs) ys apart_x apart_y cross = (
   apart_append xs ys apart_x.1 apart_y (λ a b in_a in_b. cross a b (inr in_a) in_b),
 )
 
-none_is : (gone : Option ℕ) → is_none gone ≡ true → gone ≡ None
-none_is None is = refl
-none_is (Some count) is = false_true is
-
 -- what an owner has on the table
 on_table : (placed : List Place) (owner : Option ℕ) → AreOnTable placed (filter (is_held owner) placed)
 unfolding AreOnTable
 on_table placed owner place among =
     let it = passed (is_held owner) placed place among in
-    record { among = it.among; stays = none_is place.gone_after (and_parts (is_same_owner place.owner owner) (is_none place.gone_after) it.passes).1 }
+    record { among = it.among; stays = is_none_none place.gone_after (and_parts (is_same_owner place.owner owner) (is_none place.gone_after) it.passes).1 }
 
 owner_of : (placed : List Place) (owner : Option ℕ) (place : Place) → IsAmong (filter (is_held owner) placed) place → place.owner ≡ owner
 owner_of placed owner place among = is_same_owner-true place.owner owner (and_parts (is_same_owner place.owner owner) (is_none place.gone_after) (passed (is_held owner) placed place among).passes).0
@@ -105,11 +102,6 @@ on_both : (placed xs ys : List Place) → AreOnTable placed xs → AreOnTable pl
 unfolding AreOnTable
 on_both placed xs ys on_x on_y place among = elim (among_append xs ys place among) [ inl here ↦ on_x place here | inr there ↦ on_y place there ]
 
-pub known-append : (xs ys : List Slot) → known_cards (xs ++ ys) ≡ known_cards xs ++ known_cards ys
-known-append [] ys = refl
-known-append (slots.Known card ∷ rest) ys = ap (λ (l : List Card). card ∷ l) (known-append rest ys)
-known-append (slots.Unknown ∷ rest) ys = known-append rest ys
-
 pub cards_differ : (setup : Setup) (rules : Rules) (events : List Said) (seat : ℕ) → AreLegal setup rules events → AllDifferent (known_cards (held_slots (Some seat) (places_of setup.code (past_of setup events))) ++ known_cards (held_slots None (places_of setup.code (past_of setup events))))
 cards_differ setup rules events seat legal =
     let placed : List Place = places_of setup.code (past_of setup events) in
@@ -117,7 +109,7 @@ cards_differ setup rules events seat legal =
     let board : List Place = filter (is_held None) placed in
     let up : AreRising placed = rising 0 placed (legal_cards setup rules events legal).list.numbered in
     let slot : Place → Slot = λ p. p.slot in
-    subst AllDifferent (ap known_cards (map-append slot own board) ∙ known-append (map slot own) (map slot board))
+    subst AllDifferent (ap known_cards (map-append slot own board) ∙ known_append (map slot own) (map slot board))
     (all_different placed (own ++ board) (none_clash setup rules events legal) (on_both placed own board (on_table placed (Some seat)) (on_table placed None))
     (apart_append own board (rising_apart own (rising_filter (is_held (Some seat)) placed up)) (rising_apart board (rising_filter (is_held None) placed up))
     (λ x y in_x in_y same.

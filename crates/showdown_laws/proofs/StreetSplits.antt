@@ -2,12 +2,12 @@
 use Rattle.std.proofs.Common.{◌≡◌, ℕ, zero, suc, ◌+◌, ◌≤◌, Bool, true, false, ◌&&◌, ◌==◌, nat_lt, inl, inr, Option, List, [], ◌∷◌, ◌++◌, filter, refl, sym, ap, ◌∙◌, arith, if◌then◌else◌}
 use Rattle.std.specs.List.{flat_map, range_with_len}
 use Rattle.std.proofs.lemmas.Bool.{and_right, and_left, cases_lt, eq-eqb, ne_eqb, le-ltb, lt-ltb}
-use Rattle.std.proofs.lemmas.List.{append-nil, append_assoc}
 use Rattle.play_event.specs.Laws.{IsAmong}
 use Rattle.play_event.specs.Places.{Place, is_in_group, is_same_owner}
-use Rattle.play_laws.proofs.FittingMoves.{same_filter}
+use Rattle.play_laws.proofs.FittingMoves.{none_pass}
 use Rattle.play_laws.proofs.PlaceGroups.{group_of}
 use Rattle.play_laws.proofs.UnknownOrder.{AreSorted}
+use Rattle.list_laws.proofs.NumbersOfRange.{flat_more}
 
 -- a card of an owner that was dealt before a street
 abbrev pub is_before : Option ℕ → ℕ → Place → Bool
@@ -15,13 +15,6 @@ is_before owner street place = is_same_owner place.owner owner && nat_lt place.s
 
 pick : (p : Place → Bool) (first : Place) (rest : List Place) (b : Bool) → p first ≡ b → filter p (first ∷ rest) ≡ (if b then (first ∷ filter p rest) else filter p rest)
 pick p first rest b is = ap (λ c. if c then (first ∷ filter p rest) else filter p rest) is
-
-none_pass : (p : Place → Bool) (placed : List Place) → ((place : Place) → IsAmong placed place → p place ≡ false) → filter p placed ≡ []
-none_pass p placed none = same_filter p (λ _. false) placed none ∙ nothing placed
-  where
-    nothing : (places : List Place) → filter (λ (_ : Place). false) places ≡ []
-    nothing [] = refl
-    nothing (place ∷ rest) = nothing rest
 
 pub split : (owner : Option ℕ) (street : ℕ) (placed : List Place) → AreSorted placed → filter (is_before owner (street + 1)) placed ≡ filter (is_before owner street) placed ++ group_of placed street owner
 split owner street [] sorted = refl
@@ -65,19 +58,6 @@ split owner street (first ∷ rest) sorted = by_owner (is_same_owner first.owner
 pub none_before : (owner : Option ℕ) (placed : List Place) → ((place : Place) → IsAmong placed place → 1 ≤ place.street) → filter (is_before owner (0 + 1)) placed ≡ []
 none_before owner placed since =
     none_pass (is_before owner (0 + 1)) placed (λ place among. and_right (is_same_owner place.owner owner) (nat_lt place.street (0 + 1)) (le-ltb place.street (0 + 1) (omega (arith, since place among))))
-
--- one street more
-flat_more : (f : ℕ → List Place) (start count : ℕ) → flat_map f (range_with_len start (suc count)) ≡ flat_map f (range_with_len start count) ++ f (start + count)
-flat_more f start zero = append-nil (f start) ∙ ap f (here start)
-  where
-    here : (n : ℕ) → n ≡ n + 0
-    here n = omega arith
-flat_more f start (suc count) =
-    ap (λ l. f start ++ l) (flat_more f (start + 1) count ∙ ap (λ n. flat_map f (range_with_len (start + 1) count) ++ f n) (next start count))
-    ∙ sym (append_assoc (f start) (flat_map f (range_with_len (start + 1) count)) (f (start + suc count)))
-  where
-    next : (a b : ℕ) → (a + 1) + b ≡ a + suc b
-    next a b = omega arith
 
 -- street by street they are all its cards
 pub by_streets : (owner : Option ℕ) (count : ℕ) (placed : List Place) → AreSorted placed → ((place : Place) → IsAmong placed place → 1 ≤ place.street) → flat_map (λ street. group_of placed street owner) (range_with_len 1 count) ≡ filter (is_before owner (count + 1)) placed

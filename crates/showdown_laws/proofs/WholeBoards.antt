@@ -31,7 +31,7 @@ use Rattle.play_laws.proofs.KeptPlaces.{changed_from}
 use Rattle.play_laws.proofs.LegalPlaces.{legal_past}
 use Rattle.play_laws.proofs.PlaceChanges.{stays, out, folds, AreChanged}
 use Rattle.play_laws.proofs.PlayedStreets.{board_count}
-use Rattle.play_laws.proofs.QuietEvents.{discard_marks, fold_changed, held_parts, marked_changed, nothing, show_marks}
+use Rattle.play_laws.proofs.QuietEvents.{discard_marks, fold_changed, held_parts, marked_changed, is_nothing, show_marks}
 use Rattle.play_laws.proofs.UnknownOrder.{legal_sorted}
 use Rattle.showdown_laws.specs.ContestedEnd.{EndContested}
 use Rattle.showdown_laws.proofs.AllDone.{all_dealt}
@@ -110,7 +110,7 @@ board_stays code (Shown on owner cards ∷ before) =
     let placed = places_of code before in
     let covers : Place → Bool = is_covered code owner (is_show_of_all placed owner cards) in
     changed_stays (length placed) on owner placed (after_show code owner cards placed)
-    (marked_changed nothing (length placed) on owner placed (after_show code owner cards placed) (λ old is. false_true is) (show_marks covers (length placed) on cards (other_names (filter covers placed) cards) 0 placed))
+    (marked_changed is_nothing (length placed) on owner placed (after_show code owner cards placed) (λ old is. false_true is) (show_marks covers (length placed) on cards (other_names (filter covers placed) cards) 0 placed))
     (board_stays code before)
 board_stays code (Mucked on owner ∷ before) = board_stays code before
 

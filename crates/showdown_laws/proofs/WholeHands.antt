@@ -7,7 +7,7 @@ use Rattle.std.proofs.lemmas.List.{length-map}
 use Rattle.card_places.specs.Held.{held_slots}
 use Rattle.play_laws.proofs.DrawTables.{draw_tables}
 use Rattle.play_event.proofs.OwnerLaws.{is_same_owner-true}
-use Rattle.play_laws.proofs.HeldFew.{balance, first_holes, holds_at, no_holes, none_pass, one_more}
+use Rattle.play_laws.proofs.HeldFew.{balance, first_holes, is_held_at, no_holes, none_pass, one_more}
 use Rattle.play_event.specs.declared.code.Code.{Code}
 use Rattle.play_event.specs.declared.code.Code.TheVariants as games
 use Rattle.play_event.specs.declared.setup.Rules.{Rules}
@@ -22,7 +22,7 @@ use Rattle.play_event.specs.Scripts.{past_of}
 use Rattle.play_event.specs.Seats.{all_seats, is_live}
 use Rattle.play_event.specs.Streets.{has_draw}
 use Rattle.play_event.specs.Table.{places_of}
-use Rattle.play_laws.specs.LegalPlaces.{owner_folded}
+use Rattle.play_laws.specs.LegalPlaces.{has_owner_folded}
 use Rattle.play_laws.proofs.DiscardCounts.{is_out_of, out_counts}
 use Rattle.play_laws.proofs.DoneKept.{live_dealt}
 use Rattle.play_laws.proofs.DonePasts.{legal_done}
@@ -62,10 +62,10 @@ pub record IsLiveSeat (setup : Setup) (past : Past) (seat : ℕ) : Type 0 where
 
 -- what a live seat holds when a street begins are the hole cards of the streets before it
 held_so_far : (setup : Setup) (rules : Rules) (events : List Said) (seat count : ℕ) → EndContested setup rules events → IsLiveSeat setup (past_of setup events) seat → count ≤ street_count setup.code
-    → length (filter (holds_at seat (count + 1)) (places_of setup.code (past_of setup events))) ≡ first_holes (game_of setup.code).streets count
+    → length (filter (is_held_at seat (count + 1)) (places_of setup.code (past_of setup events))) ≡ first_holes (game_of setup.code).streets count
 held_so_far setup rules events seat zero ends in_hand few =
     let law = (legal_past setup rules events ends.legal).places in
-    none_pass (holds_at seat (0 + 1)) (places_of setup.code (past_of setup events)) (λ place among.
+    none_pass (is_held_at seat (0 + 1)) (places_of setup.code (past_of setup events)) (λ place among.
     and_right (is_same_owner place.owner (Some seat)) (nat_lt place.street (0 + 1) && not (nat_lt 0 place.discarded && nat_lt place.discarded (0 + 1)))
     (and_left (nat_lt place.street (0 + 1)) (not (nat_lt 0 place.discarded && nat_lt place.discarded (0 + 1))) (le-ltb place.street (0 + 1) (omega (arith, law.since place among)))))
     ∙ sym (no_holes (game_of setup.code).streets)
@@ -80,22 +80,22 @@ held_so_far setup rules events seat (suc count) ends in_hand few =
     let out = out_counts setup rules events ends.legal (count + 1) seat (omega arith) in
     let next : suc count ≡ count + 1 = omega arith in
     let index : (count + 1) - 1 ≡ count = omega arith in
-    let same = ap (λ k. length (filter (holds_at seat (k + 1)) placed)) next in
+    let same = ap (λ k. length (filter (is_held_at seat (k + 1)) placed)) next in
     let nth = ap (λ k. option_map_or (λ (s : Street). s.down + s.up) (slice_get (game_of setup.code).streets k) 0) index in
     let done = all_dealt setup rules events ends (count + 1) (omega arith) here in
     by_draw (has_draw setup.code (count + 1)) refl before all dealt out (one_more (game_of setup.code).streets count) same nth law done
   where
     by_draw : (b : Bool) → has_draw setup.code (count + 1) ≡ b
-        → length (filter (holds_at seat (count + 1)) (places_of setup.code (past_of setup events))) ≡ first_holes (game_of setup.code).streets count
-        → length (filter (holds_at seat ((count + 1) + 1)) (places_of setup.code (past_of setup events))) + length (filter (is_out_of (count + 1) seat) (places_of setup.code (past_of setup events))) ≡ length (filter (holds_at seat (count + 1)) (places_of setup.code (past_of setup events))) + length (filter (is_in_group (Some seat) (count + 1)) (places_of setup.code (past_of setup events)))
+        → length (filter (is_held_at seat (count + 1)) (places_of setup.code (past_of setup events))) ≡ first_holes (game_of setup.code).streets count
+        → length (filter (is_held_at seat ((count + 1) + 1)) (places_of setup.code (past_of setup events))) + length (filter (is_out_of (count + 1) seat) (places_of setup.code (past_of setup events))) ≡ length (filter (is_held_at seat (count + 1)) (places_of setup.code (past_of setup events))) + length (filter (is_in_group (Some seat) (count + 1)) (places_of setup.code (past_of setup events)))
         → length (filter (is_in_group (Some seat) (count + 1)) (places_of setup.code (past_of setup events))) ≡ hole_cards_dealt (past_of setup events) (count + 1) seat
         → length (filter (is_out_of (count + 1) seat) (places_of setup.code (past_of setup events))) ≡ cards_discarded (past_of setup events) (count + 1) seat
         → first_holes (game_of setup.code).streets (suc count) ≡ first_holes (game_of setup.code).streets count + option_map_or (λ s. s.down + s.up) (slice_get (game_of setup.code).streets count) 0
-        → length (filter (holds_at seat (suc count + 1)) (places_of setup.code (past_of setup events))) ≡ length (filter (holds_at seat ((count + 1) + 1)) (places_of setup.code (past_of setup events)))
+        → length (filter (is_held_at seat (suc count + 1)) (places_of setup.code (past_of setup events))) ≡ length (filter (is_held_at seat ((count + 1) + 1)) (places_of setup.code (past_of setup events)))
         → hole_cards_on setup.code (count + 1) ≡ option_map_or (λ s. s.down + s.up) (slice_get (game_of setup.code).streets count) 0
         → Rattle.play_laws.proofs.LegalPlaces.LegalPast setup (past_of setup events)
         → Rattle.showdown_laws.proofs.AllDone.IsAllDealt setup (past_of setup events) (count + 1)
-        → length (filter (holds_at seat (suc count + 1)) (places_of setup.code (past_of setup events))) ≡ first_holes (game_of setup.code).streets (suc count)
+        → length (filter (is_held_at seat (suc count + 1)) (places_of setup.code (past_of setup events))) ≡ first_holes (game_of setup.code).streets (suc count)
     by_draw true draws before all dealt out step same nth law done =
         omega (arith, before, all, dealt, out, step, same, nth, (draw_tables setup (count + 1) draws).no_hole, law.past.drawn_count (count + 1) seat draws, replaced setup (past_of setup events) (count + 1) seat draws done.no_draw in_hand.least in_hand.most)
     by_draw false draws before all dealt out step same nth law done =
@@ -103,10 +103,10 @@ held_so_far setup rules events seat (suc count) ends in_hand few =
 
 -- what a live seat has on the table is what it did not discard
 held_by : (moves : List Move) (seat : ℕ) (owner gone_after : Option ℕ) (street discarded count : ℕ) (mine : Bool) → is_live moves seat ≡ true → is_same_owner owner (Some seat) ≡ mine → street ≤ count → discarded ≤ count
-    → is_some gone_after ≡ (nat_lt 0 discarded || owner_folded moves owner) → (mine && is_none gone_after) ≡ (mine && (nat_lt street (count + 1) && not (nat_lt 0 discarded && nat_lt discarded (count + 1))))
+    → is_some gone_after ≡ (nat_lt 0 discarded || has_owner_folded moves owner) → (mine && is_none gone_after) ≡ (mine && (nat_lt street (count + 1) && not (nat_lt 0 discarded && nat_lt discarded (count + 1))))
 held_by moves seat owner gone_after street discarded count false live own on out gone = refl
 held_by moves seat owner gone_after street discarded count true live own on out gone =
-    let stays : owner_folded moves owner ≡ false = ap (owner_folded moves) (is_same_owner-true owner (Some seat) own) ∙ not_from_true (is_live moves seat) live in
+    let stays : has_owner_folded moves owner ≡ false = ap (has_owner_folded moves) (is_same_owner-true owner (Some seat) own) ∙ not_from_true (is_live moves seat) live in
     none_is gone_after (nat_lt 0 discarded) (gone ∙ (ap (λ b. nat_lt 0 discarded || b) stays ∙ or_none (nat_lt 0 discarded)))
     ∙ sym (ap (λ b. b && not (nat_lt 0 discarded && nat_lt discarded (count + 1))) (lt-ltb street (count + 1) (omega (arith, on)))
     ∙ ap (λ b. not (nat_lt 0 discarded && b)) (lt-ltb discarded (count + 1) (omega (arith, out)))
@@ -131,7 +131,7 @@ whole_hands setup rules events seat ends in_hand =
     let count : ℕ = street_count setup.code in
     let law = legal_past setup rules events ends.legal in
     length-map (filter (is_held_by seat) placed) (λ (place : Place). place.slot)
-    ∙ ap length (same_filter (is_held_by seat) (holds_at seat (count + 1)) placed (λ place among.
+    ∙ ap length (same_filter (is_held_by seat) (is_held_at seat (count + 1)) placed (λ place among.
     held_by (moves_of past) seat place.owner place.gone_after place.street place.discarded count (is_same_owner place.owner (Some seat)) in_hand.live refl
     (omega (arith, law.places.reached place among, law.past.within)) (omega (arith, law.places.out_reached place among, law.past.within)) (law.places.gone_is place among)))
     ∙ (held_so_far setup rules events seat count ends in_hand (omega arith) ∙ whole_hand setup.code)

@@ -56,11 +56,6 @@ have_rakes pots rakes none number =
     nothing_past : length rakes.rakes ≤ number - 1 → rake_of rakes number ≡ 0
     nothing_past past = get_or_past rakes.rakes (number - 1) 0 past
 
--- the first of the numbers, where it passes
-pub found_here : (test : ℕ → Bool) (first count : ℕ) → 0 < count → test first ≡ true → find test (range_with_len first count) ≡ Some first
-found_here test first zero some passes = absurd (omega (arith, some))
-found_here test first (suc count) some passes = ap (λ b. cond b (Some first) (find test (range_with_len (first + 1) count))) passes
-
 -- past the last pot of a row nothing is left to look at
 pub at_end : (test : ℕ → Bool) (index : ℕ) → 11 ≤ index → find test (range_with_len (index + 1) (11 - index)) ≡ None
 at_end test index past =

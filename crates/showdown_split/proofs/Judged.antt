@@ -5,7 +5,7 @@ use Rattle.std.proofs.lemmas.Bool.{true≢false}
 use Rattle.list_laws.proofs.Tests.{flip}
 use Rattle.card_set.specs.declared.card.Card.{Card}
 use Rattle.card_set.specs.Different.{AllDifferent}
-use Rattle.hand_order.specs.declared.best.Pick.{Pick}
+use Rattle.card_set.specs.declared.pick.Pick.{Pick}
 use Rattle.hand_order.specs.Best.{Beats, IsBest, IsLess, IsPointsOfHolding}
 use Rattle.hand_order.specs.Choices.{AreHeld, CanPick, allowed}
 use Rattle.hand_order.specs.Order.{IsLawful}

@@ -7,7 +7,7 @@ use Rattle.chip_ledger.specs.declared.pots.Pot.{Pot}
 use Rattle.chip_ledger.specs.declared.rows.LiveRow.{LiveRow}
 use Rattle.chip_ledger.specs.declared.rows.TheConstants.{MOST_AMOUNT}
 use Rattle.chip_ledger.specs.LiveRow.{flag_of, flagged}
-use Rattle.hand_order.specs.declared.best.Pick.{Pick}
+use Rattle.card_set.specs.declared.pick.Pick.{Pick}
 use Rattle.hand_order.specs.Choices.{CanPick}
 use Rattle.play_event.specs.declared.card_rows.HandRow.{HandRow}
 use Rattle.showdown_split.specs.Hands.{holding}

@@ -7,9 +7,10 @@ use Rattle.play_event.specs.Due.{turn, due_on}
 use Rattle.play_event.specs.Seats.{is_live, live_count}
 use Rattle.play_event.specs.declared.reason.Due.TheVariants as dues
 use Rattle.play_event.specs.declared.setup.Setup.{Setup}
-use Rattle.street_laws.proofs.StreetTables.{first_draws, some_street}
+use Rattle.street_laws.proofs.StreetTables.{first_draws}
 use Rattle.street_laws.proofs.TurnAfter.{cards_come}
 use Rattle.street_laws.specs.Walk.{street_cards}
+use Rattle.play_event.proofs.DealingLaws.{some_street}
 
 pub all_live : (setup : Setup) → nat_le (live_count setup []) 1 ≡ false
 all_live setup = lt-leb (live_count setup []) 1 (omega (arith, count_all (is_live []) 1 setup.stacks.seats (λ k. refl), setup.stacks.least))

@@ -1,5 +1,5 @@
 -- What events of cards leave due.
-use Rattle.std.proofs.Common.{◌≡◌, ℕ, zero, suc, ◌+◌, ◌-◌, ◌<◌, ◌≤◌, Bool, true, false, ◌&&◌, ◌||◌, not, nat_lt, nat_le, if◌then◌else◌, inl, inr, List, ◌∷◌, Option, Some, None, refl, sym, ap, ◌∙◌, arith}
+use Rattle.std.proofs.Common.{◌≡◌, ℕ, suc, ◌+◌, ◌-◌, ◌<◌, ◌≤◌, Bool, true, false, ◌&&◌, ◌||◌, not, nat_lt, nat_le, if◌then◌else◌, inl, inr, List, ◌∷◌, Option, Some, None, refl, sym, ap, ◌∙◌, arith}
 use Rattle.std.proofs.lemmas.Bool.{or_parts, or_from, cases_lt, ltb-true, lt-ltb, true≢false}
 use Rattle.std.specs.List.{list_any}
 use Rattle.std.specs.Option.{option_map}
@@ -73,10 +73,6 @@ none_at on rest street None is later nothing between low high = elim (cases_lt s
   | inl above ↦ later nothing between (omega (arith, above)) (omega (arith, high))
   | inr below ↦ let same : between ≡ street = omega (arith, below, low) in ap on same ∙ is
 ]
-
-pub first_none : (on : ℕ → Option Due) (rest street : ℕ) → first_due on rest street ≡ None → (between : ℕ) → street ≤ between → between < street + rest → on between ≡ None
-first_none on zero street none between low high = absurd (omega (arith, low, high))
-first_none on (suc rest) street none between low high = none_at on rest street (on street) refl (first_none on rest (street + 1)) none between low high
 
 -- what is due is no more over
 pub several_live : (setup : Setup) (past : Past) (street : ℕ) (due : Due) → turn setup past ≡ (street, due) → (due ≡ dues.Over → ⊥) → nat_le (live_count setup (moves_of past)) 1 ≡ false

@@ -14,6 +14,7 @@ use Rattle.play_event.specs.Places.{Place, is_same_owner, is_in_group, is_held_b
 use Rattle.play_event.specs.Table.{places_of}
 use Rattle.play_event.specs.declared.code.Code.{Code}
 use Rattle.street_laws.specs.Groups.{IsStill, AreStill, cards_dealt}
+use Rattle.play_event.proofs.DealingLaws.{dealt_group}
 
 pub still : (place : Place) → IsStill place place
 still place = record { owner = refl; street = refl }
@@ -58,21 +59,6 @@ still_group owner street [] (new ∷ news) same = absurd same
 still_group owner street (old ∷ olds) [] same = absurd same
 still_group owner street (old ∷ olds) (new ∷ news) same =
     length_if (is_in_group owner street new) (is_in_group owner street old) new old (filter (is_in_group owner street) news) (filter (is_in_group owner street) olds) (group_still owner street old new same.0) (still_group owner street olds news same.1)
-
-dealt_group : (owner to : Option ℕ) (street on : ℕ) (late : Bool) (index number : ℕ) (cards : List Slot) → length (filter (is_in_group owner street) (places_dealt to on late index number cards)) ≡ (if is_same_owner to owner && (on == street) then length cards else 0)
-dealt_group owner to street on late index number [] = by_pass (is_same_owner to owner && (on == street))
-  where
-    by_pass : (b : Bool) → ◌≡◌ {A = ℕ} 0 (if b then 0 else 0)
-    by_pass true = refl
-    by_pass false = refl
-dealt_group owner to street on late index number (slot ∷ rest) = by_pass (is_same_owner to owner && (on == street)) (dealt_group owner to street on late (index + 1) (number + 1) rest)
-  where
-    place : Place
-    place = record { owner = to; street = on; index = index; number = number; slot = slot; past_deck = late; gone_after = None; discarded = 0 }
-
-    by_pass : (b : Bool) → length (filter (is_in_group owner street) (places_dealt to on late (index + 1) (number + 1) rest)) ≡ (if b then length rest else 0) → length (if b then (place ∷ filter (is_in_group owner street) (places_dealt to on late (index + 1) (number + 1) rest)) else filter (is_in_group owner street) (places_dealt to on late (index + 1) (number + 1) rest)) ≡ (if b then length (slot ∷ rest) else 0)
-    by_pass true later = ap suc later
-    by_pass false later = later
 
 pub deal_group : (owner to : Option ℕ) (street on : ℕ) (late : Bool) (index number : ℕ) (cards : List Slot) (placed : List Place) → length (filter (is_in_group owner street) (placed ++ places_dealt to on late index number cards)) ≡ (if is_same_owner to owner && (on == street) then length cards else 0) + length (filter (is_in_group owner street) placed)
 deal_group owner to street on late index number cards placed =

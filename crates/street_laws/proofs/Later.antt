@@ -1,9 +1,10 @@
 -- On a street that is later than every event of a past, nothing was dealt, drawn or moved.
-use Rattle.std.proofs.Common.{◌≡◌, ℕ, ◌+◌, ◌<◌, ◌≤◌, Bool, true, false, ◌&&◌, ◌||◌, ◌==◌, nat_le, cond, if◌then◌else◌, List, [], ◌∷◌, length, refl, ap, ◌∙◌, arith}
+use Rattle.std.proofs.Common.{◌≡◌, ℕ, ◌<◌, ◌≤◌, true, false, ◌&&◌, ◌||◌, ◌==◌, nat_le, cond, List, [], ◌∷◌, length, refl, ap, ◌∙◌, arith}
 use Rattle.std.proofs.lemmas.Bool.{and_left, and_parts, and_from, leb-true, le-leb, ne_eqb}
 use Rattle.play_event.specs.Dealing.{hole_cards_dealt, board_cards_dealt, has_drawn, is_draw_of}
 use Rattle.play_event.specs.Past.{Past, Move, Resolved, Dealt, Boarded, Moved, Discarded, Shown, Mucked, moves_of, moves_on, street_of, newest_street}
 use Rattle.street_laws.specs.Walk.{has_nothing_later, has_no_move_later}
+use Rattle.list_laws.proofs.Tests.{none_added}
 
 other_street : (on street later : ℕ) → nat_le on street ≡ true → street < later → (on == later) ≡ false
 other_street on street later early less = ne_eqb on later (λ same. omega (arith, same, leb-true on street early, less))
@@ -19,10 +20,6 @@ early_up (event ∷ before) street later up early =
     let parts = newest_early event before street early in
     let least = leb-true (street_of event) street parts.0 in
     and_from (nat_le (street_of event) later) (has_nothing_later before later) (le-leb (street_of event) later (omega (arith, least, up))) (early_up before street later up parts.1)
-
-pub none_added : (b : Bool) (n rest : ℕ) → b ≡ false → rest ≡ 0 → (if b then n else 0) + rest ≡ 0
-none_added true n rest is none = absurd (cc)
-none_added false n rest is none = omega (arith, none)
 
 pub none_dealt : (past : Past) (street later seat : ℕ) → has_nothing_later past street ≡ true → street < later → hole_cards_dealt past later seat ≡ 0
 none_dealt [] street later seat early less = refl

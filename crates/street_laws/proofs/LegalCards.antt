@@ -1,6 +1,6 @@
 -- What a legal event of cards is, by what is due.
-use Rattle.std.proofs.Common.{◌≡◌, ℕ, ◌<◌, true, false, ◌&&◌, ◌||◌, not, nat_le, ◌∷◌, refl, sym, ap, arith}
-use Rattle.std.proofs.lemmas.Bool.{true≢false, le-leb, leb-false}
+use Rattle.std.proofs.Common.{◌≡◌, ℕ, true, false, ◌&&◌, ◌||◌, not, nat_le, ◌∷◌, refl, sym, ap}
+use Rattle.std.proofs.lemmas.Bool.{true≢false}
 use Rattle.play_event.specs.Dealing.{is_draw_due}
 use Rattle.play_event.specs.Due.{is_settled, has_able_seat_to_call}
 use Rattle.play_event.specs.Past.{Past, moves_of, street_of}
@@ -106,6 +106,3 @@ undrawn setup past street (said.Fold named) card is none = absurd (true≢false 
 undrawn setup past street (said.Call named stated) card is none = absurd (true≢false (sym card))
 undrawn setup past street (said.Raise named amount) card is none = absurd (true≢false (sym card))
 undrawn setup past street (said.BringIn named) card is none = absurd (true≢false (sym card))
-
-pub two_live : (n : ℕ) → nat_le n 1 ≡ false → nat_le 2 n ≡ true
-two_live n more = le-leb 2 n (let two : 1 < n = leb-false n 1 more in omega (arith, two))

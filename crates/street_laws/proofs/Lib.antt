@@ -10,5 +10,4 @@ pub mod LegalCards
 pub mod AtStart
 pub mod DueStreets
 pub mod Groups
-pub mod Undrawn
 pub mod LiveSeats

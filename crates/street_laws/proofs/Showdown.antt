@@ -19,9 +19,10 @@ use Rattle.play_event.specs.declared.reason.Due.TheVariants as dues
 use Rattle.play_event.specs.declared.reason.Due.{Due}
 use Rattle.play_event.specs.declared.setup.Rules.{Rules}
 use Rattle.play_event.specs.declared.setup.Setup.{Setup}
-use Rattle.street_laws.proofs.CardTurns.{first_none, several_live}
+use Rattle.street_laws.proofs.CardTurns.{several_live}
 use Rattle.chip_ledger.proofs.SeatLists.{none_at}
 use Rattle.street_laws.proofs.TurnAfter.{due_by}
+use Rattle.play_event.proofs.DueStreets.{none_found}
 
 -- nothing is due on a street
 pub nothing_by : (street : ℕ) (deal draw bring_in move : Bool) → due_by street deal draw bring_in move ≡ None → (deal ≡ false) × (draw ≡ false) × (bring_in ≡ false) × (move ≡ false)
@@ -54,7 +55,7 @@ last_by setup past street None walked is =
     let same : street_count setup.code ≡ street = ap (λ (p : ℕ × Due). p.0) is in
     record {
       last = sym same;
-      quiet = λ low. first_none (due_on setup past) (street_count setup.code + 1 - newest_street past) (newest_street past) walked street low (omega (arith, same, low));
+      quiet = λ low. none_found (due_on setup past) (street_count setup.code + 1 - newest_street past) (newest_street past) walked street low (omega (arith, same, low));
     }
 
 pub show_is_last : (setup : Setup) (past : Past) (street : ℕ) → turn setup past ≡ (street, dues.Show) → IsLast setup past street

@@ -43,7 +43,3 @@ each_street _ (suc (suc (suc (suc (suc more))))) low high = absurd (omega (arith
 pub first_draws : (code : Code) → has_draw code 1 ≡ false
 first_draws games.FT = refl
 first_draws _ = refl
-
-pub some_street : (code : Code) → 1 ≤ street_count code
-some_street games.FT = omega arith
-some_street _ = omega arith

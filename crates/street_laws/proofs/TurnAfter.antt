@@ -1,18 +1,17 @@
 -- What is due after a move, and what is due where the next street begins.
-use Rattle.std.proofs.Common.{◌≡◌, ℕ, zero, suc, ◌+◌, ◌-◌, ◌<◌, ◌≤◌, Bool, true, false, ◌&&◌, ◌||◌, ◌==◌, not, nat_lt, nat_le, if◌then◌else◌, List, ◌∷◌, Option, Some, None, is_some, unwrap_or, refl, sym, ap, ◌∙◌, arith}
+use Rattle.std.proofs.Common.{◌≡◌, ℕ, ◌+◌, ◌-◌, ◌<◌, ◌≤◌, Bool, true, false, ◌&&◌, ◌||◌, not, nat_lt, nat_le, if◌then◌else◌, List, ◌∷◌, Option, Some, None, is_some, unwrap_or, refl, sym, ap, ◌∙◌, arith}
 use Rattle.std.proofs.lemmas.Bool.{and_parts, or_parts, and_from, or_from, ltb-false, leb-false, true≢false}
 use Rattle.std.proofs.lemmas.Option.{same_Some}
 use Rattle.std.specs.List.{list_any}
-use Rattle.std.specs.Option.{option_map}
 use Rattle.list_laws.proofs.Any.{list_any-weaker, none_passes}
 use Rattle.list_laws.proofs.Counting.{counted_some}
 use Rattle.list_laws.proofs.Finding.{some_found, none_stronger}
 use Rattle.play_event.proofs.StreetLaws.{due_is_first}
 use Rattle.play_event.specs.Dealing.{is_deal_due, is_draw_due, hole_cards_owed, board_cards_owed, next_to_draw, has_drawn, replacements_owed, hole_cards_dealt}
-use Rattle.play_event.specs.Due.{turn, due_on, first_due, found_or, showdown, is_bring_in_due, is_move_due, is_unfinished}
+use Rattle.play_event.specs.Due.{turn, due_on, first_due, showdown, is_bring_in_due, is_move_due, is_unfinished}
 use Rattle.play_event.specs.Games.{hole_cards_on, board_cards_on, street_count}
 use Rattle.play_event.specs.Laws.{IsFirstStreet}
-use Rattle.play_event.specs.Past.{Past, Move, Moved, moves_of, newest_street, is_fold}
+use Rattle.play_event.specs.Past.{Past, Move, Moved, moves_of, newest_street}
 use Rattle.play_event.specs.Price.{owed}
 use Rattle.play_event.specs.Seats.{is_live, live_count, all_seats}
 use Rattle.play_event.specs.Streets.{has_draw}
@@ -23,6 +22,8 @@ use Rattle.street_laws.proofs.Later.{none_dealt, none_boarded, none_drawn}
 use Rattle.street_laws.proofs.StreetTables.{each_street}
 use Rattle.play_event.specs.TurnTargets.{is_bet_due}
 use Rattle.street_laws.specs.Walk.{has_nothing_later, street_cards}
+use Rattle.play_event.proofs.StillAble.{still_live}
+use Rattle.play_event.proofs.DueStreets.{first_quiet}
 
 -- what is due on a street by the cases in their order
 abbrev pub due_by : ℕ → (deal draw bring_in move : Bool) → Option Due
@@ -48,15 +49,6 @@ cards_are_dealt setup past street due is bets unfinished =
     let first : IsFirstStreet (due_on setup past) (newest_street past) street due = due_is_first setup past street due is unfinished in
     let parts = dealt_by street (is_deal_due setup past street) (is_draw_due setup past street) (is_bring_in_due setup (moves_of past) street) (is_move_due setup (moves_of past) street) due first.is_due bets in
     record { dealt = parts.0; drawn = parts.1 }
-
--- a seat that is live after a move was live before it
-pub still_live : (move : Move) (moves : List Move) (seat : ℕ) → is_live (move ∷ moves) seat ≡ true → is_live moves seat ≡ true
-still_live move moves seat is =
-    live_by (is_fold move.act && (move.seat == seat)) (list_any (λ (other : Move). is_fold other.act && (other.seat == seat)) moves) is
-  where
-    live_by : (a b : Bool) → not (a || b) ≡ true → not b ≡ true
-    live_by true b is = absurd (true≢false (sym is))
-    live_by false b is = is
 
 owed_by : (after before : Bool) (n : ℕ) → (after ≡ true → before ≡ true) → nat_lt 0 (if after then n else 0) ≡ true → nat_lt 0 (if before then n else 0) ≡ true
 owed_by true before n still is = ap (λ b. nat_lt 0 (if b then n else 0)) (still refl) ∙ is
@@ -164,13 +156,6 @@ module _ (setup : Setup) (past : Past) (street next : ℕ) (early : has_nothing_
 
   pub cards_come : due_on setup past next ≡ Some (street_cards setup.code next)
   cards_come = cards_due_by (has_draw setup.code next) (nat_lt 0 (hole_cards_on setup.code next)) (nat_lt 0 (board_cards_on setup.code next)) refl refl refl (each_street setup.code next (omega (arith, later)) within)
-
--- where nothing is due on any street, the showdown is
-pub first_quiet : (on : ℕ → Option Due) (rest street : ℕ) → ((between : ℕ) → street ≤ between → between < street + rest → on between ≡ None) → first_due on rest street ≡ None
-first_quiet on zero street quiet = refl
-first_quiet on (suc rest) street quiet =
-    ap (λ o. found_or (option_map (λ due. (street, due)) o) (first_due on rest (street + 1))) (quiet street (omega arith) (omega arith))
-    ∙ first_quiet on rest (street + 1) (λ between low high. quiet between (omega (arith, low)) (omega (arith, high)))
 
 pub quiet_is_showdown : (setup : Setup) (past : Past) → nat_le (live_count setup (moves_of past)) 1 ≡ false → ((between : ℕ) → newest_street past ≤ between → between ≤ street_count setup.code → due_on setup past between ≡ None) → newest_street past ≤ street_count setup.code + 1 → turn setup past ≡ (street_count setup.code, showdown setup past)
 unfolding turn

@@ -1,11 +1,11 @@
 -- Where betting is due the hand is not settled.
-use Rattle.std.proofs.Common.{◌≡◌, ℕ, Bool, true, false, ◌&&◌, ◌||◌, ◌==◌, not, nat_lt, nat_le, if◌then◌else◌, inl, inr, ◌⊎◌, List, refl, sym, ap, ◌∙◌, arith, Some}
-use Rattle.std.proofs.lemmas.Bool.{and_parts, leb-true, lt-leb, true≢false}
+use Rattle.std.proofs.Common.{◌≡◌, ℕ, Bool, true, false, ◌&&◌, ◌||◌, ◌==◌, not, nat_lt, nat_le, if◌then◌else◌, inl, inr, ◌⊎◌, List, refl, sym, ap, ◌∙◌, Some}
+use Rattle.std.proofs.lemmas.Bool.{and_parts, true≢false}
 use Rattle.std.specs.List.{list_any}
 use Rattle.list_laws.proofs.Any.{list_any-weaker}
 use Rattle.play_event.proofs.StreetLaws.{due_is_first}
 use Rattle.play_event.specs.Dealing.{is_draw_due}
-use Rattle.play_event.specs.Due.{is_bring_in_due, is_move_due, has_to_move, has_moved_since_rise, is_settled, has_able_seat_to_call, has_opened_betting, turn, due_on, is_unfinished}
+use Rattle.play_event.specs.Due.{is_bring_in_due, is_move_due, has_to_move, has_moved_since_rise, is_settled, has_able_seat_to_call, has_opened_betting, turn, due_on}
 use Rattle.play_event.specs.Laws.{IsFirstStreet}
 use Rattle.play_event.specs.Past.{Move, moves_on, Past, moves_of, newest_street}
 use Rattle.play_event.specs.Price.{owed}
@@ -16,6 +16,8 @@ use Rattle.play_event.specs.declared.reason.Due.{Due}
 use Rattle.play_event.specs.declared.setup.Setup.{Setup}
 use Rattle.street_laws.proofs.TurnAfter.{AreDealt, cards_are_dealt, due_by}
 use Rattle.play_event.specs.TurnTargets.{is_bet_due}
+use Rattle.list_laws.proofs.Numbers.{many_not_few}
+use Rattle.play_event.proofs.FloorLaws.{bet_unfinished}
 
 -- the hand is not settled where betting is due
 owes_by : (able since owes : Bool) (many : Bool) → many ≡ false → (able && (if since then false else (owes || many))) ≡ true → (able && owes) ≡ true
@@ -23,9 +25,6 @@ owes_by true true owes many none is = absurd (true≢false (sym is))
 owes_by true false true many none is = refl
 owes_by true false false many none is = absurd (true≢false (sym is ∙ none))
 owes_by false since owes many none is = absurd (true≢false (sym is))
-
-many_not_few : (n : ℕ) → nat_le 2 n ≡ true → nat_le n 1 ≡ false
-many_not_few n many = lt-leb n 1 (omega (arith, leb-true 2 n many))
 
 settled_by : (live few owes : Bool) → (few ≡ false) ⊎ (owes ≡ true) → (live && (false || (few && not owes))) ≡ false
 settled_by true few owes (inl is) = ap (λ f. f && not owes) is
@@ -51,15 +50,6 @@ unsettled_by_bring_in setup moves street is =
     let parts2 = and_parts (is_stud setup.code && (street == 1)) (nat_le 2 (able_count setup moves)) parts.0 in
     settled_by (nat_le 2 (live_count setup moves)) (nat_le (able_count setup moves) 1) (has_able_seat_to_call setup moves street) (inl (many_not_few (able_count setup moves) parts2.1))
 
--- where betting is due each live seat has to show
-pub bets_unfinished : (due : Due) → is_bet_due due ≡ true → is_unfinished due ≡ true
-bets_unfinished dues.BringIn is = refl
-bets_unfinished dues.Move is = refl
-bets_unfinished (dues.Deal street) is = refl
-bets_unfinished (dues.Draw street) is = refl
-bets_unfinished dues.Show is = is
-bets_unfinished dues.Over is = is
-
 move_by : (street : ℕ) (bring_in move : Bool) → due_by street false false bring_in move ≡ Some dues.Move → move ≡ true
 move_by street true move is = absurd cc
 move_by street false true is = refl
@@ -73,8 +63,8 @@ bring_in_by street false false is = absurd cc
 module _ (setup : Setup) (past : Past) (street : ℕ) where
   pub due_after_cards : (due : Due) → turn setup past ≡ (street, due) → is_bet_due due ≡ true → due_by street false false (is_bring_in_due setup (moves_of past) street) (is_move_due setup (moves_of past) street) ≡ Some due
   due_after_cards due is bets =
-      let are : AreDealt setup past street = cards_are_dealt setup past street due is bets (bets_unfinished due bets) in
-      let first : IsFirstStreet (due_on setup past) (newest_street past) street due = due_is_first setup past street due is (bets_unfinished due bets) in
+      let are : AreDealt setup past street = cards_are_dealt setup past street due is bets (bet_unfinished due bets) in
+      let first : IsFirstStreet (due_on setup past) (newest_street past) street due = due_is_first setup past street due is (bet_unfinished due bets) in
       sym (
       ap (λ d. due_by street d (is_draw_due setup past street) (is_bring_in_due setup (moves_of past) street) (is_move_due setup (moves_of past) street)) are.dealt
       ∙ ap (λ d. due_by street false d (is_bring_in_due setup (moves_of past) street) (is_move_due setup (moves_of past) street)) are.drawn

@@ -22,9 +22,10 @@ use Rattle.hand_canon.specs.LegalHand.{showdown_in}
 use Rattle.canonical_play.specs.TraceCore.{TraceCore, core_of}
 use Rattle.hand_canon.specs.TraceRows.{core_said, place_said}
 use Rattle.hand_canon.specs.WholeTrace.{HasSeats, HasShares, IsTraceOf}
-use Rattle.trace_laws.proofs.Readings.{lists_same, move_same, place_same}
+use Rattle.trace_laws.proofs.Readings.{move_same, place_same}
 use Rattle.trace_laws.proofs.SameRows.{flags_same, pot_rows_same}
 use Rattle.trace_laws.proofs.OneSharing.{share_lists_same}
+use Rattle.list_laws.proofs.Lists.{lists_same}
 
 -- a trace of this setup and core: its rows are of so many seats, and share as the rules share
 record IsWhole (setup : Setup) (core : TraceCore) (trace : Trace) : Type 0 where

@@ -1,7 +1,5 @@
 -- Moves and places that say the same are one.
-use Rattle.std.proofs.Common.{◌≡◌, ℕ, Bool, List, [], ◌∷◌, map, Option, Some, None, refl, sym, ap, ◌∙◌}
-use Rattle.std.specs.Option.{option_map}
-use Rattle.std.proofs.lemmas.Option.{same_Some}
+use Rattle.std.proofs.Common.{◌≡◌, ℕ, Bool, Option, refl, sym, ap, ◌∙◌}
 use Rattle.card_set.specs.declared.card.Slot.{Slot}
 use Rattle.chip_ledger.specs.declared.numbers.Seat.{Seat}
 use Rattle.chip_ledger.proofs.Same.{seat_same}
@@ -12,23 +10,7 @@ use Rattle.play_event.specs.declared.played.Place.{Place}
 use Rattle.play_event.specs.Past.{Act, Folded, Called, Raised, BroughtIn}
 use Rattle.play_event.specs.Played.{act_said, move_said}
 use Rattle.hand_canon.specs.TraceRows.{place_said}
-
--- a map that tells all values apart tells all optional values apart
-pub options_same : {A B : Type 0} (f : A → B) → ((a b : A) → f a ≡ f b → a ≡ b) → (x y : Option A) → option_map f x ≡ option_map f y → x ≡ y
-options_same f apart None None same = refl
-options_same f apart None (Some b) same = absurd (cc)
-options_same f apart (Some a) None same = absurd (cc)
-options_same f apart (Some a) (Some b) same = ap Some (apart a b (same_Some (f a) (f b) same))
-
--- and all lists
-pub lists_same : {A B : Type 0} (f : A → B) → ((a b : A) → f a ≡ f b → a ≡ b) → (xs ys : List A) → map f xs ≡ map f ys → xs ≡ ys
-lists_same f apart [] [] same = refl
-lists_same f apart [] (y ∷ ys) same = absurd (cc)
-lists_same f apart (x ∷ xs) [] same = absurd (cc)
-lists_same f apart (x ∷ xs) (y ∷ ys) same =
-    let head : x ≡ y = apart x y (cc) in
-    let tail : xs ≡ ys = lists_same f apart xs ys (cc) in
-    ap (λ z. z ∷ xs) head ∙ ap (λ zs. y ∷ zs) tail
+use Rattle.list_laws.proofs.Options.{options_same}
 
 -- the act of a row that says this
 act_from : Act → rows.Act

@@ -1,7 +1,6 @@
 -- Rows of one number of seats that say the same are one.
-use Rattle.std.proofs.Common.{◌≡◌, ℕ, zero, suc, ◌+◌, ◌<◌, ◌≤◌, ◌==◌, true, List, [], ◌∷◌, All, map, refl, sym, ap, ◌∙◌, ⊎_elim, arith}
-use Rattle.std.specs.List.{list_any, range_with_len}
-use Rattle.std.proofs.lemmas.Bool.{cases_lt}
+use Rattle.std.proofs.Common.{◌≡◌, ℕ, zero, suc, ◌≤◌, ◌==◌, true, List, [], ◌∷◌, All, map, refl, sym, ap, ◌∙◌, arith}
+use Rattle.std.specs.List.{list_any}
 use Rattle.list_laws.proofs.Tests.{same_test}
 use Rattle.chip_ledger.specs.declared.pots.Pot.{Pot}
 use Rattle.chip_ledger.specs.declared.pots.PotRow.{PotRow}
@@ -14,6 +13,7 @@ use Rattle.chip_ledger.specs.SeatRow.{amount_of}
 use Rattle.chip_ledger.proofs.Flags.{flag-from_flagged, flagged-from_flag}
 use Rattle.chip_ledger.proofs.Same.{live_row_same_by_seats, seat_row_same_by_seats}
 use Rattle.chip_ledger.proofs.SameEntries.{pot_row_same_by_pots}
+use Rattle.list_laws.proofs.NumbersOfRange.{along_range}
 
 -- a flag of one row is set in another with the same flagged seats
 flag_too : (a b : LiveRow) → flagged a ≡ flagged b → (seat : ℕ) → 1 ≤ seat → flag_of a seat ≡ true → flag_of b seat ≡ true
@@ -25,17 +25,6 @@ pub flags_same : (seats : ℕ) (a b : LiveRow) → a.seats ≡ seats → b.seats
 flags_same seats a b one other same =
     live_row_same_by_seats a b (one ∙ sym other) (λ seat least most.
     same_test (flag_of a seat) (flag_of b seat) (flag_too a b same seat least) (flag_too b a (sym same) seat least))
-
--- functions with the same values along a range agree on it
-along_range : (f g : ℕ → ℕ) (first count : ℕ) → map f (range_with_len first count) ≡ map g (range_with_len first count) → (k : ℕ) → first ≤ k → k < first + count → f k ≡ g k
-along_range f g first zero same k from to = absurd (omega (arith, from, to))
-along_range f g first (suc count) same k from to =
-    ⊎_elim
-    (λ (later : first < k). along_range f g (first + 1) count (cc) k (omega (arith, later)) (omega (arith, to)))
-    (λ (here : k ≤ first).
-    let is : k ≡ first = omega (arith, here, from) in
-    ap f is ∙ (let head : f first ≡ g first = cc in head ∙ ap g (sym is)))
-    (cases_lt first k)
 
 -- rows of amounts
 pub amounts_same : (seats : ℕ) (a b : SeatRow) → a.seats ≡ seats → b.seats ≡ seats → map (amount_of a) (seats_of seats) ≡ map (amount_of b) (seats_of seats) → a ≡ b

@@ -1,39 +1,21 @@
 -- The pots of a whole trace and what is returned are all chips that were put.
-use Rattle.std.proofs.Common.{◌≡◌, ℕ, ◌+◌, ◌-◌, ◌≤◌, Bool, true, false, List, map, sum, sum_by, sym, ap, ◌∙◌, arith}
+use Rattle.std.proofs.Common.{◌≡◌, ◌+◌, ◌-◌, List, map, sum, sum_by, sym, ap, ◌∙◌, arith}
 use Rattle.std.proofs.lemmas.List.Sums.{sum-map}
-use Rattle.list_laws.proofs.Sums.{sum_by-map, sum_by-plus, sum_by-same}
+use Rattle.list_laws.proofs.Sums.{sum_by-map}
 use Rattle.chip_ledger.specs.declared.pots.Pot.{Pot}
 use Rattle.chip_ledger.specs.PotRow.{plain, pots_in}
-use Rattle.chip_ledger.specs.Pots.{PlainPot, Stake, counted, dead_chips, returned}
+use Rattle.chip_ledger.specs.Pots.{PlainPot, returned}
 use Rattle.chip_ledger.specs.Seat.{seats_of}
 use Rattle.chip_ledger.specs.SeatRow.{amount_of, total_of}
-use Rattle.chip_ledger.proofs.PotSums.{pot_chips, pots_sum, stake_chips}
+use Rattle.chip_ledger.proofs.PotSums.{pot_chips, pots_sum}
 use Rattle.play_event.specs.declared.setup.Setup.{Setup}
 use Rattle.play_event.specs.Past.{Move, Past, moves_of}
-use Rattle.play_event.specs.Chips.{chips_put}
 use Rattle.play_event.specs.Price.{all_chips_put}
 use Rattle.play_event.specs.Seats.{all_seats}
-use Rattle.play_event.specs.Stakes.{counted_put, dead_antes_of, pots_after, returned_after, stake_after, stakes_after}
+use Rattle.play_event.specs.Stakes.{dead_antes_of, pots_after, returned_after, stake_after, stakes_after}
 use Rattle.hand_canon.specs.declared.trace.Trace.{Trace}
 use Rattle.hand_canon.specs.WholeTrace.{IsTraceOf}
-
-counted_by : (dead : Bool) (put ante : ℕ → ℕ) (seats : List ℕ)
-    → ((n : ℕ) → ante n ≤ put n)
-    → sum_by (λ n. counted dead (put n) (ante n)) seats + dead_chips dead (map ante seats) ≡ sum (map put seats)
-counted_by true put ante seats within =
-    let rest : ℕ → ℕ = λ n. put n - ante n in
-    let both = sum_by-plus rest ante seats in
-    let whole : sum_by (λ n. rest n + ante n) seats ≡ sum_by put seats = sum_by-same (λ n. rest n + ante n) put (λ n. omega (arith, within n)) seats in
-    omega (arith, sum-map ante seats, sum-map put seats, both, whole)
-counted_by false put ante seats within = omega (arith, sum-map put seats)
-
--- the counted and the dead chips are all that were put
-all_counted : (setup : Setup) (moves : List Move) → stake_chips (stakes_after setup moves) + dead_antes_of setup ≡ all_chips_put setup moves
-all_counted setup moves =
-    let each : stake_chips (stakes_after setup moves) ≡ sum_by (counted_put setup moves) (all_seats setup) =
-    sum_by-map (λ (s : Stake). s.chips) (stake_after setup moves) (all_seats setup) in
-    ap (λ n. n + dead_antes_of setup) each
-    ∙ counted_by setup.dead_antes (chips_put setup moves) (amount_of setup.antes) (all_seats setup) (λ n. omega arith)
+use Rattle.play_event.proofs.StakeLaws.{all_counted}
 
 -- the pots and the returns of the rules
 rules_keep : (setup : Setup) (moves : List Move) → pot_chips (pots_after setup moves) + sum_by (returned_after setup moves) (all_seats setup) ≡ all_chips_put setup moves

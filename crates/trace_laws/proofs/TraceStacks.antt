@@ -1,6 +1,5 @@
 -- The finishing stacks of a whole trace and its pots are the starting stacks and the shares.
-use Rattle.std.proofs.Common.{◌≡◌, ℕ, suc, ◌+◌, List, [], ◌∷◌, All, map, reverse, sum_by, refl, ap, ◌∙◌, arith}
-use Rattle.std.proofs.lemmas.List.{map-append, reverse-append}
+use Rattle.std.proofs.Common.{◌≡◌, ℕ, suc, ◌+◌, List, [], ◌∷◌, All, map, sum_by, ap, ◌∙◌, arith}
 use Rattle.std.proofs.lemmas.List.Sums.{sum-map, sum_by-cons}
 use Rattle.list_laws.proofs.Sums.{sum_by-none, sum_by-plus, sum_by-same}
 use Rattle.chip_ledger.specs.declared.pots.Pot.{Pot}
@@ -13,27 +12,18 @@ use Rattle.play_event.specs.declared.setup.Rules.{Rules}
 use Rattle.play_event.specs.declared.setup.Setup.{Setup}
 use Rattle.play_event.specs.Chips.{chips_left, chips_put}
 use Rattle.play_event.specs.Laws.{AreLegal}
-use Rattle.play_event.specs.Past.{Move, Past, moves_of}
+use Rattle.play_event.specs.Past.{Past, moves_of}
 use Rattle.play_event.specs.Price.{all_chips_put}
 use Rattle.play_event.specs.Said.{Said}
 use Rattle.play_event.specs.Scripts.{past_of}
 use Rattle.play_event.specs.Seats.{all_seats}
 use Rattle.play_event.specs.Stakes.{finishing_stack, returned_after}
-use Rattle.play_event.specs.Trace.{traced_move, traced_moves}
 use Rattle.play_event.specs.ValidSetup.{IsValid}
 use Rattle.play_event.proofs.ChipLaws.{put_and_left}
 use Rattle.hand_canon.specs.declared.trace.Trace.{Trace}
-use Rattle.canonical_play.specs.CanonScript.{plain_move, plain_moves}
 use Rattle.hand_canon.specs.WholeTrace.{IsTraceOf}
 use Rattle.trace_laws.proofs.TraceChips.{pots_and_returns, returned_total}
-
--- the moves of a trace are the moves
-plain_again : (setup : Setup) (moves : List Move) → plain_moves (traced_moves setup moves) ≡ moves
-plain_again setup [] = refl
-plain_again setup (move ∷ before) =
-    ap reverse (map-append plain_move (traced_moves setup before) (traced_move setup move before ∷ []))
-    ∙ (reverse-append (map plain_move (traced_moves setup before)) (move ∷ [])
-    ∙ ap (λ l. move ∷ l) (plain_again setup before))
+use Rattle.canon_laws.proofs.SameCore.{plain_again}
 
 -- the shares of all seats together are those of all pots together
 shares_total : (rows : List SeatRow) (seats : ℕ) → All (λ (row : SeatRow). row.seats ≡ seats) rows

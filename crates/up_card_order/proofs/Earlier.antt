@@ -1,6 +1,6 @@
 -- Up-cards that open at least as early as others open before all that those open before, and else it is the other way round.
-use Rattle.std.proofs.Common.{◌≡◌, ℕ, ◌<◌, ◌≤◌, Bool, true, false, ◌&&◌, ◌||◌, ◌==◌, not, nat_lt, inl, inr, List, [], ◌∷◌, refl, sym, arith}
-use Rattle.std.proofs.lemmas.Bool.{true≢false, or_left, or_right, or_cases, or_parts, and_from, cases_lt, lt-ltb, ltb-true, ltb-false, leb-true, leb-false, eq-eqb, not_from_false}
+use Rattle.std.proofs.Common.{◌≡◌, ℕ, ◌<◌, ◌≤◌, Bool, true, false, ◌&&◌, ◌||◌, ◌==◌, not, nat_lt, inl, inr, List, [], ◌∷◌, sym, arith}
+use Rattle.std.proofs.lemmas.Bool.{and_from, cases_lt, eq-eqb, leb-false, leb-true, lt-ltb, ltb-false, ltb-true, not-true, not_from_false, or_cases, or_left, or_parts, or_right, true≢false}
 use Rattle.card_set.specs.declared.card.Card.{Card}
 use Rattle.card_set.specs.Deck.{deck_place}
 use Rattle.card_set.specs.Ranks.{high_ace, low_ace, ranks_of}
@@ -9,11 +9,7 @@ use Rattle.play_event.specs.declared.limit.Opener.{Opener}
 use Rattle.play_event.specs.declared.limit.Opener.TheVariants.{Blinds, LowUp, HighUp}
 use Rattle.play_event.specs.Openers.{is_lower, is_opener_before, card_stands, razz_place}
 use Rattle.up_card_order.specs.Earliest.{is_as_high, is_as_low, is_as_early}
-use Rattle.up_card_order.proofs.FirstOpens.{lower_step, worse_trans}
-
-not_so : (b : Bool) → not b ≡ true → b ≡ false
-not_so true is = absurd cc
-not_so false is = refl
+use Rattle.play_event.proofs.OpenerOrder.{lower_step, worse_trans}
 
 and_false : (e l : Bool) → e ≡ true → (e && l) ≡ false → l ≡ false
 and_false true l is none = none
@@ -44,7 +40,7 @@ high_late a b [] p q = absurd (true≢false (sym q))
 high_late [] b (z ∷ zs) p q = absurd (true≢false (sym q))
 high_late (x ∷ xs) [] (z ∷ zs) p q = absurd (true≢false p)
 high_late (x ∷ xs) (y ∷ ys) (z ∷ zs) p q =
-    lower_step z x y (is_lower zs xs) (not (is_as_high xs ys)) (is_lower zs ys) (λ m l. high_late xs ys zs (not_so (is_as_high xs ys) l) m) (or_cases (nat_lt z x) ((z == x) && is_lower zs xs) q)
+    lower_step z x y (is_lower zs xs) (not (is_as_high xs ys)) (is_lower zs ys) (λ m l. high_late xs ys zs (not-true (is_as_high xs ys) l) m) (or_cases (nat_lt z x) ((z == x) && is_lower zs xs) q)
     (or_cases (nat_lt x y) ((x == y) && not (is_as_high xs ys)) (turned y x (y == x) (x == y) (is_as_high xs ys) (eq-eqb y x) (λ same. eq-eqb x y (sym same)) p))
 
 -- and where lower ones do
@@ -60,7 +56,7 @@ low_late [] b x p q = absurd (true≢false (sym q))
 low_late (x ∷ xs) [] z p q = absurd (true≢false p)
 low_late (x ∷ xs) (y ∷ ys) [] p q = absurd (true≢false (sym q))
 low_late (x ∷ xs) (y ∷ ys) (z ∷ zs) p q =
-    lower_step y x z (not (is_as_low xs ys)) (is_lower xs zs) (is_lower ys zs) (λ l m. low_late xs ys zs (not_so (is_as_low xs ys) l) m)
+    lower_step y x z (not (is_as_low xs ys)) (is_lower xs zs) (is_lower ys zs) (λ l m. low_late xs ys zs (not-true (is_as_low xs ys) l) m)
     (or_cases (nat_lt y x) ((y == x) && not (is_as_low xs ys)) (turned x y (x == y) (y == x) (is_as_low xs ys) (eq-eqb x y) (λ same. eq-eqb y x (sym same)) p)) (or_cases (nat_lt x z) ((x == z) && is_lower xs zs) q)
 
 -- what the others open before is opened before by those that open as early
@@ -91,12 +87,12 @@ late_opens LowUp false a b x p q =
     let heights : List Card → List ℕ = ranks_of high_ace in
     let ca = up_high_class a in
     let cb = up_high_class b in
-    worse_trans cb ca (up_high_class x) (not (is_as_high (heights a) (heights b))) (is_lower (heights x) (heights a)) (is_lower (heights x) (heights b)) (λ l m. high_late (heights a) (heights b) (heights x) (not_so (is_as_high (heights a) (heights b)) l) m)
+    worse_trans cb ca (up_high_class x) (not (is_as_high (heights a) (heights b))) (is_lower (heights x) (heights a)) (is_lower (heights x) (heights b)) (λ l m. high_late (heights a) (heights b) (heights x) (not-true (is_as_high (heights a) (heights b)) l) m)
     (turned ca cb (cb == ca) (ca == cb) (is_as_high (heights a) (heights b)) (λ same. eq-eqb cb ca (sym same)) (eq-eqb ca cb) p) q
 late_opens HighUp false a b x p q =
     let heights : List Card → List ℕ = ranks_of low_ace in
     let ca = low_class a in
     let cb = low_class b in
-    worse_trans cb ca (low_class x) (not (is_as_low (heights a) (heights b))) (is_lower (heights a) (heights x)) (is_lower (heights b) (heights x)) (λ l m. low_late (heights a) (heights b) (heights x) (not_so (is_as_low (heights a) (heights b)) l) m)
+    worse_trans cb ca (low_class x) (not (is_as_low (heights a) (heights b))) (is_lower (heights a) (heights x)) (is_lower (heights b) (heights x)) (λ l m. low_late (heights a) (heights b) (heights x) (not-true (is_as_low (heights a) (heights b)) l) m)
     (turned ca cb (cb == ca) (ca == cb) (is_as_low (heights a) (heights b)) (λ same. eq-eqb cb ca (sym same)) (eq-eqb ca cb) p) q
 late_opens Blinds first a b x p q = absurd (true≢false (sym q))

@@ -1,3 +1,2 @@
--- To open before another is an order, so that some seat opens; and which up-cards open as early as others.
-pub mod FirstOpens
+-- Which up-cards open as early as others.
 pub mod Earlier

@@ -1,5 +1,4 @@
--- The variants as plain values, the orders by code, what a variant and a table keep, and who gets what of a pot.
-pub mod Plain
+-- The orders by code, what a variant and a table keep, and who gets what of a pot.
 pub mod Orders
 pub mod Variants
 pub mod TableLaws

@@ -11,7 +11,6 @@ use Rattle.play_event.specs.declared.code.Code.{Code}
 use Rattle.play_event.specs.Games.{game_of}
 use Rattle.variant_table.specs.Division.{AreHalves, AreParts}
 use Rattle.variant_table.specs.Orders.{Order, award_of, second_of}
-use Rattle.variant_table.specs.Plain.{pick_of}
 
 -- what is seen at the end of a hand: how many seats it has, which of them are shown, the cards of each, and the board
 pub record Showdown : Type 0 where
@@ -26,7 +25,7 @@ is_contender showdown pot seat = may_win pot seat && showdown.shown seat
 
 -- the choices of cards that a game allows a seat
 abbrev pub choices_for : Code → Showdown → ℕ → List (List Card)
-choices_for code showdown seat = allowed (pick_of (game_of code).pick) (showdown.holding seat) showdown.board
+choices_for code showdown seat = allowed (game_of code).pick (showdown.holding seat) showdown.board
 
 -- a choice of these is a hand of the order
 abbrev pub HasHand : Order → List (List Card) → Type 0

@@ -1,13 +1,10 @@
 -- The table of games keeps what a variant keeps, for each code.
-use Rattle.std.proofs.Common.{◌≡◌, ℕ, length, refl, sym, ◌∙◌, ap, subst, arith}
+use Rattle.std.proofs.Common.{◌≡◌, ℕ, length, refl, sym, ◌∙◌, subst, arith}
 use Rattle.play_event.specs.declared.code.Code.{Code}
 use Rattle.play_event.specs.declared.code.Code.TheVariants as games
 use Rattle.play_event.specs.Games.{game_of}
-use Rattle.play_event.specs.Games as tables
-use Rattle.hand_order.specs.declared.best.Pick.{Pick}
-use Rattle.hand_order.specs.declared.best.Pick.TheVariants as picks
+use Rattle.card_set.specs.declared.pick.Pick.{Pick}
 use Rattle.variant_table.specs.Orders.{Order, award_of, second_of}
-use Rattle.variant_table.specs.Plain.{pick_of, plain_pick}
 use Rattle.variant_table.specs.Variants.{AreValuesOf, IsOrder, IsUsable, AddsUp}
 
 -- an order is itself
@@ -24,7 +21,7 @@ table_adds_up games.FT = record { hole = refl; board = refl; fits = omega arith 
 table_adds_up _ = record { hole = refl; board = refl; fits = omega arith }
 
 -- the pick of a game can use the cards of a whole hand and board, in the order of the award
-award_can_pick : (code : Code) → IsUsable (game_of code) (award_of code).held (pick_of (game_of code).pick)
+award_can_pick : (code : Code) → IsUsable (game_of code) (award_of code).held (game_of code).pick
 award_can_pick games.N2L1D = λ hole board holes boards. holes
 award_can_pick games.F2L3D = λ hole board holes boards. holes
 award_can_pick games.FB = λ hole board holes boards. holes
@@ -35,36 +32,25 @@ pub same_held : (code : Code) → (second_of code).held ≡ (award_of code).held
 same_held games.FT = refl
 same_held _ = refl
 
--- a pick is that of its plain value
-pub pick_back : (pick : Pick) → pick_of (plain_pick pick) ≡ pick
-pick_back picks.AnyFive = refl
-pick_back picks.TwoAndThree = refl
-pick_back picks.AllHeld = refl
-
 -- so does a pick that is that of the game, in an order whose hands have as many cards as the award's
-pub usable_award : (code : Code) (held : ℕ) (pick : Pick) → held ≡ (award_of code).held → plain_pick pick ≡ (game_of code).pick → IsUsable (game_of code) held pick
+pub usable_award : (code : Code) (held : ℕ) (pick : Pick) → held ≡ (award_of code).held → pick ≡ (game_of code).pick → IsUsable (game_of code) held pick
 usable_award code held pick same_held same_pick =
-    subst (λ (p : Pick). IsUsable (game_of code) held p) (sym (ap pick_of same_pick) ∙ pick_back pick)
-    (subst (λ (h : ℕ). IsUsable (game_of code) h (pick_of (game_of code).pick)) (sym same_held) (award_can_pick code))
+    subst (λ (p : Pick). IsUsable (game_of code) held p) (sym same_pick)
+    (subst (λ (h : ℕ). IsUsable (game_of code) h (game_of code).pick) (sym same_held) (award_can_pick code))
 
 -- or as many as the second order's
-pub usable_second : (code : Code) (held : ℕ) (pick : Pick) → held ≡ (second_of code).held → plain_pick pick ≡ (game_of code).pick → IsUsable (game_of code) held pick
+pub usable_second : (code : Code) (held : ℕ) (pick : Pick) → held ≡ (second_of code).held → pick ≡ (game_of code).pick → IsUsable (game_of code) held pick
 usable_second code held pick same same_pick = usable_award code held pick (same ∙ same_held code) same_pick
 
 -- the values of a game are its own
-pub values_of : (code : Code) → let game = game_of code in AreValuesOf game game.split (pick_of game.pick) game.limit game.opener game.deck game.seats (length game.streets)
+pub values_of : (code : Code) → let game = game_of code in AreValuesOf game game.split game.pick game.limit game.opener game.deck game.seats (length game.streets)
 values_of code =
     let game = game_of code in record {
       split_is = refl;
-      pick_is = plain_back game.pick;
+      pick_is = refl;
       limit_is = refl;
       opener_is = refl;
       deck_is = refl;
       seats_is = refl;
       streets_is = refl;
     }
-  where
-    plain_back : (pick : tables.Pick) → plain_pick (pick_of pick) ≡ pick
-    plain_back tables.AnyFive = refl
-    plain_back tables.TwoAndThree = refl
-    plain_back tables.AllHeld = refl

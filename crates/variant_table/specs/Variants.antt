@@ -5,15 +5,14 @@ use Rattle.play_event.specs.declared.limit.Limit.{Limit}
 use Rattle.play_event.specs.declared.limit.Opener.{Opener}
 use Rattle.play_event.specs.Games.{Game}
 use Rattle.play_event.specs.declared.street.Street.{Street}
-use Rattle.hand_order.specs.declared.best.Pick.{Pick}
+use Rattle.card_set.specs.declared.pick.Pick.{Pick}
 use Rattle.hand_order.specs.Choices.{CanPick}
 use Rattle.variant_table.specs.Orders.{Order}
-use Rattle.variant_table.specs.Plain.{plain_pick}
 
 -- the values are those of the game
 pub record AreValuesOf (game : Game) (split : Bool) (pick : Pick) (limit : Limit) (opener : Opener) (deck seats streets : ℕ) : Type 0 where
   pub split_is : split ≡ game.split
-  pub pick_is : plain_pick pick ≡ game.pick
+  pub pick_is : pick ≡ game.pick
   pub limit_is : limit ≡ game.limit
   pub opener_is : opener ≡ game.opener
   pub deck_is : deck ≡ game.deck

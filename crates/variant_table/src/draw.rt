@@ -2,7 +2,7 @@
 ghost use Rattle.std.specs.Prelude.{◌≡◌, ◌≤◌, ◌-◌, Some, slice_get, false};
 ghost use Rattle.play_event.specs.declared.code.Code.TheVariants as codes;
 ghost use Rattle.play_event.specs.Games.{draw_street, draw_streets};
-ghost use Rattle.hand_order.specs.declared.best.Pick.TheVariants as picks;
+ghost use Rattle.card_set.specs.declared.pick.Pick.TheVariants as picks;
 ghost use Rattle.play_event.specs.declared.limit.Limit.TheVariants as limits;
 ghost use Rattle.play_event.specs.declared.limit.Opener.TheVariants as openers;
 ghost use Rattle.variant_table.specs.declared.deck.TheConstants.{WHOLE_DECK};

@@ -1,7 +1,7 @@
 // Hold'em: two hole cards, a board of five, and any five of these seven cards.
 ghost use Rattle.std.specs.Prelude.{false};
 ghost use Rattle.play_event.specs.declared.code.Code.TheVariants as codes;
-ghost use Rattle.hand_order.specs.declared.best.Pick.TheVariants as picks;
+ghost use Rattle.card_set.specs.declared.pick.Pick.TheVariants as picks;
 ghost use Rattle.play_event.specs.declared.limit.Limit.TheVariants as limits;
 ghost use Rattle.play_event.specs.declared.limit.Opener.TheVariants as openers;
 ghost use Rattle.variant_table.specs.declared.deck.TheConstants.{SHORT_DECK, WHOLE_DECK};

@@ -1,7 +1,7 @@
 // Omaha: four hole cards, a board of five, and exactly two of the hole with three of the board.
 ghost use Rattle.std.specs.Prelude.{true, false};
 ghost use Rattle.play_event.specs.declared.code.Code.TheVariants as codes;
-ghost use Rattle.hand_order.specs.declared.best.Pick.TheVariants as picks;
+ghost use Rattle.card_set.specs.declared.pick.Pick.TheVariants as picks;
 ghost use Rattle.play_event.specs.declared.limit.Limit.TheVariants as limits;
 ghost use Rattle.play_event.specs.declared.limit.Opener.TheVariants as openers;
 ghost use Rattle.variant_table.specs.declared.deck.TheConstants.{WHOLE_DECK};

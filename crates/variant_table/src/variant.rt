@@ -4,7 +4,7 @@ ghost use Rattle.card_set.specs.declared.card.Card.{Card};
 ghost use Rattle.play_event.specs.declared.code.Code.{Code};
 ghost use Rattle.play_event.specs.Games.{game_of};
 ghost use Rattle.play_event.specs.Taken.{is_in_deck};
-ghost use Rattle.hand_order.specs.declared.best.Pick.{Pick};
+ghost use Rattle.card_set.specs.declared.pick.Pick.{Pick};
 ghost use Rattle.play_event.specs.declared.limit.Limit.{Limit};
 ghost use Rattle.play_event.specs.declared.limit.Opener.{Opener};
 ghost use Rattle.variant_table.specs.Orders.{award_of, second_of};
@@ -83,7 +83,9 @@ pub trait Variant {
     ghost adds_up: { AddsUp (game_of CODE) } = { table_adds_up CODE };
 
     /// The pick can use the cards of a whole hand and board, in both orders.
-    ghost award_usable: { IsUsable (game_of CODE) Self.Award.HELD PICK } = { usable_award CODE Self.Award.HELD PICK award.held_is values.pick_is };
+    ghost award_usable: { IsUsable (game_of CODE) Self.Award.HELD PICK } = { usable_award CODE
+        Self.Award.HELD PICK award.held_is values.pick_is };
 
-    ghost second_usable: { IsUsable (game_of CODE) Self.Second.HELD PICK } = { usable_second CODE Self.Second.HELD PICK second.held_is values.pick_is };
+    ghost second_usable: { IsUsable (game_of CODE) Self.Second.HELD PICK } = { usable_second CODE
+        Self.Second.HELD PICK second.held_is values.pick_is };
 }

@@ -1,6 +1,4 @@
--- What holds for each of two or three seats, of the one seat that contends, of notes that name nobody, and of plays that say
--- a hand.
-pub mod FewSeats
+-- What holds of the one seat that contends, of notes that name nobody, and of plays that say a hand.
 pub mod OneContends
 pub mod BlankNotes
 pub mod Steal

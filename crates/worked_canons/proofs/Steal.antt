@@ -10,7 +10,8 @@ use Rattle.hand_canon.specs.LegalHand.{IsLegalHand}
 use Rattle.worked_hands.specs.Setups.{no_limit}
 use Rattle.worked_canons.specs.Outcomes.{HasTrace}
 use Rattle.worked_canons.specs.Traces.{steal, steal_trace}
-use Rattle.worked_canons.proofs.FewSeats.{by_three, only}
+use Rattle.list_laws.proofs.Entries.{only}
+use Rattle.list_laws.proofs.Numbers.{by_three}
 
 pub steal_legal : IsLegalHand no_limit history_rules steal
 unfolding turn why with_event slot_spelled rank_lettered suit_lettered after_return levels layers pots_at pots_of

@@ -10,7 +10,7 @@ use Rattle.canonical_play.specs.TraceCore.{core_after}
 use Rattle.canonical_play.specs.CanonScript.{canon_of}
 use Rattle.hand_canon.specs.declared.trace.Trace.{Trace}
 use Rattle.hand_canon.specs.WholeTrace.{IsTraceOf}
-use Rattle.worked_canons.specs.TraceNumbers.{are_same, trace_numbers}
+use Rattle.worked_canons.specs.TraceNumbers.{is_same_list, trace_numbers}
 
 -- the events of the canonical script are legal
 abbrev pub HasLegalCanon : Setup → List Said → Type 0
@@ -27,7 +27,7 @@ HasCompleteCanon setup script = has_early_end setup (canon_of setup script) ≡ 
 -- the canonical script leaves the trace of the script
 abbrev pub HasSameTrace : Setup → List Said → Type 0
 HasSameTrace setup script =
-    are_same
+    is_same_list
     (trace_numbers (core_after setup (canon_of setup script)))
     (trace_numbers (core_after setup script))
     ≡ true

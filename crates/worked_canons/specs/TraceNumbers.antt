@@ -50,8 +50,8 @@ trace_numbers trace =
     ++ (length trace.pots ∷ flat_map pot_numbers trace.pots ++ trace.returned))))
 
 -- two lists have the same numbers
-abbrev pub are_same : List ℕ → List ℕ → Bool
-are_same [] [] = true
-are_same [] (y ∷ ys) = false
-are_same (x ∷ xs) [] = false
-are_same (x ∷ xs) (y ∷ ys) = if x == y then are_same xs ys else false
+abbrev pub is_same_list : List ℕ → List ℕ → Bool
+is_same_list [] [] = true
+is_same_list [] (y ∷ ys) = false
+is_same_list (x ∷ xs) [] = false
+is_same_list (x ∷ xs) (y ∷ ys) = if x == y then is_same_list xs ys else false

@@ -17,9 +17,11 @@ use Rattle.worked_canons.specs.TraceRows.{flags_of, pot_of, pots_of, seat_of, sh
 abbrev pub p1 : Seat
 p1 = seat_of 1 refl
 
+-- the second
 abbrev pub p2 : Seat
 p2 = seat_of 2 refl
 
+-- the third
 abbrev pub p3 : Seat
 p3 = seat_of 3 refl
 

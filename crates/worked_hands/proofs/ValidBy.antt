@@ -2,7 +2,7 @@
 use Rattle.std.proofs.Common.{◌≡◌, ℕ, zero, suc, ◌-◌, ◌<◌, ◌≤◌, ◌==◌, Bool, true, false, ◌&&◌, ◌||◌, not, nat_le, List, [], ◌∷◌, slice_index, arith}
 use Rattle.std.specs.List.{list_all}
 use Rattle.std.proofs.lemmas.Bool.{and_parts, leb-true, eqb-true, eq-eqb}
-use Rattle.list_laws.proofs.Tests.{false_true}
+use Rattle.list_laws.proofs.Tests.{false_true, implied}
 use Rattle.chip_ledger.specs.declared.rows.TheConstants.{MOST_AMOUNT}
 use Rattle.chip_ledger.specs.SeatRow.{amount_of}
 use Rattle.play_event.specs.declared.setup.Setup.{Setup}
@@ -61,11 +61,6 @@ most_by : (most : ℕ) (amounts : List ℕ) (k : ℕ) → are_most most amounts 
 most_by most [] k passes = omega arith
 most_by most (amount ∷ rest) zero passes = leb-true amount most (and_parts (nat_le amount most) (are_most most rest) passes).0
 most_by most (amount ∷ rest) (suc k) passes = most_by most rest k (and_parts (nat_le amount most) (are_most most rest) passes).1
-
--- if the first test passes, so does the second
-implied : (a b : Bool) → (not a || b) ≡ true → a ≡ true → b ≡ true
-implied true b passes is = passes
-implied false b passes is = false_true is
 
 -- the seats, the amounts, the bet sizes, and what depends on the game
 abbrev pass_seats : Setup → Bool

@@ -4,6 +4,7 @@ use Rattle.std.specs.Prelude.{true, false, [], ◌∷◌}
 use Rattle.play_event.specs.declared.code.Code.TheVariants as games
 use Rattle.play_event.specs.declared.setup.Setup.{Setup}
 use Rattle.worked_hands.specs.Words.{hand_of}
+use Rattle.chip_ledger.specs.declared.numbers.TheConstants.{MOST_CHIPS}
 
 -- three seats with stacks of 100 and the blinds 1 and 2, in no-limit hold'em with a least bet of 2
 abbrev pub no_limit : Setup
@@ -11,7 +12,7 @@ no_limit = hand_of games.NT false 0 0 0 2 (100 ∷ 100 ∷ 100 ∷ []) (0 ∷ 0 
 
 -- the same with stacks of 10^12
 abbrev pub deep_stacks : Setup
-deep_stacks = hand_of games.NT false 0 0 0 2 (1000000000000 ∷ 1000000000000 ∷ 1000000000000 ∷ []) (0 ∷ 0 ∷ 0 ∷ []) (1 ∷ 2 ∷ 0 ∷ []) refl refl refl
+deep_stacks = hand_of games.NT false 0 0 0 2 (MOST_CHIPS ∷ MOST_CHIPS ∷ MOST_CHIPS ∷ []) (0 ∷ 0 ∷ 0 ∷ []) (1 ∷ 2 ∷ 0 ∷ []) refl refl refl
 
 -- the same with 14 chips before p1
 abbrev pub first_short : Setup

@@ -1,8 +1,10 @@
 use Rattle.std.proofs.Common.{◌≡◌, ℕ, ◌<◌, ◌≤◌, ◌++◌, ◌∷◌, [], ◌∙◌, List, ap, sym, arith, length, take_all, get_or}
 use Rattle.std.proofs.lemmas.List.{length-set, take_more, take_more_set}
-use Rattle.first_fault.proofs.WrittenRows.{set_bounded, set_zeros}
 use Rattle.acpc_game.proofs.Bounds.{chips_within}
 use Rattle.acpc_game.proofs.reading.row_of.Goals as goal
+use Rattle.list_laws.proofs.Entries.{set_bounded, set_zeros}
+use Rattle.chip_ledger.specs.declared.rows.TheConstants.{MOST_AMOUNT}
+use Rattle.chip_ledger.specs.declared.numbers.TheConstants.{MOST_CHIPS}
 
 pub loop-index-preserved : goal.loop-index-preserved
 loop-index-preserved c =
@@ -11,10 +13,10 @@ loop-index-preserved c =
     let numbers = c.args.numbers.now in
     let x = get_or numbers index 0 in
     let within : index < length numbers = omega (arith, c.loop-index-test.true) in
-    let few : x ≤ 1000000000000 = chips_within numbers index c.requires.few in
+    let few : x ≤ MOST_CHIPS = chips_within numbers index c.requires.few in
     record {
       ten = omega (arith, inv.ten, length-set c.loop-index.amounts index x);
-      bounded = set_bounded c.loop-index.amounts index x 10000000000000 inv.bounded (omega (arith, few));
+      bounded = set_bounded c.loop-index.amounts index x MOST_AMOUNT inv.bounded (omega (arith, few));
       zeros = set_zeros c.loop-index.amounts index x inv.zeros;
       written =
           take_more_set c.loop-index.amounts index x (omega (arith, inv.ten, within, c.requires.greatest))

@@ -1,8 +1,9 @@
 use Rattle.std.proofs.Common.{◌≡◌, ◌≤◌, ◌*◌, sum_by, take}
 use Rattle.hand_canon.proofs.agreement.pot_total.Given as goal
+use Rattle.chip_ledger.specs.declared.rows.TheConstants.{MOST_AMOUNT}
 
 -- the pots so far are added up
 abbrev pub invariant-loop-pot : goal.invariant-loop-pot
 invariant-loop-pot l =
     (l.all ≡ sum_by (λ pot. pot.chips) (take l.pot-index l.pot-items))
-    × (l.all ≤ l.pot-index * 10000000000000)
+    × (l.all ≤ l.pot-index * MOST_AMOUNT)

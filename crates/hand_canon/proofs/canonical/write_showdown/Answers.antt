@@ -6,14 +6,15 @@ use Rattle.hand_canon.specs.RowTests.{is_fold_of}
 use Rattle.hand_canon.specs.TraceRows.{core_said, place_said}
 use Rattle.hand_canon.proofs.CanonParts.{no_showdown, showdown_are}
 use Rattle.hand_canon.proofs.MoveRows.{folded_all}
-use Rattle.hand_canon.proofs.WrittenWords.{nothing, on_ok, same_words}
 use Rattle.hand_canon.proofs.canonical.write_showdown.Goals as goal
+use Rattle.list_laws.proofs.Results.{on_ok}
+use Rattle.list_laws.proofs.Lists.{nothing_behind, same_behind}
 
 pub returns-then-count_unfolded-lt2 : goal.returns-then-count_unfolded-lt2
 returns-then-count_unfolded-lt2 c =
     let marked = folded_all c.args.trace.now.moves c.folds-folded.result (λ n from. c.folds-folded.ensures.flags n from ∙ ap (list_any (is_fold_of n)) c.as_slice.ensures) in
     let core = core_said c.args.trace.now in
-    nothing _ _ (no_showdown c.args.trace.now.setup core.places (plain_moves core.moves) core.shown c.folds-folded.result marked (omega (arith, c.count_unfolded.ensures, c.if-count_unfolded-lt2.true)))
+    nothing_behind _ _ (no_showdown c.args.trace.now.setup core.places (plain_moves core.moves) core.shown c.folds-folded.result marked (omega (arith, c.count_unfolded.ensures, c.if-count_unfolded-lt2.true)))
 
 pub returns : goal.returns
 returns c =
@@ -22,4 +23,4 @@ returns c =
     let same = showdown_are c.args.trace.now.setup core.places (plain_moves core.moves) c.args.trace.now.shown c.folds-folded.result c.discarded_by_seats-held.result
     marked (omega (arith, c.count_unfolded.ensures, c.if-count_unfolded-lt2.false))
     (λ n from. c.discarded_by_seats-held.ensures.discarded n from ∙ ap (λ places. discarded_slots (map place_said places) n 0) c.as_slice-2.ensures) in
-    on_ok c.write_each_showing.result (same_words _ _ _ _ (sym same)) c.write_each_showing.ensures
+    on_ok c.write_each_showing.result (same_behind _ _ _ _ (sym same)) c.write_each_showing.ensures

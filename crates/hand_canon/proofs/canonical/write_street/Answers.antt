@@ -7,8 +7,9 @@ use Rattle.hand_canon.specs.RowTests.{said_on}
 use Rattle.hand_canon.specs.TraceRows.{core_said}
 use Rattle.hand_canon.specs.Words.{words_of}
 use Rattle.hand_canon.proofs.MoveRows.{moves_are}
-use Rattle.hand_canon.proofs.WrittenWords.{on_ok, same_words, two_parts}
 use Rattle.hand_canon.proofs.canonical.write_street.Goals as goal
+use Rattle.list_laws.proofs.Results.{on_ok}
+use Rattle.list_laws.proofs.Lists.{same_behind, two_behind}
 
 pub returns : goal.returns
 returns c =
@@ -23,7 +24,7 @@ returns c =
     let same = ap (flat_map (said_on c.args.street)) c.as_slice.ensures ∙ sym (moves_are c.args.street c.args.trace.now.moves) in
     on_ok c.write_moves.result
     (λ is.
-    two_parts old first third discards (deals ++ moves) c.in_ok-write_discards.ensures
-    (two_parts first second third deals moves c.in_ok-write_deals.ensures
-    (same_words third second (flat_map (said_on c.args.street) c.as_slice.result.now) moves same is)))
+    two_behind old first third discards (deals ++ moves) c.in_ok-write_discards.ensures
+    (two_behind first second third deals moves c.in_ok-write_deals.ensures
+    (same_behind third second (flat_map (said_on c.args.street) c.as_slice.result.now) moves same is)))
     c.write_moves.ensures

@@ -7,9 +7,9 @@ use Rattle.first_fault.proofs.EachItem.{with_front, goes_on, ends, is_done}
 use Rattle.phh_fields.specs.declared.fault.Key.TheVariants as keys
 use Rattle.phh_fields.specs.Fields.{at_item}
 use Rattle.phh_fields.specs.Rows.{ante_said, antes_from}
-use Rattle.phh_fields.proofs.SetEach.{set_each}
-use Rattle.phh_fields.proofs.Taken.{plus_one_less_one}
 use Rattle.phh_fields.proofs.rows.fill_antes.Goals as goal
+use Rattle.list_laws.proofs.Numbers.{plus_one_less_one}
+use Rattle.list_laws.proofs.Entries.{set_each}
 
 pub returns-in_err-amounts-clause-amounts : goal.returns-in_err-amounts-clause-amounts
 returns-in_err-amounts-clause-amounts c =

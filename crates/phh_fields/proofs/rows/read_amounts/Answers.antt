@@ -6,8 +6,8 @@ use Rattle.first_fault.specs.Reading.{each_from}
 use Rattle.first_fault.proofs.EachItem.{with_front, goes_on, ends, is_done}
 use Rattle.phh_fields.specs.Fields.{at_item, amount_said}
 use Rattle.phh_fields.specs.Rows.{amounts_said}
-use Rattle.phh_fields.proofs.SetEach.{set_each}
 use Rattle.phh_fields.proofs.rows.read_amounts.Goals as goal
+use Rattle.list_laws.proofs.Entries.{set_each}
 
 pub returns-in_err-amounts-clause-amounts : goal.returns-in_err-amounts-clause-amounts
 returns-in_err-amounts-clause-amounts c =

@@ -8,8 +8,8 @@ use Rattle.chip_ledger.specs.declared.rows.TheConstants.{MOST_AMOUNT}
 use Rattle.phh_fields.specs.declared.fault.Key.TheVariants as keys
 use Rattle.phh_fields.specs.Fields.{at_item, amount_said}
 use Rattle.phh_fields.specs.Rows.{amounts_said}
-use Rattle.phh_fields.proofs.SetEach.{set_each}
 use Rattle.phh_fields.proofs.rows.read_each_rake.Goals as goal
+use Rattle.list_laws.proofs.Entries.{set_each}
 
 pub returns-in_err-rakes-clause-amounts : goal.returns-in_err-rakes-clause-amounts
 returns-in_err-rakes-clause-amounts c =

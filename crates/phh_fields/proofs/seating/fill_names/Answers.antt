@@ -8,8 +8,8 @@ use Rattle.hand_canon.specs.AllowedNotes.{IsName, default_name}
 use Rattle.phh_fields.specs.declared.fault.Key.TheVariants as keys
 use Rattle.phh_fields.specs.Fields.{at_item}
 use Rattle.phh_fields.specs.NoteFields.{names_from, text_note_said}
-use Rattle.phh_fields.proofs.SetEach.{set_each}
 use Rattle.phh_fields.proofs.seating.fill_names.Goals as goal
+use Rattle.list_laws.proofs.Entries.{set_each}
 
 pub returns-in_err-names-clause-said : goal.returns-in_err-names-clause-said
 returns-in_err-names-clause-said c =

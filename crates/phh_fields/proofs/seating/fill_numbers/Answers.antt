@@ -8,8 +8,8 @@ use Rattle.hand_canon.specs.AllowedNotes.{IsWithin}
 use Rattle.phh_fields.specs.declared.fault.Key.TheVariants as keys
 use Rattle.phh_fields.specs.Fields.{at_item, number_said}
 use Rattle.phh_fields.specs.NoteFields.{numbers_from}
-use Rattle.phh_fields.proofs.SetEach.{set_each}
 use Rattle.phh_fields.proofs.seating.fill_numbers.Goals as goal
+use Rattle.list_laws.proofs.Entries.{set_each}
 
 pub returns-in_err-numbers-clause-said : goal.returns-in_err-numbers-clause-said
 returns-in_err-numbers-clause-said c =

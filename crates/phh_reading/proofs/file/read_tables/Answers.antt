@@ -6,8 +6,8 @@ use Rattle.toml.specs.View.{table_view}
 use Rattle.first_fault.proofs.Thread.{threads_on, thread_ends, thread_done}
 use Rattle.phh_reading.specs.Hand.{plain}
 use Rattle.phh_reading.specs.Reading.{IsHistory, hands_said, moves_of, numbered_hand}
-use Rattle.phh_reading.proofs.Tables.{all_push}
 use Rattle.phh_reading.proofs.file.read_tables.Goals as goal
+use Rattle.list_laws.proofs.Entries.{all_push}
 
 pub returns-in_err-record-clause-said : goal.returns-in_err-record-clause-said
 returns-in_err-record-clause-said c =

@@ -2,8 +2,8 @@
 use Rattle.std.proofs.Common.{◌+◌, ◌++◌, ◌∙◌, ap, append_assoc, drop, flat_map, slice_get, string_bytes}
 use Rattle.std.specs.Option.{option_to_list}
 use Rattle.printed_report.specs.Tallies.{row_names, rows_of, tally_line}
-use Rattle.printed_report.proofs.Entries.{next_part}
 use Rattle.printed_report.proofs.report.push_names.Goals as goal
+use Rattle.list_laws.proofs.FlatMaps.{next_part}
 
 pub loop-index-preserved : goal.loop-index-preserved
 loop-index-preserved c =

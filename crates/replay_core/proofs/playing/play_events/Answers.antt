@@ -9,8 +9,9 @@ use Rattle.play_event.specs.Reasons.{why}
 use Rattle.play_event.specs.Said.{Said, said_of}
 use Rattle.play_event.specs.Scripts.{past_of, with_event}
 use Rattle.replay_core.specs.Events.{AreMovesOf}
-use Rattle.replay_core.proofs.SoFar.{all_played, is_next, none_left, one_more, refused_at, so_far}
+use Rattle.replay_core.proofs.SoFar.{one_more, refused_at}
 use Rattle.replay_core.proofs.playing.play_events.Goals as goal
+use Rattle.play_event.proofs.SaidSoFar.{all_played, is_next, none_left, so_far}
 
 pub returns-in-Err-clause-fault : goal.returns-in-Err-clause-fault
 returns-in-Err-clause-fault g c =

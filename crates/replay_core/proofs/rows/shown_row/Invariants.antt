@@ -1,10 +1,10 @@
 -- The seats so far are flagged where they are shown.
 use Rattle.std.proofs.Common.{◌≡◌, ◌≤◌, ℕ}
 use Rattle.chip_ledger.specs.LiveRow.{flag_of}
-use Rattle.replay_core.specs.EndRows.{shown_by}
+use Rattle.replay_core.specs.EndRows.{is_shown_by}
 use Rattle.replay_core.proofs.rows.shown_row.Given as goal
 
 abbrev pub invariant-loop-index : goal.invariant-loop-index
 invariant-loop-index l =
     (l.row.seats ≡ l.live.seats)
-    × ((n : ℕ) → 1 ≤ n → n ≤ l.index → flag_of l.row n ≡ shown_by l.live l.mucked l.unknown n)
+    × ((n : ℕ) → 1 ≤ n → n ≤ l.index → flag_of l.row n ≡ is_shown_by l.live l.mucked l.unknown n)

@@ -1,15 +1,14 @@
 -- By the scores the shown seats compare as in the game.
-use Rattle.std.proofs.Common.{◌≡◌, ℕ, true, IsTrue, ◌↔◌, sym, ◌∙◌, ap, subst}
+use Rattle.std.proofs.Common.{◌≡◌, ℕ, true, IsTrue, ◌↔◌, sym, ◌∙◌, subst}
 use Rattle.std.specs.Option.{is_some}
 use Rattle.card_set.specs.Row.{cards_of}
-use Rattle.hand_order.specs.declared.best.Pick.{Pick}
+use Rattle.card_set.specs.declared.pick.Pick.{Pick}
 use Rattle.hand_order.specs.Best.{Beats, IsLess, IsPointsOfHolding}
 use Rattle.hand_order.specs.Choices.{CanPick, allowed}
 use Rattle.play_event.specs.Games.{game_of}
 use Rattle.variant_table.specs.Orders.{award_of, second_of}
-use Rattle.variant_table.specs.Plain.{pick_of}
 use Rattle.variant_table.specs.Shares.{HasHand}
-use Rattle.variant_table.specs.TableLaws.{pick_back, same_held}
+use Rattle.variant_table.specs.TableLaws.{same_held}
 use Rattle.showdown_split.specs.Hands.{holding}
 use Rattle.showdown_split.specs.Scores.{points_of}
 use Rattle.showdown_split.proofs.Judged.{IsJudged, judged_beats, judged_hand, judged_low}
@@ -25,7 +24,7 @@ returns g c contending inside =
     let board = cards_of c.args.board.now in
     let high = points_of c.scores_of-high.result in
     let low = points_of c.low_scores-low.result in
-    let pick_is : v.PICK ≡ pick_of (game_of v.CODE).pick = sym (pick_back v.PICK) ∙ ap pick_of laws.values.pick_is in
+    let pick_is : v.PICK ≡ (game_of v.CODE).pick = laws.values.pick_is in
     let held_same : second.HELD ≡ award.HELD = laws.second.held_is ∙ same_held v.CODE ∙ sym laws.award.held_is in
     let first : (n : ℕ) → contending n ≡ true → IsJudged award.HELD award.is_hand award.is_weaker award.points v.PICK (holding hands n) board (high n) =
     λ n contends. let range = inside n contends in record {

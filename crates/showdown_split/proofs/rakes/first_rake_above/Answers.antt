@@ -2,11 +2,11 @@
 use Rattle.std.proofs.Common.{◌≡◌, ◌+◌, ◌-◌, true, false, find, slice_index, sym, ap, ◌∙◌, arith}
 use Rattle.std.specs.List.{range_with_len}
 use Rattle.std.proofs.lemmas.Bool.{le-ltb, lt-ltb}
-use Rattle.list_laws.proofs.Ranges.{find_next}
+use Rattle.list_laws.proofs.Ranges.{find_here, find_next}
 use Rattle.chip_ledger.specs.PotRow.{plain_pots}
 use Rattle.chip_ledger.specs.RakeRow.{rake_of}
 use Rattle.chip_ledger.specs.Rakes.{chips_in}
-use Rattle.showdown_split.proofs.FirstRake.{at_end, found_here, have_rakes, is_above}
+use Rattle.showdown_split.proofs.FirstRake.{at_end, have_rakes, is_above}
 use Rattle.showdown_split.proofs.rakes.first_rake_above.Goals as goal
 
 pub returns-then-chips_at-rakes-clause-first : goal.returns-then-chips_at-rakes-clause-first
@@ -17,7 +17,7 @@ returns-then-chips_at-rakes-clause-first c =
     let rake : rake_of rakes (i + 1) ≡ slice_index rakes.rakes i = ap (slice_index rakes.rakes) (omega arith) in
     let above : is_above pots rakes (i + 1) ≡ true =
     lt-ltb (chips_in pots (i + 1)) (rake_of rakes (i + 1)) (omega (arith, c.chips_at.ensures, rake, c.if-chips_at-rakes.true)) in
-    sym (found_here (is_above pots rakes) (i + 1) (11 - i) (omega (arith, c.loop-index-test.true)) above) ∙ c.loop-index.invariant
+    sym (find_here (is_above pots rakes) (i + 1) (11 - i) (omega (arith, c.loop-index-test.true)) above) ∙ c.loop-index.invariant
 
 pub loop-index-preserved : goal.loop-index-preserved
 loop-index-preserved c =

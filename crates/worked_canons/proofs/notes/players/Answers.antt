@@ -3,9 +3,9 @@ use Rattle.std.specs.Prelude.{◌≡◌, ◌≤◌, ℕ, ◌∷◌, codes, None,
 use Rattle.std.proofs.Common.{ap, arith, lit≤, refl, suc, sym, zero, ◌++◌, ◌∙◌}
 use Rattle.std.proofs.lemmas.Fmt.{decimal_digit}
 use Rattle.chip_ledger.specs.Fillers.{index-replicate}
-use Rattle.worked_canons.proofs.FewSeats.{by_three}
 use Rattle.worked_canons.proofs.BlankNotes.{allowed_with}
 use Rattle.worked_canons.proofs.notes.players.Goals as goal
+use Rattle.list_laws.proofs.Numbers.{by_three}
 
 pub returns-clause-two_names : goal.returns-clause-two_names
 returns-clause-two_names c =

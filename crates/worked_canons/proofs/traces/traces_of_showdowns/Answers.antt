@@ -8,9 +8,10 @@ use Rattle.chip_ledger.specs.Pots.{after_return, levels, layers, pots_at, pots_o
 use Rattle.play_event.specs.Due.{turn}
 use Rattle.play_event.specs.Reasons.{why}
 use Rattle.play_event.specs.Scripts.{with_event}
-use Rattle.worked_canons.proofs.FewSeats.{by_two, only}
 use Rattle.worked_canons.proofs.OneContends.{never_itself, no_part, one_contends}
 use Rattle.worked_canons.proofs.traces.traces_of_showdowns.Goals as goal
+use Rattle.list_laws.proofs.Entries.{only}
+use Rattle.list_laws.proofs.Numbers.{by_two}
 
 pub returns-clause-the_hand_is_legal : goal.returns-clause-the_hand_is_legal
 unfolding turn why with_event slot_spelled rank_lettered suit_lettered after_return levels layers pots_at pots_of

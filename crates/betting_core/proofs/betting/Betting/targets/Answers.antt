@@ -6,11 +6,11 @@ use Rattle.play_event.specs.Openers.{InTurn, TheSeat}
 use Rattle.betting_numbers.specs.declared.targeting.Targets.{Targets}
 use Rattle.betting_numbers.specs.SeatsSaid.{seat_said, turn_of}
 use Rattle.betting_numbers.specs.Planned.{IsTurn}
-use Rattle.betting_numbers.proofs.TargetEnds.{some_more}
 use Rattle.play_event.specs.Mover.{mover}
 use Rattle.play_event.specs.Table.{up_cards}
 use Rattle.play_event.specs.TurnTargets.{AreTargets, has_targets_at, may_raise_now}
 use Rattle.betting_core.proofs.betting.Betting.targets.Goals as goal
+use Rattle.list_laws.proofs.Options.{some_more}
 
 pub returns-then-betting_due-clause-some : goal.returns-then-betting_due-clause-some
 returns-then-betting_due-clause-some g c =

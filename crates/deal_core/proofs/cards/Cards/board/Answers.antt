@@ -4,8 +4,9 @@ use Rattle.card_set.specs.Known.{known_cards}
 use Rattle.play_event.specs.Places.{Place}
 use Rattle.card_places.specs.Held.{held_slots}
 use Rattle.deal_core.specs.Board.{board_cards}
-use Rattle.deal_core.proofs.Boards.{board_held, all_known}
+use Rattle.deal_core.proofs.Boards.{board_held}
 use Rattle.deal_core.proofs.cards.Cards.board.Goals as goal
+use Rattle.card_set.proofs.KnownCards.{all_known}
 
 pub returns : goal.returns
 returns g c =

@@ -10,10 +10,10 @@ use Rattle.card_places.specs.Dealt.{IsDealt}
 use Rattle.deal_core.specs.Standing.{StandsFor}
 use Rattle.card_places.specs.Refusals.{hole_why, board_why}
 use Rattle.deal_core.proofs.Games.{due_five}
-use Rattle.card_places.proofs.Outcomes.{on_ok, on_ok_both, if_err}
 use Rattle.deal_core.proofs.StandsAfter.{hole_stands, board_stands}
 use Rattle.deal_core.proofs.WhyDeal.{why_hole, why_board, hole_turn, board_turn}
 use Rattle.deal_core.proofs.cards.Cards.deal.Goals as goal
+use Rattle.list_laws.proofs.Results.{if_err, on_ok, on_ok_both}
 
 pub returns-in-Hole-clause-legal : goal.returns-in-Hole-clause-legal
 returns-in-Hole-clause-legal g c =

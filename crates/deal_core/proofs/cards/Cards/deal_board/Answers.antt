@@ -1,9 +1,10 @@
 -- What may be dealt is owed.
 use Rattle.std.proofs.Common.{ℕ, None, sym, subst, ◌∙◌}
 use Rattle.card_places.specs.Dealt.{IsDealt}
-use Rattle.card_places.proofs.Fits.{board_owed, same_some}
+use Rattle.card_places.proofs.Fits.{board_owed}
 use Rattle.deal_core.proofs.Games.{due_in}
 use Rattle.deal_core.proofs.cards.Cards.deal_board.Goals as goal
+use Rattle.std.proofs.lemmas.Option.{same_Some}
 
 pub lay-requires : goal.lay-requires
 lay-requires g c =
@@ -14,4 +15,4 @@ pub returns-in-Some-street_due-clause-dealt : goal.returns-in-Some-street_due-cl
 returns-in-Some-street_due-clause-dealt g c =
     λ on street.
     subst (λ (s : ℕ). IsDealt c.args.self.now.state c.lay.new.state None s c.args.cards.now)
-    (same_some c.in-Some-street_due.on on (sym c.in-Some-street_due.is ∙ c.street_due.ensures ∙ street)) c.lay.ensures
+    (same_Some c.in-Some-street_due.on on (sym c.in-Some-street_due.is ∙ c.street_due.ensures ∙ street)) c.lay.ensures

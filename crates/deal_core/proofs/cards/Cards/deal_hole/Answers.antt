@@ -1,9 +1,10 @@
 -- What may be dealt is owed.
 use Rattle.std.proofs.Common.{ℕ, Some, sym, subst, ◌∙◌}
 use Rattle.card_places.specs.Dealt.{IsDealt}
-use Rattle.card_places.proofs.Fits.{hole_owed, same_some}
+use Rattle.card_places.proofs.Fits.{hole_owed}
 use Rattle.deal_core.proofs.Games.{due_in, due_five}
 use Rattle.deal_core.proofs.cards.Cards.deal_hole.Goals as goal
+use Rattle.std.proofs.lemmas.Option.{same_Some}
 
 pub hole_why-requires-clause-due : goal.hole_why-requires-clause-due
 hole_why-requires-clause-due g c = due_five c.args.self.now.state.table.code g.V.Variant.CODE _ c.args.due c.args.self.now.code g.met.V.Variant.values.streets_is c.requires.due
@@ -17,4 +18,4 @@ pub returns-in-Some-street_due-clause-dealt : goal.returns-in-Some-street_due-cl
 returns-in-Some-street_due-clause-dealt g c =
     λ on street.
     subst (λ (s : ℕ). IsDealt c.args.self.now.state c.lay.new.state (Some c.args.seat.number) s c.args.cards.now)
-    (same_some c.in-Some-street_due.on on (sym c.in-Some-street_due.is ∙ c.street_due.ensures ∙ street)) c.lay.ensures
+    (same_Some c.in-Some-street_due.on on (sym c.in-Some-street_due.is ∙ c.street_due.ensures ∙ street)) c.lay.ensures

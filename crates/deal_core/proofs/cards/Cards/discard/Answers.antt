@@ -7,11 +7,11 @@ use Rattle.play_event.specs.Reasons.{why}
 use Rattle.play_event.specs.Scripts.{with_event}
 use Rattle.deal_core.specs.Standing.{StandsFor}
 use Rattle.deal_core.proofs.Games.{due_five}
-use Rattle.card_places.proofs.Outcomes.{on_ok, on_ok_both, if_err}
 use Rattle.deal_core.proofs.DiscardTurn.{discard_turn}
 use Rattle.deal_core.proofs.StandsDiscard.{discard_stands}
 use Rattle.deal_core.proofs.WhyDiscard.{why_discard}
 use Rattle.deal_core.proofs.cards.Cards.discard.Goals as goal
+use Rattle.list_laws.proofs.Results.{if_err, on_ok, on_ok_both}
 
 pub returns-in-Discard-clause-legal : goal.returns-in-Discard-clause-legal
 returns-in-Discard-clause-legal g c =

@@ -5,10 +5,10 @@ use Rattle.play_event.specs.Said.{kind_said}
 use Rattle.play_event.specs.Reasons.{why}
 use Rattle.play_event.specs.Scripts.{with_event}
 use Rattle.deal_core.specs.Standing.{StandsFor}
-use Rattle.card_places.proofs.Outcomes.{on_ok, if_err}
 use Rattle.deal_core.proofs.StandsShow.{show_stands, muck_stands}
 use Rattle.deal_core.proofs.WhyShow.{why_show, why_muck}
 use Rattle.deal_core.proofs.cards.Cards.show.Goals as goal
+use Rattle.list_laws.proofs.Results.{if_err, on_ok}
 
 pub returns-in-Show-clause-legal : goal.returns-in-Show-clause-legal
 returns-in-Show-clause-legal g c =

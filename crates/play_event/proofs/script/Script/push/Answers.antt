@@ -1,6 +1,7 @@
 use Rattle.std.proofs.Common.{◌∙◌, [], ◌∷◌, ◌++◌, ap, length, arith, length-append}
-use Rattle.play_event.proofs.PackedScripts.{kept, unchanged_events, on_err, pushed, pushed_events, length-packed_events}
+use Rattle.play_event.proofs.PackedScripts.{kept, unchanged_events, pushed, pushed_events, length-packed_events}
 use Rattle.play_event.proofs.script.Script.push.Goals as goal
+use Rattle.list_laws.proofs.Results.{on_err}
 
 pub overflow_add-self : goal.overflow_add-self
 overflow_add-self c =
