@@ -3,7 +3,6 @@ pub mod Joined
 pub mod Moves
 pub mod SoFar
 pub mod Counted
-pub mod TracedPlaces
 pub mod SameShowdown
 pub mod ShownHands
 pub mod FinishBound
@@ -11,3 +10,5 @@ pub mod EndTrace
 pub mod Ended
 pub mod EndChips
 pub mod TraceAtEnd
+pub mod OneFault
+pub mod NoUpCards

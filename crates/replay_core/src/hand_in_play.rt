@@ -27,17 +27,16 @@ ghost use Rattle.replay_core.specs.Told.{IsToldOf, WhereTogether};
 use betting_core::Betting;
 use chip_ledger::{LiveRow, SeatRow};
 use deal_core::Cards;
-use play_event::{Act, Due, Event, Illegal, Kind, Move, Rules, Setup, UpRow};
+use play_event::{Act, Due, Event, Illegal, Kind, Move, Opener, Rules, Setup, UpRow};
 use variant_table::Variant;
 
-/// A hand of the game `V` at some moment: its betting, its cards, and a row of the up-cards among them.
+/// A hand of the game `V` at some moment: its betting and its cards.
 ///
 /// What the calls say of the past holds for every past for which betting and cards stand (`StandTogether`).
 #[derive(Drop)]
 pub struct HandInPlay<V: Variant> {
     pub betting: Betting<V>,
     pub cards: Cards<V>,
-    pub up: UpRow,
 }
 
 // The act is a fold.
@@ -47,6 +46,16 @@ fn folds(act: Act) -> bool
     match act {
         Act::Fold => true,
         Act::Call | Act::Raise | Act::BringIn => false,
+    }
+}
+
+// The up-cards of each seat, which decide who opens. Where blinds decide that, no card is dealt face up.
+fn up_row<V: Variant>(cards: &Cards<V>) -> UpRow
+    ensures { IsUpRowOf V.CODE cards.now.state result }
+{
+    match V::OPEN {
+        Opener::Blinds => UpRow::new(cards.state.seats),
+        Opener::LowUp | Opener::HighUp => cards.up(),
     }
 }
 
@@ -95,16 +104,13 @@ impl<V: Variant> HandInPlay<V> {
         requires valid { IsValid setup.now }
         requires code { setup.now.code ≡ V.CODE }
         ensures stands { StandTogether result.betting.table result.cards.state [] }
-        ensures up { IsUpRowOf V.CODE result.cards.state result.up }
         ensures setup { result.betting.table.setup ≡ setup.now }
         ensures rules { result.betting.table.rules ≡ rules.now }
         ensures seats { result.cards.state.seats ≡ setup.now.stacks.seats }
     {
-        let cards = Cards::<V>::start(setup.stacks.seats);
         HandInPlay {
             betting: Betting::<V>::start(setup, rules),
-            up: cards.up(),
-            cards,
+            cards: Cards::<V>::start(setup.stacks.seats),
         }
     }
 
@@ -151,7 +157,6 @@ impl<V: Variant> HandInPlay<V> {
     // A move, and for a fold what it does to the cards.
     fn bet(&mut self, event: &Event) -> Result<Option<Move>, Illegal>
         requires seats { self.old.betting.table.setup.stacks.seats ≡ self.old.cards.state.seats }
-        requires up { IsUpRowOf V.CODE self.old.cards.state self.old.up }
         requires kind { is_card_said (said_of event.now) ≡ false }
         ensures refused { WhereTogether self.old.betting.table self.old.cards.state
             (λ past. IfErr result (λ reason.
@@ -166,19 +171,18 @@ impl<V: Variant> HandInPlay<V> {
         ensures told { WhereTogether self.old.betting.table self.old.cards.state
             (λ past. IfOk result
             (IsToldOf self.old.betting.table (said_of event.now) past)) }
-        ensures up { IsUpRowOf V.CODE self.new.cards.state self.new.up }
         ensures unchanged { OnErr result (self.new ≡ self.old) }
         ensures seats { self.new.cards.state.seats ≡ self.old.cards.state.seats }
         ensures setup { self.new.betting.table.setup ≡ self.old.betting.table.setup }
         ensures rules { self.new.betting.table.rules ≡ self.old.betting.table.rules }
     {
-        let moved = match self.betting.step(&self.up, event) {
+        let up = up_row(&self.cards);
+        let moved = match self.betting.step(&up, event) {
             Ok(moved) => moved,
             Err(reason) => return Err(reason),
         };
         if folds(moved.act) {
             self.cards.folded(moved.seat);
-            self.up = self.cards.up();
         }
         Ok(Some(moved))
     }
@@ -233,7 +237,6 @@ impl<V: Variant> HandInPlay<V> {
     // An event of cards, and the end of what it completes.
     fn take_cards(&mut self, event: &Event) -> Result<Option<Move>, Illegal>
         requires seats { self.old.betting.table.setup.stacks.seats ≡ self.old.cards.state.seats }
-        requires up { IsUpRowOf V.CODE self.old.cards.state self.old.up }
         requires kind { is_card_said (said_of event.now) ≡ true }
         ensures refused { WhereTogether self.old.betting.table self.old.cards.state
             (λ past. IfErr result (λ reason.
@@ -248,7 +251,6 @@ impl<V: Variant> HandInPlay<V> {
         ensures told { WhereTogether self.old.betting.table self.old.cards.state
             (λ past. IfOk result
             (IsToldOf self.old.betting.table (said_of event.now) past)) }
-        ensures up { IsUpRowOf V.CODE self.new.cards.state self.new.up }
         ensures unchanged { OnErr result (self.new ≡ self.old) }
         ensures seats { self.new.cards.state.seats ≡ self.old.cards.state.seats }
         ensures setup { self.new.betting.table.setup ≡ self.old.betting.table.setup }
@@ -260,7 +262,6 @@ impl<V: Variant> HandInPlay<V> {
         match lay(&mut self.cards, due, &live, settled, event) {
             Ok(()) => {
                 self.end();
-                self.up = self.cards.up();
                 Ok(None)
             }
             Err(reason) => Err(reason),
@@ -271,7 +272,6 @@ impl<V: Variant> HandInPlay<V> {
     /// bring-in is told as the trace keeps it, and of other events nothing is told.
     pub fn advance(&mut self, event: &Event) -> Result<Option<Move>, Illegal>
         requires seats { self.old.betting.table.setup.stacks.seats ≡ self.old.cards.state.seats }
-        requires up { IsUpRowOf V.CODE self.old.cards.state self.old.up }
         ensures refused { WhereTogether self.old.betting.table self.old.cards.state
             (λ past. IfErr result (λ reason.
             reason_after self.old.betting.table past (said_of event.now) ≡ Some reason)) }
@@ -285,7 +285,6 @@ impl<V: Variant> HandInPlay<V> {
         ensures told { WhereTogether self.old.betting.table self.old.cards.state
             (λ past. IfOk result
             (IsToldOf self.old.betting.table (said_of event.now) past)) }
-        ensures up { IsUpRowOf V.CODE self.new.cards.state self.new.up }
         ensures unchanged { OnErr result (self.new ≡ self.old) }
         ensures seats { self.new.cards.state.seats ≡ self.old.cards.state.seats }
         ensures setup { self.new.betting.table.setup ≡ self.old.betting.table.setup }

@@ -44,6 +44,9 @@ pub use canon_laws::law_of_tidy_traces;
 /// A play that is legal under the rules of one notation is legal under those of another if it suits them.
 pub use canon_laws::law_of_other_rules;
 
+/// Of a script one fault holds at most, but for want of memory, and of a legal hand none.
+pub use crate::fault_laws::law_of_one_fault;
+
 /// A past has at most one whole trace.
 pub use trace_laws::law_of_one_trace;
 

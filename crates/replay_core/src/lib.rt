@@ -3,6 +3,7 @@
 
 mod ending;
 mod fault;
+mod fault_laws;
 mod finish;
 mod hand_in_play;
 pub mod laws;

@@ -1,26 +1,134 @@
 // The places of the trace.
-ghost use Rattle.std.specs.Prelude.{◌≡◌, IfOk, map};
+ghost use Rattle.std.specs.Prelude.{◌≡◌, ◌+◌, ◌++◌, ◌≤◌, [], ◌∷◌, IfOk, OnOk, map};
+ghost use Rattle.card_places.specs.Ordered.{group, on_seats, on_street, on_streets};
+ghost use Rattle.card_places.specs.Plain.{place_of, seat_of};
 ghost use Rattle.deal_core.specs.Standing.{StandsFor};
 ghost use Rattle.hand_canon.specs.TraceRows.{place_said};
 ghost use Rattle.play_event.specs.Past.{Past};
-ghost use Rattle.play_event.specs.Trace.{traced_places};
+ghost use Rattle.play_event.specs.Trace.{traced_place, traced_places};
 ghost use Rattle.play_event.specs.declared.setup.Setup.{Setup};
 
+use card_places::DealtCard;
 use card_set::Memory;
+use chip_ledger::Seat;
 use deal_core::Cards;
 use hand_canon::Places;
+use play_event::Place;
 use std::alloc::Global;
 use variant_table::Variant;
 
-/// All cards that were dealt, in the order of the trace.
+/// All cards that were dealt, in the order of the trace: by street, then by owner, p1 first and the board last, then in the
+/// order of dealing.
 pub fn places_of<V: Variant>(alloc: Global, cards: &Cards<V>) -> Result<Places, Memory>
     ensures { (setup : Setup) (past : Past) → setup.code ≡ V.CODE
         → setup.stacks.seats ≡ cards.now.state.seats → StandsFor cards.now.state past
         → IfOk result (λ places. map place_said places ≡ traced_places setup past) }
 {
     let mut places = Places::new(alloc);
-    for index in 0..cards.place_count() {
-        places.push(cards.place(index))?;
-    }
+    let dealt = cards.state.places.as_slice();
+    push_streets(&mut places, dealt, cards.state.seats, 0, V::STREETS)?;
     Ok(places)
+}
+
+// Puts the cards of so many streets, behind those of the streets before them.
+fn push_streets(
+    places: &mut Places,
+    dealt: &[DealtCard],
+    seats: u8,
+    before: u8,
+    count: u8,
+) -> Result<(), Memory>
+    requires seats { seats ≤ 10 }
+    requires within { before + count ≤ 255 }
+    ensures { OnOk result (map place_said places.new ≡ map place_said places.old
+        ++ map traced_place (on_streets seats (map place_of dealt.now) (before + 1) count)) }
+{
+    if count == 0 {
+        return Ok(());
+    }
+    push_street(places, dealt, seats, before + 1)?;
+    push_streets(places, dealt, seats, before + 1, count - 1)
+}
+
+// Puts the cards of a street: first those of the seats, and then the board's.
+fn push_street(
+    places: &mut Places,
+    dealt: &[DealtCard],
+    seats: u8,
+    street: u8,
+) -> Result<(), Memory>
+    requires seats { seats ≤ 10 }
+    ensures { OnOk result (map place_said places.new ≡ map place_said places.old
+        ++ map traced_place (on_street seats (map place_of dealt.now) street)) }
+{
+    push_seats(places, dealt, street, 1, seats)?;
+    push_group(places, dealt, None, street)
+}
+
+// Puts the cards of a street that so many seats have, from this one on.
+fn push_seats(
+    places: &mut Places,
+    dealt: &[DealtCard],
+    street: u8,
+    first: u8,
+    count: u8,
+) -> Result<(), Memory>
+    requires from_one { 1 ≤ first }
+    requires within { first + count ≤ 11 }
+    ensures { OnOk result (map place_said places.new ≡ map place_said places.old
+        ++ map traced_place (on_seats (map place_of dealt.now) street first count)) }
+{
+    if count == 0 {
+        return Ok(());
+    }
+    push_group(places, dealt, Some(Seat { number: first }), street)?;
+    push_seats(places, dealt, street, first + 1, count - 1)
+}
+
+// Puts the cards of an owner on a street, in the order of dealing.
+fn push_group(
+    places: &mut Places,
+    dealt: &[DealtCard],
+    owner: Option<Seat>,
+    street: u8,
+) -> Result<(), Memory>
+    ensures { OnOk result (map place_said places.new ≡ map place_said places.old
+        ++ map traced_place (group (map place_of dealt.now) street (seat_of owner))) }
+{
+    match dealt {
+        [] => Ok(()),
+        [card, rest @ ..] => {
+            push_if(places, card, owner, street)?;
+            push_group(places, rest, owner, street)
+        }
+    }
+}
+
+// Puts a card, if it is the owner's on the street.
+fn push_if(
+    places: &mut Places,
+    card: &DealtCard,
+    owner: Option<Seat>,
+    street: u8,
+) -> Result<(), Memory>
+    ensures { OnOk result (map place_said places.new ≡ map place_said places.old
+        ++ map traced_place (group (place_of card.now ∷ []) street (seat_of owner))) }
+{
+    if card.in_group(owner, street) {
+        places.push(traced(card))
+    } else {
+        Ok(())
+    }
+}
+
+// A card as the trace keeps it.
+fn traced(card: &DealtCard) -> Place
+    ensures { place_said result ≡ traced_place (place_of card.now) }
+{
+    Place {
+        owner: card.owner,
+        street: card.street,
+        slot: card.slot,
+        gone: card.discarded,
+    }
 }

@@ -1,7 +1,7 @@
 // The events of a script, one after the other.
 ghost use Rattle.std.specs.Prelude.{◌≡◌, ◌<◌, ◌^◌, ◌++◌, [], length, map, reverse, None, IfErr, IfOk, OnOk};
 ghost use Rattle.betting_numbers.specs.Planned.{past_with, reason_after};
-ghost use Rattle.replay_core.specs.Together.{IsUpRowOf, StandTogether};
+ghost use Rattle.replay_core.specs.Together.{StandTogether};
 ghost use Rattle.replay_core.specs.Told.{WhereTogether, moves_told};
 ghost use Rattle.canonical_play.specs.PlayedScript.{IsPlayed, IsWithinLimits};
 ghost use Rattle.play_event.specs.Due as dues;
@@ -41,7 +41,6 @@ fn play_event<V: Variant>(
     number: u32,
 ) -> Result<(), ReplayFault>
     requires seats { hand.old.betting.table.setup.stacks.seats ≡ hand.old.cards.state.seats }
-    requires up { IsUpRowOf V.CODE hand.old.cards.state hand.old.up }
     ensures fault { WhereTogether hand.old.betting.table hand.old.cards.state
         (λ past. IfErr result (IsRefusedEvent hand.old.betting.table event.now number past)) }
     ensures legal { WhereTogether hand.old.betting.table hand.old.cards.state
@@ -54,7 +53,6 @@ fn play_event<V: Variant>(
         (λ past. AreMovesOf hand.old.betting.table.setup past moves.old
         → OnOk result (AreMovesOf hand.old.betting.table.setup
         (past_with hand.old.betting.table past (said_of event.now)) moves.new)) }
-    ensures up { IsUpRowOf V.CODE hand.new.cards.state hand.new.up }
     ensures seats { hand.new.cards.state.seats ≡ hand.old.cards.state.seats }
     ensures setup { hand.new.betting.table.setup ≡ hand.old.betting.table.setup }
     ensures rules { hand.new.betting.table.rules ≡ hand.old.betting.table.rules }
@@ -79,7 +77,6 @@ fn play_events<V: Variant>(
     script: &Script,
 ) -> Result<u32, ReplayFault>
     requires seats { hand.old.betting.table.setup.stacks.seats ≡ hand.old.cards.state.seats }
-    requires up { IsUpRowOf V.CODE hand.old.cards.state hand.old.up }
     requires start { StandTogether hand.old.betting.table hand.old.cards.state [] }
     requires none { moves.old ≡ [] }
     requires few { length script.now < 2 ^ 32 }
@@ -92,7 +89,6 @@ fn play_events<V: Variant>(
         (past_at_end hand.old.betting.table.setup (said_by script.now))) }
     ensures moves { OnOk result (AreMovesOf hand.old.betting.table.setup
         (past_at_end hand.old.betting.table.setup (said_by script.now)) moves.new) }
-    ensures up { IsUpRowOf V.CODE hand.new.cards.state hand.new.up }
     ensures seats { hand.new.cards.state.seats ≡ hand.old.cards.state.seats }
     ensures setup { hand.new.betting.table.setup ≡ hand.old.betting.table.setup }
 {

@@ -45,7 +45,6 @@ loop-event-preserved g c =
       played = one_more first.setup first.rules script count c.in-Some.event c.next.new.self b new.betting.table c.loop-event.hand.cards.state new.cards.state c.loop-event.moves c.play_event.new.moves next inv.played legal stands moves;
       setup = c.in-Ok.ensures.setup ∙ inv.setup;
       rules = c.in-Ok.ensures.rules ∙ inv.rules;
-      up = c.in-Ok.ensures.up;
       seats = c.in-Ok.ensures.seats ∙ inv.seats;
     }
 

@@ -1,6 +1,5 @@
 -- The events so far were played, and those that are left are behind them.
 use Rattle.std.proofs.Common.{◌≡◌, ◌≤◌, length, drop}
-use Rattle.replay_core.specs.Together.{IsUpRowOf}
 use Rattle.replay_core.proofs.SoFar.{IsPlayedTo}
 use Rattle.replay_core.proofs.playing.play_events.Given as goal
 
@@ -14,7 +13,6 @@ invariant-loop-event g l =
       played : IsPlayedTo first.setup first.rules l.script l.count b l.hand.cards.state l.moves;
       setup : b.setup ≡ first.setup;
       rules : b.rules ≡ first.rules;
-      up : IsUpRowOf g.V.Variant.CODE l.hand.cards.state l.hand.up;
       seats : l.hand.cards.state.seats ≡ l.initial.hand.cards.state.seats;
     }
 

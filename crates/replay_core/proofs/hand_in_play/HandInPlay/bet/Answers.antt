@@ -11,7 +11,7 @@ returns-then-folds-clause-stands g c =
     let t = c.args.self.now.cards.state in
     let b = c.args.self.now.betting.table in
     λ past both.
-    let ups = ups_of_past g.V.Variant.CODE b t c.args.self.now.up past c.args.self.now.betting.code both c.requires.up in
+    let ups = ups_of_past g.V.Variant.CODE b t c.up_row-up.result past c.args.self.now.betting.code both c.up_row-up.ensures in
     record {
       code_is = ap (λ (s : Setup). s.code) c.step.ensures.setup ∙ both.code_is ∙ c.args.self.now.cards.code ∙ sym c.folded.new.self.code;
       seats = ap (λ (s : Setup). s.stacks.seats) c.step.ensures.setup ∙ both.seats ∙ sym c.folded.ensures.seats;
@@ -25,7 +25,7 @@ returns-else-folds-clause-stands g c =
     let t = c.args.self.now.cards.state in
     let b = c.args.self.now.betting.table in
     λ past both.
-    let ups = ups_of_past g.V.Variant.CODE b t c.args.self.now.up past c.args.self.now.betting.code both c.requires.up in
+    let ups = ups_of_past g.V.Variant.CODE b t c.up_row-up.result past c.args.self.now.betting.code both c.up_row-up.ensures in
     record {
       code_is = ap (λ (s : Setup). s.code) c.step.ensures.setup ∙ both.code_is;
       seats = ap (λ (s : Setup). s.stacks.seats) c.step.ensures.setup ∙ both.seats;
@@ -36,8 +36,8 @@ returns-else-folds-clause-stands g c =
 
 pub returns-then-folds-clause-told : goal.returns-then-folds-clause-told
 returns-then-folds-clause-told g c = λ past both.
-    move_told c.args.self.now.betting.table past (said_of c.args.event.now) c.in-Ok.moved c.requires.kind (c.in-Ok.ensures.moved past both.betting (ups_of_past g.V.Variant.CODE c.args.self.now.betting.table c.args.self.now.cards.state c.args.self.now.up past c.args.self.now.betting.code both c.requires.up))
+    move_told c.args.self.now.betting.table past (said_of c.args.event.now) c.in-Ok.moved c.requires.kind (c.in-Ok.ensures.moved past both.betting (ups_of_past g.V.Variant.CODE c.args.self.now.betting.table c.args.self.now.cards.state c.up_row-up.result past c.args.self.now.betting.code both c.up_row-up.ensures))
 
 pub returns-else-folds-clause-told : goal.returns-else-folds-clause-told
 returns-else-folds-clause-told g c = λ past both.
-    move_told c.args.self.now.betting.table past (said_of c.args.event.now) c.in-Ok.moved c.requires.kind (c.in-Ok.ensures.moved past both.betting (ups_of_past g.V.Variant.CODE c.args.self.now.betting.table c.args.self.now.cards.state c.args.self.now.up past c.args.self.now.betting.code both c.requires.up))
+    move_told c.args.self.now.betting.table past (said_of c.args.event.now) c.in-Ok.moved c.requires.kind (c.in-Ok.ensures.moved past both.betting (ups_of_past g.V.Variant.CODE c.args.self.now.betting.table c.args.self.now.cards.state c.up_row-up.result past c.args.self.now.betting.code both c.up_row-up.ensures))
