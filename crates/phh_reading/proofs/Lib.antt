@@ -3,3 +3,4 @@ pub mod NumberOrder
 pub mod Placing
 pub mod Counting
 pub mod Documents
+pub mod SamePlay

@@ -1,0 +1,148 @@
+-- Records that say the same plain hand say the same play.
+use Rattle.std.proofs.Common.{◌≡◌, ℕ, Bool, ◌+◌, ◌-◌, ◌<◌, ◌≤◌, List, [], ◌∷◌, map, length, take, get_or, slice_index_or, Option, Some, None, option_map, refl, sym, subst, ap, ap₂, ◌∙◌, arith}
+use Rattle.std.proofs.Props.{props}
+use Rattle.std.proofs.lemmas.List.{get_or-take, length-take-le}
+use Rattle.card_set.proofs.RowLaws.{cards_same, slots_same}
+use Rattle.chip_ledger.specs.declared.numbers.Seat.{Seat}
+use Rattle.chip_ledger.specs.declared.rakes.RakeRow.{RakeRow}
+use Rattle.chip_ledger.specs.declared.rows.SeatRow.{SeatRow}
+use Rattle.chip_ledger.proofs.Same.{seat_row_same_by_seats, seat_same}
+use Rattle.hand_canon.specs.declared.record.NetRow.{NetRow}
+use Rattle.hand_canon.specs.declared.record.Record.{Record}
+use Rattle.hand_canon.specs.declared.record.Stated.{Stated}
+use Rattle.play_event.specs.declared.code.Code.{Code}
+use Rattle.play_event.specs.declared.event.Event.{Event}
+use Rattle.play_event.specs.declared.event.Kind.{Kind}
+use Rattle.play_event.specs.declared.event.Kind.TheVariants as kinds
+use Rattle.play_event.specs.declared.setup.Setup.{Setup}
+use Rattle.play_event.specs.Said.{Numbered, kind_said, numbered, seat_named}
+use Rattle.phh_fields.specs.declared.sizes.Sizes.{Sizes}
+use Rattle.phh_fields.specs.Rows.{amounts_in}
+use Rattle.phh_reading.specs.Hand.{PlainHand, plain}
+
+-- a map that tells all values apart tells all lists apart
+lists_same : {A B : Type 0} (f : A → B) → ((a b : A) → f a ≡ f b → a ≡ b) → (xs ys : List A) → map f xs ≡ map f ys → xs ≡ ys
+lists_same f apart [] [] same = refl
+lists_same f apart [] (y ∷ ys) same = absurd (cc)
+lists_same f apart (x ∷ xs) [] same = absurd (cc)
+lists_same f apart (x ∷ xs) (y ∷ ys) same =
+    ap₂ (λ z zs. z ∷ zs) (apart x y (cc)) (lists_same f apart xs ys (cc))
+
+-- and all optional values
+options_same : {A B : Type 0} (f : A → B) → ((a b : A) → f a ≡ f b → a ≡ b) → (x y : Option A) → option_map f x ≡ option_map f y → x ≡ y
+options_same f apart None None same = refl
+options_same f apart None (Some b) same = absurd (cc)
+options_same f apart (Some a) None same = absurd (cc)
+options_same f apart (Some a) (Some b) same = ap Some (apart a b (cc))
+
+actor_same : (a b : Option Seat) → seat_named a ≡ seat_named b → a ≡ b
+actor_same a b same = options_same (λ (seat : Seat). seat.number) seat_same a b same
+
+kind_same : (a b : Kind) → kind_said a ≡ kind_said b → a ≡ b
+kind_same (kinds.Hole a xs) (kinds.Hole b ys) same = ap₂ kinds.Hole (seat_same a b (cc)) (slots_same xs ys (cc))
+kind_same (kinds.Board xs) (kinds.Board ys) same = ap kinds.Board (cards_same xs ys (cc))
+kind_same (kinds.Fold a) (kinds.Fold b) same = ap kinds.Fold (actor_same a b (cc))
+kind_same (kinds.Call a n) (kinds.Call b m) same = ap₂ kinds.Call (actor_same a b (cc)) (cc)
+kind_same (kinds.Raise a x) (kinds.Raise b y) same = ap₂ kinds.Raise (actor_same a b (cc)) (cc)
+kind_same (kinds.BringIn a) (kinds.BringIn b) same = ap kinds.BringIn (actor_same a b (cc))
+kind_same (kinds.Discard a xs) (kinds.Discard b ys) same = ap₂ kinds.Discard (seat_same a b (cc)) (slots_same xs ys (cc))
+kind_same (kinds.Show a xs) (kinds.Show b ys) same = ap₂ kinds.Show (seat_same a b (cc)) (cards_same xs ys (cc))
+kind_same (kinds.Muck a) (kinds.Muck b) same = ap kinds.Muck (seat_same a b (cc))
+kind_same a b same = absurd (cc)
+
+event_same : (a b : Event) → numbered a ≡ numbered b → a ≡ b
+event_same a b same =
+    ap₂ (λ at kind. record { at = at; kind = kind }) (ap (λ (n : Numbered). n.0) same)
+    (kind_same a.kind b.kind (ap (λ (n : Numbered). n.1) same))
+
+-- rows with the same amounts are one row
+amounts_same : (a b : SeatRow) → amounts_in a ≡ amounts_in b → a ≡ b
+amounts_same a b same =
+    let seats : a.seats ≡ b.seats =
+    sym (length-take-le a.seats a.amounts (omega (arith, a.greatest, a.full)))
+    ∙ ap length same
+    ∙ length-take-le b.seats b.amounts (omega (arith, b.greatest, b.full)) in
+    seat_row_same_by_seats a b seats
+    (λ n first last.
+    sym (get_or-take a.seats a.amounts (n - 1) 0 (omega (arith, first, last)))
+    ∙ ap (λ (amounts : List ℕ). get_or amounts (n - 1) 0) same
+    ∙ get_or-take b.seats b.amounts (n - 1) 0 (omega (arith, first, last, seats)))
+
+record KeptRakes (rakes : List ℕ) : Type 0 where
+  full : length rakes ≡ 11
+
+KeptRakes-prop : (rakes : List ℕ) → IsProp (KeptRakes rakes)
+KeptRakes-prop rakes = hlevel props
+
+rake_row : (rakes : List ℕ) → KeptRakes rakes → RakeRow
+rake_row rakes kept = record { rakes = rakes; full = kept.full }
+
+rakes_same : (a b : RakeRow) → a.rakes ≡ b.rakes → a ≡ b
+unfolding rake_row
+rakes_same a b same =
+    let P : List ℕ → Type 0 = λ rakes. (kept : KeptRakes rakes) → a ≡ rake_row rakes kept in
+    let here : P a.rakes = λ kept. ap (rake_row a.rakes) (KeptRakes-prop a.rakes (record { full = a.full }) kept) in
+    subst P same here (record { full = b.full })
+
+sizes_of : Setup → Sizes
+sizes_of setup = record { bring_in = setup.bring_in; small_bet = setup.small_bet; big_bet = setup.big_bet; min_bet = setup.min_bet }
+
+setup_from : Code → SeatRow → SeatRow → Bool → SeatRow → Sizes → RakeRow → Setup
+setup_from code stacks antes dead_antes blinds sizes rakes =
+    record {
+      code = code;
+      stacks = stacks;
+      antes = antes;
+      dead_antes = dead_antes;
+      blinds = blinds;
+      bring_in = sizes.bring_in;
+      small_bet = sizes.small_bet;
+      big_bet = sizes.big_bet;
+      min_bet = sizes.min_bet;
+      rakes = rakes;
+    }
+
+pub same_setup : (a b : Record) → plain a ≡ plain b → a.setup ≡ b.setup
+unfolding setup_from sizes_of
+same_setup a b same =
+    let s = a.setup in
+    let t = b.setup in
+    let stacks = amounts_same s.stacks t.stacks (ap (λ (hand : PlainHand). hand.setup.stacks) same) in
+    let antes = amounts_same s.antes t.antes (ap (λ (hand : PlainHand). hand.setup.antes) same) in
+    let blinds = amounts_same s.blinds t.blinds (ap (λ (hand : PlainHand). hand.setup.blinds) same) in
+    let rakes = rakes_same s.rakes t.rakes (ap (λ (hand : PlainHand). hand.rakes) same) in
+    let first : s ≡ setup_from t.code t.stacks s.antes s.dead_antes s.blinds (sizes_of s) s.rakes =
+    ap₂ (λ code row. setup_from code row s.antes s.dead_antes s.blinds (sizes_of s) s.rakes) (ap (λ (hand : PlainHand). hand.setup.code) same) stacks in
+    let second : setup_from t.code t.stacks s.antes s.dead_antes s.blinds (sizes_of s) s.rakes ≡ setup_from t.code t.stacks t.antes t.dead_antes s.blinds (sizes_of s) s.rakes =
+    ap₂ (λ row dead. setup_from t.code t.stacks row dead s.blinds (sizes_of s) s.rakes) antes (ap (λ (hand : PlainHand). hand.setup.dead_antes) same) in
+    let third : setup_from t.code t.stacks t.antes t.dead_antes s.blinds (sizes_of s) s.rakes ≡ setup_from t.code t.stacks t.antes t.dead_antes t.blinds (sizes_of t) s.rakes =
+    ap₂ (λ row sizes. setup_from t.code t.stacks t.antes t.dead_antes row sizes s.rakes) blinds (ap (λ (hand : PlainHand). hand.setup.sizes) same) in
+    first ∙ second ∙ third ∙ ap (λ row. setup_from t.code t.stacks t.antes t.dead_antes t.blinds (sizes_of t) row) rakes
+
+pub same_rules : (a b : Record) → plain a ≡ plain b → a.rules ≡ b.rules
+same_rules a b same = ap (λ (hand : PlainHand). hand.rules) same
+
+pub same_script : (a b : Record) → plain a ≡ plain b → a.script ≡ b.script
+same_script a b same = lists_same numbered event_same a.script b.script (ap (λ (hand : PlainHand). hand.script) same)
+
+stated_from : Option SeatRow → Option SeatRow → Option ℕ → Option NetRow → Stated
+stated_from finish wins pot_total values = record { finish = finish; wins = wins; pot_total = pot_total; values = values }
+
+pub same_stated : (a b : Record) → plain a ≡ plain b → a.stated ≡ b.stated
+unfolding stated_from
+same_stated a b same =
+    let s = a.stated in
+    let t = b.stated in
+    let finish = options_same amounts_in amounts_same s.finish t.finish (ap (λ (hand : PlainHand). hand.stated.finish) same) in
+    let first : s ≡ stated_from t.finish t.wins s.pot_total s.values =
+    ap₂ (λ row wins. stated_from row wins s.pot_total s.values) finish (ap (λ (hand : PlainHand). hand.stated.wins) same) in
+    first ∙ ap₂ (λ total values. stated_from t.finish t.wins total values) (ap (λ (hand : PlainHand). hand.stated.pot_total) same) (ap (λ (hand : PlainHand). hand.stated.values) same)
+
+-- the names of the seats
+pub same_name : (a b : Record) → plain a ≡ plain b → (index : ℕ) → index < a.setup.stacks.seats
+    → slice_index_or a.notes.names index None ≡ slice_index_or b.notes.names index None
+same_name a b same index within =
+    let count : a.setup.stacks.seats ≡ b.setup.stacks.seats = ap (λ (setup : Setup). setup.stacks.seats) (same_setup a b same) in
+    sym (get_or-take a.setup.stacks.seats a.notes.names index None within)
+    ∙ ap (λ (hand : PlainHand). get_or hand.notes.seating.names index None) same
+    ∙ get_or-take b.setup.stacks.seats b.notes.names index None (omega (arith, within, count))
