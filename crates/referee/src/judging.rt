@@ -32,8 +32,12 @@ pub fn plays_of(alloc: Global, records: Records) -> Result<Vec<Play>, PlaysFault
     Ok(plays)
 }
 
-// The play of the record with this number.
-fn play_of(alloc: Global, number: u32, hand: Record) -> Result<Play, PlaysFault>
+/// The play of the record with this number, from 1.
+///
+/// # Errors
+///
+/// What is wrong with the hand first; or want of memory.
+pub fn play_of(alloc: Global, number: u32, hand: Record) -> Result<Play, PlaysFault>
     requires sound { IsSoundRecord hand }
     ensures kept { IfOk result (λ play. play.hand ≡ hand) }
     ensures judged { IfOk result IsJudged }

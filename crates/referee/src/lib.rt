@@ -3,6 +3,8 @@
 
 mod fault;
 mod judging;
+mod laws;
 
 pub use fault::{PlaysFault, Refusal};
-pub use judging::plays_of;
+pub use judging::{play_of, plays_of};
+pub use laws::law_of_one_outcome;
