@@ -1,0 +1,10 @@
+-- Laws of letters, cards, numbers and names, and of reading them one after the other.
+pub mod EachLetter
+pub mod KnownCards
+pub mod CardLaws
+pub mod NumberLaws
+pub mod SeatLaws
+pub mod Rows
+pub mod Dealing
+pub mod Lines
+pub mod Texts

@@ -1,0 +1,13 @@
+-- What the code has read, seen as the definitions say it.
+use Rattle.std.specs.Prelude.{List, take, ℤ}
+use Rattle.hand_canon.specs.declared.record.NetRow.{NetRow}
+use Rattle.acpc_reading.specs.declared.betting.Betting.{Betting}
+use Rattle.acpc_reading.specs.Betting.{Bets}
+
+-- the betting so far
+abbrev pub bets_in : Betting → Bets
+bets_in betting = record { steps = betting.steps.items; round = betting.round; moves = betting.moves; file_moves = betting.file_moves }
+
+-- the values of the seats of a row
+abbrev pub nets_in : NetRow → List ℤ
+nets_in row = take row.seats row.nets

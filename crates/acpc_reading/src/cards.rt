@@ -1,0 +1,90 @@
+//! So many known cards are read from their letters.
+ghost use Rattle.std.specs.Prelude.{◌≡◌, ◌≤◌, ◌<◌, ◌+◌, [], ◌∷◌, ◌++◌, not, option_map, IfSome};
+ghost use Rattle.std.specs.List.{list_any};
+ghost use Rattle.card_set.specs.Row.{cards_of, slots_of};
+ghost use Rattle.card_set.specs.Known.{is_unknown, known_cards};
+ghost use Rattle.acpc_reading.specs.Cards.{board_said, hole_said, known_said};
+
+use card_set::{CardRow, Slot, SlotRow, read_slots};
+
+// Whether all slots are known.
+fn all_known(slots: &[Slot]) -> bool
+    ensures { result ≡ not (list_any is_unknown slots.now) }
+{
+    match slots {
+        [] => true,
+        [slot, rest @ ..] => match slot {
+            Slot::Unknown => false,
+            Slot::Known(_) => all_known(rest),
+        },
+    }
+}
+
+// So many known slots.
+#[tactic(auto, using(crate::proofs::CardLaws::bad_known, crate::proofs::CardLaws::other_len, crate::proofs::CardLaws::some_unknown, crate::proofs::CardLaws::all_known))]
+fn read_known(count: u8, text: &[u8]) -> Option<SlotRow>
+    requires { count ≤ 7 }
+    ensures { option_map slots_of result ≡ known_said count text.now }
+{
+    let Ok(slots) = read_slots(text) else {
+        return None;
+    };
+    if slots.len != count {
+        return None;
+    }
+    if !all_known(slots.as_slice()) {
+        return None;
+    }
+    Some(slots)
+}
+
+// The known cards of a row, in order.
+#[tactic(auto, using(crate::proofs::KnownCards::one_known_more))]
+fn known_row(slots: &SlotRow) -> CardRow
+    ensures { cards_of result ≡ known_cards (slots_of slots.now) }
+{
+    let mut cards = CardRow::new();
+    for slot in slots.as_slice() {
+        cards = with_known(cards, *slot);
+    }
+    cards
+}
+
+// The cards and one more, where it is known.
+fn with_known(cards: CardRow, slot: Slot) -> CardRow
+    requires { cards.len < 7 }
+    ensures cards { cards_of result ≡ cards_of cards ++ known_cards (slot ∷ []) }
+    ensures longer { result.len ≤ cards.len + 1 }
+{
+    match slot {
+        Slot::Known(card) => {
+            let mut more = cards;
+            more.push(card);
+            more
+        }
+        Slot::Unknown => cards,
+    }
+}
+
+/// So many cards of the board.
+pub fn read_board(count: u8, text: &[u8]) -> Option<CardRow>
+    requires { count ≤ 7 }
+    ensures { option_map cards_of result ≡ board_said count text.now }
+{
+    let slots = read_known(count, text)?;
+    Some(known_row(&slots))
+}
+
+/// The hole cards of a seat: two known ones, or nothing where they are unknown.
+#[tactic(auto, unfolding(crate::specs::Cards::hole_said))]
+pub fn read_hole(text: &[u8]) -> Option<SlotRow>
+    ensures { option_map slots_of result ≡ hole_said text.now }
+{
+    if !text.is_empty() {
+        return read_known(2, text);
+    }
+    let mut slots = SlotRow::new();
+    slots.push(Slot::Unknown);
+    slots.push(Slot::Unknown);
+    Some(slots)
+}

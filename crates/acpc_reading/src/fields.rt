@@ -1,0 +1,12 @@
+//! A line of a hand has six fields.
+
+/// The fields of a line.
+#[derive(Drop)]
+pub struct Fields<'a> {
+    pub state: &'a [u8],
+    pub hand: &'a [u8],
+    pub betting: &'a [u8],
+    pub cards: &'a [u8],
+    pub values: &'a [u8],
+    pub names: &'a [u8],
+}

@@ -1,0 +1,151 @@
+//! The betting of a line is read letter by letter, or the first byte that doesn't fit is named.
+ghost use Rattle.std.specs.Prelude.{◌≡◌, ◌<◌, ◌≤◌, ◌+◌, ◌^◌, true, [], ◌∷◌, length, Ok, OnOk, IfErr};
+ghost use Rattle.std.specs.List.{list_all};
+ghost use Rattle.std.specs.Char.{is_digit};
+ghost use Rattle.first_fault.specs.Reading.{Fails, Gives};
+ghost use Rattle.acpc_text.specs.Letters.{scan};
+ghost use Rattle.acpc_reading.specs.Betting.{bare_said, bets_after, betting_said, letter_said, no_bets, raise_said, stroke_said, with_move};
+ghost use Rattle.acpc_reading.specs.Views.{bets_in};
+
+use crate::betting::Betting;
+use crate::step::Step;
+use acpc_text::{LineFault, What, cut_digits, cut_first};
+use chip_ledger::MOST_CHIPS;
+use first_fault::{Stop, read_digits};
+use hand_canon::{MOST_FILE_MOVES, MOST_MOVES, Quantity};
+use std::alloc::Global;
+
+/// A fault at a byte.
+pub fn wrong(what: What, byte: u64) -> Stop<LineFault>
+    ensures { result ≡ Stop.At (record { what = what; byte = byte }) }
+{
+    Stop::At(LineFault { what, byte })
+}
+
+// One more move, if the hand and the file may have it.
+#[tactic(auto, unfolding(crate::specs::Betting::with_move))]
+fn take_move(betting: &mut Betting, at: u64, step: Step) -> Result<(), Stop<LineFault>>
+    ensures ok { OnOk result (with_move (bets_in betting.old) at step ≡ Ok (bets_in betting.new)) }
+    ensures err { IfErr result (λ stop. Fails stop (with_move (bets_in betting.old) at step)) }
+{
+    if betting.moves >= MOST_MOVES {
+        return Err(wrong(What::TooMany(Quantity::Moves), at));
+    }
+    if betting.file_moves >= MOST_FILE_MOVES {
+        return Err(wrong(What::TooMany(Quantity::FileMoves), at));
+    }
+    betting.steps.push(step)?;
+    betting.moves += 1;
+    betting.file_moves += 1;
+    Ok(())
+}
+
+// A letter that has no digits behind it.
+#[tactic(auto, unfolding(crate::specs::Betting::bare_said))]
+fn take_bare(betting: &mut Betting, at: u64, digits: &[u8], step: Step) -> Result<(), Stop<LineFault>>
+    requires { at + length digits.now < 2 ^ 64 }
+    ensures ok { OnOk result (bare_said (bets_in betting.old) at digits.now step ≡ Ok (bets_in betting.new)) }
+    ensures err { IfErr result (λ stop. Fails stop (bare_said (bets_in betting.old) at digits.now step)) }
+{
+    if !digits.is_empty() {
+        return Err(wrong(What::BadBetting, at + 1));
+    }
+    take_move(betting, at, step)
+}
+
+// A raise to the total that its digits say.
+#[tactic(auto, unfolding(crate::specs::Betting::raise_said, first_fault::specs::Digits::are_digits))]
+fn take_raise(betting: &mut Betting, at: u64, digits: &[u8]) -> Result<(), Stop<LineFault>>
+    requires few { at + 1 + length digits.now < 2 ^ 64 }
+    requires digits { list_all (λ b. is_digit b 10) digits.now ≡ true }
+    ensures ok { OnOk result (raise_said (bets_in betting.old) at digits.now ≡ Ok (bets_in betting.new)) }
+    ensures err { IfErr result (λ stop. Fails stop (raise_said (bets_in betting.old) at digits.now)) }
+{
+    if digits.is_empty() {
+        return Err(wrong(What::BadBetting, at + 1));
+    }
+    match read_digits(digits, MOST_CHIPS) {
+        Some(total) => take_move(betting, at, Step::RaiseTo(total)),
+        None => Err(wrong(What::AmountLimit, at + 1)),
+    }
+}
+
+// A stroke, which begins the next of at most four rounds.
+#[tactic(auto, unfolding(crate::specs::Betting::stroke_said))]
+fn take_stroke(betting: &mut Betting, at: u64, digits: &[u8]) -> Result<(), Stop<LineFault>>
+    requires { at + 1 + length digits.now < 2 ^ 64 }
+    ensures ok { OnOk result (stroke_said (bets_in betting.old) at digits.now ≡ Ok (bets_in betting.new)) }
+    ensures err { IfErr result (λ stop. Fails stop (stroke_said (bets_in betting.old) at digits.now)) }
+{
+    if betting.round >= 4 {
+        return Err(wrong(What::BadBetting, at));
+    }
+    if !digits.is_empty() {
+        return Err(wrong(What::BadBetting, at + 1));
+    }
+    betting.steps.push(Step::NextRound)?;
+    betting.round += 1;
+    Ok(())
+}
+
+// A letter and its digits, at this byte.
+#[tactic(auto, unfolding(crate::specs::Betting::letter_said))]
+fn take_letter(no_limit: bool, betting: &mut Betting, at: u64, letter: u8, digits: &[u8]) -> Result<(), Stop<LineFault>>
+    requires few { at + 1 + length digits.now < 2 ^ 64 }
+    requires digits { list_all (λ b. is_digit b 10) digits.now ≡ true }
+    ensures ok { OnOk result (letter_said no_limit (bets_in betting.old) at (letter, digits.now) ≡ Ok (bets_in betting.new)) }
+    ensures err { IfErr result (λ stop. Fails stop (letter_said no_limit (bets_in betting.old) at (letter, digits.now))) }
+{
+    if letter == b'f' {
+        return take_bare(betting, at, digits, Step::Fold);
+    }
+    if letter == b'c' {
+        return take_bare(betting, at, digits, Step::Call);
+    }
+    if letter == b'r' {
+        if no_limit {
+            return take_raise(betting, at, digits);
+        }
+        return take_bare(betting, at, digits, Step::Raise);
+    }
+    if letter == b'/' {
+        return take_stroke(betting, at, digits);
+    }
+    Err(wrong(What::BadBetting, at))
+}
+
+// The letters of a text that begins with no digit.
+fn read_letters(alloc: Global, no_limit: bool, file_moves: usize, at: u64, text: &[u8]) -> Result<Betting, Stop<LineFault>>
+    requires few { at + length text.now < 2 ^ 64 }
+    requires begins { (scan text.now).0 ≡ [] }
+    ensures { Gives bets_in result (bets_after no_limit (no_bets file_moves) at (scan text.now).1) }
+{
+    let mut betting = Betting {
+        steps: Vec::new(alloc),
+        round: 1,
+        moves: 0,
+        file_moves,
+    };
+    let mut place = at;
+    let mut rest = text;
+    while let Some((letter, behind)) = cut_first(rest) {
+        let (digits, after) = cut_digits(behind);
+        take_letter(no_limit, &mut betting, place, letter, digits)?;
+        place += 1 + digits.len() as u64;
+        rest = after;
+    }
+    Ok(betting)
+}
+
+/// The betting field, which begins at this byte, in a file that has so many moves.
+#[tactic(auto, unfolding(crate::specs::Betting::betting_said))]
+pub fn read_betting(alloc: Global, no_limit: bool, file_moves: usize, at: u64, text: &[u8]) -> Result<Betting, Stop<LineFault>>
+    requires { at + length text.now < 2 ^ 64 }
+    ensures { Gives bets_in result (betting_said no_limit file_moves at text.now) }
+{
+    let (digits, _after) = cut_digits(text);
+    if !digits.is_empty() {
+        return Err(wrong(What::BadBetting, at));
+    }
+    read_letters(alloc, no_limit, file_moves, at, text)
+}

@@ -1,0 +1,144 @@
+//! A log is read line by line as the hands that it says, or its first fault is named.
+ghost use Rattle.std.specs.Prelude.{◌≡◌, ◌<◌, ◌^◌, map, Ok, IfOk, IfErr, length};
+ghost use Rattle.first_fault.specs.Reading.{Fails, Gives};
+ghost use Rattle.acpc_text.specs.Faults.{Answers};
+ghost use Rattle.acpc_reading.specs.FieldsView.{HasRoom, fields_in};
+ghost use Rattle.acpc_reading.specs.Logs.{hand_of, hands_after_line, is_passed_over as is_passed_over_said, line_said, reading};
+ghost use Rattle.acpc_reading.specs.RecordView.{IsOfGame, record_said};
+
+use crate::cutting::cut_fields;
+use crate::fields::Fields;
+use crate::letters::{read_betting, wrong};
+use crate::names::{read_hand, read_names};
+use crate::script::read_script;
+use crate::setup::{rules_of, setup_of};
+use crate::values::read_values;
+use acpc_game::Game;
+use acpc_text::{AcpcFault, LineFault, What, fault_in_line, has_prefix, next_line};
+use first_fault::Stop;
+use hand_canon::{MOST_HANDS, Notes, Quantity, Record, Records, Stated};
+use std::alloc::Global;
+
+// The hand of some fields, and how many moves the file then has.
+#[tactic(auto, unfolding(crate::specs::Logs::hand_of))]
+fn read_hand_of(alloc: Global, game: &Game, place: usize, file_moves: usize, fields: &Fields<'_>) -> Result<(Record, usize), Stop<LineFault>>
+    requires { HasRoom (fields_in fields.now) }
+    ensures said { Gives (λ found. (record_said found.0, found.1)) result (hand_of game.now place file_moves (fields_in fields.now)) }
+    ensures game { IfOk result (λ found. IsOfGame game.now found.0) }
+{
+    let players = game.stacks.seats;
+    let hand_at = fields.state.len() as u64 + 2;
+    let betting_at = hand_at + fields.hand.len() as u64 + 1;
+    let cards_at = betting_at + fields.betting.len() as u64 + 1;
+    let values_at = cards_at + fields.cards.len() as u64 + 1;
+    let names_at = values_at + fields.values.len() as u64 + 1;
+    let hand = read_hand(alloc, place, hand_at, fields.hand)?;
+    let betting = read_betting(alloc, game.no_limit, file_moves, betting_at, fields.betting)?;
+    let script = read_script(alloc, players, betting.steps.as_slice(), cards_at, fields.cards)?;
+    let values = read_values(players, values_at, fields.values)?;
+    let names = read_names(alloc, players, names_at, fields.names)?;
+    let record = Record {
+        setup: setup_of(game),
+        rules: rules_of(game),
+        script,
+        stated: Stated {
+            finish: None,
+            wins: None,
+            pot_total: None,
+            values: Some(values),
+        },
+        notes: Notes {
+            names,
+            seats: None,
+            seat_count: None,
+            hand,
+            table: None,
+            venue: None,
+            currency: None,
+            year: None,
+            month: None,
+            day: None,
+            time: None,
+            zone: None,
+        },
+    };
+    Ok((record, betting.file_moves))
+}
+
+// Whether a line is passed over.
+fn is_passed_over(line: &[u8]) -> bool
+    ensures { result ≡ is_passed_over_said line.now }
+{
+    line.is_empty() || line[0] == b'#' || has_prefix(line, b"SCORE:")
+}
+
+// The hand of a line, and how many moves the file then has.
+#[tactic(auto, unfolding(crate::specs::Logs::line_said))]
+fn read_line(alloc: Global, game: &Game, place: usize, file_moves: usize, line: &[u8]) -> Result<(Record, usize), Stop<LineFault>>
+    requires { length line.now < 2 ^ 63 }
+    ensures said { Gives (λ found. (record_said found.0, found.1)) result (line_said game.now place file_moves line.now) }
+    ensures game { IfOk result (λ found. IsOfGame game.now found.0) }
+{
+    if !has_prefix(line, b"STATE:") {
+        return Err(wrong(What::LineShape, 1));
+    }
+    let fields = cut_fields(line)?;
+    read_hand_of(alloc, game, place, file_moves, &fields)
+}
+
+// One more line, and how many moves the file then has.
+#[tactic(auto, unfolding(crate::specs::Logs::hands_after_line))]
+fn take_line(alloc: Global, game: &Game, records: &mut Records, file_moves: usize, line: u64, text: &[u8]) -> Result<usize, Stop<AcpcFault>>
+    requires { length text.now < 2 ^ 63 }
+    ensures ok { IfOk result (λ moves. hands_after_line game.now (map record_said records.old, file_moves) line text.now
+        ≡ Ok (map record_said records.new, moves)) }
+    ensures err { IfErr result (λ stop. Fails stop (hands_after_line game.now (map record_said records.old, file_moves) line text.now)) }
+{
+    if is_passed_over(text) {
+        return Ok(file_moves);
+    }
+    if records.len() >= MOST_HANDS {
+        let fault = LineFault {
+            what: What::TooMany(Quantity::Hands),
+            byte: 1,
+        };
+        return Err(Stop::At(fault_in_line(line, fault)));
+    }
+    match read_line(alloc, game, records.len(), file_moves, text) {
+        Ok((record, moves)) => {
+            records.push(record)?;
+            Ok(moves)
+        }
+        Err(Stop::Memory) => Err(Stop::Memory),
+        Err(Stop::At(fault)) => Err(Stop::At(fault_in_line(line, fault))),
+    }
+}
+
+// The hands of a log.
+#[tactic(auto, unfolding(crate::specs::Logs::reading))]
+fn read_lines(alloc: Global, game: &Game, bytes: &[u8]) -> Result<Records, Stop<AcpcFault>>
+    ensures { Gives (λ records. map record_said records) result (reading game.now bytes.now) }
+{
+    let mut records = Records::new(alloc);
+    let mut file_moves = 0;
+    let mut count = 0;
+    let mut rest = bytes;
+    while let Some((line, behind)) = next_line(rest) {
+        count += 1;
+        let moves = take_line(alloc, game, &mut records, file_moves, count, line)?;
+        file_moves = moves;
+        rest = behind;
+    }
+    Ok(records)
+}
+
+/// The hands that a log says under a game.
+pub fn read(alloc: Global, game: &Game, bytes: &[u8]) -> Result<Records, AcpcFault>
+    ensures { Answers (λ records. map record_said records) result (reading game.now bytes.now) }
+{
+    match read_lines(alloc, game, bytes) {
+        Ok(records) => Ok(records),
+        Err(Stop::Memory) => Err(AcpcFault::Memory),
+        Err(Stop::At(fault)) => Err(fault),
+    }
+}

@@ -1,0 +1,105 @@
+//! The names of the players and the number of the hand are read as notes.
+ghost use Rattle.std.specs.Prelude.{◌≡◌, ℕ, ◌≤◌, ◌<◌, ◌+◌, ◌-◌, ◌^◌, length, take, bytes_eq, slice_index_or, is_some, None, IfOk, IfSome};
+ghost use Rattle.std.specs.Str.{is_utf8};
+ghost use Rattle.first_fault.specs.Reading.{Gives};
+ghost use Rattle.acpc_text.specs.Parts.{parts_of};
+ghost use Rattle.hand_canon.specs.AllowedNotes.{default_name};
+ghost use Rattle.acpc_reading.specs.Names.{hand_said, name_said, names_said};
+
+use crate::letters::wrong;
+use acpc_text::{LineFault, What, count_parts, cut_at};
+use first_fault::{Stop, are_digits, read_digits};
+use hand_canon::{MOST_TEXT_BYTES, Quantity, Text};
+use std::alloc::Global;
+
+// Whether the text is the name of the seat where none is said.
+fn is_default(seat: u8, name: &[u8]) -> bool
+    requires first { 1 ≤ seat }
+    requires last { seat ≤ 10 }
+    ensures { result ≡ bytes_eq name.now (default_name seat) }
+{
+    if seat < 10 {
+        name == [b'p', b'0' + seat].as_slice()
+    } else {
+        name == b"p10".as_slice()
+    }
+}
+
+// The bytes as a text, if they are one.
+#[tactic(auto, using(crate::proofs::Texts::is_text, crate::proofs::Texts::is_no_text))]
+fn text_of(bytes: &[u8]) -> Option<&str>
+    ensures text { IfSome result (λ text. text.now ≡ bytes.now) }
+    ensures is { is_some result ≡ is_utf8 bytes.now }
+{
+    match str::from_utf8(bytes) {
+        Ok(text) => Some(text),
+        Err(_) => None,
+    }
+}
+
+// The name of a seat, which begins at this byte.
+#[tactic(auto, unfolding(crate::specs::Names::name_said))]
+fn read_name(alloc: Global, seat: u8, at: u64, name: &[u8]) -> Result<Option<Text>, Stop<LineFault>>
+    requires first { 1 ≤ seat }
+    requires last { seat ≤ 10 }
+    ensures { Gives (λ name. name) result (name_said seat at name.now) }
+{
+    let Some(text) = text_of(name) else {
+        return Err(wrong(What::LineShape, at));
+    };
+    if name.len() > MOST_TEXT_BYTES {
+        return Err(wrong(What::TooMany(Quantity::TextBytes), at));
+    }
+    if name.is_empty() || is_default(seat, name) {
+        return Ok(None);
+    }
+    let text = Text::new(alloc, text)?;
+    Ok(Some(text))
+}
+
+/// The number of the hand at a place of its file, from 0, whose field begins at this byte.
+#[tactic(auto, unfolding(crate::specs::Names::hand_said))]
+pub fn read_hand(alloc: Global, place: usize, at: u64, text: &[u8]) -> Result<Option<Text>, Stop<LineFault>>
+    ensures { Gives (λ note. note) result (hand_said place at text.now) }
+{
+    if !are_digits(text) || text.len() > 18 {
+        return Err(wrong(What::LineShape, at));
+    }
+    match read_digits(text, 999_999_999_999_999_999) {
+        Some(number) => {
+            if number == place as u64 {
+                return Ok(None);
+            }
+            let digits = number.to_string(alloc)?;
+            let note = Text::new(alloc, digits.as_str())?;
+            Ok(Some(note))
+        }
+        None => Err(wrong(What::LineShape, at)),
+    }
+}
+
+/// The names field, which begins at this byte, in a hand of so many players; past the last seat there are none.
+#[tactic(auto, unfolding(crate::specs::Names::names_said))]
+pub fn read_names(alloc: Global, players: u8, at: u64, text: &[u8]) -> Result<[Option<Text>; 10], Stop<LineFault>>
+    requires few { players ≤ 10 }
+    requires near { at + length text.now < 2 ^ 64 - 1 }
+    ensures said { Gives (λ names. take players names) result (names_said players at text.now) }
+    ensures no_more { IfOk result (λ names. (index : ℕ) → players ≤ index → slice_index_or names index None ≡ None) }
+{
+    if count_parts(text, b'|') != players as usize {
+        return Err(wrong(What::SeatCount, at));
+    }
+    let mut names = [None, None, None, None, None, None, None, None, None, None];
+    let mut index = 0;
+    let mut place = at;
+    let mut rest = Some(text);
+    while let Some(left) = rest {
+        let (part, more) = cut_at(left, b'|');
+        let name = read_name(alloc, index as u8 + 1, place, part)?;
+        names[index] = name;
+        index += 1;
+        place += part.len() as u64 + 1;
+        rest = more;
+    }
+    Ok(names)
+}

@@ -1,0 +1,120 @@
+//! What each seat won or lost is read as the line states it.
+ghost use Rattle.std.specs.Prelude.{◌≡◌, ◌≤◌, ◌<◌, ◌+◌, ◌-◌, ◌^◌, ◌∷◌, length, IfOk};
+ghost use Rattle.first_fault.specs.Reading.{Gives};
+ghost use Rattle.acpc_text.specs.Parts.{parts_of};
+ghost use Rattle.acpc_reading.specs.Values.{are_zeros as are_zeros_said, signed as signed_said, unsigned_said, value_said, values_said, whole_said};
+ghost use Rattle.acpc_reading.specs.Views.{nets_in};
+
+use crate::letters::wrong;
+use acpc_text::{LineFault, What, count_parts, cut_at, cut_first};
+use chip_ledger::MOST_AMOUNT;
+use first_fault::{Stop, are_digits, read_digits};
+use hand_canon::NetRow;
+
+// Whether these are one or more zeros.
+fn are_zeros(text: &[u8]) -> bool
+    ensures { result ≡ are_zeros_said text.now }
+{
+    if text.is_empty() {
+        return false;
+    }
+    for b in text {
+        if *b != b'0' {
+            return false;
+        }
+    }
+    true
+}
+
+// A number with its sign.
+fn signed(is_negative: bool, number: u64) -> i64
+    requires { number ≤ 10000000000000 }
+    ensures { result ≡ signed_said is_negative number }
+{
+    if is_negative { 0 - number as i64 } else { number as i64 }
+}
+
+// The number that digits say.
+#[tactic(auto, unfolding(crate::specs::Values::whole_said), using(acpc_game::proofs::Steps::at_most))]
+fn read_whole(is_negative: bool, at: u64, digits: &[u8]) -> Result<i64, Stop<LineFault>>
+    ensures { Gives (λ value. value) result (whole_said is_negative at digits.now) }
+{
+    if !are_digits(digits) {
+        return Err(wrong(What::BadValue, at));
+    }
+    match read_digits(digits, MOST_AMOUNT) {
+        Some(number) => Ok(signed(is_negative, number)),
+        None => Err(wrong(What::AmountLimit, at)),
+    }
+}
+
+// Zeros behind a point, in which no second point stands, behind these digits.
+#[tactic(auto, using(crate::proofs::NumberLaws::no_third_part))]
+fn read_fraction(is_negative: bool, at: u64, digits: &[u8], rest: &[u8]) -> Result<i64, Stop<LineFault>>
+    ensures { Gives (λ value. value) result (unsigned_said is_negative at (digits.now ∷ parts_of 46 rest.now)) }
+{
+    let (zeros, more) = cut_at(rest, b'.');
+    match more {
+        Some(_) => Err(wrong(What::BadValue, at)),
+        None => {
+            if !are_zeros(zeros) {
+                return Err(wrong(What::BadValue, at));
+            }
+            read_whole(is_negative, at, digits)
+        }
+    }
+}
+
+// Digits, and a point and zeros behind them or nothing.
+fn read_unsigned(is_negative: bool, at: u64, text: &[u8]) -> Result<i64, Stop<LineFault>>
+    ensures { Gives (λ value. value) result (unsigned_said is_negative at (parts_of 46 text.now)) }
+{
+    let (digits, rest) = cut_at(text, b'.');
+    match rest {
+        Some(rest) => read_fraction(is_negative, at, digits, rest),
+        None => read_whole(is_negative, at, digits),
+    }
+}
+
+// A value, which begins at this byte.
+fn read_value(at: u64, text: &[u8]) -> Result<i64, Stop<LineFault>>
+    ensures { Gives (λ value. value) result (value_said at text.now) }
+{
+    let Some((first, rest)) = cut_first(text) else {
+        return Err(wrong(What::BadValue, at));
+    };
+    if first == b'-' {
+        read_unsigned(true, at, rest)
+    } else {
+        read_unsigned(false, at, text)
+    }
+}
+
+/// The values field, which begins at this byte, in a hand of so many players.
+#[tactic(auto, unfolding(crate::specs::Values::values_said))]
+pub fn read_values(players: u8, at: u64, text: &[u8]) -> Result<NetRow, Stop<LineFault>>
+    requires few { players ≤ 10 }
+    requires near { at + length text.now < 2 ^ 64 - 1 }
+    ensures said { Gives nets_in result (values_said players at text.now) }
+    ensures seats { IfOk result (λ row. row.seats ≡ players) }
+{
+    if count_parts(text, b'|') != players as usize {
+        return Err(wrong(What::SeatCount, at));
+    }
+    let mut nets = [0; 10];
+    let mut index = 0;
+    let mut place = at;
+    let mut rest = Some(text);
+    while let Some(left) = rest {
+        let (part, more) = cut_at(left, b'|');
+        let value = read_value(place, part)?;
+        nets[index] = value;
+        index += 1;
+        place += part.len() as u64 + 1;
+        rest = more;
+    }
+    Ok(NetRow {
+        seats: players,
+        nets,
+    })
+}
