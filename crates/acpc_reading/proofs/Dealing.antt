@@ -1,12 +1,15 @@
 -- Hole cards and steps that are read one after the other, as a loop does.
-use Rattle.std.proofs.Common.{◌≡◌, ℕ, ◌+◌, List, [], ◌∷◌, Result, Ok, Err, refl, sym, ap, ◌∙◌}
+use Rattle.std.proofs.Common.{◌≡◌, ℕ, ◌+◌, eqb, false, List, [], ◌∷◌, length, Result, Ok, refl, sym, ap, ◌∙◌, arith}
+use Rattle.std.proofs.lemmas.Bool.Decides.{nat_tests}
+use Rattle.std.proofs.lemmas.List.Splits.{length-slice_split}
 use Rattle.play_event.specs.Said.{Numbered}
 use Rattle.first_fault.specs.declared.stop.Stop.{Stop}
 use Rattle.first_fault.specs.Reading.{◌>>=◌, Fails}
 use Rattle.acpc_text.specs.declared.fault.LineFault.{LineFault}
+use Rattle.acpc_text.specs.Parts.{parts_of}
 use Rattle.acpc_game.proofs.Steps.{fails_first, fails_at}
 use Rattle.acpc_reading.specs.declared.step.Step.{Step}
-use Rattle.acpc_reading.specs.Cards.{Written, hole_after, holes_after, step_after, steps_after}
+use Rattle.acpc_reading.specs.Cards.{Written, bad_cards, hole_after, holes_after, step_after, steps_after, without_rest}
 
 module _ (at : ℕ) (events : List Numbered) (seat : ℕ) (all : List (List ℕ)) (whole : Result (List Numbered) LineFault) where
   -- the hole cards of one more seat were read
@@ -51,3 +54,9 @@ module _ (at : ℕ) (so_far : Written) (all : List Step) (whole : Result Written
   pub steps_done : all ≡ [] → steps_after at so_far all ≡ whole → whole ≡ Ok so_far
   unfolding steps_after
   steps_done none before = sym before ∙ ap (steps_after at so_far) none
+
+-- cards that are left behind the last step
+pub some_left : (at : ℕ) (events : List Numbered) (number size : ℕ) (text : List ℕ) → without_rest at (record { events = events; number = number; size = size; boards = parts_of 47 text }) ≡ bad_cards at
+some_left at events number size text =
+    let some : eqb (length (parts_of 47 text)) 0 ≡ false = grind (arith, nat_tests, length-slice_split (λ b. eqb b 47) text) in
+    rw some refl

@@ -8,3 +8,9 @@ pub mod Rows
 pub mod Dealing
 pub mod Lines
 pub mod Texts
+pub mod SixFields
+pub mod Checked
+pub mod BettingCounts
+pub mod ScriptCounts
+pub mod MatchSetups
+pub mod MatchRecords

@@ -1,5 +1,5 @@
 -- Rows that are written entry by entry, as the parts of a field are read.
-use Rattle.std.proofs.Common.{◌≡◌, ℕ, zero, suc, ◌+◌, ◌≤◌, List, [], ◌∷◌, ◌++◌, length, set, get_or, Option, Result, Ok, Err, ℤ, refl, sym, ap, ◌∙◌, arith}
+use Rattle.std.proofs.Common.{◌≡◌, ℕ, zero, suc, ◌+◌, ◌<◌, List, [], ◌∷◌, ◌++◌, length, set, get_or, Option, Result, Ok, Err, ℤ, refl, sym, ap, ◌∙◌, arith}
 use Rattle.first_fault.specs.declared.stop.Stop.{Stop}
 use Rattle.first_fault.specs.Reading.{◌>>=◌, Fails}
 use Rattle.acpc_text.specs.declared.fault.LineFault.{LineFault}
@@ -7,13 +7,13 @@ use Rattle.acpc_game.proofs.Steps.{fails_first, fails_at}
 use Rattle.acpc_reading.specs.Values.{value_said, values_after}
 use Rattle.acpc_reading.specs.Names.{name_said, names_after}
 
--- an entry in front of the fillers of a row
-pub set_filled : {X : Type 0} (filler : X) (xs : List X) (i : ℕ) (x : X) → ((k : ℕ) → i ≤ k → get_or xs k filler ≡ filler) → (k : ℕ) → i + 1 ≤ k → get_or (set xs i x) k filler ≡ filler
-set_filled filler [] i x each k late = each k (omega arith)
-set_filled filler (y ∷ xs) zero x each zero late = absurd (omega arith)
-set_filled filler (y ∷ xs) zero x each (suc k) late = each (suc k) (omega arith)
-set_filled filler (y ∷ xs) (suc i) x each zero late = absurd (omega arith)
-set_filled filler (y ∷ xs) (suc i) x each (suc k) late = set_filled filler xs i x (λ j h. each (suc j) (omega (arith, h))) k (omega (arith, late))
+-- what holds of each entry of a row holds when one of them is set to an entry of which it holds
+pub set_each : {A : Type 0} (d : A) (P : ℕ → A → Type 0) (xs : List A) (i : ℕ) (x : A) → i < length xs → ((k : ℕ) → (k ≡ i → ⊥) → P k (get_or xs k d)) → P i x → (k : ℕ) → P k (get_or (set xs i x) k d)
+set_each d P [] i x within each one k = absurd (omega (arith, within))
+set_each d P (y ∷ xs) zero x within each one zero = one
+set_each d P (y ∷ xs) zero x within each one (suc k) = each (suc k) (λ e. omega (arith, e))
+set_each d P (y ∷ xs) (suc i) x within each one zero = each zero (λ e. omega (arith, e))
+set_each d P (y ∷ xs) (suc i) x within each one (suc k) = set_each d (λ j. P (suc j)) xs i x (omega (arith, within)) (λ j other. each (suc j) (λ e. other (omega (arith, e)))) one k
 
 module _ (values : List ℤ) (at : ℕ) (all : List (List ℕ)) (whole : Result (List ℤ) LineFault) where
   -- one more value was read

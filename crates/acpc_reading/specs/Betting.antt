@@ -2,7 +2,8 @@
 use Rattle.std.specs.Prelude.{ℕ, ◌+◌, ◌==◌, Bool, nat_lt, nat_le, if◌then◌else◌, List, [], ◌∷◌, ◌++◌, length, Result, Ok, Err}
 use Rattle.std.specs.Option.{option_map_or}
 use Rattle.chip_ledger.specs.declared.numbers.TheConstants.{MOST_CHIPS}
-use Rattle.hand_canon.specs.declared.limits.TheConstants.{MOST_MOVES, MOST_FILE_MOVES}
+use Rattle.canonical_play.specs.declared.limits.TheConstants.{MOST_MOVES}
+use Rattle.hand_canon.specs.declared.limits.TheConstants.{MOST_FILE_MOVES}
 use Rattle.hand_canon.specs.declared.limits.Quantity.TheVariants as quantities
 use Rattle.first_fault.specs.Reading.{◌>>=◌}
 use Rattle.first_fault.specs.Digits.{number_of}

@@ -1,5 +1,6 @@
 -- Records as the definitions say them, and what each of them has of its game.
-use Rattle.std.specs.Prelude.{◌≡◌, ℕ, ℤ, Bool, true, false, List, [], map, take, Option, None, if◌then◌else◌}
+use Rattle.std.specs.Prelude.{◌≡◌, ℕ, ℤ, Bool, true, false, ◌≤◌, List, [], length, map, take, sum_by, count_by, Option, None, is_some, if◌then◌else◌}
+use Rattle.std.specs.List.{AllByRecursion}
 use Rattle.std.specs.Option.{option_map_or}
 use Rattle.chip_ledger.specs.Greatest.{greatest}
 use Rattle.chip_ledger.specs.SeatRow.{amount_of}
@@ -10,7 +11,13 @@ use Rattle.play_event.specs.declared.setup.Setup.{Setup}
 use Rattle.play_event.specs.declared.setup.Rules.{Rules}
 use Rattle.play_event.specs.declared.setup.Reopen.TheVariants as reopen
 use Rattle.play_event.specs.Said.{numbered}
+use Rattle.canonical_play.specs.PlayedScript.{is_move}
+use Rattle.hand_canon.specs.declared.limits.TheConstants.{MOST_FILE_MOVES, MOST_HANDS}
+use Rattle.hand_canon.specs.declared.notes.Notes.{Notes}
 use Rattle.hand_canon.specs.declared.record.Record.{Record}
+use Rattle.hand_canon.specs.declared.record.Stated.{Stated}
+use Rattle.hand_canon.specs.Sound.{script_said}
+use Rattle.hand_canon.specs.SoundRecord.{IsSoundRecord}
 use Rattle.acpc_game.specs.declared.game.Game.{Game}
 use Rattle.acpc_game.specs.Games.{amounts_in}
 use Rattle.acpc_reading.specs.Logs.{HandSaid}
@@ -52,10 +59,42 @@ pub record IsSetupOf (game : Game) (setup : Setup) : Type 0 where
 abbrev pub rules_of : Game → Rules
 rules_of game = record { reopen = reopen.Always; free_fold = false; caps = game.caps }
 
--- a record is one of a game: its setup and its rules, and nothing is said beside values, names and the number of the hand
+-- of the end of a hand the values are stated, and nothing else
+pub record StatesValues (stated : Stated) : Type 0 where
+  pub values : is_some stated.values ≡ true
+  pub finish : stated.finish ≡ None
+  pub wins : stated.wins ≡ None
+  pub pot_total : stated.pot_total ≡ None
+
+-- nothing is noted but the names of the players and the number of the hand
+pub record NotesNames (notes : Notes) : Type 0 where
+  pub seats : notes.seats ≡ None
+  pub seat_count : notes.seat_count ≡ None
+  pub table : notes.table ≡ None
+  pub venue : notes.venue ≡ None
+  pub currency : notes.currency ≡ None
+  pub year : notes.year ≡ None
+  pub month : notes.month ≡ None
+  pub day : notes.day ≡ None
+  pub time : notes.time ≡ None
+  pub zone : notes.zone ≡ None
+
+-- what is read of a hand is one of its game: it has the setup and the rules of the game, states and notes what a line
+-- says and nothing else, and is sound
 pub record IsOfGame (game : Game) (hand : Record) : Type 0 where
   pub setup : IsSetupOf game hand.setup
   pub rules : hand.rules ≡ rules_of game
-  pub finish : hand.stated.finish ≡ None
-  pub wins : hand.stated.wins ≡ None
-  pub pot_total : hand.stated.pot_total ≡ None
+  pub stated : StatesValues hand.stated
+  pub notes : NotesNames hand.notes
+  pub sound : IsSoundRecord hand
+
+-- the moves of a hand
+abbrev pub moves_of : Record → ℕ
+moves_of hand = count_by is_move (script_said hand)
+
+-- the records of a file so far, which have so many moves
+pub record AreOfGame (game : Game) (hands : List Record) (file_moves : ℕ) : Type 0 where
+  pub each : AllByRecursion (IsOfGame game) hands
+  pub few : length hands ≤ MOST_HANDS
+  pub moves : sum_by moves_of hands ≡ file_moves
+  pub few_moves : file_moves ≤ MOST_FILE_MOVES

@@ -8,6 +8,8 @@ mod fields;
 mod letters;
 mod log;
 mod names;
+mod parts;
+mod record;
 mod script;
 mod setup;
 mod step;

@@ -1,67 +1,56 @@
 //! A log is read line by line as the hands that it says, or its first fault is named.
-ghost use Rattle.std.specs.Prelude.{◌≡◌, ◌<◌, ◌^◌, map, Ok, IfOk, IfErr, length};
+ghost use Rattle.std.specs.Prelude.{◌≡◌, ◌≤◌, ◌<◌, ◌+◌, ◌^◌, map, sum_by, Ok, IfOk, IfErr, length};
+ghost use Rattle.std.specs.List.{AllByRecursion};
+ghost use Rattle.hand_canon.specs.declared.limits.TheConstants.{MOST_FILE_MOVES, MOST_HANDS};
 ghost use Rattle.first_fault.specs.Reading.{Fails, Gives};
 ghost use Rattle.acpc_text.specs.Faults.{Answers};
 ghost use Rattle.acpc_reading.specs.FieldsView.{HasRoom, fields_in};
 ghost use Rattle.acpc_reading.specs.Logs.{hand_of, hands_after_line, is_passed_over as is_passed_over_said, line_said, reading};
-ghost use Rattle.acpc_reading.specs.RecordView.{IsOfGame, record_said};
+ghost use Rattle.acpc_reading.specs.RecordView.{AreOfGame, IsOfGame, moves_of, record_said};
 
 use crate::cutting::cut_fields;
 use crate::fields::Fields;
 use crate::letters::{read_betting, wrong};
 use crate::names::{read_hand, read_names};
+use crate::record::record_of;
 use crate::script::read_script;
-use crate::setup::{rules_of, setup_of};
 use crate::values::read_values;
 use acpc_game::Game;
 use acpc_text::{AcpcFault, LineFault, What, fault_in_line, has_prefix, next_line};
 use first_fault::Stop;
-use hand_canon::{MOST_HANDS, Notes, Quantity, Record, Records, Stated};
+use hand_canon::{MOST_HANDS, Quantity, Record, Records};
 use std::alloc::Global;
 
 // The hand of some fields, and how many moves the file then has.
 #[tactic(auto, unfolding(crate::specs::Logs::hand_of))]
-fn read_hand_of(alloc: Global, game: &Game, place: usize, file_moves: usize, fields: &Fields<'_>) -> Result<(Record, usize), Stop<LineFault>>
-    requires { HasRoom (fields_in fields.now) }
-    ensures said { Gives (λ found. (record_said found.0, found.1)) result (hand_of game.now place file_moves (fields_in fields.now)) }
+fn read_hand_of(
+    alloc: Global,
+    game: &Game,
+    place: usize,
+    file_moves: usize,
+    fields: &Fields<'_>,
+) -> Result<(Record, usize), Stop<LineFault>>
+    requires room { HasRoom (fields_in fields.now) }
+    requires few { file_moves ≤ MOST_FILE_MOVES }
+    ensures said { Gives (λ found. (record_said found.0, found.1)) result
+        (hand_of game.now place file_moves (fields_in fields.now)) }
     ensures game { IfOk result (λ found. IsOfGame game.now found.0) }
+    ensures moves { IfOk result (λ found. found.1 ≡ file_moves + moves_of found.0) }
+    ensures few { IfOk result (λ found. found.1 ≤ MOST_FILE_MOVES) }
 {
     let players = game.stacks.seats;
-    let hand_at = fields.state.len() as u64 + 2;
+    let hand_at = 1 + fields.state.len() as u64 + 1;
     let betting_at = hand_at + fields.hand.len() as u64 + 1;
     let cards_at = betting_at + fields.betting.len() as u64 + 1;
     let values_at = cards_at + fields.cards.len() as u64 + 1;
     let names_at = values_at + fields.values.len() as u64 + 1;
     let hand = read_hand(alloc, place, hand_at, fields.hand)?;
     let betting = read_betting(alloc, game.no_limit, file_moves, betting_at, fields.betting)?;
-    let script = read_script(alloc, players, betting.steps.as_slice(), cards_at, fields.cards)?;
+    let steps = betting.steps.as_slice();
+    let script = read_script(alloc, players, steps, cards_at, fields.cards)?;
     let values = read_values(players, values_at, fields.values)?;
     let names = read_names(alloc, players, names_at, fields.names)?;
-    let record = Record {
-        setup: setup_of(game),
-        rules: rules_of(game),
-        script,
-        stated: Stated {
-            finish: None,
-            wins: None,
-            pot_total: None,
-            values: Some(values),
-        },
-        notes: Notes {
-            names,
-            seats: None,
-            seat_count: None,
-            hand,
-            table: None,
-            venue: None,
-            currency: None,
-            year: None,
-            month: None,
-            day: None,
-            time: None,
-            zone: None,
-        },
-    };
+    let record = record_of(game, script, values, names, hand);
     Ok((record, betting.file_moves))
 }
 
@@ -74,10 +63,20 @@ fn is_passed_over(line: &[u8]) -> bool
 
 // The hand of a line, and how many moves the file then has.
 #[tactic(auto, unfolding(crate::specs::Logs::line_said))]
-fn read_line(alloc: Global, game: &Game, place: usize, file_moves: usize, line: &[u8]) -> Result<(Record, usize), Stop<LineFault>>
-    requires { length line.now < 2 ^ 63 }
-    ensures said { Gives (λ found. (record_said found.0, found.1)) result (line_said game.now place file_moves line.now) }
+fn read_line(
+    alloc: Global,
+    game: &Game,
+    place: usize,
+    file_moves: usize,
+    line: &[u8],
+) -> Result<(Record, usize), Stop<LineFault>>
+    requires room { length line.now < 2 ^ 63 }
+    requires few { file_moves ≤ MOST_FILE_MOVES }
+    ensures said { Gives (λ found. (record_said found.0, found.1)) result
+        (line_said game.now place file_moves line.now) }
     ensures game { IfOk result (λ found. IsOfGame game.now found.0) }
+    ensures moves { IfOk result (λ found. found.1 ≡ file_moves + moves_of found.0) }
+    ensures few { IfOk result (λ found. found.1 ≤ MOST_FILE_MOVES) }
 {
     if !has_prefix(line, b"STATE:") {
         return Err(wrong(What::LineShape, 1));
@@ -87,12 +86,21 @@ fn read_line(alloc: Global, game: &Game, place: usize, file_moves: usize, line: 
 }
 
 // One more line, and how many moves the file then has.
-#[tactic(auto, unfolding(crate::specs::Logs::hands_after_line))]
-fn take_line(alloc: Global, game: &Game, records: &mut Records, file_moves: usize, line: u64, text: &[u8]) -> Result<usize, Stop<AcpcFault>>
-    requires { length text.now < 2 ^ 63 }
+#[tactic(auto, unfolding(crate::specs::Logs::hands_after_line), using(crate::proofs::MatchRecords::one_more_hand))]
+fn take_line(
+    alloc: Global,
+    game: &Game,
+    records: &mut Records,
+    file_moves: usize,
+    line: u64,
+    text: &[u8],
+) -> Result<usize, Stop<AcpcFault>>
+    requires room { length text.now < 2 ^ 63 }
+    requires kept { AreOfGame game.now records.old file_moves }
     ensures ok { IfOk result (λ moves. hands_after_line game.now (map record_said records.old, file_moves) line text.now
         ≡ Ok (map record_said records.new, moves)) }
     ensures err { IfErr result (λ stop. Fails stop (hands_after_line game.now (map record_said records.old, file_moves) line text.now)) }
+    ensures kept { IfOk result (AreOfGame game.now records.new) }
 {
     if is_passed_over(text) {
         return Ok(file_moves);
@@ -117,7 +125,10 @@ fn take_line(alloc: Global, game: &Game, records: &mut Records, file_moves: usiz
 // The hands of a log.
 #[tactic(auto, unfolding(crate::specs::Logs::reading))]
 fn read_lines(alloc: Global, game: &Game, bytes: &[u8]) -> Result<Records, Stop<AcpcFault>>
-    ensures { Gives (λ records. map record_said records) result (reading game.now bytes.now) }
+    ensures said { Gives (map record_said) result (reading game.now bytes.now) }
+    ensures each { IfOk result (AllByRecursion (IsOfGame game.now)) }
+    ensures few { IfOk result (λ records. length records ≤ MOST_HANDS) }
+    ensures moves { IfOk result (λ records. sum_by moves_of records ≤ MOST_FILE_MOVES) }
 {
     let mut records = Records::new(alloc);
     let mut file_moves = 0;
@@ -132,9 +143,13 @@ fn read_lines(alloc: Global, game: &Game, bytes: &[u8]) -> Result<Records, Stop<
     Ok(records)
 }
 
-/// The hands that a log says under a game.
+/// The records that a log of matches of the game says, one for each line of a hand, in order; or the first fault,
+/// with its line and byte. Each record is sound, and has the setup and the rules of the game.
 pub fn read(alloc: Global, game: &Game, bytes: &[u8]) -> Result<Records, AcpcFault>
-    ensures { Answers (λ records. map record_said records) result (reading game.now bytes.now) }
+    ensures reads { Answers (map record_said) result (reading game.now bytes.now) }
+    ensures sound { IfOk result (AllByRecursion (IsOfGame game.now)) }
+    ensures few { IfOk result (λ records. length records ≤ MOST_HANDS) }
+    ensures moves { IfOk result (λ records. sum_by moves_of records ≤ MOST_FILE_MOVES) }
 {
     match read_lines(alloc, game, bytes) {
         Ok(records) => Ok(records),

@@ -1,13 +1,14 @@
 //! The names of the players and the number of the hand are read as notes.
-ghost use Rattle.std.specs.Prelude.{◌≡◌, ℕ, ◌≤◌, ◌<◌, ◌+◌, ◌-◌, ◌^◌, length, take, bytes_eq, slice_index_or, is_some, None, IfOk, IfSome};
+ghost use Rattle.std.specs.Prelude.{◌≡◌, ℕ, ◌≤◌, ◌<◌, ◌+◌, ◌-◌, ◌^◌, [], length, take, bytes_eq, slice_index_or, is_some, None, IfOk, IfSome};
 ghost use Rattle.std.specs.Str.{is_utf8};
 ghost use Rattle.first_fault.specs.Reading.{Gives};
 ghost use Rattle.acpc_text.specs.Parts.{parts_of};
-ghost use Rattle.hand_canon.specs.AllowedNotes.{default_name};
-ghost use Rattle.acpc_reading.specs.Names.{hand_said, name_said, names_said};
+ghost use Rattle.hand_canon.specs.AllowedNotes.{IsName, IsNoteText, default_name};
+ghost use Rattle.acpc_reading.specs.Names.{hand_said, name_said, names_after, names_said};
 
 use crate::letters::wrong;
-use acpc_text::{LineFault, What, count_parts, cut_at};
+use crate::parts::next_part;
+use acpc_text::{LineFault, What, count_parts};
 use first_fault::{Stop, are_digits, read_digits};
 use hand_canon::{MOST_TEXT_BYTES, Quantity, Text};
 use std::alloc::Global;
@@ -42,7 +43,8 @@ fn text_of(bytes: &[u8]) -> Option<&str>
 fn read_name(alloc: Global, seat: u8, at: u64, name: &[u8]) -> Result<Option<Text>, Stop<LineFault>>
     requires first { 1 ≤ seat }
     requires last { seat ≤ 10 }
-    ensures { Gives (λ name. name) result (name_said seat at name.now) }
+    ensures said { Gives (λ name. name) result (name_said seat at name.now) }
+    ensures allowed { IfOk result (λ name. IfSome name (IsName seat)) }
 {
     let Some(text) = text_of(name) else {
         return Err(wrong(What::LineShape, at));
@@ -60,7 +62,8 @@ fn read_name(alloc: Global, seat: u8, at: u64, name: &[u8]) -> Result<Option<Tex
 /// The number of the hand at a place of its file, from 0, whose field begins at this byte.
 #[tactic(auto, unfolding(crate::specs::Names::hand_said))]
 pub fn read_hand(alloc: Global, place: usize, at: u64, text: &[u8]) -> Result<Option<Text>, Stop<LineFault>>
-    ensures { Gives (λ note. note) result (hand_said place at text.now) }
+    ensures said { Gives (λ note. note) result (hand_said place at text.now) }
+    ensures allowed { IfOk result (λ note. IfSome note IsNoteText) }
 {
     if !are_digits(text) || text.len() > 18 {
         return Err(wrong(What::LineShape, at));
@@ -78,23 +81,27 @@ pub fn read_hand(alloc: Global, place: usize, at: u64, text: &[u8]) -> Result<Op
     }
 }
 
-/// The names field, which begins at this byte, in a hand of so many players; past the last seat there are none.
-#[tactic(auto, unfolding(crate::specs::Names::names_said))]
-pub fn read_names(alloc: Global, players: u8, at: u64, text: &[u8]) -> Result<[Option<Text>; 10], Stop<LineFault>>
+// The names of as many players as there are parts.
+fn fill_names(
+    alloc: Global,
+    players: u8,
+    at: u64,
+    text: &[u8],
+) -> Result<[Option<Text>; 10], Stop<LineFault>>
     requires few { players ≤ 10 }
+    requires same { length (parts_of 124 text.now) ≡ players }
     requires near { at + length text.now < 2 ^ 64 - 1 }
-    ensures said { Gives (λ names. take players names) result (names_said players at text.now) }
-    ensures no_more { IfOk result (λ names. (index : ℕ) → players ≤ index → slice_index_or names index None ≡ None) }
+    ensures said { Gives (take players) result (names_after [] 1 at (parts_of 124 text.now)) }
+    ensures each { IfOk result (λ names. (seat : ℕ) → 1 ≤ seat → seat ≤ players
+        → IfSome (slice_index_or names (seat - 1) None) (IsName seat)) }
+    ensures no_more { IfOk result (λ names. (index : ℕ) → players ≤ index
+        → slice_index_or names index None ≡ None) }
 {
-    if count_parts(text, b'|') != players as usize {
-        return Err(wrong(What::SeatCount, at));
-    }
     let mut names = [None, None, None, None, None, None, None, None, None, None];
     let mut index = 0;
     let mut place = at;
     let mut rest = Some(text);
-    while let Some(left) = rest {
-        let (part, more) = cut_at(left, b'|');
+    while let Some((part, more)) = next_part(rest, b'|') {
         let name = read_name(alloc, index as u8 + 1, place, part)?;
         names[index] = name;
         index += 1;
@@ -102,4 +109,26 @@ pub fn read_names(alloc: Global, players: u8, at: u64, text: &[u8]) -> Result<[O
         rest = more;
     }
     Ok(names)
+}
+
+/// The names field, which begins at this byte, in a hand of so many players; past the last seat there are none.
+#[tactic(auto, unfolding(crate::specs::Names::names_said))]
+pub fn read_names(
+    alloc: Global,
+    players: u8,
+    at: u64,
+    text: &[u8],
+) -> Result<[Option<Text>; 10], Stop<LineFault>>
+    requires few { players ≤ 10 }
+    requires near { at + length text.now < 2 ^ 64 - 1 }
+    ensures said { Gives (take players) result (names_said players at text.now) }
+    ensures each { IfOk result (λ names. (seat : ℕ) → 1 ≤ seat → seat ≤ players
+        → IfSome (slice_index_or names (seat - 1) None) (IsName seat)) }
+    ensures no_more { IfOk result (λ names. (index : ℕ) → players ≤ index
+        → slice_index_or names index None ≡ None) }
+{
+    if count_parts(text, b'|') != players as usize {
+        return Err(wrong(What::SeatCount, at));
+    }
+    fill_names(alloc, players, at, text)
 }

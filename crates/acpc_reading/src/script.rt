@@ -9,6 +9,7 @@ ghost use Rattle.acpc_reading.specs.Scripts.{written_by};
 
 use crate::cards::{read_board, read_hole};
 use crate::letters::wrong;
+use crate::parts::next_part;
 use crate::step::Step;
 use acpc_text::{LineFault, What, count_parts, cut_at, kept};
 use chip_ledger::Seat;
@@ -43,8 +44,7 @@ fn take_holes(script: &mut Script, players: u8, at: u64, holes: &[u8]) -> Result
 {
     let mut seat = 1;
     let mut rest = Some(holes);
-    while let Some(left) = rest {
-        let (part, more) = cut_at(left, b'|');
+    while let Some((part, more)) = next_part(rest, b'|') {
         take_hole(script, seat, at, part)?;
         seat += 1;
         rest = more;

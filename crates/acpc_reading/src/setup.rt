@@ -1,46 +1,45 @@
 //! The setup and the rules of a hand are those of its game.
 ghost use Rattle.std.specs.Prelude.{◌≡◌};
-ghost use Rattle.chip_ledger.specs.Greatest.{greatest as greatest_said};
-ghost use Rattle.acpc_game.specs.Games.{amounts_in};
-ghost use Rattle.acpc_reading.specs.RecordView.{IsSetupOf, rules_of as rules_of_said};
+ghost use Rattle.acpc_reading.specs.RecordView.{IsSetupOf, code_of as code_of_said, least_bet as least_bet_said, rules_of as rules_of_said};
 
 use acpc_game::{Game, greatest};
 use chip_ledger::{RakeRow, SeatRow};
 use play_event::{Code, Reopen, Rules, Setup};
 
+// The code of the game.
+fn code_of(game: &Game) -> Code
+    ensures { result ≡ code_of_said game.now.no_limit }
+{
+    if game.no_limit { Code::NT } else { Code::FT }
+}
+
+// The least bet of the game.
+fn least_bet(game: &Game) -> u64
+    ensures { result ≡ least_bet_said game.now }
+{
+    if game.no_limit {
+        greatest(&game.blinds.amounts[..game.blinds.seats as usize])
+    } else {
+        0
+    }
+}
+
 /// What a hand of the game begins with.
+#[tactic(auto, using(crate::proofs::MatchSetups::no_rake))]
 pub fn setup_of(game: &Game) -> Setup
     ensures { IsSetupOf game.now result }
 {
-    let antes = SeatRow::new(game.stacks.seats);
-    let rakes = RakeRow::none();
-    if game.no_limit {
-        let blinds = &game.blinds.amounts[..game.blinds.seats as usize];
-        Setup {
-            code: Code::NT,
-            stacks: game.stacks,
-            antes,
-            dead_antes: false,
-            blinds: game.blinds,
-            bring_in: 0,
-            small_bet: game.small_raise,
-            big_bet: game.big_raise,
-            min_bet: greatest(blinds),
-            rakes,
-        }
-    } else {
-        Setup {
-            code: Code::FT,
-            stacks: game.stacks,
-            antes,
-            dead_antes: false,
-            blinds: game.blinds,
-            bring_in: 0,
-            small_bet: game.small_raise,
-            big_bet: game.big_raise,
-            min_bet: 0,
-            rakes,
-        }
+    Setup {
+        code: code_of(game),
+        stacks: game.stacks,
+        antes: SeatRow::new(game.stacks.seats),
+        dead_antes: false,
+        blinds: game.blinds,
+        bring_in: 0,
+        small_bet: game.small_raise,
+        big_bet: game.big_raise,
+        min_bet: least_bet(game),
+        rakes: RakeRow::none(),
     }
 }
 

@@ -1,11 +1,12 @@
 //! What each seat won or lost is read as the line states it.
-ghost use Rattle.std.specs.Prelude.{◌≡◌, ◌≤◌, ◌<◌, ◌+◌, ◌-◌, ◌^◌, ◌∷◌, length, IfOk};
+ghost use Rattle.std.specs.Prelude.{◌≡◌, ◌≤◌, ◌<◌, ◌+◌, ◌-◌, ◌^◌, [], ◌∷◌, length, slice_set, IfOk};
 ghost use Rattle.first_fault.specs.Reading.{Gives};
 ghost use Rattle.acpc_text.specs.Parts.{parts_of};
-ghost use Rattle.acpc_reading.specs.Values.{are_zeros as are_zeros_said, signed as signed_said, unsigned_said, value_said, values_said, whole_said};
+ghost use Rattle.acpc_reading.specs.Values.{are_zeros as are_zeros_said, signed as signed_said, unsigned_said, value_said, values_after, values_said, whole_said};
 ghost use Rattle.acpc_reading.specs.Views.{nets_in};
 
 use crate::letters::wrong;
+use crate::parts::next_part;
 use acpc_text::{LineFault, What, count_parts, cut_at, cut_first};
 use chip_ledger::MOST_AMOUNT;
 use first_fault::{Stop, are_digits, read_digits};
@@ -90,6 +91,39 @@ fn read_value(at: u64, text: &[u8]) -> Result<i64, Stop<LineFault>>
     }
 }
 
+// A row with this number at an index.
+fn put(nets: &mut [i64; 10], index: usize, net: i64)
+    requires { index < 10 }
+    ensures { nets.new ≡ slice_set nets.old index net }
+{
+    nets[index] = net;
+}
+
+// The values of as many players as there are parts.
+fn fill_values(players: u8, at: u64, text: &[u8]) -> Result<NetRow, Stop<LineFault>>
+    requires few { players ≤ 10 }
+    requires same { length (parts_of 124 text.now) ≡ players }
+    requires near { at + length text.now < 2 ^ 64 - 1 }
+    ensures said { Gives nets_in result (values_after [] at (parts_of 124 text.now)) }
+    ensures seats { IfOk result (λ row. row.seats ≡ players) }
+{
+    let mut nets = [0; 10];
+    let mut index = 0;
+    let mut place = at;
+    let mut rest = Some(text);
+    while let Some((part, more)) = next_part(rest, b'|') {
+        let value = read_value(place, part)?;
+        put(&mut nets, index, value);
+        index += 1;
+        place += part.len() as u64 + 1;
+        rest = more;
+    }
+    Ok(NetRow {
+        seats: players,
+        nets,
+    })
+}
+
 /// The values field, which begins at this byte, in a hand of so many players.
 #[tactic(auto, unfolding(crate::specs::Values::values_said))]
 pub fn read_values(players: u8, at: u64, text: &[u8]) -> Result<NetRow, Stop<LineFault>>
@@ -101,20 +135,5 @@ pub fn read_values(players: u8, at: u64, text: &[u8]) -> Result<NetRow, Stop<Lin
     if count_parts(text, b'|') != players as usize {
         return Err(wrong(What::SeatCount, at));
     }
-    let mut nets = [0; 10];
-    let mut index = 0;
-    let mut place = at;
-    let mut rest = Some(text);
-    while let Some(left) = rest {
-        let (part, more) = cut_at(left, b'|');
-        let value = read_value(place, part)?;
-        nets[index] = value;
-        index += 1;
-        place += part.len() as u64 + 1;
-        rest = more;
-    }
-    Ok(NetRow {
-        seats: players,
-        nets,
-    })
+    fill_values(players, at, text)
 }

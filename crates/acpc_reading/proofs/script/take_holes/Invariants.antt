@@ -6,12 +6,12 @@ use Rattle.acpc_reading.specs.Cards.{holes_after}
 use Rattle.acpc_reading.proofs.script.take_holes.Given as goal
 
 -- the deals so far and those of the parts that are left are all of them
-abbrev pub invariant-loop-rest : goal.invariant-loop-rest
-invariant-loop-rest l = record {
+abbrev pub invariant-loop-part : goal.invariant-loop-part
+invariant-loop-part l = record {
   first : 1 ≤ l.seat;
   count : l.seat + length (option_map_or (λ text. parts_of 124 text.now) l.rest []) ≡ l.players + 1;
   read : holes_after l.at (map numbered l.script) l.seat (option_map_or (λ text. parts_of 124 text.now) l.rest []) ≡ holes_after l.at (map numbered l.fn.script) 1 (parts_of 124 l.fn.holes);
 }
 
-abbrev pub decreases-loop-rest : goal.decreases-loop-rest
-decreases-loop-rest l = option_map_or (λ text. 1 + length text.now) l.rest 0
+abbrev pub decreases-loop-part : goal.decreases-loop-part
+decreases-loop-part l = option_map_or (λ text. 1 + length text.now) l.rest 0

@@ -2,11 +2,11 @@ use Rattle.std.proofs.Common.{◌≡◌, ℕ, ◌+◌, ◌≤◌, [], length, ta
 use Rattle.std.specs.Option.{option_map_or}
 use Rattle.acpc_text.specs.Parts.{parts_of}
 use Rattle.acpc_reading.specs.Values.{values_after}
-use Rattle.acpc_reading.proofs.values.read_values.Given as goal
+use Rattle.acpc_reading.proofs.values.fill_values.Given as goal
 
 -- the values so far are written, zeros stand behind them, and with those that are left they are all
-abbrev pub invariant-loop-rest : goal.invariant-loop-rest
-invariant-loop-rest l = record {
+abbrev pub invariant-loop-part : goal.invariant-loop-part
+invariant-loop-part l = record {
   ten : length l.nets ≡ 10;
   zeros : (k : ℕ) → l.index ≤ k → slice_index_or l.nets k (pos 0) ≡ pos 0;
   count : l.index + length (option_map_or (λ text. parts_of 124 text.now) l.rest []) ≡ l.players;
@@ -14,5 +14,5 @@ invariant-loop-rest l = record {
   read : values_after (take l.index l.nets) l.place (option_map_or (λ text. parts_of 124 text.now) l.rest []) ≡ values_after [] l.at (parts_of 124 l.fn.text);
 }
 
-abbrev pub decreases-loop-rest : goal.decreases-loop-rest
-decreases-loop-rest l = option_map_or (λ text. 1 + length text.now) l.rest 0
+abbrev pub decreases-loop-part : goal.decreases-loop-part
+decreases-loop-part l = option_map_or (λ text. 1 + length text.now) l.rest 0

@@ -1,0 +1,80 @@
+//! What a line says of a hand, with the setup and the rules of its game, is a record.
+ghost use Rattle.std.specs.Prelude.{◌≡◌, ℕ, ◌-◌, ◌≤◌, None, map, take, slice_index_or, IfSome};
+ghost use Rattle.canonical_play.specs.PlayedScript.{IsWithinLimits};
+ghost use Rattle.hand_canon.specs.AllowedNotes.{IsName, IsNoteText};
+ghost use Rattle.play_event.specs.Said.{numbered, said_of};
+ghost use Rattle.acpc_reading.specs.RecordView.{IsOfGame, NotesNames, StatesValues, record_said};
+ghost use Rattle.acpc_reading.specs.Views.{nets_in};
+
+use crate::setup::{rules_of, setup_of};
+use acpc_game::Game;
+use hand_canon::{NetRow, Notes, Record, Stated, Text};
+use play_event::Script;
+
+// What is stated where each seat's win or loss is.
+fn stating(values: NetRow) -> Stated
+    ensures values { result.values ≡ Some values }
+    ensures alone { StatesValues result }
+{
+    Stated {
+        finish: None,
+        wins: None,
+        pot_total: None,
+        values: Some(values),
+    }
+}
+
+// The notes of a hand of which the names of the players and its number are noted.
+fn noting(names: [Option<Text>; 10], hand: Option<Text>) -> Notes
+    ensures names { result.names ≡ names }
+    ensures hand { result.hand ≡ hand }
+    ensures alone { NotesNames result }
+{
+    Notes {
+        names,
+        seats: None,
+        seat_count: None,
+        hand,
+        table: None,
+        venue: None,
+        currency: None,
+        year: None,
+        month: None,
+        day: None,
+        time: None,
+        zone: None,
+    }
+}
+
+/// The record of a hand of the game.
+pub fn record_of(
+    game: &Game,
+    script: Script,
+    values: NetRow,
+    names: [Option<Text>; 10],
+    hand: Option<Text>,
+) -> Record
+    requires within { IsWithinLimits (map said_of script) }
+    requires seats { values.seats ≡ game.now.stacks.seats }
+    requires each { (seat : ℕ) → 1 ≤ seat → seat ≤ game.now.stacks.seats
+        → IfSome (slice_index_or names (seat - 1) None) (IsName seat) }
+    requires no_more { (index : ℕ) → game.now.stacks.seats ≤ index
+        → slice_index_or names index None ≡ None }
+    requires hand { IfSome hand IsNoteText }
+    ensures said { record_said result ≡ record {
+      events = map numbered script;
+      values = nets_in values;
+      names = take game.now.stacks.seats names;
+      hand = hand;
+    } }
+    ensures script { result.script ≡ script }
+    ensures game { IsOfGame game.now result }
+{
+    Record {
+        setup: setup_of(game),
+        rules: rules_of(game),
+        script,
+        stated: stating(values),
+        notes: noting(names, hand),
+    }
+}
