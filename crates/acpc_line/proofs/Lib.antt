@@ -1,0 +1,8 @@
+-- Laws of what is written.
+pub mod Same
+pub mod SeatTexts
+pub mod Totals
+pub mod Making
+pub mod Posting
+pub mod Letters
+pub mod Pieces

@@ -1,0 +1,7 @@
+use Rattle.std.proofs.Common.{◌≡◌, ◌++◌, drop}
+use Rattle.acpc_line.specs.Line.{lines_from, log_text}
+use Rattle.acpc_line.proofs.log.spell.Given as goal
+
+-- what is written and the plays to come are all lines
+abbrev pub invariant-loop-place : goal.invariant-loop-place
+invariant-loop-place l = l.out.items ++ lines_from l.no_limit l.place (drop l.place l.plays) ≡ log_text l.no_limit l.plays

@@ -1,0 +1,33 @@
+//! Amounts of a row are compared with others.
+ghost use Rattle.std.specs.Prelude.{◌≡◌, nat_lt, bytes_eq};
+ghost use Rattle.std.specs.List.{list_any};
+ghost use Rattle.acpc_game.specs.Games.{amounts_in};
+
+use chip_ledger::SeatRow;
+
+/// The amounts of the seats of a row.
+pub fn amounts_of(row: &SeatRow) -> &[u64]
+    ensures { result.now ≡ amounts_in row.now }
+{
+    &row.amounts[..row.seats as usize]
+}
+
+/// Whether amounts are these.
+#[tactic(auto, using(crate::proofs::Same::same_list))]
+pub fn are_same(amounts: &[u64], others: &[u64]) -> bool
+    ensures { result ≡ bytes_eq amounts.now others.now }
+{
+    amounts == others
+}
+
+/// Whether one of the amounts is above 0.
+pub fn has_some(amounts: &[u64]) -> bool
+    ensures { result ≡ list_any (nat_lt 0) amounts.now }
+{
+    for amount in amounts {
+        if 0 < *amount {
+            return true;
+        }
+    }
+    false
+}

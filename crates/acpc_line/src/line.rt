@@ -1,0 +1,79 @@
+//! A play is written as its one line.
+ghost use Rattle.std.specs.Prelude.{◌≡◌, ◌++◌, OnOk};
+ghost use Rattle.hand_canon.specs.Sound.{IsSound};
+ghost use Rattle.acpc_line.specs.Line.{end_text, head_text, line_text, play_text};
+ghost use Rattle.acpc_line.specs.Stakes.{HaveFewChips};
+
+use crate::betting::push_betting;
+use crate::cards::push_cards;
+use crate::names::{push_hand, push_names};
+use crate::values::push_values;
+use hand_canon::{Notes, Play, Text, Trace};
+use std::alloc::{AllocError, Global};
+
+// The betting and the cards of a hand.
+#[tactic(auto, unfolding(crate::specs::Line::play_text))]
+fn push_play(
+    alloc: Global,
+    out: &mut Vec<u8>,
+    no_limit: bool,
+    trace: &Trace,
+) -> Result<(), AllocError>
+    requires { HaveFewChips trace.now.setup trace.now.moves }
+    ensures { OnOk result (out.new.items ≡ out.old.items ++ play_text no_limit trace.now) }
+{
+    push_betting(alloc, out, no_limit, trace)?;
+    out.extend_from_slice(b":")?;
+    push_cards(out, trace.places.as_slice(), trace.setup.stacks.seats)
+}
+
+// `STATE` and the number of the hand at a place of its file, from 0.
+#[tactic(auto, unfolding(crate::specs::Line::head_text))]
+fn push_head(
+    alloc: Global,
+    out: &mut Vec<u8>,
+    place: usize,
+    hand: &Option<Text>,
+) -> Result<(), AllocError>
+    ensures { OnOk result (out.new.items ≡ out.old.items ++ head_text place hand.now) }
+{
+    out.extend_from_slice(b"STATE:")?;
+    push_hand(alloc, out, place, hand)
+}
+
+// The values and the names.
+#[tactic(auto, unfolding(crate::specs::Line::end_text))]
+fn push_end(
+    alloc: Global,
+    out: &mut Vec<u8>,
+    trace: &Trace,
+    notes: &Notes,
+) -> Result<(), AllocError>
+    requires { trace.now.finish.seats ≡ trace.now.setup.stacks.seats }
+    ensures { OnOk result (out.new.items ≡ out.old.items ++ end_text trace.now notes.now) }
+{
+    push_values(alloc, out, &trace.setup.stacks, &trace.finish)?;
+    out.extend_from_slice(b":")?;
+    push_names(alloc, out, notes, trace.setup.stacks.seats)
+}
+
+/// The line of the play at a place of its file, from 0. Raises have their totals where the game has no limit.
+#[tactic(auto, unfolding(crate::specs::Line::line_text))]
+pub fn push_line(
+    alloc: Global,
+    out: &mut Vec<u8>,
+    no_limit: bool,
+    place: usize,
+    play: &Play,
+) -> Result<(), AllocError>
+    requires { IsSound play.now }
+    ensures { OnOk result (out.new.items ≡ out.old.items ++ line_text no_limit place play.now) }
+{
+    push_head(alloc, out, place, &play.hand.notes.hand)?;
+    out.extend_from_slice(b":")?;
+    push_play(alloc, out, no_limit, &play.trace)?;
+    out.extend_from_slice(b":")?;
+    push_end(alloc, out, &play.trace, &play.hand.notes)?;
+    out.extend_from_slice(b"\n")?;
+    Ok(())
+}
