@@ -133,24 +133,30 @@ others_same (event ∷ rest) =
     ∙ ap (λ n. cond (not (is_move (said_of event))) 1 0 + n) (others_same rest)
     ∙ sym (count_by-cons (λ event. not (is_move event.1)) (numbered event) (map numbered rest))
 
-module _ (no_limit : Bool) (players earlier betting_at at : ℕ) (text : List ℕ) (bets : Bets) (parts : List (List ℕ)) (script : List Event)
-    (few : earlier ≤ MOST_FILE_MOVES) (bets_are : betting_said no_limit earlier betting_at text ≡ Ok bets) (script_is : script_said players bets.steps at parts ≡ Ok (map numbered script)) where
+module _ (no_limit : Bool) (players earlier betting_at at : ℕ) (text : List ℕ) (bets : Bets) (steps : List Step) (parts : List (List ℕ)) (script : List Event)
+    (few : earlier ≤ MOST_FILE_MOVES) (bets_are : betting_said no_limit earlier betting_at text ≡ Ok bets) (same : steps ≡ bets.steps) (script_is : script_said players steps at parts ≡ Ok (map numbered script)) where
   counted : AreCounted earlier bets
   counted = IfOk-at_ok (AreCounted earlier) bets_are (betting_counted no_limit earlier betting_at text few)
 
-  adds : Adds (count_by is_letter bets.steps) (players + count_by is_stroke bets.steps) [] (map numbered script)
-  adds = IfOk-at_ok (Adds (count_by is_letter bets.steps) (players + count_by is_stroke bets.steps) []) script_is (script_counted players bets.steps at parts)
+  adds : Adds (count_by is_letter steps) (players + count_by is_stroke steps) [] (map numbered script)
+  adds = IfOk-at_ok (Adds (count_by is_letter steps) (players + count_by is_stroke steps) []) script_is (script_counted players steps at parts)
+
+  letters_same : count_by is_letter steps ≡ count_by is_letter bets.steps
+  letters_same = ap (count_by is_letter) same
+
+  strokes_same : count_by is_stroke steps ≡ count_by is_stroke bets.steps
+  strokes_same = ap (count_by is_stroke) same
 
   -- the script of a hand of at most ten players is within the limits
   pub within_limits : players ≤ 10 → IsWithinLimits (map said_of script)
   within_limits most = record {
-    moves = omega (arith, moves_same script, adds.moves_are, counted.moves, counted.few_moves);
-    others = omega (arith, others_same script, adds.others_are, counted.rounds, counted.few_rounds, most);
+    moves = omega (arith, moves_same script, adds.moves_are, letters_same, counted.moves, counted.few_moves);
+    others = omega (arith, others_same script, adds.others_are, strokes_same, counted.rounds, counted.few_rounds, most);
   }
 
   -- the moves of the file after it
   pub file_moves_after : bets.file_moves ≡ earlier + count_by is_move (map said_of script)
-  file_moves_after = omega (arith, moves_same script, adds.moves_are, counted.moves, counted.file_moves)
+  file_moves_after = omega (arith, moves_same script, adds.moves_are, letters_same, counted.moves, counted.file_moves)
 
   -- are within the limit
   pub file_moves_few : bets.file_moves ≤ MOST_FILE_MOVES

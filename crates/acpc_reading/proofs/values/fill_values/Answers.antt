@@ -1,5 +1,7 @@
-use Rattle.std.proofs.Common.{◌≡◌, ℕ, ◌+◌, ◌<◌, ◌≤◌, ◌∷◌, [], ◌∙◌, ℤ, pos, ap, arith, length, take, sym}
+use Rattle.std.proofs.Common.{◌≡◌, ℕ, ◌+◌, ◌<◌, ◌≤◌, ◌∷◌, [], ◌∙◌, ℤ, pos, ap, arith, length, take, set, sym, rules, w64}
 use Rattle.std.specs.Option.{option_map_or}
+use mir.Val.{SFits}
+use Rattle.std.proofs.lemmas.Int.{to_z-of_z}
 use Rattle.std.proofs.lemmas.List.{length-set, take_more_set}
 use Rattle.std.proofs.lemmas.Result.{err_from_is_err_and}
 use Rattle.acpc_text.specs.Parts.{parts_of}
@@ -24,7 +26,9 @@ loop-part-preserved c =
     let cut : all ≡ part ∷ parts = c.in-Some.ensures.parts in
     let within : l.index < length l.nets = omega (arith, inv.ten, inv.count, ap length cut, c.requires.few) in
     let place : l.place + (length part + 1) ≡ l.place + length part + 1 = omega arith in
-    rw c.put.ensures (record {
+    let fits : SFits w64 value = search rules in
+    let put_is : c.put.new.nets ≡ set l.nets l.index value = c.put.ensures ∙ ap (set l.nets l.index) (to_z-of_z w64 value fits) in
+    rw put_is (record {
       ten = omega (arith, inv.ten, length-set l.nets l.index value);
       zeros = set_each (pos 0) (λ k net. l.index + 1 ≤ k → net ≡ pos 0) l.nets l.index value within (λ k other late. inv.zeros k (omega (arith, late))) (λ late. absurd (omega (arith, late)));
       count = omega (arith, inv.count, ap length cut);
