@@ -7,4 +7,5 @@ pub mod Names
 pub mod Logs
 pub mod Views
 pub mod RecordView
+pub mod Left
 pub mod FieldsView

@@ -1,8 +1,16 @@
--- The script so far, seen as the definitions say it.
-use Rattle.std.specs.Prelude.{ℕ, List, map}
+-- The script so far, and what is pending of it, seen as the definitions say it.
+use Rattle.std.specs.Prelude.{List, map}
 use Rattle.play_event.specs.declared.event.Event.{Event}
 use Rattle.play_event.specs.Said.{numbered}
+use Rattle.acpc_reading.specs.declared.pending.Pending.{Pending}
 use Rattle.acpc_reading.specs.Cards.{Written}
+use Rattle.acpc_reading.specs.Left.{parts_left}
 
-abbrev pub written_by : List Event → ℕ → ℕ → List (List ℕ) → Written
-written_by script number size boards = record { events = map numbered script; number = number; size = size; boards = boards }
+-- the script so far, and what is pending
+abbrev pub written_by : List Event → Pending → Written
+written_by script pending = record {
+  events = map numbered script;
+  number = pending.number;
+  size = pending.size;
+  boards = parts_left 47 pending.boards;
+}

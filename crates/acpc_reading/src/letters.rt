@@ -44,8 +44,10 @@ fn take_move(betting: &mut Betting, at: u64, step: Step) -> Result<(), Stop<Line
 #[tactic(auto, unfolding(crate::specs::Betting::bare_said))]
 fn take_bare(betting: &mut Betting, at: u64, digits: &[u8], step: Step) -> Result<(), Stop<LineFault>>
     requires { at + length digits.now < 2 ^ 64 }
-    ensures ok { OnOk result (bare_said (bets_in betting.old) at digits.now step ≡ Ok (bets_in betting.new)) }
-    ensures err { IfErr result (λ stop. Fails stop (bare_said (bets_in betting.old) at digits.now step)) }
+    ensures ok { OnOk result (bare_said (bets_in betting.old) at digits.now step
+        ≡ Ok (bets_in betting.new)) }
+    ensures err { IfErr result (λ stop.
+        Fails stop (bare_said (bets_in betting.old) at digits.now step)) }
 {
     if !digits.is_empty() {
         return Err(wrong(What::BadBetting, at + 1));
@@ -58,8 +60,10 @@ fn take_bare(betting: &mut Betting, at: u64, digits: &[u8], step: Step) -> Resul
 fn take_raise(betting: &mut Betting, at: u64, digits: &[u8]) -> Result<(), Stop<LineFault>>
     requires few { at + 1 + length digits.now < 2 ^ 64 }
     requires digits { list_all (λ b. is_digit b 10) digits.now ≡ true }
-    ensures ok { OnOk result (raise_said (bets_in betting.old) at digits.now ≡ Ok (bets_in betting.new)) }
-    ensures err { IfErr result (λ stop. Fails stop (raise_said (bets_in betting.old) at digits.now)) }
+    ensures ok { OnOk result (raise_said (bets_in betting.old) at digits.now
+        ≡ Ok (bets_in betting.new)) }
+    ensures err { IfErr result (λ stop.
+        Fails stop (raise_said (bets_in betting.old) at digits.now)) }
 {
     if digits.is_empty() {
         return Err(wrong(What::BadBetting, at + 1));
@@ -74,8 +78,10 @@ fn take_raise(betting: &mut Betting, at: u64, digits: &[u8]) -> Result<(), Stop<
 #[tactic(auto, unfolding(crate::specs::Betting::stroke_said))]
 fn take_stroke(betting: &mut Betting, at: u64, digits: &[u8]) -> Result<(), Stop<LineFault>>
     requires { at + 1 + length digits.now < 2 ^ 64 }
-    ensures ok { OnOk result (stroke_said (bets_in betting.old) at digits.now ≡ Ok (bets_in betting.new)) }
-    ensures err { IfErr result (λ stop. Fails stop (stroke_said (bets_in betting.old) at digits.now)) }
+    ensures ok { OnOk result (stroke_said (bets_in betting.old) at digits.now
+        ≡ Ok (bets_in betting.new)) }
+    ensures err { IfErr result (λ stop.
+        Fails stop (stroke_said (bets_in betting.old) at digits.now)) }
 {
     if betting.round >= 4 {
         return Err(wrong(What::BadBetting, at));
@@ -90,11 +96,19 @@ fn take_stroke(betting: &mut Betting, at: u64, digits: &[u8]) -> Result<(), Stop
 
 // A letter and its digits, at this byte.
 #[tactic(auto, unfolding(crate::specs::Betting::letter_said))]
-fn take_letter(no_limit: bool, betting: &mut Betting, at: u64, letter: u8, digits: &[u8]) -> Result<(), Stop<LineFault>>
+fn take_letter(
+    no_limit: bool,
+    betting: &mut Betting,
+    at: u64,
+    letter: u8,
+    digits: &[u8],
+) -> Result<(), Stop<LineFault>>
     requires few { at + 1 + length digits.now < 2 ^ 64 }
     requires digits { list_all (λ b. is_digit b 10) digits.now ≡ true }
-    ensures ok { OnOk result (letter_said no_limit (bets_in betting.old) at (letter, digits.now) ≡ Ok (bets_in betting.new)) }
-    ensures err { IfErr result (λ stop. Fails stop (letter_said no_limit (bets_in betting.old) at (letter, digits.now))) }
+    ensures ok { OnOk result (letter_said no_limit (bets_in betting.old) at (letter, digits.now)
+        ≡ Ok (bets_in betting.new)) }
+    ensures err { IfErr result (λ stop.
+        Fails stop (letter_said no_limit (bets_in betting.old) at (letter, digits.now))) }
 {
     if letter == b'f' {
         return take_bare(betting, at, digits, Step::Fold);
@@ -115,10 +129,17 @@ fn take_letter(no_limit: bool, betting: &mut Betting, at: u64, letter: u8, digit
 }
 
 // The letters of a text that begins with no digit.
-fn read_letters(alloc: Global, no_limit: bool, file_moves: usize, at: u64, text: &[u8]) -> Result<Betting, Stop<LineFault>>
+fn read_letters(
+    alloc: Global,
+    no_limit: bool,
+    file_moves: usize,
+    at: u64,
+    text: &[u8],
+) -> Result<Betting, Stop<LineFault>>
     requires few { at + length text.now < 2 ^ 64 }
     requires begins { (scan text.now).0 ≡ [] }
-    ensures { Gives bets_in result (bets_after no_limit (no_bets file_moves) at (scan text.now).1) }
+    ensures { Gives bets_in result
+        (bets_after no_limit (no_bets file_moves) at (scan text.now).1) }
 {
     let mut betting = Betting {
         steps: Vec::new(alloc),
@@ -139,7 +160,13 @@ fn read_letters(alloc: Global, no_limit: bool, file_moves: usize, at: u64, text:
 
 /// The betting field, which begins at this byte, in a file that has so many moves.
 #[tactic(auto, unfolding(crate::specs::Betting::betting_said))]
-pub fn read_betting(alloc: Global, no_limit: bool, file_moves: usize, at: u64, text: &[u8]) -> Result<Betting, Stop<LineFault>>
+pub fn read_betting(
+    alloc: Global,
+    no_limit: bool,
+    file_moves: usize,
+    at: u64,
+    text: &[u8],
+) -> Result<Betting, Stop<LineFault>>
     requires { at + length text.now < 2 ^ 64 }
     ensures { Gives bets_in result (betting_said no_limit file_moves at text.now) }
 {

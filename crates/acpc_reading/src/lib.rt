@@ -9,6 +9,7 @@ mod letters;
 mod log;
 mod names;
 mod parts;
+mod pending;
 mod record;
 mod script;
 mod setup;

@@ -97,9 +97,11 @@ fn take_line(
 ) -> Result<usize, Stop<AcpcFault>>
     requires room { length text.now < 2 ^ 63 }
     requires kept { AreOfGame game.now records.old file_moves }
-    ensures ok { IfOk result (λ moves. hands_after_line game.now (map record_said records.old, file_moves) line text.now
+    ensures ok { IfOk result (λ moves.
+        hands_after_line game.now (map record_said records.old, file_moves) line text.now
         ≡ Ok (map record_said records.new, moves)) }
-    ensures err { IfErr result (λ stop. Fails stop (hands_after_line game.now (map record_said records.old, file_moves) line text.now)) }
+    ensures err { IfErr result (λ stop. Fails stop
+        (hands_after_line game.now (map record_said records.old, file_moves) line text.now)) }
     ensures kept { IfOk result (AreOfGame game.now records.new) }
 {
     if is_passed_over(text) {

@@ -2,15 +2,16 @@
 ghost use Rattle.std.specs.Prelude.{◌≡◌, ◌+◌, [], ◌∷◌, length, IfSome};
 ghost use Rattle.std.specs.Option.{option_map_or};
 ghost use Rattle.acpc_text.specs.Parts.{parts_of};
+ghost use Rattle.acpc_reading.specs.Left.{len_left, parts_left};
 
 use acpc_text::cut_at;
 
 /// The first part of the text that is left, and what stands behind its sign; `None` where no text is left.
 pub fn next_part<'a>(rest: Option<&'a [u8]>, sign: u8) -> Option<(&'a [u8], Option<&'a [u8]>)>
-    ensures parts { option_map_or (λ text. parts_of sign text.now) rest.entry []
-        ≡ option_map_or (λ cut. cut.0.now ∷ option_map_or (λ text. parts_of sign text.now) cut.1 []) result [] }
-    ensures len { IfSome result (λ cut. option_map_or (λ text. 1 + length text.now) rest.entry 0
-        ≡ 1 + length cut.0.now + option_map_or (λ text. 1 + length text.now) cut.1 0) }
+    ensures parts { parts_left sign rest.entry
+        ≡ option_map_or (λ cut. cut.0.now ∷ parts_left sign cut.1) result [] }
+    ensures len { IfSome result (λ cut. len_left rest.entry
+        ≡ 1 + length cut.0.now + len_left cut.1) }
 {
     match rest {
         Some(text) => Some(cut_at(text, sign)),

@@ -1,15 +1,16 @@
 //! The script of a hand is written from its cards and its betting.
-ghost use Rattle.std.specs.Prelude.{◌≡◌, ◌≤◌, ◌<◌, ◌+◌, ◌-◌, ◌^◌, ◌++◌, ℕ, ◌∷◌, [], length, map, Ok, OnOk, IfOk, IfErr};
-ghost use Rattle.std.specs.Option.{option_map_or};
+ghost use Rattle.std.specs.Prelude.{◌≡◌, ◌≤◌, ◌<◌, ◌+◌, ◌-◌, ◌^◌, length, map, Ok, OnOk, IfOk, IfErr};
 ghost use Rattle.play_event.specs.Said.{kind_said, numbered};
 ghost use Rattle.first_fault.specs.Reading.{Fails, Gives};
 ghost use Rattle.acpc_text.specs.Parts.{parts_of};
 ghost use Rattle.acpc_reading.specs.Cards.{dealt, hole_after, holes_after, next_round, script_said, step_after, steps_said, with_letter};
+ghost use Rattle.acpc_reading.specs.Left.{parts_left};
 ghost use Rattle.acpc_reading.specs.Scripts.{written_by};
 
 use crate::cards::{read_board, read_hole};
 use crate::letters::wrong;
 use crate::parts::next_part;
+use crate::pending::Pending;
 use crate::step::Step;
 use acpc_text::{LineFault, What, count_parts, cut_at, kept};
 use chip_ledger::Seat;
@@ -22,8 +23,10 @@ use std::alloc::Global;
 fn take_hole(script: &mut Script, seat: u8, at: u64, part: &[u8]) -> Result<(), Stop<LineFault>>
     requires first { 1 ≤ seat }
     requires last { seat ≤ 10 }
-    ensures ok { OnOk result (hole_after at (map numbered script.old) seat part.now ≡ Ok (map numbered script.new)) }
-    ensures err { IfErr result (λ stop. Fails stop (hole_after at (map numbered script.old) seat part.now)) }
+    ensures ok { OnOk result (hole_after at (map numbered script.old) seat part.now
+        ≡ Ok (map numbered script.new)) }
+    ensures err { IfErr result (λ stop.
+        Fails stop (hole_after at (map numbered script.old) seat part.now)) }
 {
     match read_hole(part) {
         Some(cards) => {
@@ -39,8 +42,10 @@ fn take_hole(script: &mut Script, seat: u8, at: u64, part: &[u8]) -> Result<(), 
 fn take_holes(script: &mut Script, players: u8, at: u64, holes: &[u8]) -> Result<(), Stop<LineFault>>
     requires few { players ≤ 10 }
     requires same { length (parts_of 124 holes.now) ≡ players }
-    ensures ok { OnOk result (holes_after at (map numbered script.old) 1 (parts_of 124 holes.now) ≡ Ok (map numbered script.new)) }
-    ensures err { IfErr result (λ stop. Fails stop (holes_after at (map numbered script.old) 1 (parts_of 124 holes.now))) }
+    ensures ok { OnOk result (holes_after at (map numbered script.old) 1 (parts_of 124 holes.now)
+        ≡ Ok (map numbered script.new)) }
+    ensures err { IfErr result (λ stop.
+        Fails stop (holes_after at (map numbered script.old) 1 (parts_of 124 holes.now))) }
 {
     let mut seat = 1;
     let mut rest = Some(holes);
@@ -52,87 +57,120 @@ fn take_holes(script: &mut Script, players: u8, at: u64, holes: &[u8]) -> Result
     Ok(())
 }
 
-// One more letter with its number; the next board deal and the cards that are left stay as they are.
-fn take_letter<'a>(script: &mut Script, number: u64, size: u8, boards: Option<&'a [u8]>, kind: Kind) -> Result<(u64, u8, Option<&'a [u8]>), Stop<LineFault>>
-    requires { number < 2 ^ 64 - 1 }
-    ensures ok { IfOk result (λ next. written_by script.new next.0 next.1 (option_map_or (λ text. parts_of 47 text.now) next.2 [])
-        ≡ with_letter (written_by script.old number size (option_map_or (λ text. parts_of 47 text.now) boards.entry [])) (kind_said kind)) }
-    ensures next { IfOk result (λ next. (next.0 ≡ number + 1) × (next.1 ≡ size)) }
+// One more letter with its number.
+fn take_letter<'a>(
+    script: &mut Script,
+    pending: Pending<'a>,
+    kind: Kind,
+) -> Result<Pending<'a>, Stop<LineFault>>
+    requires { pending.number < 2 ^ 64 - 1 }
+    ensures ok { IfOk result (λ next. written_by script.new next
+        ≡ with_letter (written_by script.old pending.entry) (kind_said kind)) }
+    ensures number { IfOk result (λ next. next.number ≡ pending.entry.number + 1) }
+    ensures size { IfOk result (λ next. next.size ≡ pending.entry.size) }
     ensures err { IfErr result (λ stop. stop ≡ Stop.Memory) }
 {
-    let at = kept(number);
+    let at = kept(pending.number);
     script.push(Event { at, kind })?;
-    Ok((number + 1, size, boards))
+    Ok(Pending {
+        number: pending.number + 1,
+        size: pending.size,
+        boards: pending.boards,
+    })
 }
 
-// The board deal before the next round, and the cards of the rounds that are left.
+// The board deal before the next round.
 #[tactic(auto, unfolding(crate::specs::Cards::next_round))]
-fn take_board<'a>(script: &mut Script, at: u64, size: u8, boards: Option<&'a [u8]>) -> Result<Option<&'a [u8]>, Stop<LineFault>>
-    requires { size ≤ 7 }
-    ensures ok { IfOk result (λ rest. (number : ℕ) → next_round at (written_by script.old number size (option_map_or (λ text. parts_of 47 text.now) boards.entry [])) (option_map_or (λ text. parts_of 47 text.now) boards.entry [])
-        ≡ Ok (written_by script.new number 1 (option_map_or (λ text. parts_of 47 text.now) rest []))) }
-    ensures err { IfErr result (λ stop. (number : ℕ) → Fails stop (next_round at (written_by script.old number size (option_map_or (λ text. parts_of 47 text.now) boards.entry [])) (option_map_or (λ text. parts_of 47 text.now) boards.entry []))) }
+fn take_board<'a>(
+    script: &mut Script,
+    at: u64,
+    pending: Pending<'a>,
+) -> Result<Pending<'a>, Stop<LineFault>>
+    requires { pending.size ≤ 7 }
+    ensures ok { IfOk result (λ next.
+        next_round at (written_by script.old pending.entry) (parts_left 47 pending.entry.boards)
+        ≡ Ok (written_by script.new next)) }
+    ensures number { IfOk result (λ next. next.number ≡ pending.entry.number) }
+    ensures size { IfOk result (λ next. next.size ≡ 1) }
+    ensures err { IfErr result (λ stop. Fails stop
+        (next_round at (written_by script.old pending.entry) (parts_left 47 pending.entry.boards))) }
 {
-    let Some(left) = boards else {
+    let Some(left) = pending.boards else {
         return Err(wrong(What::BadCards, at));
     };
     let (board, rest) = cut_at(left, b'/');
-    match read_board(size, board) {
+    match read_board(pending.size, board) {
         Some(cards) => {
             script.push(Event { at: 0, kind: Kind::Board { cards } })?;
-            Ok(rest)
+            Ok(Pending {
+                number: pending.number,
+                size: 1,
+                boards: rest,
+            })
         }
         None => Err(wrong(What::BadCards, at)),
     }
 }
 
-// One more letter, or a board deal: the number of the next letter, the size of the next deal, and the cards that are left.
+// One more letter, or a board deal.
 #[tactic(auto, unfolding(crate::specs::Cards::step_after))]
-fn take_step<'a>(script: &mut Script, at: u64, number: u64, size: u8, boards: Option<&'a [u8]>, step: Step) -> Result<(u64, u8, Option<&'a [u8]>), Stop<LineFault>>
-    requires few { number < 2 ^ 64 - 1 }
-    requires small { size ≤ 7 }
-    ensures ok { IfOk result (λ next. step_after at (written_by script.old number size (option_map_or (λ text. parts_of 47 text.now) boards.entry [])) step
-        ≡ Ok (written_by script.new next.0 next.1 (option_map_or (λ text. parts_of 47 text.now) next.2 []))) }
-    ensures next { IfOk result (λ next. (next.0 ≤ number + 1) × (next.1 ≤ 7)) }
-    ensures err { IfErr result (λ stop. Fails stop (step_after at (written_by script.old number size (option_map_or (λ text. parts_of 47 text.now) boards.entry [])) step)) }
+fn take_step<'a>(
+    script: &mut Script,
+    at: u64,
+    pending: Pending<'a>,
+    step: Step,
+) -> Result<Pending<'a>, Stop<LineFault>>
+    requires few { pending.number < 2 ^ 64 - 1 }
+    requires small { pending.size ≤ 7 }
+    ensures ok { IfOk result (λ next. step_after at (written_by script.old pending.entry) step
+        ≡ Ok (written_by script.new next)) }
+    ensures number { IfOk result (λ next. next.number ≤ pending.entry.number + 1) }
+    ensures size { IfOk result (λ next. next.size ≤ 7) }
+    ensures err { IfErr result (λ stop.
+        Fails stop (step_after at (written_by script.old pending.entry) step)) }
 {
     match step {
-        Step::Fold => take_letter(script, number, size, boards, Kind::Fold { actor: None }),
+        Step::Fold => take_letter(script, pending, Kind::Fold { actor: None }),
         Step::Call => {
             let kind = Kind::Call { actor: None, stated: None };
-            take_letter(script, number, size, boards, kind)
+            take_letter(script, pending, kind)
         }
         Step::Raise => {
             let kind = Kind::Raise { actor: None, amount: Spelled::Unit };
-            take_letter(script, number, size, boards, kind)
+            take_letter(script, pending, kind)
         }
         Step::RaiseTo(total) => {
             let kind = Kind::Raise { actor: None, amount: Spelled::HandTotal(total) };
-            take_letter(script, number, size, boards, kind)
+            take_letter(script, pending, kind)
         }
-        Step::NextRound => {
-            let rest = take_board(script, at, size, boards)?;
-            Ok((number, 1, rest))
-        }
+        Step::NextRound => take_board(script, at, pending),
     }
 }
 
 // The events of all steps, after which no cards are left.
 #[tactic(auto, unfolding(crate::specs::Cards::steps_said))]
-fn take_steps(script: &mut Script, at: u64, boards: Option<&[u8]>, steps: &[Step]) -> Result<(), Stop<LineFault>>
-    ensures ok { OnOk result (steps_said at (dealt (map numbered script.old) (option_map_or (λ text. parts_of 47 text.now) boards.entry [])) steps.now ≡ Ok (map numbered script.new)) }
-    ensures err { IfErr result (λ stop. Fails stop (steps_said at (dealt (map numbered script.old) (option_map_or (λ text. parts_of 47 text.now) boards.entry [])) steps.now)) }
+fn take_steps(
+    script: &mut Script,
+    at: u64,
+    boards: Option<&[u8]>,
+    steps: &[Step],
+) -> Result<(), Stop<LineFault>>
+    ensures ok { OnOk result
+        (steps_said at (dealt (map numbered script.old) (parts_left 47 boards.entry)) steps.now
+        ≡ Ok (map numbered script.new)) }
+    ensures err { IfErr result (λ stop. Fails stop
+        (steps_said at (dealt (map numbered script.old) (parts_left 47 boards.entry)) steps.now)) }
 {
-    let mut number = 1;
-    let mut size = 3;
-    let mut left = boards;
+    let mut pending = Pending {
+        number: 1,
+        size: 3,
+        boards,
+    };
     for step in steps {
-        let (next, cards, rest) = take_step(script, at, number, size, left, *step)?;
-        number = next;
-        size = cards;
-        left = rest;
+        let next = take_step(script, at, pending, *step)?;
+        pending = next;
     }
-    match left {
+    match pending.boards {
         None => Ok(()),
         Some(_) => Err(wrong(What::BadCards, at)),
     }
@@ -140,9 +178,16 @@ fn take_steps(script: &mut Script, at: u64, boards: Option<&[u8]>, steps: &[Step
 
 /// The script of a hand of so many players, from the cards field at this byte and the betting.
 #[tactic(auto, unfolding(crate::specs::Cards::script_said))]
-pub fn read_script(alloc: Global, players: u8, steps: &[Step], at: u64, field: &[u8]) -> Result<Script, Stop<LineFault>>
+pub fn read_script(
+    alloc: Global,
+    players: u8,
+    steps: &[Step],
+    at: u64,
+    field: &[u8],
+) -> Result<Script, Stop<LineFault>>
     requires { players ≤ 10 }
-    ensures { Gives (λ script. map numbered script) result (script_said players steps.now at (parts_of 47 field.now)) }
+    ensures { Gives (λ script. map numbered script) result
+        (script_said players steps.now at (parts_of 47 field.now)) }
 {
     let (holes, boards) = cut_at(field, b'/');
     if count_parts(holes, b'|') != players as usize {

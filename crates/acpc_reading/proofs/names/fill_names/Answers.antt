@@ -4,6 +4,7 @@ use Rattle.std.proofs.lemmas.List.{length-set, take_more_set}
 use Rattle.std.proofs.lemmas.Result.{err_from_is_err_and}
 use Rattle.hand_canon.specs.AllowedNotes.{IsName}
 use Rattle.acpc_text.specs.Parts.{parts_of}
+use Rattle.acpc_reading.specs.Left.{parts_left}
 use Rattle.acpc_reading.specs.Names.{names_after}
 use Rattle.acpc_reading.proofs.Rows.{set_each, name_read, name_fails, names_done}
 use Rattle.acpc_reading.proofs.names.fill_names.Goals as goal
@@ -12,7 +13,7 @@ pub returns-in_err-name-clause-said : goal.returns-in_err-name-clause-said
 returns-in_err-name-clause-said c =
     let l = c.loop-part in
     let p = err_from_is_err_and c.from_residual.result c.from_residual.ensures.1 in
-    rw (p.1, p.2) (name_fails (take l.index l.names) (l.index + 1) l.place (option_map_or (λ text. parts_of 124 text.now) l.rest []) (names_after [] 1 c.args.at (parts_of 124 c.args.text.now)) c.in_err-name.field-0.0 c.in-Some.part.now (option_map_or (λ text. parts_of 124 text.now) c.in-Some.more []) c.in-Some.ensures.parts c.in_err-name.ensures.said l.invariant.read)
+    rw (p.1, p.2) (name_fails (take l.index l.names) (l.index + 1) l.place (parts_left 124 l.rest) (names_after [] 1 c.args.at (parts_of 124 c.args.text.now)) c.in_err-name.field-0.0 c.in-Some.part.now (parts_left 124 c.in-Some.more) c.in-Some.ensures.parts c.in_err-name.ensures.said l.invariant.read)
 
 pub loop-part-preserved : goal.loop-part-preserved
 loop-part-preserved c =
@@ -20,8 +21,8 @@ loop-part-preserved c =
     let inv = l.invariant in
     let name = c.in_ok-name.name in
     let part = c.in-Some.part.now in
-    let parts = option_map_or (λ text. parts_of 124 text.now) c.in-Some.more [] in
-    let all = option_map_or (λ text. parts_of 124 text.now) l.rest [] in
+    let parts = parts_left 124 c.in-Some.more in
+    let all = parts_left 124 l.rest in
     let cut : all ≡ part ∷ parts = c.in-Some.ensures.parts in
     let within : l.index < length l.names = omega (arith, inv.ten, inv.count, ap length cut, c.requires.few) in
     let place : l.place + (length part + 1) ≡ l.place + length part + 1 = omega arith in
@@ -38,7 +39,7 @@ pub returns-clause-said : goal.returns-clause-said
 returns-clause-said c =
     let l = c.loop-part in
     let whole : l.index ≡ c.args.players = omega (arith, l.invariant.count, ap length c.in_default.ensures.parts) in
-    rw (sym whole) (names_done (take l.index l.names) (l.index + 1) l.place (option_map_or (λ text. parts_of 124 text.now) l.rest []) (names_after [] 1 c.args.at (parts_of 124 c.args.text.now)) c.in_default.ensures.parts l.invariant.read)
+    rw (sym whole) (names_done (take l.index l.names) (l.index + 1) l.place (parts_left 124 l.rest) (names_after [] 1 c.args.at (parts_of 124 c.args.text.now)) c.in_default.ensures.parts l.invariant.read)
 
 pub returns-clause-each : goal.returns-clause-each
 returns-clause-each c seat first last =

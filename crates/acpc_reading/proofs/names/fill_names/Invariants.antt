@@ -2,6 +2,7 @@ use Rattle.std.proofs.Common.{◌≡◌, ℕ, ◌+◌, ◌<◌, ◌≤◌, [], l
 use Rattle.std.specs.Option.{option_map_or}
 use Rattle.hand_canon.specs.AllowedNotes.{IsName}
 use Rattle.acpc_text.specs.Parts.{parts_of}
+use Rattle.acpc_reading.specs.Left.{len_left, parts_left}
 use Rattle.acpc_reading.specs.Names.{names_after}
 use Rattle.acpc_reading.proofs.names.fill_names.Given as goal
 
@@ -11,10 +12,10 @@ invariant-loop-part l = record {
   ten : length l.names ≡ 10;
   each : (k : ℕ) → k < l.index → IfSome (slice_index_or l.names k None) (IsName (k + 1));
   none : (k : ℕ) → l.index ≤ k → slice_index_or l.names k None ≡ None;
-  count : l.index + length (option_map_or (λ text. parts_of 124 text.now) l.rest []) ≡ l.players;
-  place_is : l.place + option_map_or (λ text. 1 + length text.now) l.rest 0 ≡ l.at + 1 + length l.fn.text;
-  read : names_after (take l.index l.names) (l.index + 1) l.place (option_map_or (λ text. parts_of 124 text.now) l.rest []) ≡ names_after [] 1 l.at (parts_of 124 l.fn.text);
+  count : l.index + length (parts_left 124 l.rest) ≡ l.players;
+  place_is : l.place + len_left l.rest ≡ l.at + 1 + length l.fn.text;
+  read : names_after (take l.index l.names) (l.index + 1) l.place (parts_left 124 l.rest) ≡ names_after [] 1 l.at (parts_of 124 l.fn.text);
 }
 
 abbrev pub decreases-loop-part : goal.decreases-loop-part
-decreases-loop-part l = option_map_or (λ text. 1 + length text.now) l.rest 0
+decreases-loop-part l = len_left l.rest

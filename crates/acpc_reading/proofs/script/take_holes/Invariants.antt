@@ -2,6 +2,7 @@ use Rattle.std.proofs.Common.{◌≡◌, ◌+◌, ◌≤◌, [], length, map}
 use Rattle.std.specs.Option.{option_map_or}
 use Rattle.play_event.specs.Said.{numbered}
 use Rattle.acpc_text.specs.Parts.{parts_of}
+use Rattle.acpc_reading.specs.Left.{len_left, parts_left}
 use Rattle.acpc_reading.specs.Cards.{holes_after}
 use Rattle.acpc_reading.proofs.script.take_holes.Given as goal
 
@@ -9,9 +10,9 @@ use Rattle.acpc_reading.proofs.script.take_holes.Given as goal
 abbrev pub invariant-loop-part : goal.invariant-loop-part
 invariant-loop-part l = record {
   first : 1 ≤ l.seat;
-  count : l.seat + length (option_map_or (λ text. parts_of 124 text.now) l.rest []) ≡ l.players + 1;
-  read : holes_after l.at (map numbered l.script) l.seat (option_map_or (λ text. parts_of 124 text.now) l.rest []) ≡ holes_after l.at (map numbered l.fn.script) 1 (parts_of 124 l.fn.holes);
+  count : l.seat + length (parts_left 124 l.rest) ≡ l.players + 1;
+  read : holes_after l.at (map numbered l.script) l.seat (parts_left 124 l.rest) ≡ holes_after l.at (map numbered l.fn.script) 1 (parts_of 124 l.fn.holes);
 }
 
 abbrev pub decreases-loop-part : goal.decreases-loop-part
-decreases-loop-part l = option_map_or (λ text. 1 + length text.now) l.rest 0
+decreases-loop-part l = len_left l.rest

@@ -1,6 +1,7 @@
 use Rattle.std.proofs.Common.{◌≡◌, ℕ, ◌+◌, ◌≤◌, [], length, take, pos, slice_index_or}
 use Rattle.std.specs.Option.{option_map_or}
 use Rattle.acpc_text.specs.Parts.{parts_of}
+use Rattle.acpc_reading.specs.Left.{len_left, parts_left}
 use Rattle.acpc_reading.specs.Values.{values_after}
 use Rattle.acpc_reading.proofs.values.fill_values.Given as goal
 
@@ -9,10 +10,10 @@ abbrev pub invariant-loop-part : goal.invariant-loop-part
 invariant-loop-part l = record {
   ten : length l.nets ≡ 10;
   zeros : (k : ℕ) → l.index ≤ k → slice_index_or l.nets k (pos 0) ≡ pos 0;
-  count : l.index + length (option_map_or (λ text. parts_of 124 text.now) l.rest []) ≡ l.players;
-  place_is : l.place + option_map_or (λ text. 1 + length text.now) l.rest 0 ≡ l.at + 1 + length l.fn.text;
-  read : values_after (take l.index l.nets) l.place (option_map_or (λ text. parts_of 124 text.now) l.rest []) ≡ values_after [] l.at (parts_of 124 l.fn.text);
+  count : l.index + length (parts_left 124 l.rest) ≡ l.players;
+  place_is : l.place + len_left l.rest ≡ l.at + 1 + length l.fn.text;
+  read : values_after (take l.index l.nets) l.place (parts_left 124 l.rest) ≡ values_after [] l.at (parts_of 124 l.fn.text);
 }
 
 abbrev pub decreases-loop-part : goal.decreases-loop-part
-decreases-loop-part l = option_map_or (λ text. 1 + length text.now) l.rest 0
+decreases-loop-part l = len_left l.rest
