@@ -4,7 +4,7 @@ use Rattle.std.proofs.lemmas.Bool.Decides.{nat_tests}
 use Rattle.std.proofs.lemmas.List.Splits.{length-slice_split}
 use Rattle.play_event.specs.Said.{Numbered}
 use Rattle.first_fault.specs.declared.stop.Stop.{Stop}
-use Rattle.first_fault.specs.Reading.{◌>>=◌, Fails}
+use Rattle.first_fault.specs.Reading.{Fails}
 use Rattle.acpc_text.specs.declared.fault.LineFault.{LineFault}
 use Rattle.acpc_text.specs.Parts.{parts_of}
 use Rattle.acpc_game.proofs.Steps.{fails_first, fails_at}

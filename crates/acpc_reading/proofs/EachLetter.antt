@@ -1,5 +1,5 @@
 -- Letters that are read one after the other, as a loop does.
-use Rattle.std.proofs.Common.{◌≡◌, ℕ, ◌+◌, Bool, List, [], ◌∷◌, length, Result, Ok, Err, refl, sym, ap, ◌∙◌}
+use Rattle.std.proofs.Common.{◌≡◌, ℕ, ◌+◌, Bool, List, [], ◌∷◌, length, Result, Ok, refl, sym, ap, ◌∙◌}
 use Rattle.first_fault.specs.declared.stop.Stop.{Stop}
 use Rattle.first_fault.specs.Reading.{◌>>=◌, Fails}
 use Rattle.acpc_text.specs.declared.fault.LineFault.{LineFault}

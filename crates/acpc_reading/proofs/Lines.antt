@@ -1,7 +1,7 @@
 -- Lines of hands that are read one after the other, as a loop does.
-use Rattle.std.proofs.Common.{◌≡◌, ℕ, ◌+◌, List, [], ◌∷◌, Result, Ok, Err, refl, sym, ap, ◌∙◌}
+use Rattle.std.proofs.Common.{◌≡◌, ℕ, ◌+◌, List, [], ◌∷◌, Result, Ok, refl, sym, ap, ◌∙◌}
 use Rattle.first_fault.specs.declared.stop.Stop.{Stop}
-use Rattle.first_fault.specs.Reading.{◌>>=◌, Fails}
+use Rattle.first_fault.specs.Reading.{Fails}
 use Rattle.acpc_text.specs.declared.fault.AcpcFault.{AcpcFault}
 use Rattle.acpc_game.specs.declared.game.Game.{Game}
 use Rattle.acpc_game.proofs.Steps.{fails_first, fails_at}

@@ -1,6 +1,5 @@
 -- The setup of a game is that of a hand.
-use Rattle.std.proofs.Common.{◌≡◌, ℕ, zero, suc, ◌+◌, ◌-◌, ◌<◌, ◌≤◌, Bool, true, false, not, ◌&&◌, ◌||◌, nat_lt, nat_le, eqb, if◌then◌else◌, List, [], ◌∷◌, length, take, get_or, refl, ap, sym, subst, ◌∙◌, arith, inl, inr}
-use Rattle.std.specs.List.{list_all}
+use Rattle.std.proofs.Common.{◌≡◌, ℕ, zero, suc, ◌-◌, ◌<◌, ◌≤◌, Bool, true, false, not, ◌&&◌, ◌||◌, nat_lt, nat_le, eqb, if◌then◌else◌, List, [], ◌∷◌, length, take, get_or, refl, ap, sym, subst, ◌∙◌, arith, inl, inr}
 use Rattle.std.proofs.lemmas.Bool.{and_parts, or_parts, cases_lt, leb-true}
 use Rattle.std.proofs.lemmas.Bool.Decides.{nat_tests}
 use Rattle.chip_ledger.specs.declared.numbers.TheConstants.{MOST_CHIPS}
@@ -115,10 +114,11 @@ setup_valid game setup is =
       same_antes = rw is.stacks is.ante_seats;
       same_blinds = rw (is.stacks, is.blinds) game.one_row;
       few_seats = rw (is.stacks, is.code) (few_players game.no_limit game.stacks.seats game.stacks.greatest);
-      stacks = rw is.stacks (λ seat first last.
-      (some_stack game.stacks.amounts game.blinds.amounts game.stacks.seats (seat - 1) (omega (arith, game.stacks.full, game.stacks.greatest)) (omega (arith, game.blinds.full, game.stacks.greatest))
-      (ap (λ n. has_short_stack (amounts_in game.stacks) (take n game.blinds.amounts)) players ∙ game.stacked) (omega (arith, first, last)),
-      chips_of game.stacks game.few seat));
+      stacks = rw is.stacks (λ seat first last. (
+        some_stack game.stacks.amounts game.blinds.amounts game.stacks.seats (seat - 1) (omega (arith, game.stacks.full, game.stacks.greatest)) (omega (arith, game.blinds.full, game.stacks.greatest))
+            (ap (λ n. has_short_stack (amounts_in game.stacks) (take n game.blinds.amounts)) players ∙ game.stacked) (omega (arith, first, last)),
+        chips_of game.stacks game.few seat,
+      ));
       antes = λ seat. omega (arith, is.antes seat);
       blinds = rw is.blinds (chips_of game.blinds game.few_blinds);
       bring_in = rw (is.code, is.bring_in) (no_bring_in game.no_limit);
@@ -127,8 +127,8 @@ setup_valid game setup is =
       least_bet = rw (is.code, is.min_bet) sizes.least_bet;
       dead_antes = λ dead. absurd (cc (dead, is.dead_antes));
       heads_up = rw (is.stacks, is.blinds) (λ two.
-      let pair : ◌≡◌ {A = ℕ} 2 game.blinds.seats = omega (arith, game.one_row, two) in
-      in_order game.blinds.amounts (omega (arith, game.blinds.full)) (ap (λ n. is_reversed (take n game.blinds.amounts)) pair ∙ game.in_order));
+          let pair : ◌≡◌ {A = ℕ} 2 game.blinds.seats = omega (arith, game.one_row, two) in
+          in_order game.blinds.amounts (omega (arith, game.blinds.full)) (ap (λ n. is_reversed (take n game.blinds.amounts)) pair ∙ game.in_order));
       stud = rw is.code (λ stud. absurd (no_stud game.no_limit stud));
       rakes = λ pot. omega (arith, is.rakes pot);
     }

@@ -1,7 +1,7 @@
 -- Rows that are written entry by entry, as the parts of a field are read.
-use Rattle.std.proofs.Common.{◌≡◌, ℕ, zero, suc, ◌+◌, ◌<◌, List, [], ◌∷◌, ◌++◌, length, set, get_or, Option, Result, Ok, Err, ℤ, refl, sym, ap, ◌∙◌, arith}
+use Rattle.std.proofs.Common.{◌≡◌, ℕ, zero, suc, ◌+◌, ◌<◌, List, [], ◌∷◌, ◌++◌, length, set, get_or, Option, Result, Ok, ℤ, refl, sym, ap, ◌∙◌, arith}
 use Rattle.first_fault.specs.declared.stop.Stop.{Stop}
-use Rattle.first_fault.specs.Reading.{◌>>=◌, Fails}
+use Rattle.first_fault.specs.Reading.{Fails}
 use Rattle.acpc_text.specs.declared.fault.LineFault.{LineFault}
 use Rattle.acpc_game.proofs.Steps.{fails_first, fails_at}
 use Rattle.acpc_reading.specs.Values.{value_said, values_after}

@@ -1,5 +1,5 @@
 -- A script has a deal for each seat, an event for each letter, and a deal for each further round.
-use Rattle.std.proofs.Common.{◌≡◌, ℕ, ◌+◌, ◌≤◌, Bool, true, false, not, cond, eqb, List, [], ◌∷◌, ◌++◌, length, map, count_by, None, Result, Ok, IfOk, refl, sym, ap, ◌∙◌, arith}
+use Rattle.std.proofs.Common.{◌≡◌, ℕ, ◌+◌, ◌≤◌, Bool, true, false, not, cond, eqb, List, [], ◌∷◌, ◌++◌, length, map, count_by, None, Ok, IfOk, refl, sym, ap, ◌∙◌, arith}
 use Rattle.std.proofs.lemmas.Bool.Decides.{nat_tests}
 use Rattle.std.proofs.lemmas.Result.{IfOk-at_ok}
 use Rattle.list_laws.proofs.Counting.{count_by-push, count_by-cons}
@@ -10,14 +10,13 @@ use Rattle.play_event.specs.declared.event.Event.{Event}
 use Rattle.play_event.specs.declared.event.Spelled.TheVariants as spelled
 use Rattle.play_event.specs.Said as said
 use Rattle.play_event.specs.Said.{Said, Numbered, numbered, said_of}
-use Rattle.acpc_text.specs.declared.fault.LineFault.{LineFault}
 use Rattle.acpc_text.specs.declared.fault.What.TheVariants as whats
 use Rattle.acpc_text.specs.Faults.{wrong}
 use Rattle.acpc_text.specs.Parts.{parts_of}
 use Rattle.acpc_reading.specs.declared.step.Step.{Step}
 use Rattle.acpc_reading.specs.declared.step.Step.TheVariants as steps
 use Rattle.acpc_reading.specs.Betting.{Bets, betting_said}
-use Rattle.acpc_reading.specs.Cards.{Written, bad_cards, board_said, dealt, hole_said, hole_after, holes_after, next_round, script_said, step_after, steps_after, steps_said, with_letter, without_rest}
+use Rattle.acpc_reading.specs.Cards.{Written, bad_cards, board_said, dealt, hole_said, hole_after, holes_after, next_round, script_said, step_after, steps_after, steps_said, without_rest}
 use Rattle.acpc_reading.proofs.Checked.{either, where_some, after}
 use Rattle.acpc_reading.proofs.BettingCounts.{AreCounted, betting_counted, is_letter, is_stroke}
 

@@ -1,7 +1,6 @@
 -- A line with more than six fields.
-use Rattle.std.proofs.Common.{◌≡◌, ℕ, ◌+◌, ◌-◌, ◌<◌, eqb, List, [], ◌∷◌, length, Result, refl, ap, ◌∙◌, arith}
+use Rattle.std.proofs.Common.{◌≡◌, ℕ, ◌+◌, ◌-◌, ◌<◌, eqb, List, [], ◌∷◌, length, refl, ap, ◌∙◌, arith}
 use Rattle.std.proofs.lemmas.List.Splits.{length-slice_split}
-use Rattle.acpc_text.specs.declared.fault.LineFault.{LineFault}
 use Rattle.acpc_text.specs.declared.fault.What.TheVariants as whats
 use Rattle.acpc_text.specs.Faults.{wrong}
 use Rattle.acpc_text.specs.Parts.{parts_of}

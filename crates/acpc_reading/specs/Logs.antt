@@ -1,5 +1,5 @@
 -- What a log says of hands, line by line.
-use Rattle.std.specs.Prelude.{ℕ, ◌+◌, ◌==◌, ◌||◌, not, Bool, nat_le, if◌then◌else◌, List, [], ◌∷◌, ◌++◌, length, slice_index, codes, ℤ, Option, Some, None, Result, Ok, Err}
+use Rattle.std.specs.Prelude.{ℕ, ◌+◌, ◌==◌, ◌||◌, Bool, nat_le, if◌then◌else◌, List, [], ◌∷◌, ◌++◌, length, slice_index, codes, ℤ, Option, Result, Ok}
 use Rattle.play_event.specs.Said.{Numbered}
 use Rattle.hand_canon.specs.declared.limits.TheConstants.{MOST_HANDS}
 use Rattle.hand_canon.specs.declared.limits.Quantity.TheVariants as quantities
@@ -10,7 +10,7 @@ use Rattle.acpc_text.specs.declared.fault.What.TheVariants as whats
 use Rattle.acpc_text.specs.Faults.{wrong, in_line}
 use Rattle.acpc_text.specs.Parts.{parts_of, lines_of, begins_with}
 use Rattle.acpc_game.specs.declared.game.Game.{Game}
-use Rattle.acpc_reading.specs.Betting.{Bets, betting_said}
+use Rattle.acpc_reading.specs.Betting.{betting_said}
 use Rattle.acpc_reading.specs.Cards.{script_said}
 use Rattle.acpc_reading.specs.Values.{values_said}
 use Rattle.acpc_reading.specs.Names.{names_said, hand_said}

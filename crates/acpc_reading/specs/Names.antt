@@ -1,5 +1,5 @@
 -- The names of the players and the number of the hand, as a line has them.
-use Rattle.std.specs.Prelude.{ℕ, ◌+◌, ◌==◌, ◌||◌, ◌&&◌, Bool, nat_lt, nat_le, if◌then◌else◌, List, [], ◌∷◌, ◌++◌, length, decimal, bytes_eq, Option, Some, None, Result, Ok, Err}
+use Rattle.std.specs.Prelude.{ℕ, ◌+◌, ◌==◌, ◌||◌, ◌&&◌, nat_lt, nat_le, if◌then◌else◌, List, [], ◌∷◌, ◌++◌, length, decimal, bytes_eq, Option, Some, None, Result, Ok}
 use Rattle.std.specs.Option.{option_map_or}
 use Rattle.std.specs.Str.{is_utf8}
 use Rattle.hand_canon.specs.AllowedNotes.{default_name}
@@ -36,6 +36,7 @@ names_said players at text =
 -- the most digits of a number of a hand, and the greatest such number
 abbrev pub most_hand_digits : ℕ
 most_hand_digits = 18
+
 abbrev pub most_hand : ℕ
 most_hand = 999999999999999999
 

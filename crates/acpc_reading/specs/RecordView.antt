@@ -1,5 +1,5 @@
 -- Records as the definitions say them, and what each of them has of its game.
-use Rattle.std.specs.Prelude.{◌≡◌, ℕ, ℤ, Bool, true, false, ◌≤◌, List, [], length, map, take, sum_by, count_by, Option, None, is_some, if◌then◌else◌}
+use Rattle.std.specs.Prelude.{◌≡◌, ℕ, Bool, true, false, ◌≤◌, List, [], length, map, take, sum_by, count_by, None, is_some, if◌then◌else◌}
 use Rattle.std.specs.List.{AllByRecursion}
 use Rattle.std.specs.Option.{option_map_or}
 use Rattle.chip_ledger.specs.Greatest.{greatest}

@@ -1,5 +1,5 @@
 -- What each seat won or lost, as a line states it.
-use Rattle.std.specs.Prelude.{ℕ, ◌+◌, ◌==◌, ◌&&◌, Bool, true, false, nat_lt, if◌then◌else◌, List, [], ◌∷◌, ◌++◌, length, ℤ, pos, ◌-ℤ◌, Option, Some, None, Result, Ok, Err}
+use Rattle.std.specs.Prelude.{ℕ, ◌+◌, ◌==◌, ◌&&◌, Bool, true, false, nat_lt, if◌then◌else◌, List, [], ◌∷◌, ◌++◌, length, ℤ, pos, ◌-ℤ◌, Result, Ok}
 use Rattle.std.specs.List.{list_all}
 use Rattle.std.specs.Option.{option_map_or}
 use Rattle.chip_ledger.specs.declared.rows.TheConstants.{MOST_AMOUNT}

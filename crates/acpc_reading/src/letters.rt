@@ -42,7 +42,12 @@ fn take_move(betting: &mut Betting, at: u64, step: Step) -> Result<(), Stop<Line
 
 // A letter that has no digits behind it.
 #[tactic(auto, unfolding(crate::specs::Betting::bare_said))]
-fn take_bare(betting: &mut Betting, at: u64, digits: &[u8], step: Step) -> Result<(), Stop<LineFault>>
+fn take_bare(
+    betting: &mut Betting,
+    at: u64,
+    digits: &[u8],
+    step: Step,
+) -> Result<(), Stop<LineFault>>
     requires { at + length digits.now < 2 ^ 64 }
     ensures ok { OnOk result (bare_said (bets_in betting.old) at digits.now step
         ≡ Ok (bets_in betting.new)) }

@@ -145,8 +145,8 @@ fn read_lines(alloc: Global, game: &Game, bytes: &[u8]) -> Result<Records, Stop<
     Ok(records)
 }
 
-/// The records that a log of matches of the game says, one for each line of a hand, in order; or the first fault,
-/// with its line and byte. Each record is sound, and has the setup and the rules of the game.
+/// The records that a log says under its game, one for each line of a hand, in order; or the first
+/// fault, with its line and byte. Each record is sound, and has the setup and the rules of the game.
 pub fn read(alloc: Global, game: &Game, bytes: &[u8]) -> Result<Records, AcpcFault>
     ensures reads { Answers (map record_said) result (reading game.now bytes.now) }
     ensures sound { IfOk result (AllByRecursion (IsOfGame game.now)) }

@@ -13,6 +13,11 @@ use first_fault::{Stop, are_digits, read_digits};
 use hand_canon::{MOST_TEXT_BYTES, Quantity, Text};
 use std::alloc::Global;
 
+// The most digits of a number of a hand, and the greatest such number.
+const MOST_HAND_DIGITS: usize = 18;
+
+const MOST_HAND: u64 = 999_999_999_999_999_999;
+
 // Whether the text is the name of the seat where none is said.
 fn is_default(seat: u8, name: &[u8]) -> bool
     requires first { 1 ≤ seat }
@@ -61,14 +66,19 @@ fn read_name(alloc: Global, seat: u8, at: u64, name: &[u8]) -> Result<Option<Tex
 
 /// The number of the hand at a place of its file, from 0, whose field begins at this byte.
 #[tactic(auto, unfolding(crate::specs::Names::hand_said))]
-pub fn read_hand(alloc: Global, place: usize, at: u64, text: &[u8]) -> Result<Option<Text>, Stop<LineFault>>
+pub fn read_hand(
+    alloc: Global,
+    place: usize,
+    at: u64,
+    text: &[u8],
+) -> Result<Option<Text>, Stop<LineFault>>
     ensures said { Gives (λ note. note) result (hand_said place at text.now) }
     ensures allowed { IfOk result (λ note. IfSome note IsNoteText) }
 {
-    if !are_digits(text) || text.len() > 18 {
+    if !are_digits(text) || text.len() > MOST_HAND_DIGITS {
         return Err(wrong(What::LineShape, at));
     }
-    match read_digits(text, 999_999_999_999_999_999) {
+    match read_digits(text, MOST_HAND) {
         Some(number) => {
             if number == place as u64 {
                 return Ok(None);
@@ -111,7 +121,8 @@ fn fill_names(
     Ok(names)
 }
 
-/// The names field, which begins at this byte, in a hand of so many players; past the last seat there are none.
+/// The names field, which begins at this byte, in a hand of so many players. Past the last seat
+/// there are none.
 #[tactic(auto, unfolding(crate::specs::Names::names_said))]
 pub fn read_names(
     alloc: Global,

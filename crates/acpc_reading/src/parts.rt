@@ -6,7 +6,8 @@ ghost use Rattle.acpc_reading.specs.Left.{len_left, parts_left};
 
 use acpc_text::cut_at;
 
-/// The first part of the text that is left, and what stands behind its sign; `None` where no text is left.
+/// The first part of the text that is left, and what stands behind its sign; `None` where no
+/// text is left.
 pub fn next_part<'a>(rest: Option<&'a [u8]>, sign: u8) -> Option<(&'a [u8], Option<&'a [u8]>)>
     ensures parts { parts_left sign rest.entry
         ≡ option_map_or (λ cut. cut.0.now ∷ parts_left sign cut.1) result [] }

@@ -31,7 +31,10 @@ fn take_hole(script: &mut Script, seat: u8, at: u64, part: &[u8]) -> Result<(), 
     match read_hole(part) {
         Some(cards) => {
             let seat = Seat { number: seat };
-            script.push(Event { at: 0, kind: Kind::Hole { seat, cards } })?;
+            script.push(Event {
+                at: 0,
+                kind: Kind::Hole { seat, cards },
+            })?;
             Ok(())
         }
         None => Err(wrong(What::BadCards, at)),
@@ -39,7 +42,12 @@ fn take_hole(script: &mut Script, seat: u8, at: u64, part: &[u8]) -> Result<(), 
 }
 
 // The deals of the hole cards of all seats.
-fn take_holes(script: &mut Script, players: u8, at: u64, holes: &[u8]) -> Result<(), Stop<LineFault>>
+fn take_holes(
+    script: &mut Script,
+    players: u8,
+    at: u64,
+    holes: &[u8],
+) -> Result<(), Stop<LineFault>>
     requires few { players ≤ 10 }
     requires same { length (parts_of 124 holes.now) ≡ players }
     ensures ok { OnOk result (holes_after at (map numbered script.old) 1 (parts_of 124 holes.now)
@@ -92,8 +100,8 @@ fn take_board<'a>(
         ≡ Ok (written_by script.new next)) }
     ensures number { IfOk result (λ next. next.number ≡ pending.entry.number) }
     ensures size { IfOk result (λ next. next.size ≡ 1) }
-    ensures err { IfErr result (λ stop. Fails stop
-        (next_round at (written_by script.old pending.entry) (parts_left 47 pending.entry.boards))) }
+    ensures err { IfErr result (λ stop. Fails stop (next_round at
+        (written_by script.old pending.entry) (parts_left 47 pending.entry.boards))) }
 {
     let Some(left) = pending.boards else {
         return Err(wrong(What::BadCards, at));
@@ -101,7 +109,10 @@ fn take_board<'a>(
     let (board, rest) = cut_at(left, b'/');
     match read_board(pending.size, board) {
         Some(cards) => {
-            script.push(Event { at: 0, kind: Kind::Board { cards } })?;
+            script.push(Event {
+                at: 0,
+                kind: Kind::Board { cards },
+            })?;
             Ok(Pending {
                 number: pending.number,
                 size: 1,
@@ -132,15 +143,24 @@ fn take_step<'a>(
     match step {
         Step::Fold => take_letter(script, pending, Kind::Fold { actor: None }),
         Step::Call => {
-            let kind = Kind::Call { actor: None, stated: None };
+            let kind = Kind::Call {
+                actor: None,
+                stated: None,
+            };
             take_letter(script, pending, kind)
         }
         Step::Raise => {
-            let kind = Kind::Raise { actor: None, amount: Spelled::Unit };
+            let kind = Kind::Raise {
+                actor: None,
+                amount: Spelled::Unit,
+            };
             take_letter(script, pending, kind)
         }
         Step::RaiseTo(total) => {
-            let kind = Kind::Raise { actor: None, amount: Spelled::HandTotal(total) };
+            let kind = Kind::Raise {
+                actor: None,
+                amount: Spelled::HandTotal(total),
+            };
             take_letter(script, pending, kind)
         }
         Step::NextRound => take_board(script, at, pending),

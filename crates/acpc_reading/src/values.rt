@@ -32,7 +32,11 @@ fn signed(is_negative: bool, number: u64) -> i64
     requires { number ≤ 10000000000000 }
     ensures { result ≡ signed_said is_negative number }
 {
-    if is_negative { 0 - number as i64 } else { number as i64 }
+    if is_negative {
+        0 - number as i64
+    } else {
+        number as i64
+    }
 }
 
 // The number that digits say.
@@ -51,8 +55,14 @@ fn read_whole(is_negative: bool, at: u64, digits: &[u8]) -> Result<i64, Stop<Lin
 
 // Zeros behind a point, in which no second point stands, behind these digits.
 #[tactic(auto, using(crate::proofs::NumberLaws::no_third_part))]
-fn read_fraction(is_negative: bool, at: u64, digits: &[u8], rest: &[u8]) -> Result<i64, Stop<LineFault>>
-    ensures { Gives (λ value. value) result (unsigned_said is_negative at (digits.now ∷ parts_of 46 rest.now)) }
+fn read_fraction(
+    is_negative: bool,
+    at: u64,
+    digits: &[u8],
+    rest: &[u8],
+) -> Result<i64, Stop<LineFault>>
+    ensures { Gives (λ value. value) result
+        (unsigned_said is_negative at (digits.now ∷ parts_of 46 rest.now)) }
 {
     let (zeros, more) = cut_at(rest, b'.');
     match more {

@@ -1,5 +1,4 @@
-use Rattle.std.proofs.Common.{◌≡◌, ℕ, ◌+◌, List, [], ◌∷◌, ◌∙◌, length, ap, arith}
-use Rattle.std.specs.Option.{option_map_or}
+use Rattle.std.proofs.Common.{◌≡◌, ℕ, ◌+◌, List, ◌∷◌, ◌∙◌, length, ap, arith}
 use Rattle.acpc_text.specs.Parts.{parts_of}
 use Rattle.acpc_reading.specs.Left.{len_left, parts_left}
 use Rattle.acpc_reading.proofs.SixFields.{sixth_colon}

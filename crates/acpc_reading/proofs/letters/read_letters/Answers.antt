@@ -21,8 +21,8 @@ loop-letter-preserved c =
       begins = c.cut_digits.ensures.begins;
       place_is = omega (arith, ap length c.in-Some.ensures, c.cut_digits.ensures.len, c.loop-letter.invariant.place_is);
       read =
-        (let place : c.loop-letter.place + (1 + length c.cut_digits.result.0.now) ≡ next = omega arith in
-        rw place (goes_on c.args.no_limit (bets_in c.loop-letter.betting) (bets_in c.take_letter.new.betting) c.loop-letter.place c.in-Some.letter c.loop-letter.rest.now c.in-Some.behind.now c.cut_digits.result.0.now c.cut_digits.result.1.now (bets_after c.args.no_limit (no_bets c.args.file_moves) c.args.at (scan c.args.text.now).1) c.in-Some.ensures c.cut_digits.ensures.digits c.cut_digits.ensures.letters c.loop-letter.invariant.begins c.in_ok-take_letter.ensures.ok c.loop-letter.invariant.read));
+          (let place : c.loop-letter.place + (1 + length c.cut_digits.result.0.now) ≡ next = omega arith in
+          rw place (goes_on c.args.no_limit (bets_in c.loop-letter.betting) (bets_in c.take_letter.new.betting) c.loop-letter.place c.in-Some.letter c.loop-letter.rest.now c.in-Some.behind.now c.cut_digits.result.0.now c.cut_digits.result.1.now (bets_after c.args.no_limit (no_bets c.args.file_moves) c.args.at (scan c.args.text.now).1) c.in-Some.ensures c.cut_digits.ensures.digits c.cut_digits.ensures.letters c.loop-letter.invariant.begins c.in_ok-take_letter.ensures.ok c.loop-letter.invariant.read));
     }
 
 pub returns : goal.returns

@@ -1,4 +1,4 @@
-use Rattle.std.proofs.Common.{◌≡◌, ◌+◌, ◌∷◌, [], ◌∙◌, Ok, map, ap, arith, length}
+use Rattle.std.proofs.Common.{◌+◌, [], Ok, map, ap, arith}
 use Rattle.std.proofs.lemmas.Result.{err_from_is_err_and}
 use Rattle.first_fault.specs.Reading.{◌>>=◌}
 use Rattle.acpc_text.specs.Parts.{lines_of}

@@ -1,5 +1,4 @@
-use Rattle.std.proofs.Common.{◌≡◌, [], map, ap, arith, length}
-use Rattle.std.specs.Option.{option_map_or}
+use Rattle.std.proofs.Common.{map, ap, arith, length}
 use Rattle.std.proofs.lemmas.Result.{err_from_is_err_and}
 use Rattle.play_event.specs.Said.{numbered}
 use Rattle.acpc_text.specs.Parts.{parts_of}

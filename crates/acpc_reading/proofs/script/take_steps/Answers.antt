@@ -1,4 +1,4 @@
-use Rattle.std.proofs.Common.{◌≡◌, ◌+◌, ◌∙◌, map, ap, arith, drop, refl}
+use Rattle.std.proofs.Common.{◌+◌, ◌∙◌, map, ap, arith, drop, refl}
 use Rattle.std.proofs.lemmas.List.{drop_more, drop_all}
 use Rattle.std.proofs.lemmas.Result.{err_from_is_err_and}
 use Rattle.first_fault.specs.Reading.{◌>>=◌}
