@@ -1,0 +1,79 @@
+-- The names of players and the number of the hand that were written read back as the kept ones.
+use Rattle.std.proofs.Common.{◌≡◌, ℕ, zero, suc, ◌+◌, ◌-◌, ◌≤◌, ◌<◌, ◌^◌, Bool, true, false, ◌&&◌, ◌||◌, ◌==◌, not, nat_le, nat_lt, cond, bytes_eq, decimal, List, [], ◌∷◌, ◌++◌, length, map, slice_index, slice_index_or, Option, Some, None, IfSome, IsUtf8, Result, Ok, refl, sym, ap, subst, ◌∙◌, arith, append_assoc, ltb-false, ne_eqb}
+use Rattle.std.specs.List.{list_all, range_with_len}
+use Rattle.std.specs.Char.{is_digit, digit_value}
+use Rattle.std.specs.Str.{is_utf8}
+use Rattle.std.specs.Str.Parse.{AllDigits, digits_value}
+use Rattle.std.proofs.lemmas.Bool.{and_parts, eqb-true, eq-eqb, le-leb, leb-true, ltb-true}
+use Rattle.std.proofs.lemmas.Bool.Decides.{nat_tests}
+use Rattle.std.proofs.lemmas.Fmt.{decimal-digits_value, decimal_is_IsNumeral, length-decimal-le_succ, IsAscii-from_digits}
+use Rattle.std.proofs.lemmas.List.{append-nil}
+use Rattle.std.proofs.lemmas.Slice.Eq.{bytes_eq-Decides}
+use Rattle.std.proofs.lemmas.Str.{is_utf8-from_IsUtf8, IsUtf8-from_ascii}
+use Rattle.std.proofs.lemmas.Str.Parse.{IsNumeralModel}
+use Rattle.first_fault.specs.Digits.{are_digits, number_of}
+use Rattle.hand_canon.specs.AllowedNotes.{default_name, AreAllowed, IsName, IsNoteText}
+use Rattle.hand_canon.specs.declared.limits.TheConstants.{MOST_TEXT_BYTES}
+use Rattle.hand_canon.specs.declared.notes.Notes.{Notes}
+use Rattle.acpc_text.specs.declared.fault.LineFault.{LineFault}
+use Rattle.acpc_line.specs.Names.{hand_text, is_spelled_hand, is_spelled_name, name_or_default, name_text}
+use Rattle.acpc_reading.specs.Names.{hand_note, hand_said, name_note, name_said, names_after}
+use Rattle.acpc_format.specs.Again.{kept_hand, kept_name, name_again}
+use Rattle.acpc_format.specs.Readable.{AreTexts}
+
+-- a text is its own comparison
+same_text : (text : List ℕ) → bytes_eq text text ≡ true
+same_text text = (bytes_eq-Decides text text).1 refl
+
+-- the default name of a seat reads as none
+default_again : (seat at : ℕ) → seat ≤ 10 → name_said seat at (default_name seat) ≡ Ok None
+unfolding name_said
+default_again seat at few =
+    let small : seat < 2 ^ 64 = omega (arith, few) in
+    let digits = decimal_is_IsNumeral seat small in
+    let utf8 : is_utf8 (default_name seat) ≡ true = is_utf8-from_IsUtf8 (default_name seat) (IsUtf8-from_ascii (default_name seat) (ascii digits.0.1)) in
+    let short : nat_lt MOST_TEXT_BYTES (length (default_name seat)) ≡ false = grind (arith, nat_tests, length-decimal-le_succ seat small) in
+    rw (utf8, short) (ap Ok (ap (λ b. cond (length (default_name seat) == 0 || b) None (Some (default_name seat))) (same_text (default_name seat)) ∙ ap (λ b. cond b None (Some (default_name seat))) (either_true (length (default_name seat) == 0))))
+  where
+    either_true : (b : Bool) → (b || true) ≡ true
+    either_true true = refl
+    either_true false = refl
+
+    ascii : AllDigits 10 (decimal seat) → Rattle.std.proofs.Common.IsAscii (112 ∷ decimal seat)
+    ascii all zero = omega arith
+    ascii all (suc i) = IsAscii-from_digits (decimal seat) all i
+
+-- a name that is said and may stand reads as itself
+said_again : (seat at : ℕ) (name : List ℕ) → IsName seat name → IsUtf8 name → name_said seat at name ≡ Ok (Some name)
+unfolding name_said
+said_again seat at name is text =
+    let utf8 : is_utf8 name ≡ true = is_utf8-from_IsUtf8 name text in
+    let short : nat_lt MOST_TEXT_BYTES (length name) ≡ false = grind (arith, nat_tests, is.text.1) in
+    let some : (length name == 0) ≡ false = grind (arith, nat_tests, is.text.0) in
+    rw (utf8, short, some) (other (bytes_eq name (default_name seat)) refl)
+  where
+    named : Option (List ℕ) → Result (Option (List ℕ)) LineFault
+    named found = Ok found
+
+    other : (same : Bool) → bytes_eq name (default_name seat) ≡ same → named (cond same None (Some name)) ≡ named (Some name)
+    other true equal = absurd (is.said ((bytes_eq-Decides name (default_name seat)).0 equal))
+    other false equal = refl
+
+one_again : (seat at : ℕ) (said : Option (List ℕ)) → seat ≤ 10 → IfSome said (IsName seat) → IfSome said IsUtf8 → name_said seat at (name_or_default seat said) ≡ Ok (kept_name said)
+one_again seat at None few is text = default_again seat at few
+one_again seat at (Some name) few is text = by_spelling (is_spelled_name name)
+  where
+    by_spelling : (spelled : Bool) → name_said seat at (cond spelled name (default_name seat)) ≡ Ok (cond spelled (Some name) None)
+    by_spelling true = said_again seat at name is text
+    by_spelling false = default_again seat at few
+
+-- the names of seats, one after another
+pub names_again : (notes : Notes) (count : ℕ) (so_far : List (Option (List ℕ))) (first more at : ℕ) → count ≤ 10 → 1 ≤ first → first + more ≤ count + 1 → AreAllowed count notes → AreTexts notes
+    → names_after so_far first at (map (name_text notes) (range_with_len first more)) ≡ Ok (so_far ++ map (name_again notes) (range_with_len first more))
+unfolding names_after
+names_again notes count so_far first zero at few low high allowed texts = ap Ok (sym (append-nil so_far))
+names_again notes count so_far first (suc more) at few low high allowed texts =
+    let one = one_again first at (slice_index_or notes.names (first - 1) None) (omega (arith, few, high)) (allowed.names first low (omega (arith, high))) (texts first) in
+    rw one
+    (names_again notes count (so_far ++ name_again notes first ∷ []) (first + 1) more (at + length (name_text notes first) + 1) few (omega (arith, low)) (omega (arith, high)) allowed texts
+    ∙ ap Ok (append_assoc so_far (name_again notes first ∷ []) (map (name_again notes) (range_with_len (first + 1) more))))

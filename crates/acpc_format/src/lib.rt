@@ -1,0 +1,11 @@
+//! The logs of the competition: bytes are read as records under a game, and plays are written as lines that read as their
+//! hands again.
+#![tactic(auto)]
+
+mod laws;
+
+pub use acpc_game::{Game, read_game, write_game};
+pub use acpc_line::{game_of, spells, write};
+pub use acpc_reading::read;
+pub use acpc_text::AcpcFault;
+pub use laws::law_of_reading_again;
