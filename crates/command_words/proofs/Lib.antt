@@ -1,2 +1,6 @@
 -- What the parser of command lines finds in the words of a command.
+mod Steps
+mod Finds
+mod Walking
 mod Parses
+mod Asked

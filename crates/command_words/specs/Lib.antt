@@ -1,2 +1,3 @@
--- Which words say which command.
+-- Which words ask for what.
 pub mod Words
+pub mod Requests

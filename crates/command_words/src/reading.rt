@@ -1,40 +1,59 @@
 //! The words of a command are read by a parser of command lines.
-ghost use Rattle.std.specs.Prelude.{◌≡◌, codes, map, string_bytes, IfOk, Ok, None, slice_get, is_some, true};
-ghost use Rattle.clap.specs.Words.{first_value, found_of};
-ghost use Rattle.command_words.specs.Words.{command_said};
+ghost use Rattle.std.specs.Prelude.{◌≡◌, map, option_map, string_bytes, IfOk, Ok, None, is_some, true};
+ghost use Rattle.clap.specs.Words.{found_of};
+ghost use Rattle.command_words.specs.Requests.{IsSaidBy, request_in};
+ghost use Rattle.command_words.specs.Words.{request_said};
 
-use crate::command::{Command, command_of, command_of_word};
+use crate::options::{Options, read_options};
+use crate::request::{Request, request_of};
 use card_set::Memory;
 use clap::{Arg, ArgMatches};
 use std::alloc::Global;
 
-/// The command that the words say, or `None` where they say none. Only where they say one is memory taken.
-pub fn read_words(alloc: Global, words: &[String]) -> Result<Option<Command>, Memory>
-    ensures read { IfOk result (λ command. command ≡ command_said (map string_bytes words.now)) }
-    ensures none { command_said (map string_bytes words.now) ≡ None → result ≡ Ok None }
+/// What the words ask for, or `None` where they ask for nothing. Only where they ask for something is
+/// memory taken.
+pub fn read_words<'a>(alloc: Global, words: &'a [String]) -> Result<Option<Request<'a>>, Memory>
+    ensures read { IfOk result (λ request. option_map request_in request
+        ≡ request_said (map string_bytes words.now)) }
+    ensures none { request_said (map string_bytes words.now) ≡ None → result ≡ Ok None }
 {
-    if command_of(words).is_none() {
+    if request_in_words(words).is_none() {
         return Ok(None);
     }
     let matches = parsed(alloc, words)?;
-    match matches.get_str("command") {
-        Some(word) => Ok(command_of_word(word)),
-        None => Ok(None),
-    }
+    let Some(word) = matches.get_str("command") else {
+        return Ok(None);
+    };
+    let options = Options {
+        from: matches.get_str("from"),
+        game: matches.get_str("game"),
+    };
+    Ok(request_of(word, options))
+}
+
+// What the words ask for, told without memory.
+#[tactic(auto, unfolding(crate::specs::Words::options_said))]
+fn request_in_words(words: &[String]) -> Option<Request<'_>>
+    ensures { option_map request_in result ≡ request_said (map string_bytes words.now) }
+{
+    let (word, words) = words.split_first()?;
+    let options = read_options(words)?;
+    request_of(word.as_str(), options)
 }
 
 // The words of a command, by the names of what they are. They are refused only for want of memory.
 fn parsed<'a>(alloc: Global, words: &'a [String]) -> Result<ArgMatches<'a>, Memory>
-    requires { is_some (command_said (map string_bytes words.now)) ≡ true }
-    ensures { IfOk result (λ matches. first_value (found_of matches) (codes "command")
-        ≡ slice_get (map string_bytes words.now) 0) }
+    requires { is_some (request_said (map string_bytes words.now)) ≡ true }
+    ensures { IfOk result (λ matches. IsSaidBy (map string_bytes words.now) (found_of matches)) }
 {
     let command = Arg::new(alloc, "command");
     let from = Arg::new(alloc, "from").long("from");
+    let game = Arg::new(alloc, "game").long("game");
     let handref = clap::Command::new(alloc, "handref")
         .no_binary_name(true)
         .arg(command)?
-        .arg(from)?;
+        .arg(from)?
+        .arg(game)?;
     match handref.try_get_matches_from(words) {
         Ok(matches) => Ok(matches),
         Err(_) => Err(Memory),

@@ -1,0 +1,108 @@
+-- The parser's walk over an option, whose value stands in its word or behind it, and over a first word.
+use Rattle.std.proofs.Common.{◌≡◌, Bool, true, false, List, [], ◌∷◌, Option, Some, None, refl, ap, subst}
+use Rattle.std.specs.Bool.{Decides}
+use Rattle.std.specs.Str.{bytes_eq}
+use Rattle.std.proofs.lemmas.Slice.Eq.{bytes_eq-Decides}
+use Rattle.clap.specs.Lexer.{long_of, short_of, strip_byte}
+use Rattle.clap.specs.Walk.{Row, Rule, Text, Walk, arg_by_id, arg_by_index, arg_by_long, idle, is_multiple, most_values, settled_rows, takes_values, used, walked}
+
+-- A walk stands between two options, where so many rows are settled.
+pub record IsBetween (rules : List Rule) (walk : Walk) (settled : List Row) : Type 0 where
+  pub idle : walk.waiting ≡ idle
+  pub reading : walk.is_trailing ≡ false
+  pub here : walk.stopped ≡ None
+  pub rows : settled_rows rules walk.held.pending walk.held.rows ≡ settled
+
+-- An argument takes one value, and is found by its long name and its id.
+pub record IsOption (rules : List Rule) (name : Text) (argument : Rule) : Type 0 where
+  pub by_name : arg_by_long rules name ≡ Some argument
+  pub by_id : arg_by_id rules argument.id ≡ Some argument
+  pub takes : takes_values argument ≡ true
+  pub most : most_values argument ≡ 1
+  pub own : bytes_eq argument.id argument.id ≡ true
+
+-- a word of an option is not the two hyphens alone
+not_alone : (word : Text) (name : Text) (value : Option Text) → long_of word ≡ Some (name, value) → bytes_eq word (45 ∷ 45 ∷ []) ≡ false
+not_alone word name value is = go (bytes_eq word (45 ∷ 45 ∷ [])) (bytes_eq-Decides word (45 ∷ 45 ∷ []))
+  where
+    alone : word ≡ 45 ∷ 45 ∷ [] → ⊥
+    alone e = let none : long_of (45 ∷ 45 ∷ []) ≡ Some (name, value) = subst (λ (text : Text). long_of text ≡ Some (name, value)) e is in cc
+
+    go : (b : Bool) → Decides b (word ≡ 45 ∷ 45 ∷ []) → b ≡ false
+    go false d = refl
+    go true d = absurd (alone (d.0 refl))
+
+-- neither is a word that begins with no hyphen
+not_hyphens : (word : Text) → strip_byte 45 word ≡ None → bytes_eq word (45 ∷ 45 ∷ []) ≡ false
+not_hyphens word is = go (bytes_eq word (45 ∷ 45 ∷ [])) (bytes_eq-Decides word (45 ∷ 45 ∷ []))
+  where
+    alone : word ≡ 45 ∷ 45 ∷ [] → ⊥
+    alone e = let none : strip_byte 45 (45 ∷ 45 ∷ []) ≡ None = subst (λ (text : Text). strip_byte 45 text ≡ None) e is in cc
+
+    go : (b : Bool) → Decides b (word ≡ 45 ∷ 45 ∷ []) → b ≡ false
+    go false d = refl
+    go true d = absurd (alone (d.0 refl))
+
+-- the rows where an option whose value stands in its word is settled
+pub joined : (rules : List Rule) (walk : Walk) (rows : List Row) (word name value : Text) (argument : Rule) → IsBetween rules walk rows
+    → IsOption rules name argument → long_of word ≡ Some (name, Some value) → IsBetween rules (walked rules [] walk word) (used argument (value ∷ []) rows)
+unfolding walked
+joined rules walk rows word name value argument between option is =
+    rw (between.here, between.idle, between.reading, not_alone word name (Some value) is, is, option.by_name, option.takes, between.rows)
+    (record { idle = refl; reading = refl; here = refl; rows = refl })
+
+-- it is no option either
+not_long : (word : Text) → strip_byte 45 word ≡ None → long_of word ≡ None
+not_long word is = rw is refl
+
+not_short : (word : Text) → strip_byte 45 word ≡ None → short_of word ≡ None
+not_short word is = rw is refl
+
+-- the rows where an option whose value is the word behind it is settled
+pub apart : (rules : List Rule) (walk : Walk) (rows : List Row) (word name value : Text) (argument : Rule) → IsBetween rules walk rows
+    → IsOption rules name argument → long_of word ≡ Some (name, None) → strip_byte 45 value ≡ None
+    → IsBetween rules (walked rules [] (walked rules [] walk word) value) (used argument (value ∷ []) rows)
+unfolding walked
+apart rules walk rows word name value argument between option is plain =
+    rw (
+      between.here,
+      between.idle,
+      between.reading,
+      not_alone word name None is,
+      is,
+      option.by_name,
+      option.takes,
+      not_hyphens value plain,
+      not_long value plain,
+      not_short value plain,
+      option.by_id,
+      option.own,
+      option.most,
+      between.rows,
+    )
+    (record { idle = refl; reading = refl; here = refl; rows = rw option.by_id refl })
+
+-- the rows where a first word is settled as the value of the argument at the first place
+pub first : (rules : List Rule) (walk : Walk) (rows : List Row) (word : Text) (argument : Rule) → IsBetween rules walk rows
+    → walk.position ≡ 1 → strip_byte 45 word ≡ None → arg_by_index rules 1 ≡ Some argument → arg_by_id rules argument.id ≡ Some argument
+    → is_multiple argument ≡ false → argument.trailing_var_arg ≡ false → walk.held.pending ≡ None
+    → IsBetween rules (walked rules [] walk word) (used argument (word ∷ []) rows)
+unfolding walked
+first rules walk rows word argument between place plain by_index by_id once here none =
+    rw (
+      between.here,
+      between.idle,
+      between.reading,
+      not_hyphens word plain,
+      not_long word plain,
+      not_short word plain,
+      place,
+      by_index,
+      none,
+      once,
+      here,
+    )
+    (record { idle = refl; reading = refl; here = refl; rows = rw by_id (ap (used argument (word ∷ [])) settled) })
+  where
+    settled : walk.held.rows ≡ rows
+    settled = subst (λ (pending : Option (Text × List Text)). settled_rows rules pending walk.held.rows ≡ rows) none between.rows

@@ -1,0 +1,90 @@
+//! Words are read as options, each of which stands once.
+ghost use Rattle.std.specs.Prelude.{◌≡◌, option_map, map, string_bytes, not, is_some};
+ghost use Rattle.clap.specs.Lexer.{long_of, name_and_value, strip_byte};
+ghost use Rattle.command_words.specs.Requests.{options_in};
+ghost use Rattle.command_words.specs.Words.{no_options, options_said, with_option as with_option_said};
+
+/// The values of the options that are given.
+#[derive(Clone, Copy, Debug, PartialEq, Eq)]
+pub struct Options<'a> {
+    /// The notation of the input.
+    pub from: Option<&'a str>,
+    /// The name of the game's file.
+    pub game: Option<&'a str>,
+}
+
+/// The options that the words say, or `None` where one of them is none, or stands twice.
+#[tactic(auto, using(crate::proofs::Steps::behind_joined, crate::proofs::Steps::behind_apart), unfolding(crate::specs::Words::options_said))]
+pub fn read_options(words: &[String]) -> Option<Options<'_>>
+    ensures { option_map options_in result ≡ options_said no_options (map string_bytes words.now) }
+{
+    let mut options = Options {
+        from: None,
+        game: None,
+    };
+    let mut rest = words;
+    while let Some((word, behind)) = rest.split_first() {
+        match long_word(word.as_str())? {
+            (name, Some(value)) => {
+                options = with_option(options, name, value)?;
+                rest = behind;
+            }
+            (name, None) => {
+                let (value, behind) = behind.split_first()?;
+                options = with_option(options, name, value.as_str())?;
+                rest = behind;
+            }
+        }
+    }
+    Some(options)
+}
+
+// The options with one more.
+fn with_option<'a>(options: Options<'a>, name: &str, value: &'a str) -> Option<Options<'a>>
+    ensures { option_map options_in result
+        ≡ with_option_said (options_in options.entry) name.now value.now }
+{
+    if value.starts_with('-') {
+        return None;
+    }
+    let value = Some(value);
+    match name {
+        "from" if options.from.is_none() => Some(Options {
+            from: value,
+            ..options
+        }),
+        "game" if options.game.is_none() => Some(Options {
+            game: value,
+            ..options
+        }),
+        _ => None,
+    }
+}
+
+// The name and the value of `--name` or `--name=value`.
+fn long_word(word: &str) -> Option<(&str, Option<&str>)>
+    ensures { option_map (λ p. (p.0.now, option_map (λ s. s.now) p.1)) result ≡ long_of word.now }
+{
+    let rest = strip_hyphen(strip_hyphen(word)?)?;
+    if rest.is_empty() {
+        return None;
+    }
+    Some(split_value(rest))
+}
+
+// What follows a first hyphen.
+fn strip_hyphen(word: &str) -> Option<&str>
+    ensures { option_map (λ s. s.now) result ≡ strip_byte 45 word.now }
+{
+    word.strip_prefix('-')
+}
+
+// What stands before the first `=`, and what stands after it if there is one.
+fn split_value(text: &str) -> (&str, Option<&str>)
+    ensures { (result.0.now, option_map (λ s. s.now) result.1) ≡ name_and_value text.now }
+{
+    match text.split_once('=') {
+        Some((name, value)) => (name, Some(value)),
+        None => (text, None),
+    }
+}
