@@ -43,8 +43,8 @@ drawer_is t live on seat cards is =
     let parts = chain_parts (is_next_in t live on seat) _ _ (has_no_place (filter (is_held_by seat) (placed t.places)) (known_cards cards) (blanks_in cards)) is in
     let found = found_in_range (has_to_draw t live on) 1 t.seats seat (by_found (next_to_draw_in t live on) seat parts.0) in
     record {
-      first = found.1;
-      last = omega (arith, found.2);
+      first = found.1.0;
+      last = omega (arith, found.1.1);
       undrawn = not-true (has_drawn_at t.draws on seat) (and_parts (flag_of live seat) (not (has_drawn_at t.draws on seat)) found.0).1;
       found = parts.1;
     }
