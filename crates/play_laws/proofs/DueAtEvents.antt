@@ -5,7 +5,6 @@ use Rattle.play_event.specs.declared.reason.Due.{Due}
 use Rattle.play_event.specs.declared.reason.Due.TheVariants as dues
 use Rattle.play_event.specs.declared.setup.Setup.{Setup}
 use Rattle.play_event.specs.Games.{street_count}
-use Rattle.play_event.specs.Said as said
 use Rattle.play_event.specs.Past.{Past, moves_of, newest_street}
 use Rattle.play_event.specs.Seats.{live_count}
 use Rattle.play_event.specs.Dealing.{is_deal_due, is_draw_due}
