@@ -25,3 +25,13 @@ module _ (lines : ℕ → Play → List ℕ) where
   all_printed text plays index total over so_far =
       let one : with_left text plays index ≡ text = rw (drop_all index plays over) (append-nil text) in
       sym one ∙ so_far
+
+-- the lines of one more hand stand behind those of the hands before it
+pub one_hand_more : (lines : ℕ → Play → List ℕ) (number : ℕ) (plays : List Play) (play : Play)
+    → each_hand lines number (plays ++ play ∷ []) ≡ each_hand lines number plays ++ lines (number + length plays) play
+unfolding each_hand
+one_hand_more lines number [] play = append-nil (lines number play) ∙ ap (λ n. lines n play) (omega arith)
+one_hand_more lines number (first ∷ plays) play =
+    ap (λ text. lines number first ++ text)
+    (one_hand_more lines (number + 1) plays play ∙ ap (λ n. each_hand lines (number + 1) plays ++ lines n play) (omega arith))
+    ∙ sym (append_assoc (lines number first) (each_hand lines (number + 1) plays) (lines (number + length (first ∷ plays)) play))

@@ -1,6 +1,6 @@
 -- Rows as lists of amounts, and the lines of hands one after the other.
 mod Rows
-mod Hands
+pub mod Hands
 mod Moves
 mod Pasts
 mod Printed

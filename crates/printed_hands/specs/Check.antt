@@ -13,6 +13,10 @@ each_hand lines number (play ∷ others) = lines number play ++ each_hand lines 
 abbrev pub check_line : ℕ → Play → List ℕ
 check_line number play = codes "hand " ++ (decimal number ++ (codes ":" ++ (amounts_text (amounts_in play.trace.finish) ++ codes "\n")))
 
--- the line of each hand, and the number of hands
+-- the last line: how many hands there are
+abbrev pub check_end : ℕ → List ℕ
+check_end hands = codes "legal hands: " ++ (decimal hands ++ codes "\n")
+
+-- the line of each hand, and the last line
 abbrev pub check_said : List Play → List ℕ
-check_said plays = each_hand check_line 1 plays ++ (codes "legal hands: " ++ (decimal (length plays) ++ codes "\n"))
+check_said plays = each_hand check_line 1 plays ++ check_end (length plays)

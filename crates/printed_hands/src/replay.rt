@@ -3,7 +3,7 @@ ghost use Rattle.std.specs.Prelude.{◌≡◌, All, IfOk, string_bytes};
 ghost use Rattle.hand_canon.specs.Sound.{IsSound};
 ghost use Rattle.printed_hands.specs.Replay.{replay_said};
 
-use crate::steps::push_hand;
+use crate::steps::push_replay_lines;
 use card_set::Memory;
 use hand_canon::Play;
 use std::alloc::Global;
@@ -15,7 +15,7 @@ pub fn replay_text(alloc: Global, plays: &[Play]) -> Result<String, Memory>
 {
     let mut text = String::new(alloc);
     for (index, play) in plays.iter().enumerate() {
-        push_hand(alloc, &mut text, index as u64 + 1, play)?;
+        push_replay_lines(alloc, &mut text, index as u64 + 1, play)?;
     }
     Ok(text)
 }

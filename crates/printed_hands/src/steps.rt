@@ -24,8 +24,14 @@ use phh_words::event_text;
 use play_event::{Act, Kind, Move, Setup, Spelled};
 use std::alloc::Global;
 
-/// Puts the lines of the hand with this number at the end of a text.
-pub fn push_hand(alloc: Global, text: &mut String, number: u64, play: &Play) -> Result<(), Memory>
+/// Puts the lines of the hand with this number at the end of a text: what each event did, with the chips of the seats after
+/// it, and what the hand came to.
+pub fn push_replay_lines(
+    alloc: Global,
+    text: &mut String,
+    number: u64,
+    play: &Play,
+) -> Result<(), Memory>
     requires { IsSound play.now }
     ensures { OnOk result (string_bytes text.new
         ≡ string_bytes text.old ++ replay_lines number play.now) }

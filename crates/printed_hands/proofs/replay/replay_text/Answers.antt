@@ -7,7 +7,7 @@ use Rattle.printed_hands.proofs.replay.replay_text.Goals as goal
 
 pub loop-index-preserved : goal.loop-index-preserved
 loop-index-preserved c =
-    rw (c.in_ok-push_hand.ensures)
+    rw (c.in_ok-push_replay_lines.ensures)
     (one_more replay_lines (string_bytes c.loop-index.text) c.args.plays.now c.loop-index.index c.index-plays-index.result (each_hand replay_lines 1 c.args.plays.now)
     c.loop-index-test.true (sym c.index-plays-index.is) c.loop-index.invariant)
 
