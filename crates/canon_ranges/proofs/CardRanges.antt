@@ -1,0 +1,131 @@
+-- How many cards the events of a canonical script have: of the board, of a discard and of a show.
+use Rattle.std.proofs.Common.{◌≡◌, ℕ, suc, ◌+◌, ◌-◌, ◌≤◌, true, false, ◌&&◌, ◌==◌, not, nat_lt, nat_le, List, [], ◌∷◌, filter, length, Some, None, refl, sym, ◌∙◌, ap, arith}
+use Rattle.std.specs.List.{list_any}
+use Rattle.std.proofs.lemmas.Bool.{and_parts, and_from, and_right, eqb-true, leb-true, lt-leb, lt-ltb, le-ltb, not_from_false}
+use Rattle.std.proofs.lemmas.List.{length-map}
+use Rattle.list_laws.proofs.Any.{list_any-filter, list_any-map}
+use Rattle.list_laws.proofs.Finding.{none_stronger}
+use Rattle.list_laws.proofs.Tests.{false_true}
+use Rattle.card_set.specs.declared.card.Slot.{Slot}
+use Rattle.card_set.specs.declared.card.Slot.TheVariants as slots
+use Rattle.card_set.specs.Known.{is_unknown, known_cards}
+use Rattle.play_event.specs.declared.setup.Rules.{Rules}
+use Rattle.play_event.specs.declared.setup.Setup.{Setup}
+use Rattle.play_event.specs.Games.{game_of, street_count}
+use Rattle.play_event.specs.Laws.{AreLegal}
+use Rattle.play_event.specs.Past.{Past, moves_of}
+use Rattle.play_event.specs.Places.{Place, is_in_group, is_same_owner}
+use Rattle.play_event.specs.Said.{Said}
+use Rattle.play_event.specs.Scripts.{past_of}
+use Rattle.play_event.specs.Seats.{is_live, live_count}
+use Rattle.play_event.specs.Streets.{has_draw}
+use Rattle.play_event.specs.Table.{places_of}
+use Rattle.play_event.specs.Trace.{TracedPlace, is_shown}
+use Rattle.play_event.specs.Due.{is_unfinished, turn}
+use Rattle.canonical_play.specs.CanonScript.{dealt_slots, discarded_slots, held_slots, is_dealt_to}
+use Rattle.canonical_play.specs.TraceCore.{TraceCore, core_of}
+use Rattle.play_laws.proofs.DiscardCounts.{is_out_of}
+use Rattle.play_laws.proofs.DonePasts.{legal_done}
+use Rattle.play_laws.proofs.HeldFew.{filter_less, held_most, holds_at}
+use Rattle.play_laws.proofs.LegalPlaces.{legal_past}
+use Rattle.play_laws.proofs.PlayedStreets.{board_count}
+use Rattle.canon_blocks.proofs.TraceOrder.{finals_group, finals_of, the_board}
+use Rattle.canon_blocks.proofs.TracedSlots.{dealt_same, discarded_same}
+use Rattle.canon_laws.proofs.HeldSame.{held_script}
+use Rattle.canon_laws.proofs.LastPast.{is_in, shown_parts}
+use Rattle.canon_laws.proofs.StreetDiscards.{out_finals}
+use Rattle.canon_laws.proofs.TidyTraces.{tidy_cards}
+use Rattle.showdown_laws.specs.ContestedEnd.{EndContested}
+use Rattle.showdown_laws.proofs.WholeHands.{whole_hands}
+use Rattle.canon_ranges.specs.Ranges.{IsSeatOf}
+use Rattle.canon_ranges.proofs.GameSizes.{few_boards, few_drawn}
+
+-- of slots that are all known as many cards are known
+all_known : (list : List Slot) → list_any is_unknown list ≡ false → length (known_cards list) ≡ length list
+all_known [] none = refl
+all_known (slots.Known card ∷ rest) none = ap suc (all_known rest none)
+all_known (slots.Unknown ∷ rest) none = false_true (sym none)
+
+-- the board's cards of a street are known where the board's cards are
+board_sure : (placed : List TracedPlace) (street : ℕ) → list_any (λ place. is_same_owner place.owner None && is_unknown place.slot) placed ≡ false → list_any is_unknown (dealt_slots placed None street) ≡ false
+board_sure placed street none =
+    list_any-map is_unknown (λ (place : TracedPlace). place.slot) (filter (is_dealt_to None street) placed)
+    ∙ list_any-filter (λ (place : TracedPlace). is_unknown place.slot) (is_dealt_to None street) placed
+    ∙ none_stronger (λ (place : TracedPlace). is_dealt_to None street place && is_unknown place.slot) (λ place. is_same_owner place.owner None && is_unknown place.slot)
+    (λ place both.
+    let parts = and_parts (is_dealt_to None street place) (is_unknown place.slot) both in
+    and_from (is_same_owner place.owner None) (is_unknown place.slot) (and_parts (is_same_owner place.owner None) (place.street == street) parts.0).0 parts.1) placed none
+
+module _ (setup : Setup) (rules : Rules) (events : List Said) (legal : AreLegal setup rules events) where
+  abbrev past : Past
+  past = past_of setup events
+
+  abbrev placed : List Place
+  placed = places_of setup.code past
+
+  abbrev count : ℕ
+  count = street_count setup.code
+
+  abbrev finals : List Place
+  finals = finals_of setup placed count
+
+  abbrev core : TraceCore
+  core = core_of setup past
+
+  -- the board has five cards of a street at most
+  pub board_few : (street : ℕ) → 1 ≤ street → street ≤ street_count setup.code → length (dealt_slots core.places None street) ≤ 5
+  board_few street some within =
+      omega (
+        arith,
+        ap (λ l. length l) (dealt_same finals None street),
+        length-map (filter (is_in_group None street) finals) (λ (p : Place). p.slot),
+        ap (λ (l : List Place). length l) (finals_group setup placed None street count the_board some within),
+        board_count setup.code past street,
+        (legal_done setup rules events legal).done.board_most street,
+        few_boards setup.code street,
+      )
+
+  -- and they are known
+  pub board_known : (street : ℕ) → length (known_cards (dealt_slots core.places None street)) ≡ length (dealt_slots core.places None street)
+  board_known street = all_known (dealt_slots core.places None street) (board_sure core.places street (tidy_cards setup rules events legal).board_known)
+
+  -- what a draw takes was held when its street began
+  out_few : (seat street : ℕ) → 1 ≤ street → has_draw setup.code street ≡ true → length (filter (is_out_of street seat) placed) ≤ 5
+  out_few seat street some draws =
+      let law = (legal_past setup rules events legal).places in
+      let same : (street - 1) + 1 ≡ street = omega (arith, some) in
+      omega (
+        arith,
+        held_most setup rules events seat (street - 1) legal,
+        few_drawn setup.code street (street - 1) draws,
+        ap (λ k. length (filter (holds_at seat k) placed)) same,
+        filter_less (is_out_of street seat) (holds_at seat street) placed (λ place among is.
+            let parts = and_parts (is_same_owner place.owner (Some seat)) (place.discarded == street) is in
+            let here : place.discarded ≡ street = eqb-true place.discarded street parts.1 in
+            and_from (is_same_owner place.owner (Some seat)) (nat_lt place.street street && not (nat_lt 0 place.discarded && nat_lt place.discarded street)) parts.0
+            (and_from (nat_lt place.street street) (not (nat_lt 0 place.discarded && nat_lt place.discarded street)) (lt-ltb place.street street (omega (arith, here, law.out_after place among (omega (arith, here, some)))))
+            (not_from_false (nat_lt 0 place.discarded && nat_lt place.discarded street) (and_right (nat_lt 0 place.discarded) (nat_lt place.discarded street) (le-ltb place.discarded street (omega (arith, here))))))),
+      )
+
+  -- a discard has five cards at most
+  pub discard_few : (seat street : ℕ) → IsSeatOf setup.stacks.seats seat → 1 ≤ street → street ≤ street_count setup.code → has_draw setup.code street ≡ true → length (discarded_slots core.places seat street) ≤ 5
+  discard_few seat street in_hand some within draws =
+      omega (
+        arith,
+        ap (λ l. length l) (discarded_same finals seat street),
+        length-map (filter (is_out_of street seat) finals) (λ (p : Place). p.slot),
+        ap (λ (l : List Place). length l) (out_finals setup rules events street seat count legal some (omega (arith, within)) in_hand.0 in_hand.1),
+        out_few seat street some draws,
+      )
+
+  -- a shown seat of a contested hand shows a whole hand
+  pub shown_whole : (seat : ℕ) → IsSeatOf setup.stacks.seats seat → nat_le 2 (live_count setup (moves_of past)) ≡ true → is_unfinished (turn setup past).1 ≡ false → list_any (λ other. other == seat) core.shown ≡ true
+      → length (known_cards (held_slots core.places seat)) ≡ (game_of setup.code).hole
+  shown_whole seat in_hand contested finished shown =
+      let is : is_shown setup past seat ≡ true = sym (is_in (is_shown setup past) 1 setup.stacks.seats seat in_hand.0 (omega (arith, in_hand.1))) ∙ shown in
+      let live : is_live (moves_of past) seat ≡ true = (shown_parts setup past seat is).live in
+      let several : nat_le (live_count setup (moves_of past)) 1 ≡ false = lt-leb (live_count setup (moves_of past)) 1 (omega (arith, leb-true 2 (live_count setup (moves_of past)) contested)) in
+      let ends : EndContested setup rules events = record { legal = legal; several = several; finished = finished } in
+      all_known (held_slots core.places seat) ((tidy_cards setup rules events legal).shown_known seat shown)
+      ∙ (ap (λ l. length l) (discarded_same finals seat 0 ∙ held_script setup rules events seat legal in_hand.0 in_hand.1 live)
+      ∙ whole_hands setup rules events seat ends (record { least = in_hand.0; most = in_hand.1; live = live }))

@@ -1,0 +1,2 @@
+-- What an event of a canonical script may say.
+pub mod Ranges

@@ -1,0 +1,29 @@
+// What the events of a canonical script may be, and how many there are. The functions do nothing: each contract is a law.
+ghost use Rattle.std.specs.Prelude.{◌≡◌, ◌≤◌, List, count_by};
+ghost use Rattle.std.specs.List.{AllByRecursion};
+ghost use Rattle.canonical_play.specs.CanonScript.{canon_of};
+ghost use Rattle.canonical_play.specs.PlayedScript.{IsPlayed, IsWithinLimits, is_move};
+ghost use Rattle.canonical_play.specs.declared.limits.TheConstants.{MOST_MOVES};
+ghost use Rattle.play_event.specs.Said.{Said};
+ghost use Rattle.play_event.specs.ValidSetup.{IsValid};
+ghost use Rattle.play_event.specs.declared.setup.Rules.{Rules};
+ghost use Rattle.play_event.specs.declared.setup.Setup.{Setup};
+ghost use Rattle.canon_ranges.specs.Ranges.{IsInRange};
+
+/// Each event of the canonical script of a script that is played to its end lies in its range, and the canonical script is
+/// within the limits of a hand where the moves of the script are.
+pub fn law_of_ranges()
+    ensures in_range { (setup : Setup) (rules : Rules) (script : List Said)
+        → IsValid setup → IsPlayed setup rules script
+        → AllByRecursion (IsInRange setup.stacks.seats) (canon_of setup script) }
+    ensures within { (setup : Setup) (rules : Rules) (script : List Said)
+        → IsPlayed setup rules script → count_by is_move script ≤ MOST_MOVES
+        → IsWithinLimits (canon_of setup script) }
+{}
+
+/// The canonical script has as many moves as the script.
+pub fn law_of_move_counts()
+    ensures { (setup : Setup) (rules : Rules) (script : List Said)
+        → IsPlayed setup rules script
+        → count_by is_move (canon_of setup script) ≡ count_by is_move script }
+{}
