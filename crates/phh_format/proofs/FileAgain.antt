@@ -21,7 +21,7 @@ use Rattle.std.proofs.lemmas.List.Sums.{sum_by-cons}
 use Rattle.canonical_play.specs.PlayedScript.{is_move}
 use Rattle.play_event.specs.Said.{Said}
 use Rattle.phh_reading.specs.declared.events.Counts.{Counts}
-use Rattle.phh_format.specs.Readable.{IsReadable, moves_written}
+use Rattle.phh_format.proofs.Readable.{IsReadable, moves_written}
 use Rattle.phh_format.proofs.HandAgain.{hand_read}
 use Rattle.phh_format.proofs.OrderAgain.{are_hands_again, hand_tables, in_order_again}
 

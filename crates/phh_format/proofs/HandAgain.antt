@@ -21,7 +21,7 @@ use Rattle.phh_table.specs.Document.{hand_table}
 use Rattle.phh_table.specs.HandFields.{hand_field, hand_fields, label, local_time, names_field, number_field, numbers, rakes_field, script_of}
 use Rattle.phh_table.proofs.Puts.{field_at}
 use Rattle.phh_fields.proofs.Zeros.{with_zeros}
-use Rattle.phh_format.specs.Readable.{IsReadable}
+use Rattle.phh_format.proofs.Readable.{IsReadable}
 use Rattle.phh_format.specs.Again.{hand_again, kept_name, notes_again}
 use Rattle.phh_format.proofs.RowsAgain.{IsBetween, amount_count, amounts_again, each_amount, list_again, listed_again, number_data, row_again}
 use Rattle.phh_format.proofs.SetupAgain.{at, field_alone, setup_again}

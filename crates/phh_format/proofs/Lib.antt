@@ -1,3 +1,4 @@
+pub mod Readable
 pub mod RowsAgain
 pub mod SetupAgain
 pub mod NotesAgain
@@ -6,3 +7,4 @@ pub mod EventsAgain
 pub mod HandAgain
 pub mod OrderAgain
 pub mod FileAgain
+pub mod SoundPlays

@@ -12,6 +12,7 @@ use Rattle.phh_fields.specs.Rows.{amounts_in}
 use Rattle.phh_fields.specs.SetupFields.{plain_setup}
 use Rattle.phh_reading.specs.Events.{kept_number}
 use Rattle.phh_reading.specs.Hand.{PlainHand, finish_stated}
+use Rattle.phh_reading.specs.Reading.{moves_of}
 use Rattle.phh_table.specs.HandFields.{script_of}
 
 -- the name of a hand at a place of its file, from 0; a name that is that place is none
@@ -55,3 +56,7 @@ hand_again place play =
 abbrev pub hands_again : ℕ → List Play → List PlainHand
 hands_again place [] = []
 hands_again place (play ∷ rest) = hand_again place play ∷ hands_again (place + 1) rest
+
+-- the moves that were played
+abbrev pub moves_played : Play → ℕ
+moves_played play = moves_of play.hand

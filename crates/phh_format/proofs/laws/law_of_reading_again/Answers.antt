@@ -1,5 +1,5 @@
-use Rattle.phh_format.proofs.FileAgain.{plays_again}
+use Rattle.phh_format.proofs.SoundPlays.{sound_again}
 use Rattle.phh_format.proofs.laws.law_of_reading_again.Goals as goal
 
 pub returns : goal.returns
-returns c = plays_again
+returns c = sound_again

@@ -1,4 +1,4 @@
--- Plays that read back when they were written.
+-- What a reader needs of a play, so that it reads back when it was written.
 use Rattle.std.specs.Prelude.{◌≡◌, ℕ, ◌<◌, count_by}
 use Rattle.std.specs.List.{AllByRecursion}
 use Rattle.canonical_play.specs.PlayedScript.{IsWithinLimits, is_move}
@@ -9,8 +9,8 @@ use Rattle.hand_canon.specs.AllowedNotes.{AreAllowed}
 use Rattle.phh_words.specs.Written.{CanBeSaid}
 use Rattle.phh_table.specs.HandFields.{script_of}
 
--- A play reads back when it was written: its setup is valid, an action can say each event of its canonical script, which is
--- within the limits, past the last pot there is no rake, and its notes are allowed.
+-- Its setup is valid, an action can say each event of its canonical script, which is within the limits, past the last pot
+-- there is no rake, and its notes are allowed.
 pub record IsReadable (play : Play) : Type 0 where
   pub valid : IsValid play.trace.setup
   pub events : AllByRecursion (CanBeSaid play.trace.setup.stacks.seats) (script_of play.trace)
