@@ -1,5 +1,7 @@
 -- Moves and places that say the same are one.
-use Rattle.std.proofs.Common.{◌≡◌, ℕ, Bool, Option, refl, sym, ap, ◌∙◌}
+use Rattle.std.proofs.Common.{◌≡◌, ◌↔◌, ℕ, Bool, Option, Some, None, refl, sym, ap, ◌∙◌}
+use Rattle.std.specs.Option.{option_map}
+use Rattle.std.proofs.lemmas.Option.{same_Some}
 use Rattle.card_set.specs.declared.card.Slot.{Slot}
 use Rattle.chip_ledger.specs.declared.numbers.Seat.{Seat}
 use Rattle.chip_ledger.proofs.Same.{seat_same}
@@ -8,7 +10,8 @@ use Rattle.play_event.specs.declared.played.Act.TheVariants as acts
 use Rattle.play_event.specs.declared.played.Move.{Move}
 use Rattle.play_event.specs.declared.played.Place.{Place}
 use Rattle.play_event.specs.Past.{Act, Folded, Called, Raised, BroughtIn}
-use Rattle.play_event.specs.Played.{act_said, move_said}
+use Rattle.play_event.specs.Played.{IsPlace, act_said, move_said}
+use Rattle.play_event.specs.Trace.{TracedPlace}
 use Rattle.hand_canon.specs.TraceRows.{place_said}
 use Rattle.list_laws.proofs.Options.{options_same}
 
@@ -53,3 +56,19 @@ place_same a b same =
     ∙ (ap (λ street. place b.owner street a.slot a.gone) (ap (λ said. said.street) same)
     ∙ (ap (λ slot. place b.owner b.street slot a.gone) (ap (λ said. said.slot) same)
     ∙ ap (λ gone. place b.owner b.street b.slot gone) (ap (λ said. said.discarded) same)))
+
+-- a row says a place exactly where the place is what it says
+pub says_place : (row : Place) (place : TracedPlace) → IsPlace row place ↔ (place_said row ≡ place)
+says_place row place = (
+  λ is.
+      ap {B = TracedPlace} (λ (owner : Option ℕ). record { owner = owner; street = row.street; slot = row.slot; discarded = row.gone }) is.owner
+      ∙ (ap {B = TracedPlace} (λ (street : ℕ). record { owner = place.owner; street = street; slot = row.slot; discarded = row.gone }) is.street
+      ∙ (ap {B = TracedPlace} (λ (slot : Slot). record { owner = place.owner; street = place.street; slot = slot; discarded = row.gone }) is.slot
+      ∙ ap {B = TracedPlace} (λ (discarded : ℕ). record { owner = place.owner; street = place.street; slot = place.slot; discarded = discarded }) is.gone)),
+  λ same. record {
+    owner = ap (λ (said : TracedPlace). said.owner) same;
+    street = ap (λ (said : TracedPlace). said.street) same;
+    slot = ap (λ (said : TracedPlace). said.slot) same;
+    gone = ap (λ (said : TracedPlace). said.discarded) same;
+  },
+)

@@ -1,13 +1,17 @@
 // Laws of whole traces.
 ghost use Rattle.std.specs.Prelude.{◌≡◌, ◌↔◌, ℕ, List};
 ghost use Rattle.play_event.specs.Past.{Past};
+ghost use Rattle.play_event.specs.Played.{IsPlace};
 ghost use Rattle.play_event.specs.Said.{Said};
+ghost use Rattle.play_event.specs.Trace.{TracedPlace};
+ghost use Rattle.play_event.specs.declared.played.Place.{Place};
 ghost use Rattle.play_event.specs.declared.setup.Rules.{Rules};
 ghost use Rattle.play_event.specs.declared.setup.Setup.{Setup};
 ghost use Rattle.canonical_play.specs.CanonScript.{canon_of};
 ghost use Rattle.canonical_play.specs.PlayedScript.{IsPlayed};
 ghost use Rattle.canonical_play.specs.TraceCore.{core_after, core_of};
 ghost use Rattle.hand_canon.specs.LegalHand.{IsLegalHand};
+ghost use Rattle.hand_canon.specs.TraceRows.{place_said};
 ghost use Rattle.hand_canon.specs.WholeTrace.{HasShares, IsTraceOf};
 ghost use Rattle.hand_canon.specs.declared.trace.Trace.{Trace};
 
@@ -31,4 +35,10 @@ pub fn law_of_canonical_hands()
         → (shares : List (ℕ → ℕ)) (finish : ℕ → ℕ) → IsPlayed setup rules script
         → HasShares setup (core_after setup script) shares finish
         ↔ HasShares setup (core_after setup (canon_of setup script)) shares finish }
+{}
+
+/// A row says where a card lies, as the places that are gathered card by card say it, exactly where this is what a trace with
+/// that row keeps.
+pub fn law_of_places()
+    ensures { (row : Place) (place : TracedPlace) → IsPlace row place ↔ (place_said row ≡ place) }
 {}

@@ -8,4 +8,4 @@ pub use conservation::{
     law_of_finishing_stacks, law_of_no_chips_made, law_of_pots_and_returns,
     law_of_shares_within_pots, law_of_winners,
 };
-pub use laws::{law_of_canonical_hands, law_of_one_trace};
+pub use laws::{law_of_canonical_hands, law_of_one_trace, law_of_places};
