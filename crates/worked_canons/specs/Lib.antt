@@ -5,6 +5,8 @@ pub mod Scripts
 pub mod Outcomes
 pub mod TraceRows
 pub mod Traces
+pub mod BoardTraces
+pub mod StreetTraces
 pub mod WrongTraces
 pub mod StatedFacts
 pub mod WrittenNotes

@@ -1,6 +1,7 @@
--- Hands with their whole traces, one that is won by folds and one that is won by the only shown hand.
+-- The words in which traces are written out, and hands with their whole traces: one that is won by folds and one that is won
+-- by the only shown hand.
 use Rattle.std.proofs.Common.{refl}
-use Rattle.std.specs.Prelude.{ℕ, true, false, List, [], ◌∷◌, ◌++◌, codes, map, Some}
+use Rattle.std.specs.Prelude.{ℕ, true, false, List, [], ◌∷◌, ◌++◌, codes, map, Option, Some, None}
 use Rattle.chip_ledger.specs.declared.numbers.Seat.{Seat}
 use Rattle.play_event.specs.declared.played.Act.{Act}
 use Rattle.play_event.specs.declared.played.Act.TheVariants as acts
@@ -25,15 +26,46 @@ p2 = seat_of 2 refl
 abbrev pub p3 : Seat
 p3 = seat_of 3 refl
 
+abbrev pub p4 : Seat
+p4 = seat_of 4 refl
+
+abbrev pub p5 : Seat
+p5 = seat_of 5 refl
+
+abbrev pub p6 : Seat
+p6 = seat_of 6 refl
+
+-- the cards of a text, dealt on a street to a seat, or to the board where none is said, and discarded in the draw of the last
+-- street, or kept where it is 0
+abbrev pub placed : Option Seat → ℕ → List ℕ → ℕ → List Place
+placed owner street cards gone =
+    map (λ slot. record { owner = owner; street = street; slot = slot; gone = gone }) (slots_named cards)
+
+-- cards of a seat that are kept
+abbrev pub kept_by : Seat → ℕ → List ℕ → List Place
+kept_by seat street cards = placed (Some seat) street cards 0
+
+-- cards of the board
+abbrev pub on_board : ℕ → List ℕ → List Place
+on_board street cards = placed None street cards 0
+
 -- the cards of a text, dealt to a seat on the first street
 abbrev pub dealt_to : Seat → List ℕ → List Place
-dealt_to seat cards =
-    map (λ slot. record { owner = Some seat; street = 1; slot = slot; gone = 0 }) (slots_named cards)
+dealt_to seat cards = kept_by seat 1 cards
 
--- what a seat did on a street: the chips of the street that it had put before and after, and the price before
+-- what a seat did on a street of fixed limit: the chips of the street that it had put before and after, the price before,
+-- and where a raise by the unit would have gone
+abbrev pub moved_fixed : ℕ → Seat → Act → (from to price unit_to : ℕ) → Move
+moved_fixed street seat act from to price unit_to =
+    record { street = street; seat = seat; act = act; from = from; to = to; price = price; closed = false; unit_to = unit_to }
+
+-- the same in another limit, where no unit is kept
 abbrev pub moved : ℕ → Seat → Act → (from to price : ℕ) → Move
-moved street seat act from to price =
-    record { street = street; seat = seat; act = act; from = from; to = to; price = price; closed = false; unit_to = 0 }
+moved street seat act from to price = moved_fixed street seat act from to price 0
+
+-- what a seat checks
+abbrev pub checked : ℕ → Seat → Move
+checked street seat = moved street seat acts.Call 0 0 0
 
 -- three seats of no-limit hold'em: p3 raises from 2 to 6, and both blinds fold
 abbrev pub steal : List Said

@@ -16,4 +16,7 @@ pub use facts::{agreeing_facts, differing_facts};
 pub use matches::{capped_hands, reopened_hands, short_deck_hands};
 pub use notes::{dates, players, texts, times};
 pub use sound::{sound_plays, unsound_plays};
-pub use traces::{traces_of_folds, traces_of_showdowns};
+pub use traces::{
+    traces_of_folds, traces_of_holdem, traces_of_omaha_and_stud, traces_of_showdowns,
+    traces_of_single_draws, traces_of_triple_draws,
+};
