@@ -26,7 +26,7 @@ use Rattle.betting_numbers.specs.UpTo.{StandsUpTo}
 use Rattle.street_laws.specs.Done.{HasCome, is_done}
 use Rattle.list_laws.proofs.Any.{none_passes}
 use Rattle.betting_numbers.proofs.Bridge.{bring_in_due_is, move_due_is}
-use Rattle.betting_numbers.proofs.NextStreet.{standing_next}
+use Rattle.betting_numbers.proofs.NextStreet.{standing_next, zero_greatest}
 use Rattle.street_laws.proofs.Later.{early_moves, early_up, none_on}
 use Rattle.street_laws.specs.Walk.{has_no_move_later}
 use Rattle.street_laws.proofs.TurnAfter.{AreDealt, due_by, cards_come, quiet_is_showdown}
@@ -49,11 +49,6 @@ are_dealt setup past street dues.Show other come done = absurd (other refl)
 are_dealt setup past street dues.BringIn other come done = absurd come
 are_dealt setup past street dues.Move other come done = absurd come
 are_dealt setup past street dues.Over other come done = absurd come
-
--- on the next street nobody owes
-pub zero_greatest : (f : ℕ → ℕ) (first n : ℕ) → ((k : ℕ) → f k ≡ 0) → greatest (map f (range_with_len first n)) ≡ 0
-zero_greatest f first zero none = refl
-zero_greatest f first (suc n) none = omega (arith, none first, zero_greatest f (first + 1) n none)
 
 no_chips : (setup : Setup) (moves : List Move) (street seat : ℕ) → has_no_move_later moves street ≡ true → 1 ≤ street → street_chips setup moves (street + 1) seat ≡ 0
 no_chips setup moves street seat early low =

@@ -1,6 +1,6 @@
 -- When the next street begins, the running numbers stand for the same moves.
-use Rattle.std.proofs.Common.{◌≡◌, ℕ, ◌+◌, ◌-◌, ◌*◌, ◌<◌, ◌≤◌, Bool, true, false, ◌&&◌, ◌||◌, ◌==◌, nat_le, min, max, if◌then◌else◌, List, [], ◌∷◌, count_by, refl, sym, ap, subst, ◌∙◌, arith}
-use Rattle.std.specs.List.{list_any}
+use Rattle.std.proofs.Common.{◌≡◌, ℕ, zero, suc, ◌+◌, ◌-◌, ◌*◌, ◌<◌, ◌≤◌, Bool, true, false, ◌&&◌, ◌||◌, ◌==◌, nat_le, min, max, if◌then◌else◌, List, [], ◌∷◌, map, count_by, refl, sym, ap, subst, ◌∙◌, arith}
+use Rattle.std.specs.List.{list_any, range_with_len}
 use Rattle.std.proofs.lemmas.Bool.{ne_eqb}
 use Rattle.chip_ledger.specs.SeatRow.{amount_of}
 use Rattle.play_event.specs.declared.setup.Setup.{Setup}
@@ -17,7 +17,6 @@ use Rattle.street_laws.specs.Seats.{IsSeat}
 use Rattle.betting_numbers.specs.Standing.{Standing, newest_seat}
 use Rattle.street_laws.specs.Walk.{has_no_move_later}
 use Rattle.street_laws.proofs.Later.{newest_other, none_on}
-use Rattle.betting_numbers.proofs.Dealt.{zero_greatest}
 
 pub none_since : (setup : Setup) (moves : List Move) (street later seat : ℕ) → has_no_move_later moves street ≡ true → street < later → has_moved_since_rise setup moves later seat ≡ false
 none_since setup [] street later seat early less = refl
@@ -50,6 +49,11 @@ bet_at_start setup (move ∷ before) street later early less =
 -- a later street than the first begins without chips
 nothing_brought : (setup : Setup) (later seat : ℕ) → 1 < later → brought setup later seat ≡ 0
 nothing_brought setup later seat less = ap (λ b. if b then blind_posted setup seat else 0) (ne_eqb later 1 (λ same. omega (arith, same, less)))
+
+-- the greatest of zeros is zero
+pub zero_greatest : (f : ℕ → ℕ) (first n : ℕ) → ((k : ℕ) → f k ≡ 0) → greatest (map f (range_with_len first n)) ≡ 0
+zero_greatest f first zero none = refl
+zero_greatest f first (suc n) none = omega (arith, none first, zero_greatest f (first + 1) n none)
 
 pub starts_at_zero : (setup : Setup) (later : ℕ) → 1 < later → starting_price setup later ≡ 0
 starts_at_zero setup later less = zero_greatest (street_chips setup [] later) 1 setup.stacks.seats (λ k. omega (arith, nothing_brought setup later k less))

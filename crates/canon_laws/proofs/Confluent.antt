@@ -1,5 +1,5 @@
 -- The confluence of scripts: the canonical script of a legal and complete script's trace is legal and complete, and has this trace.
-use Rattle.std.proofs.Common.{◌≡◌, ℕ, List, filter, reverse, length, sym, ◌∙◌, ap, subst}
+use Rattle.std.proofs.Common.{◌≡◌, ℕ, List, filter, reverse, length, sym, ◌∙◌, ap, subst, arith}
 use Rattle.play_event.specs.declared.setup.Setup.{Setup}
 use Rattle.play_event.specs.declared.setup.Rules.{Rules}
 use Rattle.play_event.specs.Said.{Said}

@@ -17,7 +17,6 @@ use Rattle.play_event.specs.declared.code.Code.{Code}
 use Rattle.play_event.specs.Games.{game_of}
 use Rattle.variant_table.specs.Division.{divided}
 use Rattle.variant_table.specs.Orders.{award_of}
-use Rattle.variant_table.specs.Plain.{pick_of}
 use Rattle.variant_table.specs.Shares.{AreSharesOf, Showdown, choices_for, is_contender, ranking_of}
 use Rattle.showdown_split.specs.Alike.{AreAlike}
 use Rattle.showdown_split.specs.SeatPoints.{ranking_by}
@@ -57,7 +56,7 @@ among P (first ∷ rest) seat each is = elim (or_cases (first == seat) (list_any
 pub record IsHolding (code : Code) (showdown : Showdown) (held seat : ℕ) : Type 0 where
   pub first : 1 ≤ seat
   pub last : seat ≤ showdown.seats
-  pub usable : CanPick held (pick_of (game_of code).pick) (showdown.holding seat) showdown.board
+  pub usable : CanPick held (game_of code).pick (showdown.holding seat) showdown.board
   pub different : lie_apart (showdown.holding seat ++ showdown.board) ≡ true
 
 -- the most points that a seat can make
@@ -74,7 +73,7 @@ module _ (code : Code) (showdown : Showdown) (held : ℕ) (points : List Card �
   beats : (seat other : ℕ) → Holds seat → Holds other → IsLess (most other) (most seat) ↔ (ranking_of code showdown).beats seat other
   beats seat other one two =
       let looks : (n : ℕ) → Holds n → (choice : List Card) → IsAmong choice (choices_for code showdown n) → AreHeld held choice =
-      λ n hand choice is. held_allowed held (pick_of (game_of code).pick) (showdown.holding n) showdown.board choice hand.usable (apart (showdown.holding n ++ showdown.board) hand.different) is in
+      λ n hand choice is. held_allowed held (game_of code).pick (showdown.holding n) showdown.board choice hand.usable (apart (showdown.holding n ++ showdown.board) hand.different) is in
       beats_exactly (AreHeld held) (award_of code).is_hand (award_of code).is_weaker points (choices_for code showdown seat) (choices_for code showdown other) (most seat) (most other) lawful (looks seat one) (looks other two)
       (greatest_of_holding (AreHeld held) (award_of code).is_hand (award_of code).is_weaker points (choices_for code showdown seat) (most seat) lawful (looks seat one) refl)
       (greatest_of_holding (AreHeld held) (award_of code).is_hand (award_of code).is_weaker points (choices_for code showdown other) (most other) lawful (looks other two) refl)
