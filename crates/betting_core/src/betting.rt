@@ -18,7 +18,7 @@ ghost use Rattle.betting_numbers.specs.SeatsSaid.{seat_said, turn_of};
 ghost use Rattle.play_event.specs.Streets.{is_stud, unit};
 ghost use Rattle.betting_numbers.specs.Seen.{all_in_seen};
 ghost use Rattle.betting_numbers.specs.Standing.{StandsFor};
-ghost use Rattle.betting_numbers.specs.Planned.{IsPlan, IsTurn, move_of, IsRefused, IsPlanned, IsOfHand, IsInReach, IsFit, WhereUps, reason_after, past_with, with_move};
+ghost use Rattle.betting_numbers.specs.LegalMoves.{IsLegalMove, IsTurn, move_of, IsRefused, IsAllowed, IsOfHand, IsInReach, IsFit, WhereUps, reason_after, past_with, with_move};
 ghost use Rattle.street_laws.specs.CardEvents.{is_card_said};
 ghost use Rattle.street_laws.specs.Seats.{IsSeat};
 ghost use Rattle.betting_numbers.specs.UpTo.{StandsUpTo};
@@ -33,7 +33,7 @@ ghost use Rattle.betting_numbers.specs.UpSeen.{HoldsUps};
 ghost use Rattle.play_event.specs.ValidSetup.{IsValid};
 ghost use Rattle.betting_numbers.specs.Targeted.{AreEndsFor};
 
-use betting_numbers::{Plan, Table, Targets, first_full_bet, not_now, start};
+use betting_numbers::{LegalMove, Table, Targets, first_full_bet, not_now, start};
 use chip_ledger::{LiveRow, Seat, SeatRow};
 use play_event::{Act, Due, Event, Illegal, Kind, Move as Moved, Rules, Setup, Spelled, UpRow};
 use std::marker::PhantomData;
@@ -197,13 +197,13 @@ impl<V: Variant> Betting<V> {
         }
     }
 
-    // Plans a fold.
-    fn fold(&self, up: &UpRow, actor: Option<Seat>) -> Result<Plan, Illegal>
+    // The fold that an event says, if it is legal.
+    fn fold(&self, up: &UpRow, actor: Option<Seat>) -> Result<LegalMove, Illegal>
         requires row { up.now.seats ≡ self.now.table.setup.stacks.seats }
         ensures refused { WhereUps self.now.table up.now
             (IsRefused self.now.table (said.Fold (seat_said actor)) result) }
         ensures legal { WhereUps self.now.table up.now
-            (IsPlanned self.now.table (said.Fold (seat_said actor)) result) }
+            (IsAllowed self.now.table (said.Fold (seat_said actor)) result) }
         ensures due { OnOk result (is_bet_due self.now.table.due ≡ true) }
         ensures fits { IfOk result (IsFit self.now.table) }
         ensures in_hand { IfOk result (IsOfHand self.now.table) }
@@ -213,16 +213,21 @@ impl<V: Variant> Betting<V> {
             return Err(reason);
         }
         let turn = self.turn_now(up);
-        self.table.plan_fold(turn, actor)
+        self.table.legal_fold(turn, actor)
     }
 
-    // Plans a call.
-    fn call(&self, up: &UpRow, actor: Option<Seat>, stated: Option<u64>) -> Result<Plan, Illegal>
+    // The call that an event says, if it is legal.
+    fn call(
+        &self,
+        up: &UpRow,
+        actor: Option<Seat>,
+        stated: Option<u64>,
+    ) -> Result<LegalMove, Illegal>
         requires row { up.now.seats ≡ self.now.table.setup.stacks.seats }
         ensures refused { WhereUps self.now.table up.now
             (IsRefused self.now.table (said.Call (seat_said actor) stated) result) }
         ensures legal { WhereUps self.now.table up.now
-            (IsPlanned self.now.table (said.Call (seat_said actor) stated) result) }
+            (IsAllowed self.now.table (said.Call (seat_said actor) stated) result) }
         ensures due { OnOk result (is_bet_due self.now.table.due ≡ true) }
         ensures fits { IfOk result (IsFit self.now.table) }
         ensures in_hand { IfOk result (IsOfHand self.now.table) }
@@ -232,16 +237,16 @@ impl<V: Variant> Betting<V> {
             return Err(reason);
         }
         let turn = self.turn_now(up);
-        self.table.plan_call(turn, actor, stated)
+        self.table.legal_call(turn, actor, stated)
     }
 
-    // Plans a raise.
-    fn raise(&self, up: &UpRow, actor: Option<Seat>, amount: Spelled) -> Result<Plan, Illegal>
+    // The raise that an event says, if it is legal.
+    fn raise(&self, up: &UpRow, actor: Option<Seat>, amount: Spelled) -> Result<LegalMove, Illegal>
         requires row { up.now.seats ≡ self.now.table.setup.stacks.seats }
         ensures refused { WhereUps self.now.table up.now
             (IsRefused self.now.table (said.Raise (seat_said actor) amount) result) }
         ensures legal { WhereUps self.now.table up.now
-            (IsPlanned self.now.table (said.Raise (seat_said actor) amount) result) }
+            (IsAllowed self.now.table (said.Raise (seat_said actor) amount) result) }
         ensures due { OnOk result (is_bet_due self.now.table.due ≡ true) }
         ensures fits { IfOk result (IsFit self.now.table) }
         ensures in_hand { IfOk result (IsOfHand self.now.table) }
@@ -252,16 +257,16 @@ impl<V: Variant> Betting<V> {
         }
         let turn = self.turn_now(up);
         let size = self.unit();
-        self.table.plan_raise(turn, V::LIMIT, size, actor, amount)
+        self.table.legal_raise(turn, V::LIMIT, size, actor, amount)
     }
 
-    // Plans a bring-in.
-    fn bring_in(&self, up: &UpRow, actor: Option<Seat>) -> Result<Plan, Illegal>
+    // The bring-in that an event says, if it is legal.
+    fn bring_in(&self, up: &UpRow, actor: Option<Seat>) -> Result<LegalMove, Illegal>
         requires row { up.now.seats ≡ self.now.table.setup.stacks.seats }
         ensures refused { WhereUps self.now.table up.now
             (IsRefused self.now.table (said.BringIn (seat_said actor)) result) }
         ensures legal { WhereUps self.now.table up.now
-            (IsPlanned self.now.table (said.BringIn (seat_said actor)) result) }
+            (IsAllowed self.now.table (said.BringIn (seat_said actor)) result) }
         ensures due { OnOk result (is_bet_due self.now.table.due ≡ true) }
         ensures fits { IfOk result (IsFit self.now.table) }
         ensures in_hand { IfOk result (IsOfHand self.now.table) }
@@ -271,17 +276,17 @@ impl<V: Variant> Betting<V> {
             return Err(reason);
         }
         let turn = self.turn_now(up);
-        self.table.plan_bring_in(turn, actor)
+        self.table.legal_bring_in(turn, actor)
     }
 
-    // Plans an event.
-    fn plan(&self, up: &UpRow, event: &Event) -> Result<Plan, Illegal>
+    // The move that an event says, if it is legal.
+    fn legal_move(&self, up: &UpRow, event: &Event) -> Result<LegalMove, Illegal>
         requires row { up.now.seats ≡ self.now.table.setup.stacks.seats }
         requires kind { is_card_said (said_of event.now) ≡ false }
         ensures refused { WhereUps self.now.table up.now
             (IsRefused self.now.table (said_of event.now) result) }
         ensures legal { WhereUps self.now.table up.now
-            (IsPlanned self.now.table (said_of event.now) result) }
+            (IsAllowed self.now.table (said_of event.now) result) }
         ensures due { OnOk result (is_bet_due self.now.table.due ≡ true) }
         ensures fits { IfOk result (IsFit self.now.table) }
         ensures in_hand { IfOk result (IsOfHand self.now.table) }
@@ -296,17 +301,17 @@ impl<V: Variant> Betting<V> {
         }
     }
 
-    // Makes what was planned.
-    fn play(&mut self, plan: Plan) -> Moved
-        requires in_hand { plan.seat.number ≤ self.old.table.setup.stacks.seats }
-        requires reach { plan.target ≤ all_in_seen self.old.table plan.seat.number }
+    // Makes a legal move.
+    fn play(&mut self, legal: LegalMove) -> Moved
+        requires in_hand { legal.seat.number ≤ self.old.table.setup.stacks.seats }
+        requires reach { legal.target ≤ all_in_seen self.old.table legal.seat.number }
         requires due { is_bet_due self.old.table.due ≡ true }
-        requires fits { may_come_at (act_said plan.act) self.old.table.due ≡ true }
+        requires fits { may_come_at (act_said legal.act) self.old.table.due ≡ true }
         ensures stands { (past : Past) (event : Said) → StandsFor self.old.table past
-            → IsPlan self.old.table past event plan.seat.number (act_said plan.act) plan.target
+            → IsLegalMove self.old.table past event legal.seat.number (act_said legal.act) legal.target
             → StandsFor self.new.table (past_with self.old.table past event) }
         ensures moved { (past : Past) (event : Said) → StandsFor self.old.table past
-            → IsPlan self.old.table past event plan.seat.number (act_said plan.act) plan.target
+            → IsLegalMove self.old.table past event legal.seat.number (act_said legal.act) legal.target
             → (move : plays.Move) → past_with self.old.table past event ≡ plays.Moved move ∷ past
             → move_said result ≡ traced_move self.old.table.setup move (moves_of past) }
         ensures setup { self.new.table.setup ≡ self.old.table.setup }
@@ -315,8 +320,8 @@ impl<V: Variant> Betting<V> {
         let size = self.unit();
         let moved = self
             .table
-            .traced(V::LIMIT, size, plan.seat, plan.act, plan.target);
-        self.make(plan.seat, plan.act, plan.target);
+            .traced(V::LIMIT, size, legal.seat, legal.act, legal.target);
+        self.make(legal.seat, legal.act, legal.target);
         moved
     }
 
@@ -344,8 +349,8 @@ impl<V: Variant> Betting<V> {
         ensures setup { self.new.table.setup ≡ self.old.table.setup }
         ensures rules { self.new.table.rules ≡ self.old.table.rules }
     {
-        match self.plan(up, event) {
-            Ok(plan) => Ok(self.play(plan)),
+        match self.legal_move(up, event) {
+            Ok(legal) => Ok(self.play(legal)),
             Err(reason) => Err(reason),
         }
     }

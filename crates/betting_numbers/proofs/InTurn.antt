@@ -33,7 +33,7 @@ use Rattle.play_event.specs.Amounts.{call_target, raise_target, bring_in_target}
 use Rattle.play_event.specs.MoveReasons.{actor_of, is_other_seat}
 use Rattle.play_event.specs.Scripts.{with_event, resolved_on, resolved_by}
 use Rattle.betting_numbers.specs.Seen.{owed_seen, all_in_seen}
-use Rattle.betting_numbers.specs.Planned.{IsPlan, IsTurn, move_of}
+use Rattle.betting_numbers.specs.LegalMoves.{IsLegalMove, IsTurn, move_of}
 use Rattle.betting_numbers.proofs.Bridge.{price_is, all_in_is}
 use Rattle.betting_numbers.specs.Why.{is_unable, unknown_why, bring_in_seen, bring_in_why, ceiling_seen, fulls_seen, greatest_by, greatest_seen, is_legal_seen, is_another, call_seen, stated_why, target_seen, may_raise_seen, raise_to_why, now_why, fold_why, call_why, raise_why, floor_by}
 use Rattle.betting_numbers.proofs.WhyMove.{why_fold, why_call, why_bring_in, fold_undecided, call_undecided, bring_in_undecided, able_anywhere}
@@ -286,8 +286,8 @@ module _ (b : Table) (past : Past) (stands : StandsFor b past) where
       ap (λ (t : ℕ × Due). resolved_on b.setup past t.0 event ∷ past) stands.turn_is
       ∙ ap (λ (t : InTurn). resolved_by b.setup (moves_of past) b.street t event ∷ past) (sym turn)
 
-  pub fold_plan : (named : Option ℕ) (m : ℕ) → now_why true false b.due ≡ None → IsSeat b.setup m → IsTurn b past (TheSeat m) → None ≡ fold_why b named m → IsPlan b past (said.Fold named) m Folded (amount_of b.bets m)
-  fold_plan named m now in_m turn none =
+  pub fold_is_legal : (named : Option ℕ) (m : ℕ) → now_why true false b.due ≡ None → IsSeat b.setup m → IsTurn b past (TheSeat m) → None ≡ fold_why b named m → IsLegalMove b past (said.Fold named) m Folded (amount_of b.bets m)
+  fold_is_legal named m now in_m turn none =
       let actor : actor_of named (TheSeat m) ≡ m = fold_actor b named m (sym none) in
       record {
         legal = sym (none ∙ sym (why_fold b past stands (move_now b.due now) m in_m (sym turn) named));
@@ -296,8 +296,8 @@ module _ (b : Table) (past : Past) (stands : StandsFor b past) where
             ∙ ap (λ (t : ℕ). Moved (move_of b (moves_of past) m Folded t) ∷ past) (sym (stands.standing.bets m in_m));
       }
 
-  pub call_plan : (named stated : Option ℕ) (m : ℕ) → now_why true false b.due ≡ None → IsSeat b.setup m → IsTurn b past (TheSeat m) → None ≡ call_why b named stated m → IsPlan b past (said.Call named stated) m Called (call_seen b m)
-  call_plan named stated m now in_m turn none =
+  pub call_is_legal : (named stated : Option ℕ) (m : ℕ) → now_why true false b.due ≡ None → IsSeat b.setup m → IsTurn b past (TheSeat m) → None ≡ call_why b named stated m → IsLegalMove b past (said.Call named stated) m Called (call_seen b m)
+  call_is_legal named stated m now in_m turn none =
       let actor : actor_of named (TheSeat m) ≡ m = call_actor b named stated m (sym none) in
       record {
         legal = sym (none ∙ sym (why_call b past stands (move_now b.due now) m in_m (sym turn) named stated));
@@ -306,8 +306,8 @@ module _ (b : Table) (past : Past) (stands : StandsFor b past) where
             ∙ ap (λ (t : ℕ). Moved (move_of b (moves_of past) m Called t) ∷ past) (sym (call_is b (moves_of past) stands.standing m in_m));
       }
 
-  pub raise_plan : (named : Option ℕ) (amount : Spelled) (m : ℕ) (limit : Limit) → limit_of b.setup.code ≡ limit → now_why true true b.due ≡ None → IsSeat b.setup m → IsTurn b past (TheSeat m) → None ≡ raise_why limit b (floor_by b.rules.reopen (starting_price b.setup b.street) b) named amount m → IsPlan b past (said.Raise named amount) m Raised (target_seen b m amount)
-  raise_plan named amount m limit limit_is now in_m turn none =
+  pub raise_is_legal : (named : Option ℕ) (amount : Spelled) (m : ℕ) (limit : Limit) → limit_of b.setup.code ≡ limit → now_why true true b.due ≡ None → IsSeat b.setup m → IsTurn b past (TheSeat m) → None ≡ raise_why limit b (floor_by b.rules.reopen (starting_price b.setup b.street) b) named amount m → IsLegalMove b past (said.Raise named amount) m Raised (target_seen b m amount)
+  raise_is_legal named amount m limit limit_is now in_m turn none =
       let actor : actor_of named (TheSeat m) ≡ m = raise_actor limit b (floor_by b.rules.reopen (starting_price b.setup b.street) b) named amount m (sym none) in
       record {
         legal = sym (none ∙ sym (why_raise b past stands limit limit_is m in_m (sym turn) b.due refl now named amount));
@@ -316,8 +316,8 @@ module _ (b : Table) (past : Past) (stands : StandsFor b past) where
             ∙ ap (λ (t : ℕ). Moved (move_of b (moves_of past) m Raised t) ∷ past) (target_is b (moves_of past) stands.standing m in_m amount);
       }
 
-  pub bring_in_plan : (named : Option ℕ) (m : ℕ) → now_why false true b.due ≡ None → IsSeat b.setup m → IsTurn b past (TheSeat m) → None ≡ bring_in_why named m → IsPlan b past (said.BringIn named) m BroughtIn (bring_in_seen b m)
-  bring_in_plan named m now in_m turn none =
+  pub bring_in_is_legal : (named : Option ℕ) (m : ℕ) → now_why false true b.due ≡ None → IsSeat b.setup m → IsTurn b past (TheSeat m) → None ≡ bring_in_why named m → IsLegalMove b past (said.BringIn named) m BroughtIn (bring_in_seen b m)
+  bring_in_is_legal named m now in_m turn none =
       let actor : actor_of named (TheSeat m) ≡ m = bring_in_actor named m (sym none) in
       record {
         legal = sym (none ∙ sym (why_bring_in b past stands (bring_in_now b.due now) m (sym turn) named));

@@ -14,7 +14,7 @@ use Rattle.betting_numbers.specs.declared.table.Table.{Table}
 use Rattle.betting_numbers.specs.Seen.{price_seen}
 use Rattle.street_laws.specs.Seats.{IsSeat}
 use Rattle.betting_numbers.specs.Standing.{Standing}
-use Rattle.betting_numbers.specs.Planned.{move_of}
+use Rattle.betting_numbers.specs.LegalMoves.{move_of}
 use Rattle.betting_numbers.specs.Traced.{is_closed_seen, unit_seen, traced_seen}
 use Rattle.betting_numbers.specs.Why.{is_legal_seen, floor_by}
 use Rattle.betting_numbers.proofs.Bridge.{price_is}

@@ -25,7 +25,7 @@ use Rattle.betting_numbers.specs.SeatsSaid.{seat_said, turn_of}
 use Rattle.betting_numbers.specs.Seen.{is_able_seen, owed_seen, able_count_seen, has_to_move_seen, is_move_due_seen, after_last, last_seen, mover_seen}
 use Rattle.street_laws.specs.Seats.{IsSeat}
 use Rattle.betting_numbers.specs.Standing.{StandsFor, newest_seat}
-use Rattle.betting_numbers.specs.Planned.{IsTurn}
+use Rattle.betting_numbers.specs.LegalMoves.{IsTurn}
 use Rattle.play_event.specs.TurnTargets.{is_bet_due}
 use Rattle.betting_numbers.specs.UpSeen.{HoldsUps, has_unknown_seen, has_unknown_up_card_seen, is_before_seen, is_opener_seen, up_opener_seen}
 use Rattle.list_laws.proofs.Counting.{counted_some}

@@ -2,10 +2,10 @@
 #![tactic(auto)]
 
 mod caps;
+mod legal_moves;
 mod looking;
 mod moving;
 mod opening;
-mod planning;
 mod raising;
 mod starting;
 mod table;
@@ -16,7 +16,7 @@ mod turns;
 mod up_opening;
 mod viewing;
 
-pub use planning::{Plan, not_now};
+pub use legal_moves::{LegalMove, not_now};
 pub use starting::{first_full_bet, start};
 pub use table::Table;
 pub use targeting::Targets;

@@ -8,7 +8,7 @@ ghost use Rattle.play_event.specs.Streets.{limit_of, unit};
 ghost use Rattle.betting_numbers.specs.SeatsSaid.{seat_said, turn_of};
 ghost use Rattle.betting_numbers.specs.Seen.{all_in_seen};
 ghost use Rattle.betting_numbers.specs.Standing.{StandsFor};
-ghost use Rattle.betting_numbers.specs.Planned.{IsTurn};
+ghost use Rattle.betting_numbers.specs.LegalMoves.{IsTurn};
 ghost use Rattle.betting_numbers.specs.Targeted.{least_seen, AreEndsFor};
 ghost use Rattle.play_event.specs.TurnTargets.{AreTargets, may_raise_now};
 ghost use Rattle.play_event.specs.Targets.{smallest};

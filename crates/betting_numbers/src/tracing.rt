@@ -6,7 +6,7 @@ ghost use Rattle.play_event.specs.Streets.{limit_of, unit};
 ghost use Rattle.play_event.specs.Trace.{traced_move};
 ghost use Rattle.street_laws.specs.Seats.{IsSeat};
 ghost use Rattle.betting_numbers.specs.Standing.{Standing};
-ghost use Rattle.betting_numbers.specs.Planned.{move_of};
+ghost use Rattle.betting_numbers.specs.LegalMoves.{move_of};
 ghost use Rattle.betting_numbers.specs.Traced.{is_closed_seen, traced_seen, unit_seen};
 
 use crate::moving::raises;

@@ -6,7 +6,7 @@ ghost use Rattle.play_event.specs.Past.{Past};
 ghost use Rattle.play_event.specs.Seats.{all_seats};
 ghost use Rattle.play_event.specs.Streets.{opener_of, is_opened_by_up_cards};
 ghost use Rattle.betting_numbers.specs.Standing.{StandsFor};
-ghost use Rattle.betting_numbers.specs.Planned.{IsTurn};
+ghost use Rattle.betting_numbers.specs.LegalMoves.{IsTurn};
 ghost use Rattle.play_event.specs.TurnTargets.{is_bet_due};
 ghost use Rattle.betting_numbers.specs.SeatsSaid.{seat_said, turn_of};
 ghost use Rattle.betting_numbers.specs.UpSeen.{HoldsUps, IsLeader, is_as_early_seen, is_before_seen, is_opener_seen, has_unknown_up_card_seen, has_unknown_seen, up_opener_seen};

@@ -2,7 +2,7 @@
 use Rattle.std.specs.Prelude.{◌≡◌, ℕ, ◌-◌, ◌≤◌, List, map, slice_get, Some}
 use Rattle.std.specs.Option.{option_map}
 use Rattle.betting_numbers.specs.declared.table.Table.{Table}
-use Rattle.betting_numbers.specs.Planned.{reason_after}
+use Rattle.betting_numbers.specs.LegalMoves.{reason_after}
 use Rattle.play_event.specs.declared.event.Event.{Event}
 use Rattle.play_event.specs.declared.played.Move as rows
 use Rattle.play_event.specs.declared.reason.Illegal.{Illegal}

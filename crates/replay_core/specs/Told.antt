@@ -1,7 +1,7 @@
 -- What one event more adds to the moves of the trace.
 use Rattle.std.specs.Prelude.{◌≡◌, List, [], ◌∷◌, ◌++◌, Option, Some, None}
 use Rattle.betting_numbers.specs.declared.table.Table.{Table}
-use Rattle.betting_numbers.specs.Planned.{past_with}
+use Rattle.betting_numbers.specs.LegalMoves.{past_with}
 use Rattle.card_places.specs.declared.card_state.CardState.{CardState}
 use Rattle.replay_core.specs.Together.{StandTogether}
 use Rattle.play_event.specs.declared.played.Move as rows

@@ -1,6 +1,6 @@
 // The events of a script, one after the other.
 ghost use Rattle.std.specs.Prelude.{◌≡◌, ◌<◌, ◌^◌, ◌++◌, [], length, map, reverse, None, IfErr, IfOk, OnOk};
-ghost use Rattle.betting_numbers.specs.Planned.{past_with, reason_after};
+ghost use Rattle.betting_numbers.specs.LegalMoves.{past_with, reason_after};
 ghost use Rattle.replay_core.specs.Together.{StandTogether};
 ghost use Rattle.replay_core.specs.Told.{WhereTogether, moves_told};
 ghost use Rattle.canonical_play.specs.PlayedScript.{IsPlayed, IsWithinLimits};

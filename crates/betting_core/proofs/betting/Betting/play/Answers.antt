@@ -5,17 +5,17 @@ use Rattle.play_event.specs.Past.{Past, moves_of}
 use Rattle.play_event.specs.Played.{act_said}
 use Rattle.play_event.specs.Trace.{traced_move}
 use Rattle.betting_numbers.specs.Standing.{StandsFor}
-use Rattle.betting_numbers.specs.Planned.{move_of}
+use Rattle.betting_numbers.specs.LegalMoves.{move_of}
 use Rattle.betting_numbers.proofs.TraceLaws.{same_move}
 use Rattle.betting_core.proofs.betting.Betting.play.Goals as goal
 
 pub returns-clause-stands : goal.returns-clause-stands
 returns-clause-stands g c =
-    λ past event stands plan. subst (λ (p : Past). StandsFor c.make.new.self.table p) (sym plan.moved) (c.make.ensures.stands past stands c.requires.due)
+    λ past event stands legal. subst (λ (p : Past). StandsFor c.make.new.self.table p) (sym legal.moved) (c.make.ensures.stands past stands c.requires.due)
 
 pub returns-clause-moved : goal.returns-clause-moved
 returns-clause-moved g c =
     let b = c.args.self.now.table in
-    λ past event stands plan move is.
+    λ past event stands legal move is.
     c.traced-moved.ensures (moves_of past) stands.standing
-    ∙ ap (λ (m : plays.Move). traced_move b.setup m (moves_of past)) (same_move (move_of b (moves_of past) c.args.plan.seat.number (act_said c.args.plan.act) c.args.plan.target) move past (sym plan.moved ∙ is))
+    ∙ ap (λ (m : plays.Move). traced_move b.setup m (moves_of past)) (same_move (move_of b (moves_of past) c.args.legal.seat.number (act_said c.args.legal.act) c.args.legal.target) move past (sym legal.moved ∙ is))

@@ -5,7 +5,7 @@ use Rattle.play_event.specs.Past.{moves_of}
 use Rattle.play_event.specs.Openers.{InTurn, TheSeat}
 use Rattle.betting_numbers.specs.declared.targeting.Targets.{Targets}
 use Rattle.betting_numbers.specs.SeatsSaid.{seat_said, turn_of}
-use Rattle.betting_numbers.specs.Planned.{IsTurn}
+use Rattle.betting_numbers.specs.LegalMoves.{IsTurn}
 use Rattle.play_event.specs.Mover.{mover}
 use Rattle.play_event.specs.Table.{up_cards}
 use Rattle.play_event.specs.TurnTargets.{AreTargets, has_targets_at, may_raise_now}

@@ -4,9 +4,9 @@ use Rattle.chip_ledger.specs.declared.numbers.Seat.{Seat}
 use Rattle.play_event.specs.Said as said
 use Rattle.play_event.specs.Past.{Folded}
 use Rattle.betting_numbers.specs.SeatsSaid.{seat_said, turn_of}
-use Rattle.betting_numbers.specs.Planned.{IsPlan, IsTurn}
-use Rattle.betting_numbers.proofs.InTurn.{fold_moves, fold_plan, fold_unknown, move_fits}
-use Rattle.betting_numbers.proofs.table.Table.plan_fold.Goals as goal
+use Rattle.betting_numbers.specs.LegalMoves.{IsLegalMove, IsTurn}
+use Rattle.betting_numbers.proofs.InTurn.{fold_moves, fold_is_legal, fold_unknown, move_fits}
+use Rattle.betting_numbers.proofs.table.Table.legal_fold.Goals as goal
 
 pub returns-in-None-clause-refused : goal.returns-in-None-clause-refused
 returns-in-None-clause-refused c =
@@ -23,7 +23,7 @@ pub returns-in-None-against_fold-clause-legal : goal.returns-in-None-against_fol
 returns-in-None-against_fold-clause-legal c =
     let b = c.args.self.now in
     let m = c.in-Some.seat in
-    λ past stands turn. subst (λ (t : ℕ). IsPlan b past (said.Fold (seat_said c.args.actor)) m.number Folded t) (sym c.get-target.ensures) (fold_plan b past stands (seat_said c.args.actor) m.number c.requires.now (record { first = m.first; last = subst (λ (t : Option Seat). IfSome t (λ seat. seat.number ≤ b.setup.stacks.seats)) c.in-Some.is c.requires.in_hand }) (subst (λ (t : Option Seat). IsTurn b past (turn_of (seat_said t))) c.in-Some.is turn) (c.in-None-against_fold.ensures))
+    λ past stands turn. subst (λ (t : ℕ). IsLegalMove b past (said.Fold (seat_said c.args.actor)) m.number Folded t) (sym c.get-target.ensures) (fold_is_legal b past stands (seat_said c.args.actor) m.number c.requires.now (record { first = m.first; last = subst (λ (t : Option Seat). IfSome t (λ seat. seat.number ≤ b.setup.stacks.seats)) c.in-Some.is c.requires.in_hand }) (subst (λ (t : Option Seat). IsTurn b past (turn_of (seat_said t))) c.in-Some.is turn) (c.in-None-against_fold.ensures))
 
 pub returns-in-None-against_fold-clause-fits : goal.returns-in-None-against_fold-clause-fits
 returns-in-None-against_fold-clause-fits c = move_fits c.args.self.now.due c.requires.now

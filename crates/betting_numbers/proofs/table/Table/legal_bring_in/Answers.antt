@@ -4,9 +4,9 @@ use Rattle.chip_ledger.specs.declared.numbers.Seat.{Seat}
 use Rattle.play_event.specs.Said as said
 use Rattle.play_event.specs.Past.{BroughtIn}
 use Rattle.betting_numbers.specs.SeatsSaid.{seat_said, turn_of}
-use Rattle.betting_numbers.specs.Planned.{IsPlan, IsTurn}
-use Rattle.betting_numbers.proofs.InTurn.{bring_in_moves, bring_in_plan, bring_in_unknown}
-use Rattle.betting_numbers.proofs.table.Table.plan_bring_in.Goals as goal
+use Rattle.betting_numbers.specs.LegalMoves.{IsLegalMove, IsTurn}
+use Rattle.betting_numbers.proofs.InTurn.{bring_in_moves, bring_in_is_legal, bring_in_unknown}
+use Rattle.betting_numbers.proofs.table.Table.legal_bring_in.Goals as goal
 
 pub returns-in-None-clause-refused : goal.returns-in-None-clause-refused
 returns-in-None-clause-refused c =
@@ -23,4 +23,4 @@ pub returns-in-None-against_bring_in-clause-legal : goal.returns-in-None-against
 returns-in-None-against_bring_in-clause-legal c =
     let b = c.args.self.now in
     let m = c.in-Some.seat in
-    λ past stands turn. subst (λ (t : ℕ). IsPlan b past (said.BringIn (seat_said c.args.actor)) m.number BroughtIn t) (sym c.bring_in_target-target.ensures.value) (bring_in_plan b past stands (seat_said c.args.actor) m.number c.requires.now (record { first = m.first; last = subst (λ (t : Option Seat). IfSome t (λ seat. seat.number ≤ b.setup.stacks.seats)) c.in-Some.is c.requires.in_hand }) (subst (λ (t : Option Seat). IsTurn b past (turn_of (seat_said t))) c.in-Some.is turn) (c.in-None-against_bring_in.ensures))
+    λ past stands turn. subst (λ (t : ℕ). IsLegalMove b past (said.BringIn (seat_said c.args.actor)) m.number BroughtIn t) (sym c.bring_in_target-target.ensures.value) (bring_in_is_legal b past stands (seat_said c.args.actor) m.number c.requires.now (record { first = m.first; last = subst (λ (t : Option Seat). IfSome t (λ seat. seat.number ≤ b.setup.stacks.seats)) c.in-Some.is c.requires.in_hand }) (subst (λ (t : Option Seat). IsTurn b past (turn_of (seat_said t))) c.in-Some.is turn) (c.in-None-against_bring_in.ensures))

@@ -4,10 +4,10 @@ use Rattle.chip_ledger.specs.declared.numbers.Seat.{Seat}
 use Rattle.play_event.specs.Said as said
 use Rattle.play_event.specs.Past.{Raised}
 use Rattle.betting_numbers.specs.SeatsSaid.{seat_said, turn_of}
-use Rattle.betting_numbers.specs.Planned.{IsPlan, IsTurn}
+use Rattle.betting_numbers.specs.LegalMoves.{IsLegalMove, IsTurn}
 use Rattle.betting_numbers.specs.Why.{raise_why, floor_by}
-use Rattle.betting_numbers.proofs.InTurn.{raise_moves, raise_plan, raise_unknown, raise_reach}
-use Rattle.betting_numbers.proofs.table.Table.plan_raise.Goals as goal
+use Rattle.betting_numbers.proofs.InTurn.{raise_moves, raise_is_legal, raise_unknown, raise_reach}
+use Rattle.betting_numbers.proofs.table.Table.legal_raise.Goals as goal
 
 pub returns-in-None-clause-refused : goal.returns-in-None-clause-refused
 returns-in-None-clause-refused c =
@@ -24,7 +24,7 @@ pub returns-in-None-against_raise-clause-legal : goal.returns-in-None-against_ra
 returns-in-None-against_raise-clause-legal c =
     let b = c.args.self.now in
     let m = c.in-Some.seat in
-    λ past stands turn. subst (λ (t : ℕ). IsPlan b past (said.Raise (seat_said c.args.actor) c.args.amount) m.number Raised t) (sym c.target-target.ensures) (raise_plan b past stands (seat_said c.args.actor) c.args.amount m.number c.args.limit c.requires.limit c.requires.now (record { first = m.first; last = subst (λ (t : Option Seat). IfSome t (λ seat. seat.number ≤ b.setup.stacks.seats)) c.in-Some.is c.requires.in_hand }) (subst (λ (t : Option Seat). IsTurn b past (turn_of (seat_said t))) c.in-Some.is turn) (c.in-None-against_raise.ensures ∙ (ap (λ (f : ℕ). raise_why c.args.limit b f (seat_said c.args.actor) c.args.amount m.number) (c.floor-floor.ensures ∙ ap (λ (s : ℕ). floor_by b.rules.reopen s b) c.start_price.ensures.value))))
+    λ past stands turn. subst (λ (t : ℕ). IsLegalMove b past (said.Raise (seat_said c.args.actor) c.args.amount) m.number Raised t) (sym c.target-target.ensures) (raise_is_legal b past stands (seat_said c.args.actor) c.args.amount m.number c.args.limit c.requires.limit c.requires.now (record { first = m.first; last = subst (λ (t : Option Seat). IfSome t (λ seat. seat.number ≤ b.setup.stacks.seats)) c.in-Some.is c.requires.in_hand }) (subst (λ (t : Option Seat). IsTurn b past (turn_of (seat_said t))) c.in-Some.is turn) (c.in-None-against_raise.ensures ∙ (ap (λ (f : ℕ). raise_why c.args.limit b f (seat_said c.args.actor) c.args.amount m.number) (c.floor-floor.ensures ∙ ap (λ (s : ℕ). floor_by b.rules.reopen s b) c.start_price.ensures.value))))
 
 pub returns-in-None-against_raise-clause-reach : goal.returns-in-None-against_raise-clause-reach
 returns-in-None-against_raise-clause-reach c =

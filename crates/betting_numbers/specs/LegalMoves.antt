@@ -1,4 +1,4 @@
--- A move that is planned, and whose turn it is, after a past.
+-- A legal move, and whose turn it is, after a past.
 use Rattle.std.specs.Prelude.{◌≡◌, ◌≤◌, ℕ, true, List, ◌∷◌, Option, Some, None, Result, IfErr, IfOk}
 use Rattle.chip_ledger.specs.declared.numbers.Seat.{Seat}
 use Rattle.play_event.specs.declared.card_rows.UpRow.{UpRow}
@@ -12,7 +12,7 @@ use Rattle.play_event.specs.Reasons.{why}
 use Rattle.play_event.specs.Said.{Said}
 use Rattle.play_event.specs.Scripts.{with_event}
 use Rattle.play_event.specs.Table.{up_cards}
-use Rattle.betting_numbers.specs.declared.planning.Plan.{Plan}
+use Rattle.betting_numbers.specs.declared.legal_moves.LegalMove.{LegalMove}
 use Rattle.betting_numbers.specs.declared.table.Table.{Table}
 use Rattle.betting_numbers.specs.SeatsSaid.{seat_said, turn_of}
 use Rattle.betting_numbers.specs.Seen.{all_in_seen}
@@ -29,7 +29,7 @@ abbrev pub with_move : Table → Past → ℕ → Act → ℕ → Past
 with_move b past seat act target = Moved (move_of b (moves_of past) seat act target) ∷ past
 
 -- an event is legal, and it takes place as this move
-pub record IsPlan (b : Table) (past : Past) (event : Said) (seat : ℕ) (act : Act) (target : ℕ) : Type 0 where
+pub record IsLegalMove (b : Table) (past : Past) (event : Said) (seat : ℕ) (act : Act) (target : ℕ) : Type 0 where
   pub legal : why b.setup b.rules past event ≡ None
   pub moved : with_event b.setup event past ≡ with_move b past seat act target
 
@@ -57,18 +57,18 @@ past_with b past event = with_event b.setup event past
 abbrev pub IsRefused : {T : Type 0} → Table → Said → Result T Illegal → Past → Type 0
 IsRefused b event result past = IfErr result (λ reason. reason_after b past event ≡ Some reason)
 
--- what is planned is legal, and is the move as which the event takes place
-abbrev pub IsPlanned : Table → Said → Result Plan Illegal → Past → Type 0
-IsPlanned b event result past = IfOk result (λ plan. IsPlan b past event plan.seat.number (act_said plan.act) plan.target)
+-- an event is allowed: it is legal, and takes place as the move that is given
+abbrev pub IsAllowed : Table → Said → Result LegalMove Illegal → Past → Type 0
+IsAllowed b event result past = IfOk result (λ legal. IsLegalMove b past event legal.seat.number (act_said legal.act) legal.target)
 
 -- the move is of a seat of the hand
-abbrev pub IsOfHand : Table → Plan → Type 0
-IsOfHand b plan = plan.seat.number ≤ b.setup.stacks.seats
+abbrev pub IsOfHand : Table → LegalMove → Type 0
+IsOfHand b legal = legal.seat.number ≤ b.setup.stacks.seats
 
 -- it goes no further than all-in
-abbrev pub IsInReach : Table → Plan → Type 0
-IsInReach b plan = plan.target ≤ all_in_seen b plan.seat.number
+abbrev pub IsInReach : Table → LegalMove → Type 0
+IsInReach b legal = legal.target ≤ all_in_seen b legal.seat.number
 
 -- it may come where this is due
-abbrev pub IsFit : Table → Plan → Type 0
-IsFit b plan = may_come_at (act_said plan.act) b.due ≡ true
+abbrev pub IsFit : Table → LegalMove → Type 0
+IsFit b legal = may_come_at (act_said legal.act) b.due ≡ true

@@ -1,4 +1,4 @@
-// A legal move is planned before it is made: whose it is, and where it goes.
+// An event is allowed as a legal move: whose it is, and where it goes. It is made elsewhere.
 ghost use Rattle.std.specs.Prelude.{◌≡◌, ◌≤◌, true, false, None, Some, IfOk, IfErr, IfSome, OnOk};
 ghost use Rattle.play_event.specs.Past.{Past};
 ghost use Rattle.play_event.specs.Played.{act_said};
@@ -8,7 +8,7 @@ ghost use Rattle.play_event.specs.Streets.{limit_of, unit};
 ghost use Rattle.betting_numbers.specs.SeatsSaid.{seat_said, turn_of};
 ghost use Rattle.betting_numbers.specs.Seen.{all_in_seen};
 ghost use Rattle.betting_numbers.specs.Standing.{StandsFor};
-ghost use Rattle.betting_numbers.specs.Planned.{IsPlan, IsTurn, IsRefused, IsPlanned, IsOfHand, IsInReach, IsFit, WhereTurn};
+ghost use Rattle.betting_numbers.specs.LegalMoves.{IsLegalMove, IsTurn, IsRefused, IsAllowed, IsOfHand, IsInReach, IsFit, WhereTurn};
 ghost use Rattle.betting_numbers.specs.Turn.{may_come_at};
 ghost use Rattle.betting_numbers.specs.Why.{is_unable, now_why, unknown_why};
 
@@ -19,7 +19,7 @@ use play_event::{Act, Due, Illegal, Limit, Spelled};
 /// A legal move before it is made: the seat, what it does, and the chips of the street that it has
 /// then.
 #[derive(Clone, Copy, Debug, PartialEq, Eq)]
-pub struct Plan {
+pub struct LegalMove {
     pub seat: Seat,
     pub act: Act,
     pub target: u64,
@@ -61,14 +61,14 @@ impl Table {
         }
     }
 
-    /// Plans a fold.
-    pub fn plan_fold(&self, turn: Option<Seat>, actor: Option<Seat>) -> Result<Plan, Illegal>
+    /// The fold that an event says, if it is legal.
+    pub fn legal_fold(&self, turn: Option<Seat>, actor: Option<Seat>) -> Result<LegalMove, Illegal>
         requires in_hand { IfSome turn (λ seat. seat.number ≤ self.now.setup.stacks.seats) }
         requires now { now_why true false self.now.due ≡ None }
         ensures refused { WhereTurn self.now turn
             (IsRefused self.now (said.Fold (seat_said actor)) result) }
         ensures legal { WhereTurn self.now turn
-            (IsPlanned self.now (said.Fold (seat_said actor)) result) }
+            (IsAllowed self.now (said.Fold (seat_said actor)) result) }
         ensures fits { IfOk result (IsFit self.now) }
         ensures in_hand { IfOk result (IsOfHand self.now) }
         ensures reach { IfOk result (IsInReach self.now) }
@@ -80,7 +80,7 @@ impl Table {
                     Some(reason) => Err(reason),
                     None => {
                         let target = self.bets.get(seat);
-                        Ok(Plan {
+                        Ok(LegalMove {
                             seat,
                             act: Act::Fold,
                             target,
@@ -91,19 +91,19 @@ impl Table {
         }
     }
 
-    /// Plans a call.
-    pub fn plan_call(
+    /// The call or check that an event says, if it is legal.
+    pub fn legal_call(
         &self,
         turn: Option<Seat>,
         actor: Option<Seat>,
         stated: Option<u64>,
-    ) -> Result<Plan, Illegal>
+    ) -> Result<LegalMove, Illegal>
         requires in_hand { IfSome turn (λ seat. seat.number ≤ self.now.setup.stacks.seats) }
         requires now { now_why true false self.now.due ≡ None }
         ensures refused { WhereTurn self.now turn
             (IsRefused self.now (said.Call (seat_said actor) stated) result) }
         ensures legal { WhereTurn self.now turn
-            (IsPlanned self.now (said.Call (seat_said actor) stated) result) }
+            (IsAllowed self.now (said.Call (seat_said actor) stated) result) }
         ensures fits { IfOk result (IsFit self.now) }
         ensures in_hand { IfOk result (IsOfHand self.now) }
         ensures reach { IfOk result (IsInReach self.now) }
@@ -115,7 +115,7 @@ impl Table {
                     Some(reason) => Err(reason),
                     None => {
                         let target = self.call_target(seat);
-                        Ok(Plan {
+                        Ok(LegalMove {
                             seat,
                             act: Act::Call,
                             target,
@@ -126,15 +126,15 @@ impl Table {
         }
     }
 
-    /// Plans a raise, where bets have this size.
-    pub fn plan_raise(
+    /// The bet or raise that an event says, if it is legal, where bets have this size.
+    pub fn legal_raise(
         &self,
         turn: Option<Seat>,
         limit: Limit,
         size: u64,
         actor: Option<Seat>,
         amount: Spelled,
-    ) -> Result<Plan, Illegal>
+    ) -> Result<LegalMove, Illegal>
         requires in_hand { IfSome turn (λ seat. seat.number ≤ self.now.setup.stacks.seats) }
         requires now { now_why true true self.now.due ≡ None }
         requires limit { limit_of self.now.setup.code ≡ limit }
@@ -143,7 +143,7 @@ impl Table {
         ensures refused { WhereTurn self.now turn
             (IsRefused self.now (said.Raise (seat_said actor) amount) result) }
         ensures legal { WhereTurn self.now turn
-            (IsPlanned self.now (said.Raise (seat_said actor) amount) result) }
+            (IsAllowed self.now (said.Raise (seat_said actor) amount) result) }
         ensures fits { IfOk result (IsFit self.now) }
         ensures in_hand { IfOk result (IsOfHand self.now) }
         ensures reach { IfOk result (IsInReach self.now) }
@@ -156,7 +156,7 @@ impl Table {
                     Some(reason) => Err(reason),
                     None => {
                         let target = self.target(seat, size, amount) as u64;
-                        Ok(Plan {
+                        Ok(LegalMove {
                             seat,
                             act: Act::Raise,
                             target,
@@ -167,14 +167,18 @@ impl Table {
         }
     }
 
-    /// Plans a bring-in.
-    pub fn plan_bring_in(&self, turn: Option<Seat>, actor: Option<Seat>) -> Result<Plan, Illegal>
+    /// The bring-in that an event says, if it is legal.
+    pub fn legal_bring_in(
+        &self,
+        turn: Option<Seat>,
+        actor: Option<Seat>,
+    ) -> Result<LegalMove, Illegal>
         requires in_hand { IfSome turn (λ seat. seat.number ≤ self.now.setup.stacks.seats) }
         requires now { now_why false true self.now.due ≡ None }
         ensures refused { WhereTurn self.now turn
             (IsRefused self.now (said.BringIn (seat_said actor)) result) }
         ensures legal { WhereTurn self.now turn
-            (IsPlanned self.now (said.BringIn (seat_said actor)) result) }
+            (IsAllowed self.now (said.BringIn (seat_said actor)) result) }
         ensures fits { IfOk result (IsFit self.now) }
         ensures in_hand { IfOk result (IsOfHand self.now) }
         ensures reach { IfOk result (IsInReach self.now) }
@@ -186,7 +190,7 @@ impl Table {
                     Some(reason) => Err(reason),
                     None => {
                         let target = self.bring_in_target(seat);
-                        Ok(Plan {
+                        Ok(LegalMove {
                             seat,
                             act: Act::BringIn,
                             target,

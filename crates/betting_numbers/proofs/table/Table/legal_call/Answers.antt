@@ -4,9 +4,9 @@ use Rattle.chip_ledger.specs.declared.numbers.Seat.{Seat}
 use Rattle.play_event.specs.Said as said
 use Rattle.play_event.specs.Past.{Called}
 use Rattle.betting_numbers.specs.SeatsSaid.{seat_said, turn_of}
-use Rattle.betting_numbers.specs.Planned.{IsPlan, IsTurn}
-use Rattle.betting_numbers.proofs.InTurn.{call_moves, call_plan, call_unknown, move_fits}
-use Rattle.betting_numbers.proofs.table.Table.plan_call.Goals as goal
+use Rattle.betting_numbers.specs.LegalMoves.{IsLegalMove, IsTurn}
+use Rattle.betting_numbers.proofs.InTurn.{call_moves, call_is_legal, call_unknown, move_fits}
+use Rattle.betting_numbers.proofs.table.Table.legal_call.Goals as goal
 
 pub returns-in-None-clause-refused : goal.returns-in-None-clause-refused
 returns-in-None-clause-refused c =
@@ -23,7 +23,7 @@ pub returns-in-None-against_call-clause-legal : goal.returns-in-None-against_cal
 returns-in-None-against_call-clause-legal c =
     let b = c.args.self.now in
     let m = c.in-Some.seat in
-    λ past stands turn. subst (λ (t : ℕ). IsPlan b past (said.Call (seat_said c.args.actor) c.args.stated) m.number Called t) (sym c.call_target-target.ensures.value) (call_plan b past stands (seat_said c.args.actor) c.args.stated m.number c.requires.now (record { first = m.first; last = subst (λ (t : Option Seat). IfSome t (λ seat. seat.number ≤ b.setup.stacks.seats)) c.in-Some.is c.requires.in_hand }) (subst (λ (t : Option Seat). IsTurn b past (turn_of (seat_said t))) c.in-Some.is turn) (c.in-None-against_call.ensures))
+    λ past stands turn. subst (λ (t : ℕ). IsLegalMove b past (said.Call (seat_said c.args.actor) c.args.stated) m.number Called t) (sym c.call_target-target.ensures.value) (call_is_legal b past stands (seat_said c.args.actor) c.args.stated m.number c.requires.now (record { first = m.first; last = subst (λ (t : Option Seat). IfSome t (λ seat. seat.number ≤ b.setup.stacks.seats)) c.in-Some.is c.requires.in_hand }) (subst (λ (t : Option Seat). IsTurn b past (turn_of (seat_said t))) c.in-Some.is turn) (c.in-None-against_call.ensures))
 
 pub returns-in-None-against_call-clause-fits : goal.returns-in-None-against_call-clause-fits
 returns-in-None-against_call-clause-fits c = move_fits c.args.self.now.due c.requires.now
