@@ -7,6 +7,7 @@ pub mod Cards
 pub mod Values
 pub mod Names
 pub mod Line
+pub mod Texts
 pub mod Stakes
 pub mod SetupFacts
 pub mod PlayFacts

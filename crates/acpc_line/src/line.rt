@@ -3,6 +3,7 @@ ghost use Rattle.std.specs.Prelude.{◌≡◌, ◌++◌, OnOk};
 ghost use Rattle.hand_canon.specs.Sound.{IsSound};
 ghost use Rattle.acpc_line.specs.Line.{end_text, head_text, line_text, play_text};
 ghost use Rattle.acpc_line.specs.Stakes.{HaveFewChips};
+ghost use Rattle.acpc_line.specs.Texts.{AreTexts, HasTexts};
 
 use crate::betting::push_betting;
 use crate::cards::push_cards;
@@ -50,7 +51,8 @@ fn push_end(
     notes: &Notes,
 ) -> Result<(), AllocError>
     requires { trace.now.finish.seats ≡ trace.now.setup.stacks.seats }
-    ensures { OnOk result (out.new.items ≡ out.old.items ++ end_text trace.now notes.now) }
+    ensures written { OnOk result (out.new.items ≡ out.old.items ++ end_text trace.now notes.now) }
+    ensures texts { OnOk result (AreTexts trace.now.setup.stacks.seats notes.now) }
 {
     push_values(alloc, out, &trace.setup.stacks, &trace.finish)?;
     out.extend_from_slice(b":")?;
@@ -67,7 +69,9 @@ pub fn push_line(
     play: &Play,
 ) -> Result<(), AllocError>
     requires { IsSound play.now }
-    ensures { OnOk result (out.new.items ≡ out.old.items ++ line_text no_limit place play.now) }
+    ensures written { OnOk result (out.new.items
+        ≡ out.old.items ++ line_text no_limit place play.now) }
+    ensures texts { OnOk result (HasTexts play.now) }
 {
     push_head(alloc, out, place, &play.hand.notes.hand)?;
     out.extend_from_slice(b":")?;

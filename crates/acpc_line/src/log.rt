@@ -6,6 +6,7 @@ ghost use Rattle.hand_canon.specs.declared.limits.TheConstants.{MOST_HANDS};
 ghost use Rattle.hand_canon.specs.declared.writing.WriteRefusal.TheVariants as refusals;
 ghost use Rattle.acpc_line.specs.Line.{log_text};
 ghost use Rattle.acpc_line.specs.Spelled.{first_refusal};
+ghost use Rattle.acpc_line.specs.Texts.{HasTexts};
 
 use crate::line::push_line;
 use crate::spelled::find_refusal;
@@ -27,6 +28,7 @@ pub fn write(
     requires few { length plays.now ≤ MOST_HANDS }
     requires sound { AllByRecursion IsSound plays.now }
     ensures written { IfOk result (λ bytes. bytes.items ≡ log_text game.now.no_limit plays.now) }
+    ensures texts { OnOk result (AllByRecursion HasTexts plays.now) }
     ensures spelled { OnOk result (first_refusal game.now keep plays.now ≡ None) }
     ensures refused { IfErr result (λ refusal. (refusal ≡ refusals.Memory)
         ⊎ (first_refusal game.now keep plays.now ≡ Some refusal)) }
@@ -43,7 +45,8 @@ pub fn write(
 // The lines of some plays.
 fn spell(alloc: Global, no_limit: bool, plays: &[Play]) -> Result<Vec<u8>, AllocError>
     requires { AllByRecursion IsSound plays.now }
-    ensures { IfOk result (λ bytes. bytes.items ≡ log_text no_limit plays.now) }
+    ensures written { IfOk result (λ bytes. bytes.items ≡ log_text no_limit plays.now) }
+    ensures texts { OnOk result (AllByRecursion HasTexts plays.now) }
 {
     let mut out = Vec::new(alloc);
     for (place, play) in plays.iter().enumerate() {

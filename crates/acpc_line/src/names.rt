@@ -1,8 +1,9 @@
 //! The names of a line are those of the players, and the number of the hand.
-ghost use Rattle.std.specs.Prelude.{◌≡◌, ◌≤◌, ◌-◌, ◌++◌, None, OnOk, slice_index_or};
+ghost use Rattle.std.specs.Prelude.{◌≡◌, ◌≤◌, ◌-◌, ◌++◌, None, IfSome, IsUtf8, OnOk, slice_index_or};
 ghost use Rattle.std.specs.List.{list_all};
 ghost use Rattle.hand_canon.specs.AllowedNotes.{default_name};
 ghost use Rattle.acpc_line.specs.Names.{hand_text, is_spelled_hand as is_spelled_hand_said, is_spelled_name as is_spelled_name_said, may_stand as may_stand_said, name_or_default, name_text, names_text};
+ghost use Rattle.acpc_line.specs.Texts.{AreTexts};
 
 use crate::cards::push_bar;
 use chip_ledger::Seat;
@@ -64,7 +65,9 @@ fn push_name(
     seat: Seat,
     name: &Option<Text>,
 ) -> Result<(), AllocError>
-    ensures { OnOk result (out.new.items ≡ out.old.items ++ name_or_default seat.number name.now) }
+    ensures written { OnOk result (out.new.items
+        ≡ out.old.items ++ name_or_default seat.number name.now) }
+    ensures text { IfSome name.now IsUtf8 }
 {
     let Some(name) = name else {
         return push_default(alloc, out, seat);
@@ -85,7 +88,8 @@ pub fn push_names(
     seats: u8,
 ) -> Result<(), AllocError>
     requires { seats ≤ 10 }
-    ensures { OnOk result (out.new.items ≡ out.old.items ++ names_text notes.now seats) }
+    ensures written { OnOk result (out.new.items ≡ out.old.items ++ names_text notes.now seats) }
+    ensures texts { OnOk result (AreTexts seats notes.now) }
 {
     for index in 0..seats {
         let seat = Seat { number: index + 1 };
