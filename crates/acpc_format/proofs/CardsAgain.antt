@@ -20,7 +20,7 @@ use Rattle.acpc_line.specs.Names.{may_stand}
 use Rattle.acpc_line.specs.PlayFacts.{is_part_known}
 use Rattle.acpc_line.specs.Rounds.{further_streets, has_board}
 use Rattle.acpc_reading.specs.Cards.{board_said, hole_after, hole_said, holes_after, known_said, only_known}
-use Rattle.acpc_format.specs.Readable.{HasHoles}
+use Rattle.acpc_format.proofs.Readable.{HasHoles}
 use Rattle.acpc_format.proofs.Signs.{cards_plain, is_plain, plain_stands}
 use Rattle.acpc_format.proofs.Splits.{Passes, cut, cut_seats, passes_none, passes_seats, passes_wider, whole}
 

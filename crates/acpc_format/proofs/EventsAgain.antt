@@ -31,7 +31,7 @@ use Rattle.acpc_reading.specs.Cards.{Written, dealt, holes_after, next_round, sc
 use Rattle.acpc_reading.specs.declared.step.Step.{Step}
 use Rattle.acpc_reading.specs.declared.step.Step.TheVariants as steps
 use Rattle.acpc_format.specs.Again.{move_again, move_on, moves_again, numbered_from, street_again}
-use Rattle.acpc_format.specs.Readable.{HasBoards, HasHoles, HasLetters}
+use Rattle.acpc_format.proofs.Readable.{HasBoards, HasHoles, HasLetters}
 use Rattle.acpc_format.proofs.CardsAgain.{board_again, boards_of, cut_cards, cut_holes, hole_deals, holes_again}
 use Rattle.acpc_format.proofs.Steps.{all_steps, round_steps, step_of, step_on, steps_on}
 
@@ -124,7 +124,7 @@ no_holes : (setup : Setup) (placed : List TracedPlace) (street : ℕ) → ((seat
 no_holes setup placed street none = flat_none (λ seat. deal_said seat (dealt_slots placed (Some seat) street)) 1 setup.stacks.seats (λ seat low high. ap (deal_said seat) (none seat low (omega (arith, high))))
 
 -- without a board there are no cards
-no_slots : (placed : List TracedPlace) (street : ℕ) → has_board placed street ≡ false → dealt_slots placed None street ≡ []
+pub no_slots : (placed : List TracedPlace) (street : ℕ) → has_board placed street ≡ false → dealt_slots placed None street ≡ []
 no_slots placed street none = ap (map (λ (place : TracedPlace). place.slot)) (nothing_kept (is_dealt_to None street) placed none)
 
 none_on : (no_limit : Bool) (setup : Setup) (street : ℕ) (moves : List Move) → moves_on street moves ≡ [] → moves_again no_limit setup street moves ≡ []

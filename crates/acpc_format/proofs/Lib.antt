@@ -1,4 +1,5 @@
 -- Laws of what is read again.
+pub mod Readable
 pub mod Splits
 pub mod Signs
 pub mod NumbersAgain
@@ -9,3 +10,8 @@ pub mod CardsAgain
 pub mod EventsAgain
 pub mod LineAgain
 pub mod LogAgain
+pub mod Holdem
+pub mod SpelledFacts
+pub mod StreetsPlayed
+pub mod SoundReads
+pub mod OneSetup

@@ -40,7 +40,7 @@ use Rattle.acpc_reading.specs.Values.{values_said}
 use Rattle.acpc_reading.specs.declared.step.Step.{Step}
 use Rattle.acpc_reading.specs.declared.step.Step.TheVariants as steps
 use Rattle.acpc_format.specs.Again.{hand_again, name_again}
-use Rattle.acpc_format.specs.Readable.{HasLetters, IsReadable, moves_written}
+use Rattle.acpc_format.proofs.Readable.{HasLetters, IsReadable, moves_written}
 use Rattle.acpc_format.proofs.BettingAgain.{HasLetter, betting_again, with_steps}
 use Rattle.acpc_format.proofs.CardsAgain.{hole_plain}
 use Rattle.acpc_format.proofs.EventsAgain.{script_read}

@@ -16,7 +16,7 @@ use Rattle.acpc_game.specs.declared.game.Game.{Game}
 use Rattle.acpc_line.specs.Line.{line_text, lines_from, log_text}
 use Rattle.acpc_reading.specs.Logs.{HandSaid, Hands, hands_after, hands_after_line, is_passed_over, line_said, reading}
 use Rattle.acpc_format.specs.Again.{hand_again, hands_again}
-use Rattle.acpc_format.specs.Readable.{IsReadable, moves_written}
+use Rattle.acpc_format.proofs.Readable.{IsReadable, moves_written}
 use Rattle.acpc_format.proofs.LineAgain.{Fields, few_moves, fields_clear, fields_of, in_fields, inner_line, is_inner, line_is, line_read, steps_of}
 use Rattle.acpc_format.proofs.Splits.{Passes, cut, free}
 use Rattle.acpc_format.proofs.Steps.{moves_in}

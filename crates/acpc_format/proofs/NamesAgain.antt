@@ -19,7 +19,7 @@ use Rattle.acpc_text.specs.declared.fault.LineFault.{LineFault}
 use Rattle.acpc_line.specs.Names.{hand_text, is_spelled_hand, is_spelled_name, name_or_default, name_text}
 use Rattle.acpc_reading.specs.Names.{hand_note, hand_said, name_note, name_said, names_after}
 use Rattle.acpc_format.specs.Again.{kept_hand, kept_name, name_again}
-use Rattle.acpc_format.specs.Readable.{AreTexts}
+use Rattle.acpc_line.specs.Texts.{AreTexts}
 
 -- a text is its own comparison
 same_text : (text : List ℕ) → bytes_eq text text ≡ true
@@ -68,12 +68,12 @@ one_again seat at (Some name) few is text = by_spelling (is_spelled_name name)
     by_spelling false = default_again seat at few
 
 -- the names of seats, one after another
-pub names_again : (notes : Notes) (count : ℕ) (so_far : List (Option (List ℕ))) (first more at : ℕ) → count ≤ 10 → 1 ≤ first → first + more ≤ count + 1 → AreAllowed count notes → AreTexts notes
+pub names_again : (notes : Notes) (count : ℕ) (so_far : List (Option (List ℕ))) (first more at : ℕ) → count ≤ 10 → 1 ≤ first → first + more ≤ count + 1 → AreAllowed count notes → AreTexts count notes
     → names_after so_far first at (map (name_text notes) (range_with_len first more)) ≡ Ok (so_far ++ map (name_again notes) (range_with_len first more))
 unfolding names_after
 names_again notes count so_far first zero at few low high allowed texts = ap Ok (sym (append-nil so_far))
 names_again notes count so_far first (suc more) at few low high allowed texts =
-    let one = one_again first at (slice_index_or notes.names (first - 1) None) (omega (arith, few, high)) (allowed.names first low (omega (arith, high))) (texts first) in
+    let one = one_again first at (slice_index_or notes.names (first - 1) None) (omega (arith, few, high)) (allowed.names first low (omega (arith, high))) (texts first low (omega (arith, high))) in
     rw one
     (names_again notes count (so_far ++ name_again notes first ∷ []) (first + 1) more (at + length (name_text notes first) + 1) few (omega (arith, low)) (omega (arith, high)) allowed texts
     ∙ ap Ok (append_assoc so_far (name_again notes first ∷ []) (map (name_again notes) (range_with_len (first + 1) more))))

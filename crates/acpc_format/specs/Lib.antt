@@ -1,3 +1,2 @@
 -- What is read again of plays that were written.
 pub mod Again
-pub mod Readable

@@ -1,7 +1,6 @@
 -- Plays that read back when they were written.
-use Rattle.std.specs.Prelude.{◌≡◌, ℕ, ◌≤◌, ◌+◌, ◌-◌, Bool, true, false, List, [], ◌∷◌, length, slice_index_or, Some, None, IfSome}
+use Rattle.std.proofs.Common.{◌≡◌, ℕ, ◌≤◌, true, false, List, [], length, Some, None}
 use Rattle.std.specs.List.{list_any}
-use Rattle.std.specs.Str.{IsUtf8}
 use Rattle.card_set.specs.Known.{is_unknown}
 use Rattle.chip_ledger.specs.declared.numbers.TheConstants.{MOST_CHIPS}
 use Rattle.canonical_play.specs.CanonScript.{dealt_slots, plain_moves}
@@ -12,11 +11,12 @@ use Rattle.play_event.specs.Trace.{TracedPlace}
 use Rattle.play_event.specs.declared.setup.Setup.{Setup}
 use Rattle.hand_canon.specs.AllowedNotes.{AreAllowed}
 use Rattle.hand_canon.specs.TraceRows.{core_said}
-use Rattle.hand_canon.specs.declared.notes.Notes.{Notes}
 use Rattle.hand_canon.specs.declared.trace.Play.{Play}
 use Rattle.acpc_game.specs.declared.game.Game.{Game}
 use Rattle.acpc_line.specs.PlayFacts.{is_part_known}
 use Rattle.acpc_line.specs.Rounds.{has_board}
+use Rattle.acpc_line.specs.Texts.{HasTexts}
+pub use Rattle.acpc_format.specs.Again.{moves_written}
 
 -- each seat of so many is dealt two hole cards before the first round and none later, and both are known or both are not
 pub record HasHoles (count : ℕ) (placed : List TracedPlace) : Type 0 where
@@ -41,10 +41,6 @@ pub record HasLetters (setup : Setup) (placed : List TracedPlace) (moves : List 
   pub dealt : (street : ℕ) → 2 ≤ street → street ≤ 4 → has_board placed street ≡ false → moves_on street moves ≡ []
   pub put : (seat : ℕ) → chips_put setup moves seat ≤ MOST_CHIPS
 
--- the names of the players are texts
-abbrev pub AreTexts : Notes → Type 0
-AreTexts notes = (seat : ℕ) → IfSome (slice_index_or notes.names (seat - 1) None) IsUtf8
-
 -- a play reads back under a game when it was written
 pub record IsReadable (game : Game) (play : Play) : Type 0 where
   pub seats : play.trace.setup.stacks.seats ≡ game.stacks.seats
@@ -52,8 +48,4 @@ pub record IsReadable (game : Game) (play : Play) : Type 0 where
   pub boards : HasBoards (core_said play.trace).places
   pub letters : HasLetters play.trace.setup (core_said play.trace).places (plain_moves (core_said play.trace).moves)
   pub notes : AreAllowed play.trace.setup.stacks.seats play.hand.notes
-  pub texts : AreTexts play.hand.notes
-
--- the moves that are written of a play
-abbrev pub moves_written : Play → ℕ
-moves_written play = length (core_said play.trace).moves
+  pub texts : HasTexts play

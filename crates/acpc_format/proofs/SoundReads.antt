@@ -1,0 +1,219 @@
+-- A sound play that the logs of its game spell reads back.
+use Rattle.std.proofs.Common.{◌≡◌, ℕ, zero, suc, ◌+◌, ◌-◌, ◌≤◌, ◌<◌, Bool, true, false, ◌&&◌, ◌||◌, ◌==◌, not, cond, nat_le, sum_by, List, [], ◌∷◌, length, map, filter, reverse, take, Option, Some, None, is_some, Ok, refl, sym, ap, subst, ◌∙◌, arith, true≢false, inl, inr}
+use Rattle.std.specs.List.{AllByRecursion, list_any}
+use Rattle.std.proofs.lemmas.Bool.{and_parts, cases_lt}
+use Rattle.std.proofs.lemmas.List.{length-map, length-reverse}
+use Rattle.canon_laws.proofs.MoveCounts.{tidy_within}
+use Rattle.canon_laws.proofs.SameCore.{plain_again}
+use Rattle.card_set.specs.Known.{is_unknown}
+use Rattle.canonical_play.specs.CanonScript.{dealt_slots, is_dealt_to, plain_move, plain_moves}
+use Rattle.canonical_play.specs.PlayedScript.{IsPlayed}
+use Rattle.canonical_play.specs.Tidy.{IsTidy}
+use Rattle.canonical_play.specs.TraceCore.{TraceCore, core_of}
+use Rattle.chip_ledger.proofs.SeatLists.{none_at}
+use Rattle.chip_ledger.specs.SeatRow.{amount_of}
+use Rattle.chip_ledger.specs.declared.numbers.TheConstants.{MOST_CHIPS}
+use Rattle.list_laws.proofs.Any.{list_any-filter, list_any-map}
+use Rattle.list_laws.proofs.Finding.{none_stronger}
+use Rattle.play_event.proofs.ChipLaws.{puts_within}
+use Rattle.play_event.specs.declared.setup.Rules.{Rules}
+use Rattle.play_event.specs.declared.setup.Setup.{Setup}
+use Rattle.play_event.specs.Laws.{AreLegal}
+use Rattle.play_event.specs.Chips.{chips_put}
+use Rattle.play_event.specs.Due.{is_unfinished, turn}
+use Rattle.play_event.specs.Games.{board_cards_on, hole_cards_on, street_count}
+use Rattle.play_event.specs.Past.{Move, Past, moves_of, moves_on}
+use Rattle.play_event.specs.Places.{is_same_owner}
+use Rattle.play_event.specs.Said.{Said}
+use Rattle.play_event.specs.Scripts.{past_after, past_at_end, past_of}
+use Rattle.play_event.specs.Trace.{TracedMove, TracedPlace, traced_moves, traced_places}
+use Rattle.play_event.specs.ValidSetup.{IsValid}
+use Rattle.hand_canon.specs.AllowedNotes.{AreAllowed}
+use Rattle.hand_canon.specs.Sound.{IsSound, script_said}
+use Rattle.hand_canon.specs.TraceRows.{core_said}
+use Rattle.hand_canon.specs.declared.trace.Play.{Play}
+use Rattle.hand_canon.specs.declared.limits.TheConstants.{MOST_FILE_MOVES, MOST_HANDS}
+use Rattle.hand_canon.specs.declared.writing.Keep.{Keep}
+use Rattle.hand_canon.specs.declared.writing.Unspelled.{Unspelled}
+use Rattle.hand_canon.specs.declared.writing.WriteRefusal.{WriteRefusal}
+use Rattle.acpc_game.specs.declared.game.Game.{Game}
+use Rattle.acpc_line.specs.Line.{log_text}
+use Rattle.acpc_line.specs.PlayFacts.{is_part_known}
+use Rattle.acpc_line.specs.Rounds.{has_board}
+use Rattle.acpc_line.specs.Spelled.{first_refusal, refusal_from, refused_at, unspelled}
+use Rattle.acpc_line.specs.Texts.{HasTexts}
+use Rattle.acpc_format.proofs.Readable.{HasBoards, HasHoles, HasLetters, IsReadable}
+use Rattle.acpc_reading.specs.Logs.{reading}
+use Rattle.acpc_format.specs.Again.{hands_again, moves_written}
+use Rattle.acpc_format.proofs.LogAgain.{plays_again}
+use Rattle.acpc_format.proofs.EventsAgain.{no_slots}
+use Rattle.acpc_format.proofs.Holdem.{IsHoldem, holdem}
+use Rattle.acpc_format.proofs.SpelledFacts.{spelled}
+use Rattle.acpc_format.proofs.StreetsPlayed.{HasStreet, came_before, first_holes, has_street, is_passed}
+
+-- cards of the board, and whether there are some
+board_there : (placed : List TracedPlace) (street : ℕ) → 1 ≤ length (dealt_slots placed None street) → has_board placed street ≡ true
+board_there placed street some = by_board (has_board placed street) refl
+  where
+    by_board : (dealt : Bool) → has_board placed street ≡ dealt → dealt ≡ true
+    by_board true is = refl
+    by_board false is = absurd (omega (arith, some, ap length (no_slots placed street is)))
+
+board_missing : (street : ℕ) (placed : List TracedPlace) → length (dealt_slots placed None street) ≡ 0 → has_board placed street ≡ false
+board_missing street [] none = refl
+board_missing street (place ∷ rest) none = by_place (is_dealt_to None street place) none (board_missing street rest)
+  where
+    by_place : (here : Bool) → length (map (λ (p : TracedPlace). p.slot) (cond here (place ∷ filter (is_dealt_to None street) rest) (filter (is_dealt_to None street) rest))) ≡ 0
+        → (length (dealt_slots rest None street) ≡ 0 → has_board rest street ≡ false) → (here || has_board rest street) ≡ false
+    by_place true none later = absurd (omega (arith, none))
+    by_place false none later = later none
+
+-- the cards of a tidy board are known
+board_known : (placed : List TracedPlace) (street : ℕ) → list_any (λ place. is_same_owner place.owner None && is_unknown place.slot) placed ≡ false → list_any is_unknown (dealt_slots placed None street) ≡ false
+board_known placed street known =
+    list_any-map is_unknown (λ (place : TracedPlace). place.slot) (filter (is_dealt_to None street) placed)
+    ∙ list_any-filter (λ (place : TracedPlace). is_unknown place.slot) (is_dealt_to None street) placed
+    ∙ none_stronger (λ (place : TracedPlace). is_dealt_to None street place && is_unknown place.slot) (λ (place : TracedPlace). is_same_owner place.owner None && is_unknown place.slot) weaker placed known
+  where
+    weaker : (place : TracedPlace) → (is_dealt_to None street place && is_unknown place.slot) ≡ true → (is_same_owner place.owner None && is_unknown place.slot) ≡ true
+    weaker place both =
+        let outer = and_parts (is_dealt_to None street place) (is_unknown place.slot) both in
+        let inner = and_parts (is_same_owner place.owner None) (place.street == street) outer.0 in
+        rw (inner.0, outer.1) refl
+
+-- what a hand with this core has
+record Reads (setup : Setup) (core : TraceCore) : Type 0 where
+  two : (seat : ℕ) → 1 ≤ seat → seat ≤ setup.stacks.seats → length (dealt_slots core.places (Some seat) 1) ≡ 2
+  no_more : (seat street : ℕ) → 1 ≤ seat → seat ≤ setup.stacks.seats → 2 ≤ street → street ≤ 4 → dealt_slots core.places (Some seat) street ≡ []
+  boards : HasBoards core.places
+  letters : HasLetters setup core.places (plain_moves core.moves)
+
+no_cards : {A : Type 0} (cards : List A) → length cards ≤ 0 → cards ≡ []
+no_cards [] none = refl
+no_cards (card ∷ cards) none = absurd (omega (arith, none))
+
+-- the streets of hold'em
+streets_of_hand : (setup : Setup) (rules : Rules) (events : List Said) → AreLegal setup rules events → is_unfinished (turn setup (past_of setup events)).1 ≡ false → IsHoldem setup.code
+    → (street : ℕ) → 1 ≤ street → street ≤ 4 → HasStreet setup events street
+streets_of_hand setup rules events legal complete is zero low high = absurd (omega (arith, low))
+streets_of_hand setup rules events legal complete is (suc before) low high =
+    subst (HasStreet setup events) (next before) (has_street setup rules events before legal complete is.no_draw (omega (arith, high, is.streets)))
+  where
+    next : (n : ℕ) → n + 1 ≡ suc n
+    next n = omega arith
+
+chips_few : (setup : Setup) (seat : ℕ) → IsValid setup → amount_of setup.stacks seat ≤ MOST_CHIPS
+chips_few setup zero valid = (valid.stacks 1 (omega arith) (omega (arith, setup.stacks.least))).1
+chips_few setup (suc seat) valid = elim (cases_lt setup.stacks.seats (suc seat)) [
+  | inl beyond ↦ omega (arith, setup.stacks.filler (suc seat - 1) (omega (arith, beyond)))
+  | inr within ↦ (valid.stacks (suc seat) (omega arith) within).1
+]
+
+-- a street whose board was dealt was come to
+came : (setup : Setup) (events : List Said) (street : ℕ) → HasStreet setup events street → (passed : Bool) → is_passed setup (moves_of (past_of setup events)) street ≡ passed
+    → has_board (traced_places setup (past_of setup events)) street ≡ true → is_passed setup (moves_of (past_of setup events)) street ≡ false
+came setup events street has true is dealt = absurd (true≢false (sym dealt ∙ board_missing street (traced_places setup (past_of setup events)) (has.no_board is)))
+came setup events street has false is dealt = is
+
+-- and has all its cards
+in_full : (setup : Setup) (events : List Said) (street : ℕ) → HasStreet setup events street → has_board (traced_places setup (past_of setup events)) street ≡ true
+    → length (dealt_slots (traced_places setup (past_of setup events)) None street) ≡ board_cards_on setup.code street
+in_full setup events street has dealt = has.board (came setup events street has (is_passed setup (moves_of (past_of setup events)) street) refl dealt)
+
+at_most : (setup : Setup) (events : List Said) (street : ℕ) → HasStreet setup events street → (passed : Bool) → is_passed setup (moves_of (past_of setup events)) street ≡ passed
+    → length (dealt_slots (traced_places setup (past_of setup events)) None street) ≤ board_cards_on setup.code street
+at_most setup events street has true is = omega (arith, has.no_board is)
+at_most setup events street has false is = omega (arith, has.board is)
+
+board_some : (setup : Setup) → IsHoldem setup.code → (street : ℕ) → 2 ≤ street → street ≤ 4 → 1 ≤ board_cards_on setup.code street
+board_some setup is zero low high = absurd (omega (arith, low))
+board_some setup is (suc zero) low high = absurd (omega (arith, low))
+board_some setup is (suc (suc zero)) low high = omega (arith, is.flop)
+board_some setup is (suc (suc (suc zero))) low high = omega (arith, is.turn)
+board_some setup is (suc (suc (suc (suc zero)))) low high = omega (arith, is.river)
+board_some setup is (suc (suc (suc (suc (suc more))))) low high = absurd (omega (arith, high))
+
+-- without a board a further street has no moves
+no_moves_there : (setup : Setup) (events : List Said) (street : ℕ) → IsHoldem setup.code → 2 ≤ street → street ≤ 4 → HasStreet setup events street → (passed : Bool) → is_passed setup (moves_of (past_of setup events)) street ≡ passed
+    → has_board (traced_places setup (past_of setup events)) street ≡ false → moves_on street (moves_of (past_of setup events)) ≡ []
+no_moves_there setup events street is low high has true over none = has.no_moves over
+no_moves_there setup events street is low high has false reached none =
+    absurd (true≢false (sym (board_there (traced_places setup (past_of setup events)) street (omega (arith, has.board reached, board_some setup is street low high))) ∙ none))
+
+take_whole : (l : List Said) → take (length l) l ≡ l
+take_whole [] = refl
+take_whole (first ∷ rest) = ap (λ (l : List Said). first ∷ l) (take_whole rest)
+
+end_of : (setup : Setup) (script : List Said) → past_after setup script (length script) ≡ past_of setup (reverse script)
+end_of setup script = ap (λ (l : List Said). past_of setup (reverse l)) (take_whole script)
+
+core_reads : (setup : Setup) (rules : Rules) (script : List Said) → IsValid setup → IsPlayed setup rules script → IsTidy (core_of setup (past_of setup (reverse script))) → IsHoldem setup.code → Reads setup (core_of setup (past_of setup (reverse script)))
+core_reads setup rules script valid played tidy is =
+    let events = reverse script in
+    let past = past_of setup events in
+    let placed = traced_places setup past in
+    let list = moves_of past in
+    let complete : is_unfinished (turn setup past).1 ≡ false = sym (ap (λ (p : Past). is_unfinished (turn setup p).1) (end_of setup script)) ∙ played.complete in
+    let streets = streets_of_hand setup rules events played.legal complete is in
+    let plain : plain_moves (traced_moves setup list) ≡ list = plain_again setup list in
+    let second = streets 2 (omega arith) (omega arith) in
+    let third = streets 3 (omega arith) (omega arith) in
+    let fourth = streets 4 (omega arith) (omega arith) in
+    let letters : HasLetters setup placed list = record {
+      few = omega (arith, tidy.moves_few, ap length plain, length-reverse (map plain_move (traced_moves setup list)), length-map (traced_moves setup list) plain_move);
+      dealt = λ street low high none. no_moves_there setup events street is low high (streets street (omega (arith, low)) high) (is_passed setup list street) refl none;
+      put = λ seat. omega (arith, puts_within setup rules events valid.antes played.legal seat, chips_few setup seat valid);
+    } in
+    record {
+      two = λ seat low high. first_holes setup rules events seat played.legal complete (is.no_draw 1) (omega (arith, is.streets)) low high ∙ is.holes;
+      no_more = λ seat street low high from to. no_cards (dealt_slots placed (Some seat) street) (omega (arith, (streets street (omega (arith, from)) to).holes seat low high, is.later_holes street from));
+      boards = record {
+        none = no_cards (dealt_slots placed None 1) (omega (arith, at_most setup events 1 (streets 1 (omega arith) (omega arith)) (is_passed setup list 1) refl, is.no_board));
+        flop = λ dealt. in_full setup events 2 second dealt ∙ is.flop;
+        turn = λ dealt. in_full setup events 3 third dealt ∙ is.turn;
+        river = λ dealt. in_full setup events 4 fourth dealt ∙ is.river;
+        turn_follows = λ dealt. board_there placed 2 (omega (arith, second.board (came_before setup list 2 3 (omega arith) (came setup events 3 third (is_passed setup list 3) refl dealt)), is.flop));
+        river_follows = λ dealt. board_there placed 3 (omega (arith, third.board (came_before setup list 3 4 (omega arith) (came setup events 4 fourth (is_passed setup list 4) refl dealt)), is.turn));
+        known = λ street. board_known placed street tidy.cards.board_known;
+      };
+      letters = subst (HasLetters setup placed) (sym plain) letters;
+    }
+
+-- so a sound play that is spelled reads back
+pub sound_reads : (game : Game) (keep : Keep) (play : Play) → IsSound play → HasTexts play → unspelled game keep play ≡ None → IsReadable game play
+sound_reads game keep play sound texts none =
+    let setup = play.hand.setup in
+    let script = script_said play.hand in
+    let it = spelled game keep play none in
+    let same : play.trace.setup ≡ setup = sound.trace.same_setup in
+    let is : IsHoldem setup.code = subst (λ (s : Setup). IsHoldem s.code) same (holdem game.no_limit play.trace.setup.code it.setup.code) in
+    let tidy = tidy_within setup play.hand.rules script sound.legal.played sound.within.moves in
+    let past_reads : Reads setup (core_of setup (past_at_end setup script)) = core_reads setup play.hand.rules script sound.valid sound.legal.played tidy is in
+    let reads : Reads play.trace.setup (core_said play.trace) = subst (λ (s : Setup). Reads s (core_said play.trace)) (sym same) (subst (Reads setup) (sym sound.trace.core) past_reads) in
+    record {
+      seats = it.setup.seats;
+      holes = record {
+        two = reads.two;
+        whole = λ seat low high. none_at (is_part_known (core_said play.trace).places) play.trace.setup.stacks.seats seat low high it.whole;
+        no_more = reads.no_more;
+      };
+      boards = reads.boards;
+      letters = reads.letters;
+      notes = subst (λ (s : Setup). AreAllowed s.stacks.seats play.hand.notes) (sym same) sound.notes;
+      texts = texts;
+    }
+
+some_refused : (number : ℕ) (found : Option Unspelled) (behind : Option WriteRefusal) → refused_at number found behind ≡ None → (found ≡ None) × (behind ≡ None)
+some_refused number None behind none = (refl, none)
+some_refused number (Some fact) behind none = absurd (true≢false (ap is_some none))
+
+all_read : (game : Game) (keep : Keep) (number : ℕ) (plays : List Play) → AllByRecursion IsSound plays → AllByRecursion HasTexts plays → refusal_from game keep number plays ≡ None → AllByRecursion (IsReadable game) plays
+all_read game keep number [] sound texts none = tt
+all_read game keep number (play ∷ rest) sound texts none =
+    let parts = some_refused number (unspelled game keep play) (refusal_from game keep (number + 1) rest) none in
+    (sound_reads game keep play sound.0 texts.0 parts.0, all_read game keep (number + 1) rest sound.1 texts.1 parts.1)
+
+-- and what was written of such plays reads as their hands
+pub sound_again : (game : Game) (keep : Keep) (plays : List Play) → length plays ≤ MOST_HANDS → AllByRecursion IsSound plays → AllByRecursion HasTexts plays → first_refusal game keep plays ≡ None
+    → sum_by moves_written plays ≤ MOST_FILE_MOVES → reading game (log_text game.no_limit plays) ≡ Ok (hands_again game.no_limit 0 plays)
+sound_again game keep plays few sound texts none moves = plays_again game plays few (all_read game keep 1 plays sound texts none) moves
