@@ -1,0 +1,3 @@
+-- What the members of a hand say.
+pub mod Paths
+pub mod Values

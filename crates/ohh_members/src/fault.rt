@@ -1,0 +1,338 @@
+//! What is wrong with a hand, and at which member: the first fault in the order in which its members are examined.
+ghost use Rattle.std.specs.Prelude.{◌≡◌, IfOk, string_bytes};
+ghost use Rattle.ohh_members.specs.Paths.{action_name, action_text, card_path, member_name, path_text, player_name, pot_name, pot_text, round_name, round_text, win_name, with_point};
+
+use card_set::Memory;
+use hand_canon::{Quantity, Text};
+use std::alloc::{AllocError, Global};
+
+/// What is wrong.
+#[derive(Clone, Copy, Debug, PartialEq, Eq)]
+pub enum What {
+    /// A member that is needed lacks.
+    MissingMember,
+    /// A member is of another kind, or a text says no card or no date.
+    WrongType,
+    /// A number is not whole.
+    AmountNotWhole,
+    /// A number is out of its range.
+    AmountLimit,
+    /// The game and its limit are no pair that is read.
+    UnsupportedGame,
+    /// A player is no player of the hand, or is there twice, or there are too few or too many.
+    BadPlayer,
+    /// An action has a word that is not read.
+    UnsupportedAction,
+    /// A round or its cards do not come here.
+    BadStreet,
+    /// A blind, a straddle or an ante is not as it must be.
+    BadPost,
+    /// A rake is taken from a pot that no hand has.
+    RakePlace,
+    /// There is more than the limit allows.
+    TooMany { quantity: Quantity },
+}
+
+/// A member of a player, or the player itself.
+#[derive(Clone, Copy, Debug, PartialEq, Eq)]
+pub enum PlayerMember {
+    Itself,
+    Id,
+    Seat,
+    Name,
+    StartingStack,
+}
+
+/// A member of an action, or the action itself.
+#[derive(Clone, Copy, Debug, PartialEq, Eq)]
+pub enum ActionMember {
+    Itself,
+    /// The word that says what was done.
+    Word,
+    PlayerId,
+    Amount,
+    Cards,
+    /// One of the cards, from 0.
+    Card { index: u64 },
+}
+
+/// A member of a round, or the round itself.
+#[derive(Clone, Copy, Debug, PartialEq, Eq)]
+pub enum RoundMember {
+    Itself,
+    Street,
+    Cards,
+    /// One of the cards, from 0.
+    Card { index: u64 },
+    Actions,
+    /// One of the actions, from 0.
+    Action { index: u64, member: ActionMember },
+}
+
+/// A member of what a player wins of a pot, or that itself.
+#[derive(Clone, Copy, Debug, PartialEq, Eq)]
+pub enum WinMember {
+    Itself,
+    PlayerId,
+    WinAmount,
+}
+
+/// A member of a pot, or the pot itself.
+#[derive(Clone, Copy, Debug, PartialEq, Eq)]
+pub enum PotMember {
+    Itself,
+    Amount,
+    Rake,
+    PlayerWins,
+    /// One of the wins, from 0.
+    Win { index: u64, member: WinMember },
+}
+
+/// The way from the object of a block to a member. Items of lists are counted from 0.
+#[derive(Clone, Copy, Debug, PartialEq, Eq)]
+pub enum Path {
+    /// The hand itself.
+    Ohh,
+    GameType,
+    BetLimit,
+    BetType,
+    Players,
+    Player { index: u64, member: PlayerMember },
+    DealerSeat,
+    AnteAmount,
+    SmallBlindAmount,
+    BigBlindAmount,
+    Rounds,
+    Round { index: u64, member: RoundMember },
+    Pots,
+    Pot { index: u64, member: PotMember },
+    GameNumber,
+    TableName,
+    TableSize,
+    StartDate,
+    Currency,
+    SiteName,
+}
+
+/// A fault of a hand.
+#[derive(Clone, Copy, Debug, PartialEq, Eq)]
+pub struct Fault {
+    pub what: What,
+    pub path: Path,
+}
+
+impl PlayerMember {
+    // The name of the member; the player itself has none.
+    fn name(self) -> &'static str
+        ensures { result.now ≡ player_name self }
+    {
+        match self {
+            PlayerMember::Itself => "",
+            PlayerMember::Id => "id",
+            PlayerMember::Seat => "seat",
+            PlayerMember::Name => "name",
+            PlayerMember::StartingStack => "starting_stack",
+        }
+    }
+}
+
+impl ActionMember {
+    // The name of the member; the action itself and one of its cards have none.
+    fn name(self) -> &'static str
+        ensures { result.now ≡ action_name self }
+    {
+        match self {
+            ActionMember::Itself => "",
+            ActionMember::Word => "action",
+            ActionMember::PlayerId => "player_id",
+            ActionMember::Amount => "amount",
+            ActionMember::Cards => "cards",
+            ActionMember::Card { .. } => "",
+        }
+    }
+
+    // How the member is spelled behind its action.
+    fn text(self, alloc: Global) -> Result<String, AllocError>
+        ensures { IfOk result (λ text. string_bytes text ≡ action_text self) }
+    {
+        match self {
+            ActionMember::Card { index } => format!(in alloc; ".cards[{index}]"),
+            _ => behind_point(alloc, self.name()),
+        }
+    }
+}
+
+impl RoundMember {
+    // The name of the member; the round itself and an item of its lists have none.
+    fn name(self) -> &'static str
+        ensures { result.now ≡ round_name self }
+    {
+        match self {
+            RoundMember::Itself => "",
+            RoundMember::Street => "street",
+            RoundMember::Cards => "cards",
+            RoundMember::Card { .. } => "",
+            RoundMember::Actions => "actions",
+            RoundMember::Action { member, .. } => member.name(),
+        }
+    }
+
+    // How the member is spelled behind its round.
+    fn text(self, alloc: Global) -> Result<String, AllocError>
+        ensures { IfOk result (λ text. string_bytes text ≡ round_text self) }
+    {
+        match self {
+            RoundMember::Card { index } => format!(in alloc; ".cards[{index}]"),
+            RoundMember::Action { index, member } => {
+                let text = member.text(alloc)?;
+                format!(in alloc; ".actions[{index}]{text}")
+            }
+            _ => behind_point(alloc, self.name()),
+        }
+    }
+}
+
+impl WinMember {
+    // The name of the member; the win itself has none.
+    fn name(self) -> &'static str
+        ensures { result.now ≡ win_name self }
+    {
+        match self {
+            WinMember::Itself => "",
+            WinMember::PlayerId => "player_id",
+            WinMember::WinAmount => "win_amount",
+        }
+    }
+}
+
+impl PotMember {
+    // The name of the member; the pot itself has none.
+    fn name(self) -> &'static str
+        ensures { result.now ≡ pot_name self }
+    {
+        match self {
+            PotMember::Itself => "",
+            PotMember::Amount => "amount",
+            PotMember::Rake => "rake",
+            PotMember::PlayerWins => "player_wins",
+            PotMember::Win { member, .. } => member.name(),
+        }
+    }
+
+    // How the member is spelled behind its pot.
+    fn text(self, alloc: Global) -> Result<String, AllocError>
+        ensures { IfOk result (λ text. string_bytes text ≡ pot_text self) }
+    {
+        match self {
+            PotMember::Win { index, member } => {
+                let text = behind_point(alloc, member.name())?;
+                format!(in alloc; ".player_wins[{index}]{text}")
+            }
+            _ => behind_point(alloc, self.name()),
+        }
+    }
+}
+
+// A name behind a point, and nothing where there is no name.
+fn behind_point(alloc: Global, name: &str) -> Result<String, AllocError>
+    ensures { IfOk result (λ text. string_bytes text ≡ with_point name.now) }
+{
+    if name.is_empty() {
+        String::from_str(alloc, "")
+    } else {
+        format!(in alloc; ".{name}")
+    }
+}
+
+impl Path {
+    /// The name of the member that the path ends with. An item of a list has none.
+    pub fn name(self) -> &'static str
+        ensures { result.now ≡ member_name self }
+    {
+        match self {
+            Path::Ohh => "ohh",
+            Path::GameType => "game_type",
+            Path::BetLimit => "bet_limit",
+            Path::BetType => "bet_type",
+            Path::Players => "players",
+            Path::Player { member, .. } => member.name(),
+            Path::DealerSeat => "dealer_seat",
+            Path::AnteAmount => "ante_amount",
+            Path::SmallBlindAmount => "small_blind_amount",
+            Path::BigBlindAmount => "big_blind_amount",
+            Path::Rounds => "rounds",
+            Path::Round { member, .. } => member.name(),
+            Path::Pots => "pots",
+            Path::Pot { member, .. } => member.name(),
+            Path::GameNumber => "game_number",
+            Path::TableName => "table_name",
+            Path::TableSize => "table_size",
+            Path::StartDate => "start_date_utc",
+            Path::Currency => "currency",
+            Path::SiteName => "site_name",
+        }
+    }
+
+    /// The path of one of the cards, from 0, where this is the path of a list of cards.
+    pub fn card(self, index: u64) -> Path
+        ensures { result ≡ card_path self index }
+    {
+        match self {
+            Path::Round {
+                index: round,
+                member: RoundMember::Cards,
+            } => Path::Round {
+                index: round,
+                member: RoundMember::Card { index },
+            },
+            Path::Round {
+                index: round,
+                member: RoundMember::Action {
+                    index: action,
+                    member: ActionMember::Cards,
+                },
+            } => Path::Round {
+                index: round,
+                member: RoundMember::Action {
+                    index: action,
+                    member: ActionMember::Card { index },
+                },
+            },
+            _ => self,
+        }
+    }
+
+    // How the path is spelled.
+    fn string(self, alloc: Global) -> Result<String, AllocError>
+        ensures { IfOk result (λ text. string_bytes text ≡ path_text self) }
+    {
+        match self {
+            Path::Ohh => String::from_str(alloc, "ohh"),
+            Path::BetType => String::from_str(alloc, "ohh.bet_limit.bet_type"),
+            Path::Player { index, member } => {
+                let text = behind_point(alloc, member.name())?;
+                format!(in alloc; "ohh.players[{index}]{text}")
+            }
+            Path::Round { index, member } => {
+                let text = member.text(alloc)?;
+                format!(in alloc; "ohh.rounds[{index}]{text}")
+            }
+            Path::Pot { index, member } => {
+                let text = member.text(alloc)?;
+                format!(in alloc; "ohh.pots[{index}]{text}")
+            }
+            _ => {
+                let name = self.name();
+                format!(in alloc; "ohh.{name}")
+            }
+        }
+    }
+
+    /// How the path is spelled, as `ohh.rounds[0].actions[4].amount`.
+    pub fn text(self, alloc: Global) -> Result<Text, Memory>
+        ensures { IfOk result (λ text. text ≡ path_text self) }
+    {
+        let text = self.string(alloc)?;
+        Text::new(alloc, text.as_str())
+    }
+}

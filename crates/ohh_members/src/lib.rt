@@ -1,0 +1,4 @@
+//! The members of a hand in Open Hand History, but for its rounds, are read in their order, or refused with their path.
+#![tactic(auto)]
+
+pub mod fault;
