@@ -1,0 +1,4 @@
+-- Laws of posts.
+pub mod Stacks
+pub mod Noted
+pub mod SeatBySeat

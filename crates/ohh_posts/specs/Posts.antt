@@ -1,0 +1,81 @@
+-- Posts in the order in which they are told, and the first of a player.
+use Rattle.std.specs.Prelude.{◌≡◌, ℕ, ◌-◌, ◌≤◌, ◌==◌, Bool, true, false, ◌&&◌, List, find, Option, None, option_map, slice_index_or}
+use Rattle.std.specs.List.{list_any}
+use Rattle.std.specs.Option.{option_map_or}
+use Rattle.chip_ledger.specs.declared.numbers.Chips.{Chips}
+use Rattle.ohh_posts.specs.declared.post.PostKind.{PostKind}
+use Rattle.ohh_posts.specs.declared.post.PostKind.TheVariants as kinds
+use Rattle.ohh_posts.specs.declared.post.ActionPlace.{ActionPlace}
+use Rattle.ohh_posts.specs.declared.post.Post.{Post}
+use Rattle.ohh_posts.specs.declared.firsts.FirstPosts.{FirstPosts}
+
+-- a post: what it is, its seat, its chips, whether it stands on the first street before any move, and where it stands
+pub record PlainPost : Type 0 where
+  pub kind : PostKind
+  pub seat : ℕ
+  pub amount : ℕ
+  pub early : Bool
+  pub place : ActionPlace
+
+-- a post with plain numbers
+abbrev pub plain_post : Post → PlainPost
+plain_post post = record { kind = post.kind; seat = post.seat.number; amount = post.amount.number; early = post.early; place = post.place }
+
+abbrev pub is_ante : PostKind → Bool
+is_ante kinds.Ante = true
+is_ante kinds.SmallBlind = false
+is_ante kinds.BigBlind = false
+is_ante kinds.Straddle = false
+
+abbrev pub is_small_blind : PostKind → Bool
+is_small_blind kinds.Ante = false
+is_small_blind kinds.SmallBlind = true
+is_small_blind kinds.BigBlind = false
+is_small_blind kinds.Straddle = false
+
+abbrev pub is_big_blind : PostKind → Bool
+is_big_blind kinds.Ante = false
+is_big_blind kinds.SmallBlind = false
+is_big_blind kinds.BigBlind = true
+is_big_blind kinds.Straddle = false
+
+abbrev pub is_straddle : PostKind → Bool
+is_straddle kinds.Ante = false
+is_straddle kinds.SmallBlind = false
+is_straddle kinds.BigBlind = false
+is_straddle kinds.Straddle = true
+
+-- the chips of the first post of a kind that this seat has among some posts, if it has one
+abbrev pub first_post : (PostKind → Bool) → ℕ → List PlainPost → Option ℕ
+first_post is_kind seat posts = option_map (λ post. post.amount) (find (λ post. is_kind post.kind && (post.seat == seat)) posts)
+
+-- the seat's first ante
+abbrev pub first_ante : ℕ → List PlainPost → Option ℕ
+first_ante seat posts = first_post is_ante seat posts
+
+-- the seat's first straddle
+abbrev pub first_straddle : ℕ → List PlainPost → Option ℕ
+first_straddle seat posts = first_post is_straddle seat posts
+
+-- a small blind is posted
+abbrev pub has_small_blind : List PlainPost → Bool
+has_small_blind posts = list_any (λ post. is_small_blind post.kind) posts
+
+-- a big blind is posted
+abbrev pub has_big_blind : List PlainPost → Bool
+has_big_blind posts = list_any (λ post. is_big_blind post.kind) posts
+
+-- the ante of a seat: its first one, or 0 where it has none
+abbrev pub ante_of : List PlainPost → ℕ → ℕ
+ante_of posts seat = option_map_or (λ ante. ante) (first_ante seat posts) 0
+
+-- the chips that are kept for a seat, if some are
+abbrev pub chips_in : List (Option Chips) → ℕ → Option ℕ
+chips_in row seat = option_map (λ chips. chips.number) (slice_index_or row (seat - 1) None)
+
+-- what was kept are the first posts of these
+pub record AreFirst (posts : List PlainPost) (firsts : FirstPosts) : Type 0 where
+  pub antes : (seat : ℕ) → 1 ≤ seat → seat ≤ 10 → chips_in firsts.antes seat ≡ first_ante seat posts
+  pub straddles : (seat : ℕ) → 1 ≤ seat → seat ≤ 10 → chips_in firsts.straddles seat ≡ first_straddle seat posts
+  pub small_blind : firsts.small_blind ≡ has_small_blind posts
+  pub big_blind : firsts.big_blind ≡ has_big_blind posts

@@ -1,0 +1,34 @@
+-- What the posts of a hand are compared with, and whose the blinds are.
+use Rattle.std.specs.Prelude.{ℕ, ◌-◌, ◌==◌, if◌then◌else◌, List, length, slice_index, take}
+use Rattle.chip_ledger.specs.declared.rows.SeatRow.{SeatRow}
+use Rattle.ohh_posts.specs.declared.table.Table.{Table}
+
+-- the starting stacks, p1's first, and both blinds as they are named
+pub record PlainTable : Type 0 where
+  pub stacks : List ℕ
+  pub small_blind : ℕ
+  pub big_blind : ℕ
+
+-- the amounts of a row, the first seat's first
+abbrev pub amounts_in : SeatRow → List ℕ
+amounts_in row = take row.seats row.amounts
+
+-- a table with plain numbers
+abbrev pub plain_table : Table → PlainTable
+plain_table table = record { stacks = amounts_in table.stacks; small_blind = table.small_blind; big_blind = table.big_blind }
+
+-- how many seats there are
+abbrev pub seat_count : PlainTable → ℕ
+seat_count table = length table.stacks
+
+-- the seat of the small blind: p1, or p2 of two
+abbrev pub small_blind_seat : PlainTable → ℕ
+small_blind_seat table = if seat_count table == 2 then 2 else 1
+
+-- the seat of the big blind: p2, or p1 of two
+abbrev pub big_blind_seat : PlainTable → ℕ
+big_blind_seat table = if seat_count table == 2 then 1 else 2
+
+-- the stack of a seat
+abbrev pub stack_of : PlainTable → ℕ → ℕ
+stack_of table seat = slice_index table.stacks (seat - 1)

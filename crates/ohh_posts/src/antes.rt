@@ -1,0 +1,55 @@
+//! The antes of all seats, as the first posts say them.
+ghost use Rattle.std.specs.Prelude.{◌≡◌, List, min};
+ghost use Rattle.ohh_posts.specs.Conditions.{all_post_antes, greatest_ante};
+ghost use Rattle.ohh_posts.specs.Posts.{AreFirst, PlainPost, ante_of};
+ghost use Rattle.ohh_posts.specs.Table.{plain_table};
+
+use crate::firsts::FirstPosts;
+use crate::table::Table;
+use chip_ledger::Seat;
+
+/// The first ante of a seat, or 0 where it has none.
+pub fn ante_or_zero(firsts: &FirstPosts, seat: Seat) -> u64
+    ensures { (posts : List PlainPost) → AreFirst posts firsts.now
+        → result ≡ ante_of posts seat.number }
+{
+    match firsts.ante(seat) {
+        Some(ante) => ante.number,
+        None => 0,
+    }
+}
+
+/// Whether each of the first so many seats posts an ante.
+pub fn all_post(table: &Table, firsts: &FirstPosts) -> bool
+    ensures { (posts : List PlainPost) → AreFirst posts firsts.now
+        → result ≡ all_post_antes (plain_table table.now) posts }
+{
+    for index in 0..table.stacks.seats {
+        if firsts.ante(Seat { number: index + 1 }).is_none() {
+            return false;
+        }
+    }
+    true
+}
+
+/// The greatest ante of the first so many seats.
+pub fn greatest(table: &Table, firsts: &FirstPosts) -> u64
+    ensures { (posts : List PlainPost) → AreFirst posts firsts.now
+        → result ≡ greatest_ante (plain_table table.now) posts }
+{
+    let mut greatest = 0;
+    for index in 0..table.stacks.seats {
+        let ante = ante_or_zero(firsts, Seat { number: index + 1 });
+        if ante > greatest {
+            greatest = ante;
+        }
+    }
+    greatest
+}
+
+/// The lesser of two numbers of chips.
+pub fn lesser(first: u64, second: u64) -> u64
+    ensures { result ≡ min first second }
+{
+    if first < second { first } else { second }
+}

@@ -1,0 +1,227 @@
+//! The conditions of posts are tried one after the other, each over all posts.
+ghost use Rattle.std.specs.Prelude.{◌≡◌, List, [], map};
+ghost use Rattle.ohh_posts.specs.Conditions as conditions;
+ghost use Rattle.ohh_posts.specs.Conditions.{AreFacts, first_breaking, has_blinds, holds, left_of, posts_checked};
+ghost use Rattle.ohh_posts.specs.Posts.{AreFirst, PlainPost, ante_of, plain_post};
+ghost use Rattle.ohh_posts.specs.Table.{plain_table};
+
+use crate::antes::{all_post, ante_or_zero, greatest, lesser};
+use crate::firsts::FirstPosts;
+use crate::post::{ActionPlace, Post, PostFault, PostKind};
+use crate::table::Table;
+use chip_ledger::Seat;
+
+/// A condition that each post of a hand meets.
+#[derive(Clone, Copy, Debug, PartialEq, Eq)]
+pub enum Condition {
+    /// It stands on the first street, before any move.
+    Early,
+    /// It is no second small blind and no second big blind.
+    OneOfEachBlind,
+    /// A blind is that of its seat.
+    BlindSeats,
+    /// A blind is as it is named, or all that the stack has left.
+    BlindAmounts,
+    /// A straddle is of a seat behind the blinds, of some chips that the stack has, and the seat's first.
+    Straddles,
+    /// An ante is of some chips that the stack has, and the seat's first.
+    Antes,
+    /// Where every seat posts an ante, it is the greatest of them or the stack.
+    EvenAntes,
+}
+
+/// What is known of all posts of a hand.
+#[derive(Clone, Copy, Debug, PartialEq, Eq)]
+pub struct Facts {
+    pub table: Table,
+    pub firsts: FirstPosts,
+    /// Whether each seat posts an ante.
+    pub all_post: bool,
+    pub greatest_ante: u64,
+}
+
+impl Facts {
+    // The ante of a seat, or 0.
+    fn ante(&self, seat: Seat) -> u64
+        ensures { (posts : List PlainPost) → AreFacts posts self.now
+            → result ≡ ante_of posts seat.number }
+    {
+        ante_or_zero(&self.firsts, seat)
+    }
+
+    // The stack of a seat less its ante.
+    fn left(&self, seat: Seat) -> u64
+        ensures { (posts : List PlainPost) → AreFacts posts self.now
+            → result ≡ left_of (plain_table self.now.table) posts seat.number }
+    {
+        self.table.stack(seat).saturating_sub(self.ante(seat))
+    }
+}
+
+// What is known of all posts.
+fn facts_of(table: &Table, posts: &[Post]) -> Facts
+    ensures facts { AreFacts (map plain_post posts.now) result }
+    ensures table { result.table ≡ table.now }
+{
+    let firsts = FirstPosts::of(posts);
+    Facts {
+        table: *table,
+        firsts,
+        all_post: all_post(table, &firsts),
+        greatest_ante: greatest(table, &firsts),
+    }
+}
+
+// Whether a post is a second small blind or a second big blind.
+fn is_second_blind(before: &FirstPosts, post: &Post) -> bool
+    ensures { (earlier : List PlainPost) → AreFirst earlier before.now
+        → result ≡ conditions.is_second_blind earlier (plain_post post.now) }
+{
+    match post.kind {
+        PostKind::SmallBlind => before.small_blind,
+        PostKind::BigBlind => before.big_blind,
+        PostKind::Ante | PostKind::Straddle => false,
+    }
+}
+
+// Whether a post is a blind of another seat than its own.
+fn is_misplaced_blind(table: &Table, post: &Post) -> bool
+    ensures { result ≡ conditions.is_misplaced_blind (plain_table table.now) (plain_post post.now) }
+{
+    match post.kind {
+        PostKind::SmallBlind => post.seat.number != table.small_blind_seat(),
+        PostKind::BigBlind => post.seat.number != table.big_blind_seat(),
+        PostKind::Ante | PostKind::Straddle => false,
+    }
+}
+
+// Whether a post is a blind that is not the lesser of the blind as it is named and the stack less the ante.
+fn is_wrong_blind(facts: &Facts, post: &Post) -> bool
+    ensures { (posts : List PlainPost) → AreFacts posts facts.now
+        → result ≡ conditions.is_wrong_blind (plain_table facts.now.table) posts (plain_post post.now) }
+{
+    let left = facts.left(post.seat);
+    match post.kind {
+        PostKind::SmallBlind => post.amount.number != lesser(facts.table.small_blind, left),
+        PostKind::BigBlind => post.amount.number != lesser(facts.table.big_blind, left),
+        PostKind::Ante | PostKind::Straddle => false,
+    }
+}
+
+// Whether a post is a straddle of a seat in the blinds, of no chips, a second one of its seat, or above what is left.
+fn is_wrong_straddle(facts: &Facts, before: &FirstPosts, post: &Post) -> bool
+    ensures { (posts earlier : List PlainPost) → AreFacts posts facts.now → AreFirst earlier before.now
+        → result ≡ conditions.is_wrong_straddle (plain_table facts.now.table) posts earlier
+        (plain_post post.now) }
+{
+    let left = facts.left(post.seat);
+    let again = before.straddle(post.seat).is_some();
+    match post.kind {
+        PostKind::Straddle => {
+            let amount = post.amount.number;
+            post.seat.number <= 2 || amount == 0 || again || amount > left
+        }
+        PostKind::Ante | PostKind::SmallBlind | PostKind::BigBlind => false,
+    }
+}
+
+// Whether a post is an ante above the stack, of no chips, or a second one of its seat.
+fn is_wrong_ante(table: &Table, before: &FirstPosts, post: &Post) -> bool
+    ensures { (earlier : List PlainPost) → AreFirst earlier before.now
+        → result ≡ conditions.is_wrong_ante (plain_table table.now) earlier (plain_post post.now) }
+{
+    let stack = table.stack(post.seat);
+    let again = before.ante(post.seat).is_some();
+    match post.kind {
+        PostKind::Ante => {
+            let amount = post.amount.number;
+            amount > stack || amount == 0 || again
+        }
+        PostKind::Straddle | PostKind::SmallBlind | PostKind::BigBlind => false,
+    }
+}
+
+// Whether every seat posts an ante, and the post is one that is not the lesser of the greatest ante and the stack.
+fn is_uneven_ante(facts: &Facts, post: &Post) -> bool
+    ensures { (posts : List PlainPost) → AreFacts posts facts.now
+        → result ≡ conditions.is_uneven_ante (plain_table facts.now.table) posts (plain_post post.now) }
+{
+    let whole = lesser(facts.greatest_ante, facts.table.stack(post.seat));
+    match post.kind {
+        PostKind::Ante => facts.all_post && post.amount.number != whole,
+        PostKind::Straddle | PostKind::SmallBlind | PostKind::BigBlind => false,
+    }
+}
+
+// Whether a post breaks a condition, where these were posted before it.
+#[tactic(auto, unfolding(crate::specs::Conditions::breaks))]
+fn breaks(condition: Condition, facts: &Facts, before: &FirstPosts, post: &Post) -> bool
+    ensures { (posts earlier : List PlainPost) → AreFacts posts facts.now → AreFirst earlier before.now
+        → result ≡ conditions.breaks condition (plain_table facts.now.table) posts earlier
+        (plain_post post.now) }
+{
+    match condition {
+        Condition::Early => !post.early,
+        Condition::OneOfEachBlind => is_second_blind(before, post),
+        Condition::BlindSeats => is_misplaced_blind(&facts.table, post),
+        Condition::BlindAmounts => is_wrong_blind(facts, post),
+        Condition::Straddles => is_wrong_straddle(facts, before, post),
+        Condition::Antes => is_wrong_ante(&facts.table, before, post),
+        Condition::EvenAntes => is_uneven_ante(facts, post),
+    }
+}
+
+// Where the first post stands that breaks a condition.
+fn first_break(condition: Condition, facts: &Facts, posts: &[Post]) -> Option<ActionPlace>
+    requires { AreFacts (map plain_post posts.now) facts.now }
+    ensures { result ≡ first_breaking condition (plain_table facts.now.table)
+        (map plain_post posts.now) [] (map plain_post posts.now) }
+{
+    let mut before = FirstPosts::none();
+    for post in posts {
+        if breaks(condition, facts, &before, post) {
+            return Some(post.place);
+        }
+        before.note(post);
+    }
+    None
+}
+
+// A condition holds of all posts, or the first that breaks it is named.
+fn hold(condition: Condition, facts: &Facts, posts: &[Post]) -> Result<(), PostFault>
+    requires { AreFacts (map plain_post posts.now) facts.now }
+    ensures { result ≡ holds condition (plain_table facts.now.table) (map plain_post posts.now) }
+{
+    match first_break(condition, facts, posts) {
+        Some(place) => Err(PostFault::At(place)),
+        None => Ok(()),
+    }
+}
+
+// Both blinds are posted.
+fn have_blinds(firsts: &FirstPosts) -> Result<(), PostFault>
+    ensures { (posts : List PlainPost) → AreFirst posts firsts.now → result ≡ has_blinds posts }
+{
+    if firsts.small_blind && firsts.big_blind {
+        Ok(())
+    } else {
+        Err(PostFault::MissingBlind)
+    }
+}
+
+/// Tries the conditions of the posts of a hand, one after the other, or names the first post that breaks the first
+/// condition that is broken.
+#[tactic(auto, unfolding(crate::specs::Conditions::posts_checked))]
+pub fn check_posts(table: &Table, posts: &[Post]) -> Result<(), PostFault>
+    ensures { result ≡ posts_checked (plain_table table.now) (map plain_post posts.now) }
+{
+    let facts = facts_of(table, posts);
+    hold(Condition::Early, &facts, posts)?;
+    have_blinds(&facts.firsts)?;
+    hold(Condition::OneOfEachBlind, &facts, posts)?;
+    hold(Condition::BlindSeats, &facts, posts)?;
+    hold(Condition::BlindAmounts, &facts, posts)?;
+    hold(Condition::Straddles, &facts, posts)?;
+    hold(Condition::Antes, &facts, posts)?;
+    hold(Condition::EvenAntes, &facts, posts)
+}

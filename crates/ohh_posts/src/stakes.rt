@@ -1,0 +1,137 @@
+//! The posts of a hand give its antes and its blinds.
+ghost use Rattle.std.specs.Prelude.{◌≡◌, ◌≤◌, ◌&&◌, ℕ, List, map, nat_lt, not};
+ghost use Rattle.std.specs.List.{list_any};
+ghost use Rattle.std.specs.Option.{option_map_or};
+ghost use Rattle.chip_ledger.specs.declared.rows.TheConstants.{MOST_AMOUNT};
+ghost use Rattle.chip_ledger.specs.declared.numbers.TheConstants.{MOST_CHIPS};
+ghost use Rattle.chip_ledger.specs.Seat.{seats_of};
+ghost use Rattle.chip_ledger.specs.SeatRow.{amount_of};
+ghost use Rattle.ohh_posts.specs.Conditions.{all_post_antes};
+ghost use Rattle.ohh_posts.specs.Posts.{AreFirst, PlainPost, first_straddle, plain_post};
+ghost use Rattle.ohh_posts.specs.Stakes.{AreStakesFor, held_ante, named_blind, plain_stakes, stakes_said};
+ghost use Rattle.ohh_posts.specs.Table.{plain_table};
+
+use crate::antes::{all_post, ante_or_zero, lesser};
+use crate::firsts::FirstPosts;
+use crate::post::Post;
+use crate::table::Table;
+use chip_ledger::{Seat, SeatRow};
+
+/// What a hand begins with, in chips.
+#[derive(Clone, Copy, Debug, PartialEq, Eq)]
+pub struct Stakes {
+    /// The antes, each no more than its stack.
+    pub antes: SeatRow,
+    /// Whether the antes belong to no seat's bets: some seats post one, and not all.
+    pub dead_antes: bool,
+    /// The blinds and straddles as they are named.
+    pub blinds: SeatRow,
+}
+
+// The ante of a seat, held as the lesser of what it posts and its stack.
+fn held(table: &Table, firsts: &FirstPosts, seat: Seat) -> u64
+    ensures ante { (posts : List PlainPost) → AreFirst posts firsts.now
+        → result ≡ held_ante (plain_table table.now) posts seat.number }
+    ensures most { result ≤ amount_of table.now.stacks seat.number }
+{
+    lesser(ante_or_zero(firsts, seat), table.stack(seat))
+}
+
+// The antes of all seats.
+fn antes_of(table: &Table, firsts: &FirstPosts) -> SeatRow
+    ensures seats { result.seats ≡ table.now.stacks.seats }
+    ensures antes { (posts : List PlainPost) → AreFirst posts firsts.now → (seat : ℕ) → 1 ≤ seat
+        → seat ≤ table.now.stacks.seats
+        → amount_of result seat ≡ held_ante (plain_table table.now) posts seat }
+    ensures most { (seat : ℕ) → amount_of result seat ≤ amount_of table.now.stacks seat }
+{
+    let mut row = SeatRow::new(table.stacks.seats);
+    for index in 0..table.stacks.seats {
+        let seat = Seat { number: index + 1 };
+        row.set(seat, held(table, firsts, seat));
+    }
+    row
+}
+
+// The blind of a seat as it is named: one of the two blinds, or a straddle, or 0.
+fn named(table: &Table, firsts: &FirstPosts, seat: Seat) -> u64
+    ensures blind { (posts : List PlainPost) → AreFirst posts firsts.now
+        → result ≡ named_blind (plain_table table.now) posts seat.number }
+    ensures most { result ≤ MOST_CHIPS }
+{
+    if seat.number == table.small_blind_seat() {
+        return table.small_blind;
+    }
+    if seat.number == table.big_blind_seat() {
+        return table.big_blind;
+    }
+    straddle_or_zero(firsts, seat)
+}
+
+// The first straddle of a seat, or 0 where it has none.
+fn straddle_or_zero(firsts: &FirstPosts, seat: Seat) -> u64
+    ensures straddle { (posts : List PlainPost) → AreFirst posts firsts.now
+        → result ≡ option_map_or (λ straddle. straddle) (first_straddle seat.number posts) 0 }
+    ensures most { result ≤ MOST_CHIPS }
+{
+    match firsts.straddle(seat) {
+        Some(straddle) => straddle.number,
+        None => 0,
+    }
+}
+
+// The blinds of all seats.
+fn blinds_of(table: &Table, firsts: &FirstPosts) -> SeatRow
+    ensures seats { result.seats ≡ table.now.stacks.seats }
+    ensures blinds { (posts : List PlainPost) → AreFirst posts firsts.now → (seat : ℕ) → 1 ≤ seat
+        → seat ≤ table.now.stacks.seats
+        → amount_of result seat ≡ named_blind (plain_table table.now) posts seat }
+    ensures most { (seat : ℕ) → amount_of result seat ≤ MOST_CHIPS }
+{
+    let mut row = SeatRow::new(table.stacks.seats);
+    for index in 0..table.stacks.seats {
+        let seat = Seat { number: index + 1 };
+        row.set(seat, named(table, firsts, seat));
+    }
+    row
+}
+
+// Whether some seats post an ante, and not all.
+fn are_dead(table: &Table, firsts: &FirstPosts, antes: &SeatRow) -> bool
+    requires { antes.now.seats ≡ table.now.stacks.seats }
+    ensures { (posts : List PlainPost) → AreFirst posts firsts.now
+        → result ≡ (list_any (λ seat. nat_lt 0 (amount_of antes.now seat)) (seats_of antes.now.seats)
+        && not (all_post_antes (plain_table table.now) posts)) }
+{
+    has_some(antes) && !all_post(table, firsts)
+}
+
+// Whether some seat of a row has an amount above 0.
+fn has_some(row: &SeatRow) -> bool
+    ensures { result ≡ list_any (λ seat. nat_lt 0 (amount_of row.now seat)) (seats_of row.now.seats) }
+{
+    for index in 0..row.seats {
+        if row.amounts[index as usize] > 0 {
+            return true;
+        }
+    }
+    false
+}
+
+impl Stakes {
+    /// The antes and blinds that posts give.
+    #[tactic(auto, unfolding(crate::specs::Stakes::stakes_said))]
+    pub fn of(table: &Table, posts: &[Post]) -> Self
+        ensures said { plain_stakes result
+            ≡ stakes_said (plain_table table.now) (map plain_post posts.now) }
+        ensures fit { AreStakesFor table.now.stacks result }
+    {
+        let firsts = FirstPosts::of(posts);
+        let antes = antes_of(table, &firsts);
+        Stakes {
+            antes,
+            dead_antes: are_dead(table, &firsts, &antes),
+            blinds: blinds_of(table, &firsts),
+        }
+    }
+}
