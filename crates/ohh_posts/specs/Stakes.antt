@@ -25,6 +25,10 @@ plain_stakes stakes = record { antes = amounts_in stakes.antes; dead_antes = sta
 abbrev pub held_ante : PlainTable → List PlainPost → ℕ → ℕ
 held_ante table posts seat = min (ante_of posts seat) (stack_of table seat)
 
+-- some seat of a row has an amount above 0
+abbrev pub has_amount : SeatRow → Bool
+has_amount row = list_any (λ seat. nat_lt 0 (amount_of row seat)) (seats_of row.seats)
+
 -- some seats post an ante, and not all
 abbrev pub are_dead : PlainTable → List PlainPost → Bool
 are_dead table posts = list_any (λ seat. nat_lt 0 (held_ante table posts seat)) (seats_of (seat_count table)) && not (all_post_antes table posts)

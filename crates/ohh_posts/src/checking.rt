@@ -98,7 +98,8 @@ fn is_misplaced_blind(table: &Table, post: &Post) -> bool
 // Whether a post is a blind that is not the lesser of the blind as it is named and the stack less the ante.
 fn is_wrong_blind(facts: &Facts, post: &Post) -> bool
     ensures { (posts : List PlainPost) → AreFacts posts facts.now
-        → result ≡ conditions.is_wrong_blind (plain_table facts.now.table) posts (plain_post post.now) }
+        → result ≡ conditions.is_wrong_blind (plain_table facts.now.table) posts
+        (plain_post post.now) }
 {
     let left = facts.left(post.seat);
     match post.kind {
@@ -110,8 +111,8 @@ fn is_wrong_blind(facts: &Facts, post: &Post) -> bool
 
 // Whether a post is a straddle of a seat in the blinds, of no chips, a second one of its seat, or above what is left.
 fn is_wrong_straddle(facts: &Facts, before: &FirstPosts, post: &Post) -> bool
-    ensures { (posts earlier : List PlainPost) → AreFacts posts facts.now → AreFirst earlier before.now
-        → result ≡ conditions.is_wrong_straddle (plain_table facts.now.table) posts earlier
+    ensures { (posts earlier : List PlainPost) → AreFacts posts facts.now
+        → AreFirst earlier before.now → result ≡ conditions.is_wrong_straddle (plain_table facts.now.table) posts earlier
         (plain_post post.now) }
 {
     let left = facts.left(post.seat);
@@ -144,7 +145,8 @@ fn is_wrong_ante(table: &Table, before: &FirstPosts, post: &Post) -> bool
 // Whether every seat posts an ante, and the post is one that is not the lesser of the greatest ante and the stack.
 fn is_uneven_ante(facts: &Facts, post: &Post) -> bool
     ensures { (posts : List PlainPost) → AreFacts posts facts.now
-        → result ≡ conditions.is_uneven_ante (plain_table facts.now.table) posts (plain_post post.now) }
+        → result ≡ conditions.is_uneven_ante (plain_table facts.now.table) posts
+        (plain_post post.now) }
 {
     let whole = lesser(facts.greatest_ante, facts.table.stack(post.seat));
     match post.kind {
@@ -156,8 +158,8 @@ fn is_uneven_ante(facts: &Facts, post: &Post) -> bool
 // Whether a post breaks a condition, where these were posted before it.
 #[tactic(auto, unfolding(crate::specs::Conditions::breaks))]
 fn breaks(condition: Condition, facts: &Facts, before: &FirstPosts, post: &Post) -> bool
-    ensures { (posts earlier : List PlainPost) → AreFacts posts facts.now → AreFirst earlier before.now
-        → result ≡ conditions.breaks condition (plain_table facts.now.table) posts earlier
+    ensures { (posts earlier : List PlainPost) → AreFacts posts facts.now
+        → AreFirst earlier before.now → result ≡ conditions.breaks condition (plain_table facts.now.table) posts earlier
         (plain_post post.now) }
 {
     match condition {

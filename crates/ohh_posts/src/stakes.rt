@@ -8,7 +8,7 @@ ghost use Rattle.chip_ledger.specs.Seat.{seats_of};
 ghost use Rattle.chip_ledger.specs.SeatRow.{amount_of};
 ghost use Rattle.ohh_posts.specs.Conditions.{all_post_antes};
 ghost use Rattle.ohh_posts.specs.Posts.{AreFirst, PlainPost, first_straddle, plain_post};
-ghost use Rattle.ohh_posts.specs.Stakes.{AreStakesFor, held_ante, named_blind, plain_stakes, stakes_said};
+ghost use Rattle.ohh_posts.specs.Stakes.{AreStakesFor, has_amount, held_ante, named_blind, plain_stakes, stakes_said};
 ghost use Rattle.ohh_posts.specs.Table.{plain_table};
 
 use crate::antes::{all_post, ante_or_zero, lesser};
@@ -100,15 +100,14 @@ fn blinds_of(table: &Table, firsts: &FirstPosts) -> SeatRow
 fn are_dead(table: &Table, firsts: &FirstPosts, antes: &SeatRow) -> bool
     requires { antes.now.seats ≡ table.now.stacks.seats }
     ensures { (posts : List PlainPost) → AreFirst posts firsts.now
-        → result ≡ (list_any (λ seat. nat_lt 0 (amount_of antes.now seat)) (seats_of antes.now.seats)
-        && not (all_post_antes (plain_table table.now) posts)) }
+        → result ≡ (has_amount antes.now && not (all_post_antes (plain_table table.now) posts)) }
 {
     has_some(antes) && !all_post(table, firsts)
 }
 
 // Whether some seat of a row has an amount above 0.
 fn has_some(row: &SeatRow) -> bool
-    ensures { result ≡ list_any (λ seat. nat_lt 0 (amount_of row.now seat)) (seats_of row.now.seats) }
+    ensures { result ≡ has_amount row.now }
 {
     for index in 0..row.seats {
         if row.amounts[index as usize] > 0 {
