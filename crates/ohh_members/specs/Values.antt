@@ -1,5 +1,5 @@
 -- The values of members, each read in its form or refused with the path of its member.
-use Rattle.std.specs.Prelude.{ℕ, ◌+◌, ◌==◌, nat_le, ◌&&◌, if◌then◌else◌, List, [], ◌∷◌, length, Option, Some, None, ℤ, pos, Result, Ok, Err}
+use Rattle.std.specs.Prelude.{ℕ, ◌+◌, ◌-◌, ◌==◌, nat_le, ◌&&◌, if◌then◌else◌, List, [], ◌∷◌, length, Option, Some, None, ℤ, pos, Result, Ok, Err}
 use Rattle.std.specs.Ordering.{int_eq}
 use Rattle.serde_json.specs.Data.{Data, null, boolean, number, string, array, object, unsigned, negative, float, Items, no_items, item, Members}
 use Rattle.serde_json.specs.Find.{get}
@@ -7,7 +7,7 @@ use Rattle.card_set.specs.declared.card.Card.{Card}
 use Rattle.card_set.specs.declared.card.Slot.{Slot}
 use Rattle.card_set.specs.declared.card.Slot.TheVariants as slots
 use Rattle.card_set.specs.Spelling.{slot_spelled}
-use Rattle.first_fault.specs.Reading.{◌>>=◌, each_from}
+use Rattle.first_fault.specs.Reading.{◌>>=◌, each_from, thread_from}
 use Rattle.ohh_members.specs.declared.fault.What.{What}
 use Rattle.ohh_members.specs.declared.fault.What.TheVariants as whats
 use Rattle.ohh_members.specs.declared.fault.Path.{Path}
@@ -83,6 +83,11 @@ abbrev pub slot_in : List ℕ → Option Slot
 slot_in (first ∷ second ∷ []) = slot_spelled first second
 slot_in _ = None
 
+-- the slot of a list of one slot
+abbrev pub one_slot : List Slot → Option Slot
+one_slot (slot ∷ []) = Some slot
+one_slot _ = None
+
 -- a slot that is known
 abbrev pub known_in : Slot → Option Card
 known_in (slots.Known card) = Some card
@@ -102,10 +107,31 @@ few_said path value = do
   items ← list_said path value
   if nat_le (length items) 7 then Ok items else wrong whats.WrongType path
 
+-- items one after the other, each read in a form that is told its index in the list, from 0
+abbrev pub each_item : {D A : Type 0} → (ℕ → D → Result A Fault) → List D → Result (List A) Fault
+each_item form items = each_from (λ n. form (n - 1)) 1 items
+
+-- the same, where each item adds to what is found, and hands on what is counted
+abbrev pub thread_items : {D A S : Type 0} → (S → ℕ → D → Result (List A × S) Fault) → S → List D → Result (List A × S) Fault
+thread_items form counts items = thread_from (λ so_far n. form so_far (n - 1)) counts 1 items
+
+-- items one after the other, from this index on, each added to what was read before it
+unfoldable pub added_from : {D S : Type 0} → (S → ℕ → D → Result S Fault) → S → ℕ → List D → Result S Fault
+added_from form before index [] = Ok before
+added_from form before index (value ∷ rest) = form before index value >>= λ after. added_from form after (index + 1) rest
+
+-- the cards of a list at a path, each known or unknown
+abbrev pub slots_from : Path → List Data → Result (List Slot) Fault
+slots_from path items = each_item (λ index. slot_said (card_path path index)) items
+
 -- at most seven cards, each known or unknown
 unfoldable pub slots_said : Path → Data → Result (List Slot) Fault
-slots_said path value = few_said path value >>= each_from (λ index. slot_said (card_path path index)) 0
+slots_said path value = few_said path value >>= slots_from path
+
+-- the known cards of a list at a path
+abbrev pub cards_from : Path → List Data → Result (List Card) Fault
+cards_from path items = each_item (λ index. card_said (card_path path index)) items
 
 -- at most seven known cards
 unfoldable pub cards_said : Path → Data → Result (List Card) Fault
-cards_said path value = few_said path value >>= each_from (λ index. card_said (card_path path index)) 0
+cards_said path value = few_said path value >>= cards_from path

@@ -1,0 +1,63 @@
+-- Items that are read one after the other, each told its index from 0, as a loop does.
+use Rattle.std.proofs.Common.{◌≡◌, ℕ, ◌+◌, ◌-◌, ◌<◌, ◌≤◌, List, [], ◌∷◌, ◌++◌, length, map, drop, get_or, Result, Ok, Err, refl, sym, ap, subst, ◌∙◌, arith}
+use Rattle.first_fault.specs.declared.stop.Stop.{Stop}
+use Rattle.first_fault.specs.Reading.{◌>>=◌, Fails, each_from, thread_from}
+use Rattle.first_fault.proofs.EachItem.{with_front, goes_on, ends, is_done}
+use Rattle.first_fault.proofs.Thread.{behind, threads_on, thread_ends, thread_done}
+use Rattle.ohh_members.specs.declared.fault.Fault.{Fault}
+
+-- one more and one less
+pub plus_one_less_one : (n : ℕ) → n + 1 - 1 ≡ n
+plus_one_less_one n = omega arith
+
+-- the items from an index on
+abbrev pub items_left : {V D A : Type 0} → (V → D) → (ℕ → D → Result A Fault) → ℕ → List V → Result (List A) Fault
+items_left seen form index values = each_from (λ n. form (n - 1)) (index + 1) (map seen (drop index values))
+
+module _ {V D A : Type 0} (seen : V → D) (form : ℕ → D → Result A Fault) where
+  -- one more item was read
+  pub item_read : (front : List A) (values : List V) (index : ℕ) (value : V) (x : A) (whole : Result (List A) Fault)
+      → index < length values → get_or values index value ≡ value → form index (seen value) ≡ Ok x
+      → with_front front (items_left seen form index values) ≡ whole
+      → with_front (front ++ x ∷ []) (items_left seen form (index + 1) values) ≡ whole
+  item_read front values index value x whole within at is so_far =
+      goes_on seen (λ n. form (n - 1)) front values index value x whole within at (rw (plus_one_less_one index) is) so_far
+
+  -- an item was refused
+  pub item_refused : (stop : Stop Fault) (front : List A) (values : List V) (index : ℕ) (value : V) (whole : Result (List A) Fault)
+      → index < length values → get_or values index value ≡ value → Fails stop (form index (seen value))
+      → with_front front (items_left seen form index values) ≡ whole
+      → Fails stop whole
+  item_refused stop front values index value whole within at is so_far =
+      ends seen (λ n. form (n - 1)) stop front values index value whole within at (rw (plus_one_less_one index) is) so_far
+
+  -- no item is left
+  pub items_read : (front : List A) (values : List V) (index : ℕ) (whole : Result (List A) Fault) → length values ≤ index
+      → with_front front (items_left seen form index values) ≡ whole → whole ≡ Ok front
+  items_read front values index whole le so_far = is_done seen (λ n. form (n - 1)) front values index whole le so_far
+
+-- the items from an index on, after what is counted so far
+abbrev pub thread_left : {V D A S : Type 0} → (V → D) → (S → ℕ → D → Result (List A × S) Fault) → S → ℕ → List V → Result (List A × S) Fault
+thread_left seen form so_far index values = thread_from (λ counts n. form counts (n - 1)) so_far (index + 1) (map seen (drop index values))
+
+module _ {V D A S : Type 0} (seen : V → D) (form : S → ℕ → D → Result (List A × S) Fault) where
+  -- one more item was read
+  pub thread_read : (front : List A) (so_far next : S) (values : List V) (index : ℕ) (value : V) (found : List A) (whole : Result (List A × S) Fault)
+      → index < length values → get_or values index value ≡ value → form so_far index (seen value) ≡ Ok (found, next)
+      → behind front (thread_left seen form so_far index values) ≡ whole
+      → behind (front ++ found) (thread_left seen form next (index + 1) values) ≡ whole
+  thread_read front so_far next values index value found whole within at is before =
+      threads_on seen (λ counts n. form counts (n - 1)) front so_far next values index value found whole within at (rw (plus_one_less_one index) is) before
+
+  -- an item was refused
+  pub thread_refused : (stop : Stop Fault) (front : List A) (so_far : S) (values : List V) (index : ℕ) (value : V) (whole : Result (List A × S) Fault)
+      → index < length values → get_or values index value ≡ value → Fails stop (form so_far index (seen value))
+      → behind front (thread_left seen form so_far index values) ≡ whole
+      → Fails stop whole
+  thread_refused stop front so_far values index value whole within at is before =
+      thread_ends seen (λ counts n. form counts (n - 1)) stop front so_far values index value whole within at (rw (plus_one_less_one index) is) before
+
+  -- no item is left
+  pub thread_ended : (front : List A) (so_far : S) (values : List V) (index : ℕ) (whole : Result (List A × S) Fault) → length values ≤ index
+      → behind front (thread_left seen form so_far index values) ≡ whole → whole ≡ Ok (front, so_far)
+  thread_ended front so_far values index whole le before = thread_done seen (λ counts n. form counts (n - 1)) front so_far values index whole le before
