@@ -1,0 +1,8 @@
+-- Laws of rounds.
+pub mod Lengths
+pub mod Indexed
+pub mod OneMore
+pub mod OneStep
+pub mod Adding
+pub mod FailsThen
+pub mod Counts

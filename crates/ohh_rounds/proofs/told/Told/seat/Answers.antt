@@ -1,0 +1,13 @@
+use Rattle.std.proofs.Common.{◌-◌, arith, subst, map}
+use Rattle.ohh_rounds.specs.Kept.{IsToldOf}
+use Rattle.ohh_rounds.specs.Steps.{plain_step}
+use Rattle.ohh_rounds.specs.declared.seat_told.SeatTold.{SeatTold}
+use Rattle.ohh_rounds.proofs.Indexed.{at_index}
+use Rattle.ohh_rounds.proofs.told.Told.seat.Goals as goal
+
+pub returns : goal.returns
+returns c =
+    let told = c.args.self.now in
+    let seat = c.args.seat in
+    subst (λ (kept : SeatTold). IsToldOf seat.number (map plain_step told.steps.items) kept) c.index-self-seat.is
+    (told.seats_are seat.number seat.first seat.last c.index-self-seat.result (at_index told.seats (seat.number - 1) c.index-self-seat.result (omega (arith, told.ten, seat.first, seat.last)) c.index-self-seat.is))

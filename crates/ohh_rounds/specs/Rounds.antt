@@ -1,0 +1,95 @@
+-- The rounds of a hand, each with its street, its cards and its actions.
+use Rattle.std.specs.Prelude.{ℕ, ◌+◌, ◌==◌, if◌then◌else◌, List, [], ◌∷◌, ◌++◌, length, Option, Some, None, Result, Ok, Err}
+use Rattle.serde_json.specs.Data.{Data}
+use Rattle.card_set.specs.declared.card.Card.{Card}
+use Rattle.play_event.specs.Said as said
+use Rattle.first_fault.specs.Reading.{◌>>=◌}
+use Rattle.ohh_members.specs.declared.fault.RoundMember.{RoundMember}
+use Rattle.ohh_members.specs.declared.fault.RoundMember.TheVariants as members
+use Rattle.ohh_members.specs.declared.fault.Path.{Path}
+use Rattle.ohh_members.specs.declared.fault.Path.TheVariants as paths
+use Rattle.ohh_members.specs.declared.fault.What.TheVariants as whats
+use Rattle.ohh_members.specs.declared.fault.Fault.{Fault}
+use Rattle.ohh_members.specs.Values.{cards_said, field, list_said, needed, object_said, or_wrong, text_said, wrong}
+use Rattle.ohh_rounds.specs.declared.street.Street.{Street}
+use Rattle.ohh_rounds.specs.Streets.{deals_board, street_after}
+use Rattle.ohh_rounds.specs.Steps.{PlainStep, Happened}
+use Rattle.ohh_rounds.specs.Setting.{PlainSetting}
+use Rattle.ohh_rounds.specs.Actions.{event_counted, step_said}
+
+-- items one after the other, the first of which has this index; each adds to what stands before it
+unfoldable pub added_from : {D S : Type 0} → (S → ℕ → D → Result S Fault) → S → ℕ → List D → Result S Fault
+added_from form before index [] = Ok before
+added_from form before index (item ∷ rest) = form before index item >>= λ after. added_from form after (index + 1) rest
+
+-- the path of a member of a round
+abbrev pub at_round : ℕ → RoundMember → Path
+at_round round member = paths.Round round member
+
+-- the street of a round after the last one
+unfoldable pub street_said : Option Street → ℕ → Data → Result Street Fault
+street_said last index round = do
+  text ← needed (at_round index members.Street) round >>= text_said (at_round index members.Street)
+  or_wrong whats.BadStreet (at_round index members.Street) (street_after last text)
+
+-- a list without cards
+unfoldable pub no_cards : Path → Data → Result (List Card) Fault
+no_cards path cards = do
+  items ← list_said path cards
+  if length items == 0 then Ok [] else wrong whats.BadStreet path
+
+-- the board cards of a round: known ones where its street deals some, and none where they lack
+unfoldable pub board_said : Street → ℕ → Data → Result (List Card) Fault
+board_said street index round = elim (field (at_round index members.Cards) round) [
+  | None ↦ Ok []
+  | Some cards ↦ if deals_board street then cards_said (at_round index members.Cards) cards else no_cards (at_round index members.Cards) cards
+]
+
+-- the steps with a deal to the board, where there are cards
+unfoldable pub board_dealt : PlainSetting → List PlainStep → ℕ → List Card → Result (List PlainStep) Fault
+board_dealt setting earlier index cards =
+    if length cards == 0 then Ok earlier
+    else (event_counted setting earlier (at_round index members.Cards) (said.Board cards) >>= λ counted. Ok (earlier ++ record { number = 0; deed = Happened (said.Board cards) } ∷ []))
+
+-- the steps with one more action of a round
+abbrev pub action_added : PlainSetting → ℕ → List PlainStep → ℕ → Data → Result (List PlainStep) Fault
+action_added setting round earlier index value = step_said setting earlier (record { round = round; action = index }) value >>= λ step. Ok (earlier ++ step ∷ [])
+
+-- the steps with the actions of a round
+abbrev pub actions_added : PlainSetting → ℕ → List PlainStep → List Data → Result (List PlainStep) Fault
+actions_added setting round earlier items = added_from (action_added setting round) earlier 0 items
+
+-- the last street, and the steps so far
+abbrev pub SoFar : Type 0
+SoFar = Option Street × List PlainStep
+
+-- the street and the cards of a round, and the steps with its deal to the board
+unfoldable pub opening_said : PlainSetting → SoFar → ℕ → Data → Result (Street × List PlainStep) Fault
+opening_said setting before index round = do
+  street ← street_said before.0 index round
+  cards ← board_said street index round
+  steps ← board_dealt setting before.1 index cards
+  Ok (street, steps)
+
+-- one more round
+unfoldable pub round_said : PlainSetting → SoFar → ℕ → Data → Result SoFar Fault
+round_said setting before index value = do
+  round ← object_said (at_round index members.Itself) value
+  opening ← opening_said setting before index round
+  items ← needed (at_round index members.Actions) round >>= list_said (at_round index members.Actions)
+  steps ← actions_added setting index opening.1 items
+  Ok (Some opening.0, steps)
+
+-- the rounds, one at least
+unfoldable pub rounds_listed : Data → Result (List Data) Fault
+rounds_listed ohh = do
+  items ← needed paths.Rounds ohh >>= list_said paths.Rounds
+  if length items == 0 then wrong whats.BadStreet paths.Rounds else Ok items
+
+-- what a list of rounds tells
+abbrev pub each_told : PlainSetting → List Data → Result (List PlainStep) Fault
+each_told setting items = added_from (round_said setting) (None, []) 0 items >>= λ found. Ok found.1
+
+-- what the rounds tell
+unfoldable pub steps_said : PlainSetting → Data → Result (List PlainStep) Fault
+steps_said setting ohh = rounds_listed ohh >>= each_told setting

@@ -1,0 +1,146 @@
+-- What was told so far, action by action, with the cards of the board where they were dealt.
+use Rattle.std.specs.Prelude.{◌≡◌, ℕ, ◌+◌, ◌<◌, ◌≤◌, ◌==◌, nat_lt, min, Bool, true, false, not, ◌&&◌, if◌then◌else◌, List, [], ◌∷◌, ◌++◌, length, map, flat_map, count_by, find, option_map, Option, Some, None}
+use Rattle.std.specs.List.{list_any}
+use Rattle.card_set.specs.declared.card.Slot.{Slot}
+use Rattle.card_set.specs.Row.{slots_of}
+use Rattle.canonical_play.specs.declared.limits.TheConstants.{MOST_MOVES, MOST_OTHER_EVENTS}
+use Rattle.canonical_play.specs.PlayedScript.{is_move}
+use Rattle.hand_canon.specs.declared.limits.TheConstants.{MOST_FILE_MOVES}
+use Rattle.play_event.specs.Said as said
+use Rattle.play_event.specs.Said.{Said, Numbered, kind_said}
+use Rattle.ohh_posts.specs.Posts.{PlainPost, plain_post}
+use Rattle.ohh_rounds.specs.declared.step.Deed.{Deed}
+use Rattle.ohh_rounds.specs.declared.step.Deed.TheVariants as deeds
+use Rattle.ohh_rounds.specs.declared.step.Step.{Step}
+
+-- what was done: a post, hole cards dealt to a seat, an event of the script, or nothing that counts
+pub data PlainDeed : Type 0 where
+  Posted : PlainPost → PlainDeed
+  Dealt : ℕ → List Slot → PlainDeed
+  Happened : Said → PlainDeed
+  Passed : PlainDeed
+
+-- what was done, and the number of its action through all rounds, or 0 where no action says it
+pub record PlainStep : Type 0 where
+  pub number : ℕ
+  pub deed : PlainDeed
+
+-- the same with plain numbers and lists
+abbrev pub plain_deed : Deed → PlainDeed
+plain_deed (deeds.Posted post) = Posted (plain_post post)
+plain_deed (deeds.Dealt seat cards) = Dealt seat.number (slots_of cards)
+plain_deed (deeds.Happened kind) = Happened (kind_said kind)
+plain_deed deeds.Passed = Passed
+
+abbrev pub plain_step : Step → PlainStep
+plain_step step = record { number = step.number; deed = plain_deed step.deed }
+
+-- the number of an action as it is kept
+abbrev pub kept_number : ℕ → ℕ
+kept_number n = min n 4294967295
+
+-- an action says the step
+abbrev pub is_action : PlainStep → Bool
+is_action step = nat_lt 0 step.number
+
+-- the number of the action after these steps
+abbrev pub next_number : List PlainStep → ℕ
+next_number steps = kept_number (count_by is_action steps + 1)
+
+-- a move was made
+abbrev pub is_move_deed : PlainDeed → Bool
+is_move_deed (Happened event) = is_move event
+is_move_deed (Posted post) = false
+is_move_deed (Dealt seat slots) = false
+is_move_deed Passed = false
+
+-- another event of the script happened
+abbrev pub is_other_deed : PlainDeed → Bool
+is_other_deed (Happened event) = not (is_move event)
+is_other_deed (Posted post) = false
+is_other_deed (Dealt seat slots) = false
+is_other_deed Passed = false
+
+-- how many moves were made
+abbrev pub moves_in : List PlainStep → ℕ
+moves_in steps = count_by (λ step. is_move_deed step.deed) steps
+
+-- how many other events happened
+abbrev pub others_in : List PlainStep → ℕ
+others_in steps = count_by (λ step. is_other_deed step.deed) steps
+
+-- the seat that an event folds, if it is a fold
+abbrev pub folder : Said → Option ℕ
+folder (said.Fold actor) = actor
+folder (said.Hole seat slots) = None
+folder (said.Board cards) = None
+folder (said.Call actor stated) = None
+folder (said.Raise actor amount) = None
+folder (said.BringIn actor) = None
+folder (said.Discard seat slots) = None
+folder (said.Show seat cards) = None
+folder (said.Muck seat) = None
+
+-- this seat
+abbrev pub is_seat : ℕ → Option ℕ → Bool
+is_seat seat None = false
+is_seat seat (Some other) = other == seat
+
+-- the seat folded
+abbrev pub is_fold_of : ℕ → PlainDeed → Bool
+is_fold_of seat (Happened event) = is_seat seat (folder event)
+is_fold_of seat (Posted post) = false
+is_fold_of seat (Dealt other slots) = false
+is_fold_of seat Passed = false
+
+-- the step is a fold of this seat
+abbrev pub IsFoldBy : ℕ → PlainDeed → Type 0
+IsFoldBy seat (Happened event) = folder event ≡ Some seat
+IsFoldBy seat (Posted post) = ⊥
+IsFoldBy seat (Dealt other slots) = ⊥
+IsFoldBy seat Passed = ⊥
+
+-- the seat folded in one of the steps
+abbrev pub has_folded : ℕ → List PlainStep → Bool
+has_folded seat steps = list_any (λ step. is_fold_of seat step.deed) steps
+
+-- the hole cards that a step deals to the seat
+abbrev pub dealt_in : ℕ → PlainDeed → List Slot
+dealt_in seat (Dealt other slots) = if other == seat then slots else []
+dealt_in seat (Posted post) = []
+dealt_in seat (Happened event) = []
+dealt_in seat Passed = []
+
+-- the hole cards that were dealt to the seat, joined in order
+abbrev pub dealt_to : ℕ → List PlainStep → List Slot
+dealt_to seat steps = flat_map (λ step. dealt_in seat step.deed) steps
+
+-- the step deals hole cards to the seat, or says that it was dealt some
+abbrev pub is_deal_to : ℕ → PlainDeed → Bool
+is_deal_to seat (Dealt other slots) = other == seat
+is_deal_to seat (Posted post) = false
+is_deal_to seat (Happened event) = false
+is_deal_to seat Passed = false
+
+-- the number of the first action that deals hole cards to the seat, if one does
+abbrev pub first_deal : ℕ → List PlainStep → Option ℕ
+first_deal seat steps = option_map (λ step. step.number) (find (λ step. is_deal_to seat step.deed) steps)
+
+-- one more event, a move or another, passes no limit in a hand of so many seats, after so many moves of the file
+abbrev pub HasRoom : ℕ → ℕ → Bool → List PlainStep → Type 0
+HasRoom seats file_moves true earlier = (moves_in earlier < MOST_MOVES) × (file_moves + moves_in earlier < MOST_FILE_MOVES)
+HasRoom seats file_moves false earlier = seats + others_in earlier < MOST_OTHER_EVENTS
+
+-- what an event does passes no limit
+abbrev pub IsWithin : ℕ → ℕ → List PlainStep → PlainDeed → Type 0
+IsWithin seats file_moves earlier (Happened event) = HasRoom seats file_moves (is_move event) earlier
+IsWithin seats file_moves earlier (Posted post) = Unit {0}
+IsWithin seats file_moves earlier (Dealt seat slots) = Unit {0}
+IsWithin seats file_moves earlier Passed = Unit {0}
+
+-- a deal leaves its seat with seven hole cards at most
+abbrev pub LeavesFew : List PlainStep → PlainDeed → Type 0
+LeavesFew earlier (Dealt seat slots) = length (dealt_to seat earlier) + length slots ≤ 7
+LeavesFew earlier (Posted post) = Unit {0}
+LeavesFew earlier (Happened event) = Unit {0}
+LeavesFew earlier Passed = Unit {0}

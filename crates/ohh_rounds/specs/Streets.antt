@@ -1,0 +1,35 @@
+-- The streets of a hand, in order.
+use Rattle.std.specs.Prelude.{ℕ, Bool, true, false, bytes_eq, if◌then◌else◌, List, codes, Option, Some, None}
+use Rattle.std.specs.Option.{option_or}
+use Rattle.ohh_rounds.specs.declared.street.Street.{Street}
+use Rattle.ohh_rounds.specs.declared.street.Street.TheVariants as streets
+
+-- the name of a street
+abbrev pub street_name : Street → List ℕ
+street_name streets.Preflop = codes "Preflop"
+street_name streets.Flop = codes "Flop"
+street_name streets.Turn = codes "Turn"
+street_name streets.River = codes "River"
+street_name streets.Showdown = codes "Showdown"
+
+-- the street, where the text is its name
+abbrev pub if_named : Street → List ℕ → Option Street
+if_named street text = if bytes_eq text (street_name street) then Some street else None
+
+-- The street that a text names after the last one, if it may come there: first the preflop, then each street after the one
+-- before it, or the showdown, after which none may come.
+unfoldable pub street_after : Option Street → List ℕ → Option Street
+street_after None text = if_named streets.Preflop text
+street_after (Some streets.Preflop) text = option_or (if_named streets.Flop text) (if_named streets.Showdown text)
+street_after (Some streets.Flop) text = option_or (if_named streets.Turn text) (if_named streets.Showdown text)
+street_after (Some streets.Turn) text = option_or (if_named streets.River text) (if_named streets.Showdown text)
+street_after (Some streets.River) text = if_named streets.Showdown text
+street_after (Some streets.Showdown) text = None
+
+-- the street deals cards to the board
+abbrev pub deals_board : Street → Bool
+deals_board streets.Preflop = false
+deals_board streets.Flop = true
+deals_board streets.Turn = true
+deals_board streets.River = true
+deals_board streets.Showdown = false

@@ -1,0 +1,207 @@
+//! The rounds are read, each with its street, its cards and its actions.
+ghost use Rattle.std.specs.Prelude.{◌≡◌, ◌≤◌, Some, None, [], IfOk, length, map};
+ghost use Rattle.serde_json.specs.View.{view};
+ghost use Rattle.card_set.specs.Row.{cards_of};
+ghost use Rattle.first_fault.specs.Reading.{Gives};
+ghost use Rattle.ohh_rounds.specs.Rounds.{actions_added, at_round, board_dealt, board_said, each_told, no_cards, opening_said, round_said, rounds_listed, steps_said, street_said};
+ghost use Rattle.ohh_rounds.specs.Setting.{plain_setting};
+ghost use Rattle.ohh_rounds.specs.Steps.{plain_step};
+
+use crate::actions::{count_event, read_step};
+use crate::setting::Setting;
+use crate::step::{Deed, Step};
+use crate::street::{Street, deals_board, street_after};
+use crate::told::Told;
+use card_set::CardRow;
+use first_fault::Stop;
+use ohh_members::fault::{Fault, Path, RoundMember, What};
+use ohh_members::values::{field, needed, read_cards, read_list, read_object, read_text, wrong};
+use ohh_posts::ActionPlace;
+use play_event::Kind;
+use serde_json::Value;
+use std::alloc::Global;
+
+// The path of a member of a round.
+fn path_of(index: u64, member: RoundMember) -> Path
+    ensures { result ≡ at_round index member }
+{
+    Path::Round { index, member }
+}
+
+// The street of a round after the last one.
+#[tactic(auto, unfolding(crate::specs::Rounds::street_said))]
+fn read_street(last: Option<Street>, index: u64, round: &Value) -> Result<Street, Stop<Fault>>
+    ensures { Gives (λ street. street) result (street_said last index (view round.now)) }
+{
+    let path = path_of(index, RoundMember::Street);
+    let text = read_text(needed(round, path)?, path)?;
+    match street_after(last, text) {
+        Some(street) => Ok(street),
+        None => Err(wrong(What::BadStreet, path)),
+    }
+}
+
+// A list without cards.
+#[tactic(auto, unfolding(crate::specs::Rounds::no_cards))]
+fn read_no_cards(cards: &Value, path: Path) -> Result<CardRow, Stop<Fault>>
+    ensures { Gives cards_of result (no_cards path (view cards.now)) }
+{
+    let values = read_list(cards, path)?;
+    if !values.is_empty() {
+        return Err(wrong(What::BadStreet, path));
+    }
+    Ok(CardRow::new())
+}
+
+// The board cards of a round.
+#[tactic(auto, unfolding(crate::specs::Rounds::board_said))]
+fn read_board(street: Street, index: u64, round: &Value) -> Result<CardRow, Stop<Fault>>
+    ensures { Gives cards_of result (board_said street index (view round.now)) }
+{
+    let path = path_of(index, RoundMember::Cards);
+    match field(round, path) {
+        None => Ok(CardRow::new()),
+        Some(cards) => if deals_board(street) {
+            read_cards(cards, path)
+        } else {
+            read_no_cards(cards, path)
+        },
+    }
+}
+
+// A deal to the board is told, where there are cards.
+#[tactic(auto, unfolding(crate::specs::Rounds::board_dealt))]
+fn deal_board(ids: &[i128], told: &mut Told, index: u64, cards: CardRow) -> Result<(), Stop<Fault>>
+    ensures said { Gives (λ x. map plain_step told.new.steps.items) result
+        (board_dealt (plain_setting ids.now told.old.setting)
+        (map plain_step told.old.steps.items) index (cards_of cards)) }
+    ensures setting { told.new.setting ≡ told.old.setting }
+{
+    if cards.as_slice().is_empty() {
+        return Ok(());
+    }
+    let kind = Kind::Board { cards };
+    count_event(ids, told, path_of(index, RoundMember::Cards), kind)?;
+    told.push(Step {
+        number: 0,
+        deed: Deed::Happened(kind),
+    })?;
+    Ok(())
+}
+
+// The actions of a round are told.
+fn read_actions(
+    ids: &[i128],
+    told: &mut Told,
+    round: u64,
+    values: &[Value],
+) -> Result<(), Stop<Fault>>
+    requires { length ids.now ≤ 10 }
+    ensures said { Gives (λ x. map plain_step told.new.steps.items) result
+        (actions_added (plain_setting ids.now told.old.setting) round
+        (map plain_step told.old.steps.items) (map view values.now)) }
+    ensures setting { told.new.setting ≡ told.old.setting }
+{
+    for (index, value) in values.iter().enumerate() {
+        let place = ActionPlace {
+            round,
+            action: index as u64,
+        };
+        let step = read_step(ids, told, place, value)?;
+        told.push(step)?;
+    }
+    Ok(())
+}
+
+// The street and the cards of a round.
+#[tactic(auto, unfolding(crate::specs::Rounds::opening_said))]
+fn read_opening(
+    ids: &[i128],
+    told: &mut Told,
+    last: Option<Street>,
+    index: u64,
+    round: &Value,
+) -> Result<Street, Stop<Fault>>
+    ensures said { Gives (λ street. (street, map plain_step told.new.steps.items)) result
+        (opening_said (plain_setting ids.now told.old.setting)
+        (last, map plain_step told.old.steps.items) index (view round.now)) }
+    ensures setting { told.new.setting ≡ told.old.setting }
+{
+    let street = read_street(last, index, round)?;
+    let cards = read_board(street, index, round)?;
+    deal_board(ids, told, index, cards)?;
+    Ok(street)
+}
+
+// One more round is told.
+#[tactic(auto, unfolding(crate::specs::Rounds::round_said))]
+fn read_round(
+    ids: &[i128],
+    told: &mut Told,
+    last: Option<Street>,
+    index: u64,
+    value: &Value,
+) -> Result<Street, Stop<Fault>>
+    requires { length ids.now ≤ 10 }
+    ensures said { Gives (λ street. (Some street, map plain_step told.new.steps.items)) result
+        (round_said (plain_setting ids.now told.old.setting)
+        (last, map plain_step told.old.steps.items) index (view value.now)) }
+    ensures setting { told.new.setting ≡ told.old.setting }
+{
+    let round = read_object(value, path_of(index, RoundMember::Itself))?;
+    let street = read_opening(ids, told, last, index, round)?;
+    let path = path_of(index, RoundMember::Actions);
+    let values = read_list(needed(round, path)?, path)?;
+    read_actions(ids, told, index, values)?;
+    Ok(street)
+}
+
+// The rounds, one at least.
+#[tactic(auto, unfolding(crate::specs::Rounds::rounds_listed))]
+fn read_listed(ohh: &Value) -> Result<&[Value], Stop<Fault>>
+    ensures { Gives (λ values. map view values.now) result (rounds_listed (view ohh.now)) }
+{
+    let values = read_list(needed(ohh, Path::Rounds)?, Path::Rounds)?;
+    if values.is_empty() {
+        return Err(wrong(What::BadStreet, Path::Rounds));
+    }
+    Ok(values)
+}
+
+// What a list of rounds tells.
+fn read_each(
+    alloc: Global,
+    ids: &[i128],
+    setting: &Setting,
+    values: &[Value],
+) -> Result<Told, Stop<Fault>>
+    requires { length ids.now ≤ 10 }
+    ensures said { Gives (λ told. map plain_step told.steps.items) result
+        (each_told (plain_setting ids.now setting.now) (map view values.now)) }
+    ensures setting { IfOk result (λ told. told.setting ≡ setting.now) }
+{
+    let mut told = Told::none(alloc, *setting);
+    let mut last = None;
+    for (index, value) in values.iter().enumerate() {
+        let street = read_round(ids, &mut told, last, index as u64, value)?;
+        last = Some(street);
+    }
+    Ok(told)
+}
+
+/// What the rounds of the object tell.
+#[tactic(auto, unfolding(crate::specs::Rounds::steps_said))]
+pub fn read_told(
+    alloc: Global,
+    ids: &[i128],
+    setting: &Setting,
+    ohh: &Value,
+) -> Result<Told, Stop<Fault>>
+    requires { length ids.now ≤ 10 }
+    ensures said { Gives (λ told. map plain_step told.steps.items) result
+        (steps_said (plain_setting ids.now setting.now) (view ohh.now)) }
+    ensures setting { IfOk result (λ told. told.setting ≡ setting.now) }
+{
+    let values = read_listed(ohh)?;
+    read_each(alloc, ids, setting, values)
+}

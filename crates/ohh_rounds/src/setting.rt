@@ -1,0 +1,20 @@
+// What stands before the rounds of a hand.
+ghost use Rattle.std.specs.Prelude.{◌≤◌};
+ghost use Rattle.hand_canon.specs.declared.limits.TheConstants.{MOST_FILE_MOVES};
+
+use ohh_members::dialect::Dialect;
+use ohh_posts::Table;
+
+/// What the rounds of a hand are read with.
+#[derive(Clone, Copy, Debug, PartialEq, Eq)]
+pub struct Setting {
+    /// The starting stacks, the first seat's first, and the blinds.
+    pub table: Table,
+    /// How many hole cards the game deals to a seat.
+    pub hole_cards: u8,
+    pub dialect: Dialect,
+    /// The moves of the file before this hand.
+    pub file_moves: usize,
+    pub ghost few_cards: { hole_cards ≤ 7 },
+    pub ghost few_moves: { file_moves ≤ MOST_FILE_MOVES },
+}

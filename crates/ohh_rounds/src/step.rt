@@ -1,0 +1,71 @@
+//! What an action did, or a deal to the board, and how it counts.
+ghost use Rattle.std.specs.Prelude.{◌≡◌, ◌+◌, cond, min};
+ghost use Rattle.canonical_play.specs.PlayedScript.{is_move as is_move_said};
+ghost use Rattle.play_event.specs.Said.{kind_said};
+ghost use Rattle.ohh_rounds.specs.Steps.{is_action, is_move_deed, is_other_deed, plain_deed, plain_step};
+
+use card_set::SlotRow;
+use chip_ledger::Seat;
+use ohh_posts::Post;
+use play_event::Kind;
+
+/// What was done.
+#[derive(Clone, Copy, Debug, PartialEq, Eq)]
+pub enum Deed {
+    /// Chips were put in before the play.
+    Posted(Post),
+    /// Hole cards were dealt to a seat.
+    Dealt { seat: Seat, cards: SlotRow },
+    /// An event of the script.
+    Happened(Kind),
+    /// Nothing that counts.
+    Passed,
+}
+
+/// What was done, and the number of its action through all rounds from 1, or 0 where no action says it.
+#[derive(Clone, Copy, Debug, PartialEq, Eq)]
+pub struct Step {
+    pub number: u32,
+    pub deed: Deed,
+}
+
+/// Whether it is a move.
+pub fn is_move(kind: Kind) -> bool
+    ensures { result ≡ is_move_said (kind_said kind) }
+{
+    match kind {
+        Kind::Fold { .. } | Kind::Call { .. } | Kind::Raise { .. } | Kind::BringIn { .. } => true,
+        _ => false,
+    }
+}
+
+/// One where a move was made, else none.
+pub fn moves_of(deed: Deed) -> usize
+    ensures { result ≡ cond (is_move_deed (plain_deed deed)) 1 0 }
+{
+    match deed {
+        Deed::Happened(kind) => if is_move(kind) { 1 } else { 0 },
+        Deed::Posted(_) | Deed::Dealt { .. } | Deed::Passed => 0,
+    }
+}
+
+/// One where another event of the script happened, else none.
+pub fn others_of(deed: Deed) -> usize
+    ensures { result ≡ cond (is_other_deed (plain_deed deed)) 1 0 }
+{
+    match deed {
+        Deed::Happened(kind) => if is_move(kind) { 0 } else { 1 },
+        Deed::Posted(_) | Deed::Dealt { .. } | Deed::Passed => 0,
+    }
+}
+
+/// The number of the next action after a step, where this was it before.
+pub fn next_after(next: u32, step: Step) -> u32
+    ensures { result ≡ min (next + cond (is_action (plain_step step)) 1 0) 4294967295 }
+{
+    if step.number > 0 {
+        next.saturating_add(1)
+    } else {
+        next
+    }
+}

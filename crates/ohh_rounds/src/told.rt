@@ -1,0 +1,102 @@
+//! What is told so far is kept step by step, with what later actions ask of it.
+ghost use Rattle.std.specs.Prelude.{◌≡◌, ◌≤◌, ◌+◌, length, map};
+ghost use Rattle.canonical_play.specs.declared.limits.TheConstants.{MOST_MOVES, MOST_OTHER_EVENTS};
+ghost use Rattle.hand_canon.specs.declared.limits.TheConstants.{MOST_FILE_MOVES};
+ghost use Rattle.ohh_rounds.specs.Kept.{AreTold, IsToldOf};
+ghost use Rattle.ohh_rounds.specs.Steps.{next_number, moves_in, others_in, plain_step};
+
+use crate::cards::seats_after;
+use crate::seat_told::SeatTold;
+use crate::setting::Setting;
+use crate::step::{Step, moves_of, next_after, others_of};
+use card_set::{Memory, SlotRow};
+use chip_ledger::Seat;
+use std::alloc::Global;
+
+/// The steps so far, and what they tell of each seat.
+#[derive(Debug, Drop)]
+pub struct Told {
+    pub setting: Setting,
+    pub steps: Vec<Step>,
+    /// The number of the next action.
+    pub next: u32,
+    pub moves: usize,
+    /// The events of the script so far that are no moves, but for the hole deals.
+    pub other_events: usize,
+    /// What is told of each seat, the first seat at index 0.
+    pub seats: [SeatTold; 10],
+    pub ghost ten: { length seats ≡ 10 },
+    pub ghost next_is: { next ≡ next_number (map plain_step steps.items) },
+    pub ghost moves_are: { moves ≡ moves_in (map plain_step steps.items) },
+    pub ghost others_are: { other_events ≡ others_in (map plain_step steps.items) },
+    pub ghost seats_are: { AreTold (map plain_step steps.items) seats },
+    pub ghost few_moves: { moves ≤ MOST_MOVES },
+    pub ghost few_file_moves: { setting.file_moves + moves ≤ MOST_FILE_MOVES },
+    pub ghost few_others: { setting.table.stacks.seats + other_events ≤ MOST_OTHER_EVENTS },
+}
+
+impl Told {
+    ghost use Rattle.std.specs.Prelude.{◌∷◌, ◌++◌, [], OnOk};
+    ghost use Rattle.ohh_rounds.specs.Steps.{IsWithin, LeavesFew, dealt_to, has_folded, plain_deed};
+
+    /// Nothing is told yet.
+    pub fn none(alloc: Global, setting: Setting) -> Self
+        ensures steps { result.steps.items ≡ [] }
+        ensures setting { result.setting ≡ setting }
+    {
+        let nothing = SeatTold {
+            folded: false,
+            cards: SlotRow::new(),
+            first_deal: None,
+        };
+        Told {
+            setting,
+            steps: Vec::new(alloc),
+            next: 1,
+            moves: 0,
+            other_events: 0,
+            seats: [nothing; 10],
+        }
+    }
+
+    /// What is told of a seat.
+    pub fn seat(&self, seat: Seat) -> SeatTold
+        ensures { IsToldOf seat.number (map plain_step self.now.steps.items) result }
+    {
+        self.seats[seat.number as usize - 1]
+    }
+
+    /// Whether the seat folded.
+    pub fn has_folded(&self, seat: Seat) -> bool
+        ensures { result ≡ has_folded seat.number (map plain_step self.now.steps.items) }
+    {
+        self.seat(seat).folded
+    }
+
+    /// How many hole cards were dealt to the seat.
+    pub fn cards_dealt(&self, seat: Seat) -> usize
+        ensures dealt { result
+            ≡ length (dealt_to seat.number (map plain_step self.now.steps.items)) }
+        ensures few { result ≤ 7 }
+    {
+        let told = self.seat(seat);
+        told.cards.as_slice().len()
+    }
+
+    /// Takes one more step, which passes no limit.
+    pub fn push(&mut self, step: Step) -> Result<(), Memory>
+        requires within { IsWithin self.old.setting.table.stacks.seats self.old.setting.file_moves
+            (map plain_step self.old.steps.items) (plain_deed step.deed) }
+        requires few { LeavesFew (map plain_step self.old.steps.items) (plain_deed step.deed) }
+        ensures steps { OnOk result (self.new.steps.items ≡ self.old.steps.items ++ step ∷ []) }
+        ensures setting { self.new.setting ≡ self.old.setting }
+    {
+        let seats = seats_after(self.seats, step, self.steps.as_slice());
+        self.steps.push(step)?;
+        self.seats = seats;
+        self.next = next_after(self.next, step);
+        self.moves += moves_of(step.deed);
+        self.other_events += others_of(step.deed);
+        Ok(())
+    }
+}

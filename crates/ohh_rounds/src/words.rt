@@ -1,0 +1,53 @@
+//! The words that say what a player did.
+ghost use Rattle.std.specs.Prelude.{◌≡◌};
+ghost use Rattle.ohh_rounds.specs.Words.{is_deal as is_deal_said, word_named as word_said};
+
+/// What a player did, by its word.
+#[derive(Clone, Copy, Debug, PartialEq, Eq)]
+pub enum Word {
+    PostAnte,
+    PostSmallBlind,
+    PostBigBlind,
+    Straddle,
+    DealtCards,
+    Fold,
+    Check,
+    Call,
+    Bet,
+    Raise,
+    ShowsCards,
+    MucksCards,
+    SitsDown,
+    StandsUp,
+}
+
+/// The word that a text is, if it is one that is read.
+#[tactic(auto, unfolding(crate::specs::Words::word_named))]
+pub fn word_named(text: &str) -> Option<Word>
+    ensures { result ≡ word_said text.now }
+{
+    match text {
+        "Post Ante" => Some(Word::PostAnte),
+        "Post SB" => Some(Word::PostSmallBlind),
+        "Post BB" => Some(Word::PostBigBlind),
+        "Straddle" => Some(Word::Straddle),
+        "Dealt Cards" => Some(Word::DealtCards),
+        "Fold" => Some(Word::Fold),
+        "Check" => Some(Word::Check),
+        "Call" => Some(Word::Call),
+        "Bet" => Some(Word::Bet),
+        "Raise" => Some(Word::Raise),
+        "Shows Cards" => Some(Word::ShowsCards),
+        "Mucks Cards" => Some(Word::MucksCards),
+        "Sits Down" => Some(Word::SitsDown),
+        "Stands Up" => Some(Word::StandsUp),
+        _ => None,
+    }
+}
+
+/// Whether the word deals hole cards.
+pub fn is_deal(word: Word) -> bool
+    ensures { result ≡ is_deal_said word }
+{
+    word == Word::DealtCards
+}
