@@ -1,3 +1,7 @@
 -- What the members of a hand say.
 pub mod Paths
 pub mod Values
+pub mod Game
+pub mod Players
+pub mod Blinds
+pub mod Front

@@ -1,8 +1,15 @@
-//! The members of a hand in Open Hand History, but for its rounds, are read in their order, or refused with their path.
+//! The faults of a hand in Open Hand History, the forms of its members, and what stands in front of its rounds.
 #![tactic(auto)]
 
+pub mod blinds;
 pub mod dialect;
 pub mod fault;
+pub mod front;
+pub mod game;
+pub mod player;
+pub mod players;
+pub mod rows;
+pub mod seating;
 pub mod values;
 
 pub use dialect::Dialect;

@@ -1,0 +1,53 @@
+-- What stands in front of the rounds of a hand: its game, its players and its blinds, examined in this order.
+use Rattle.std.specs.Prelude.{◌≡◌, ◌≤◌, ◌*◌, true, List, ℕ, ℤ, length, map, take, Result, Ok}
+use Rattle.serde_json.specs.Data.{Data}
+use Rattle.chip_ledger.specs.declared.numbers.TheConstants.{MOST_CHIPS}
+use Rattle.chip_ledger.specs.declared.rows.SeatRow.{SeatRow}
+use Rattle.play_event.specs.declared.code.Code.{Code}
+use Rattle.first_fault.specs.Reading.{◌>>=◌}
+use Rattle.ohh_members.specs.declared.blinds.Blinds.{Blinds}
+use Rattle.ohh_members.specs.declared.fault.Fault.{Fault}
+use Rattle.ohh_members.specs.declared.front.Front.{Front}
+use Rattle.ohh_members.specs.Game.{IsReadGame, game_said}
+use Rattle.ohh_members.specs.Players.{PlainPlayer, plain_player, seated_said}
+use Rattle.ohh_members.specs.Blinds.{blinds_said, is_fixed_game}
+
+-- the game, the players by their seats in the hand, and the blinds
+pub record PlainFront : Type 0 where
+  pub code : Code
+  pub players : List PlainPlayer
+  pub blinds : Blinds
+
+-- what a front says
+abbrev pub plain_front : Front → PlainFront
+plain_front front = record { code = front.code; players = map plain_player front.players.items; blinds = front.blinds }
+
+-- what a front keeps to
+pub record IsFront (front : Front) : Type 0 where
+  pub game : IsReadGame front.code
+  pub some : 2 ≤ length front.players.items
+  pub few : length front.players.items ≤ 10
+  pub least : 1 ≤ front.blinds.small
+  pub order : front.blinds.small ≤ front.blinds.big
+  pub most : front.blinds.big ≤ MOST_CHIPS
+  pub fixed : is_fixed_game front.code ≡ true → 2 * front.blinds.big ≤ MOST_CHIPS
+
+-- the front
+unfoldable pub front_said : Data → Result PlainFront Fault
+front_said ohh = do
+  code ← game_said ohh
+  players ← seated_said ohh
+  blinds ← blinds_said code ohh
+  Ok (record { code = code; players = players; blinds = blinds })
+
+-- the amounts of a row, the first seat's first
+abbrev pub amounts_in : SeatRow → List ℕ
+amounts_in row = take row.seats row.amounts
+
+-- the ids of players, by their seats
+abbrev pub ids_of : List PlainPlayer → List ℤ
+ids_of players = map (λ player. player.id) players
+
+-- the stacks of players, by their seats
+abbrev pub stacks_of : List PlainPlayer → List ℕ
+stacks_of players = map (λ player. player.stack) players

@@ -1,0 +1,34 @@
+-- The game of a hand, by its type and its limit.
+use Rattle.std.specs.Prelude.{◌≡◌, false, ◌&&◌, bytes_eq, if◌then◌else◌, List, ℕ, codes, Option, Some, None, Result}
+use Rattle.serde_json.specs.Data.{Data}
+use Rattle.play_event.specs.declared.code.Code.{Code}
+use Rattle.play_event.specs.declared.code.Code.TheVariants as games
+use Rattle.play_event.specs.Games.{game_of}
+use Rattle.play_event.specs.Streets.{is_stud}
+use Rattle.first_fault.specs.Reading.{◌>>=◌}
+use Rattle.ohh_members.specs.declared.fault.What.TheVariants as whats
+use Rattle.ohh_members.specs.declared.fault.Path.TheVariants as paths
+use Rattle.ohh_members.specs.declared.fault.Fault.{Fault}
+use Rattle.ohh_members.specs.Values.{or_wrong, needed, text_said, object_said}
+
+-- the four games that are read: a type and a limit
+abbrev pub game_named : List ℕ → List ℕ → Option Code
+game_named game limit =
+    if bytes_eq game (codes "Holdem") && bytes_eq limit (codes "FL") then Some games.FT
+    else if bytes_eq game (codes "Holdem") && bytes_eq limit (codes "NL") then Some games.NT
+    else if bytes_eq game (codes "Omaha") && bytes_eq limit (codes "PL") then Some games.PO
+    else if bytes_eq game (codes "OmahaHiLo") && bytes_eq limit (codes "FL") then Some games.FO8
+    else None
+
+-- a game that is read is played by up to ten seats, and has blinds
+pub record IsReadGame (code : Code) : Type 0 where
+  pub seats : (game_of code).seats ≡ 10
+  pub blinds : is_stud code ≡ false
+
+-- the game
+unfoldable pub game_said : Data → Result Code Fault
+game_said ohh = do
+  game ← needed paths.GameType ohh >>= text_said paths.GameType
+  limits ← needed paths.BetLimit ohh >>= object_said paths.BetLimit
+  limit ← needed paths.BetType limits >>= text_said paths.BetType
+  or_wrong whats.UnsupportedGame paths.GameType (game_named game limit)

@@ -1,0 +1,81 @@
+//! The blinds of a hand are read.
+ghost use Rattle.std.specs.Prelude.{◌≡◌, ◌≤◌, ◌*◌, true, IfOk, option_map};
+ghost use Rattle.serde_json.specs.View.{view};
+ghost use Rattle.chip_ledger.specs.declared.numbers.TheConstants.{MOST_CHIPS};
+ghost use Rattle.first_fault.specs.Reading.{Gives, read_if};
+ghost use Rattle.ohh_members.specs.declared.fault.Path.TheVariants as paths;
+ghost use Rattle.ohh_members.specs.Blinds.{blinds_said, fitting, is_fixed_game as is_fixed_game_said};
+ghost use Rattle.ohh_members.specs.Values.{field as field_said, number_said};
+
+use crate::fault::{Fault, Path, What};
+use crate::values::{field, needed, read_number, wrong};
+use chip_ledger::MOST_CHIPS;
+use first_fault::Stop;
+use play_event::Code;
+use serde_json::Value;
+
+/// The blinds, in chips: each at least 1, the small one at most the big one.
+#[derive(Clone, Copy, Debug, PartialEq, Eq)]
+pub struct Blinds {
+    pub small: u64,
+    pub big: u64,
+}
+
+/// Whether the game is played in fixed limit. Ask for one of the games that are read.
+pub fn is_fixed_game(code: Code) -> bool
+    ensures { result ≡ is_fixed_game_said code }
+{
+    match code {
+        Code::NT | Code::NS | Code::PO | Code::N2L1D => false,
+        _ => true,
+    }
+}
+
+// The blinds, where the small one is at most the big one, and twice the big one is a bet that may be made.
+#[tactic(auto, unfolding(crate::specs::Blinds::fitting))]
+fn fit(code: Code, small: u64, big: u64) -> Result<Blinds, Stop<Fault>>
+    requires { big ≤ MOST_CHIPS }
+    ensures said { Gives (λ blinds. blinds) result (fitting code small big) }
+    ensures values { IfOk result (λ blinds. (blinds.small ≡ small) × (blinds.big ≡ big)) }
+    ensures order { IfOk result (λ blinds. blinds.small ≤ blinds.big) }
+    ensures fixed { IfOk result (λ blinds. is_fixed_game_said code ≡ true
+        → 2 * blinds.big ≤ MOST_CHIPS) }
+{
+    if small > big {
+        return Err(wrong(What::BadPost, Path::SmallBlindAmount));
+    }
+    if is_fixed_game(code) && 2 * big > MOST_CHIPS {
+        return Err(wrong(What::AmountLimit, Path::BigBlindAmount));
+    }
+    Ok(Blinds { small, big })
+}
+
+// The ante, if it is said.
+fn read_ante(ohh: &Value) -> Result<Option<u64>, Stop<Fault>>
+    ensures { Gives (λ ante. ante) result
+        (read_if (number_said 0 MOST_CHIPS paths.AnteAmount)
+        (field_said paths.AnteAmount (view ohh.now))) }
+{
+    match field(ohh, Path::AnteAmount) {
+        Some(value) => Ok(Some(read_number(value, 0, MOST_CHIPS, Path::AnteAmount)?)),
+        None => Ok(None),
+    }
+}
+
+/// The blinds of a hand. The ante is examined for its form alone: what is posted counts.
+#[tactic(auto, unfolding(crate::specs::Blinds::blinds_said))]
+pub fn read_blinds(ohh: &Value, code: Code) -> Result<Blinds, Stop<Fault>>
+    ensures said { Gives (λ blinds. blinds) result (blinds_said code (view ohh.now)) }
+    ensures least { IfOk result (λ blinds. 1 ≤ blinds.small) }
+    ensures order { IfOk result (λ blinds. blinds.small ≤ blinds.big) }
+    ensures most { IfOk result (λ blinds. blinds.big ≤ MOST_CHIPS) }
+    ensures fixed { IfOk result (λ blinds. is_fixed_game_said code ≡ true
+        → 2 * blinds.big ≤ MOST_CHIPS) }
+{
+    let _ante = read_ante(ohh)?;
+    let small = needed(ohh, Path::SmallBlindAmount)?;
+    let small = read_number(small, 1, MOST_CHIPS, Path::SmallBlindAmount)?;
+    let big = needed(ohh, Path::BigBlindAmount)?;
+    let big = read_number(big, 1, MOST_CHIPS, Path::BigBlindAmount)?;
+    fit(code, small, big)
+}

@@ -1,0 +1,43 @@
+//! What stands in front of the rounds of a hand is read: its game, its players and its blinds.
+ghost use Rattle.std.specs.Prelude.{◌≡◌, ◌≤◌, ◌*◌, true, length, map, IfOk};
+ghost use Rattle.serde_json.specs.View.{view};
+ghost use Rattle.chip_ledger.specs.declared.numbers.TheConstants.{MOST_CHIPS};
+ghost use Rattle.first_fault.specs.Reading.{Gives};
+ghost use Rattle.ohh_members.specs.Blinds.{is_fixed_game};
+ghost use Rattle.ohh_members.specs.Front.{IsFront, front_said, plain_front};
+
+use crate::blinds::{Blinds, read_blinds};
+use crate::fault::Fault;
+use crate::game::read_game;
+use crate::player::Player;
+use crate::seating::read_players;
+use first_fault::Stop;
+use play_event::Code;
+use serde_json::Value;
+use std::alloc::Global;
+
+/// What stands in front of the rounds of a hand.
+#[derive(Drop)]
+pub struct Front<'a> {
+    /// One of the games that are read.
+    pub code: Code,
+    /// Two to ten players by their seats in the hand: the first sits after the button.
+    pub players: Vec<Player<'a>>,
+    pub blinds: Blinds,
+}
+
+/// What stands in front of the rounds of a hand.
+#[tactic(auto, unfolding(crate::specs::Front::front_said))]
+pub fn read_front<'a>(alloc: Global, ohh: &'a Value) -> Result<Front<'a>, Stop<Fault>>
+    ensures said { Gives plain_front result (front_said (view ohh.now)) }
+    ensures fits { IfOk result IsFront }
+{
+    let code = read_game(ohh)?;
+    let players = read_players(alloc, ohh)?;
+    let blinds = read_blinds(ohh, code)?;
+    Ok(Front {
+        code,
+        players,
+        blinds,
+    })
+}
