@@ -1,9 +1,9 @@
 -- Items that are read one after the other, each added to what stands before it, as a loop does.
-use Rattle.std.proofs.Common.{◌≡◌, ℕ, ◌+◌, ◌<◌, ◌≤◌, List, length, map, drop, get_or, Result, Ok, Err, refl, sym, ap, ◌∙◌}
+use Rattle.std.proofs.Common.{◌≡◌, ℕ, ◌+◌, ◌<◌, ◌≤◌, List, length, map, drop, get_or, Result, Ok, Err, refl, sym, ◌∙◌}
 use Rattle.std.proofs.lemmas.List.{drop_more, drop_all}
 use Rattle.first_fault.specs.declared.stop.Stop.{Stop}
 use Rattle.first_fault.specs.declared.stop.Stop.TheVariants as stops
-use Rattle.first_fault.specs.Reading.{◌>>=◌, Fails}
+use Rattle.first_fault.specs.Reading.{Fails}
 use Rattle.ohh_members.specs.declared.fault.Fault.{Fault}
 use Rattle.ohh_rounds.specs.Rounds.{added_from}
 

@@ -1,5 +1,5 @@
 -- What is read first stops what is read after it.
-use Rattle.std.proofs.Common.{◌≡◌, Result, Ok, Err, refl}
+use Rattle.std.proofs.Common.{Result, refl}
 use Rattle.first_fault.specs.declared.stop.Stop.{Stop}
 use Rattle.first_fault.specs.declared.stop.Stop.TheVariants as stops
 use Rattle.first_fault.specs.Reading.{◌>>=◌, Fails}

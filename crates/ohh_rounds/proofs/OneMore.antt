@@ -1,6 +1,5 @@
 -- What is told of a seat, with one step more.
-use Rattle.std.proofs.Common.{◌≡◌, ◌≢◌, ℕ, zero, suc, ◌+◌, ◌-◌, ◌<◌, ◌≤◌, ◌==◌, Bool, T, true, false, ◌||◌, cond, List, [], ◌∷◌, ◌++◌, length, map, flat_map, find, set, inl, inr, subst, slice_get, Option, Some, None, option_map, refl, sym, ap, ◌∙◌, arith}
-use Rattle.std.specs.List.{list_any}
+use Rattle.std.proofs.Common.{◌≡◌, ◌≢◌, ℕ, ◌-◌, ◌≤◌, ◌==◌, Bool, T, true, false, ◌||◌, cond, List, [], ◌∷◌, ◌++◌, length, find, set, inl, inr, subst, slice_get, Option, Some, None, option_map, refl, sym, ap, ◌∙◌, arith}
 use Rattle.std.specs.Option.{option_or}
 use Rattle.std.proofs.Math.Bool.{or-true}
 use Rattle.std.proofs.Math.Dec.{eqb_refl}

@@ -1,5 +1,5 @@
 -- How one step more counts.
-use Rattle.std.proofs.Common.{◌≡◌, ℕ, ◌+◌, ◌<◌, ◌≤◌, Bool, true, false, not, cond, List, arith}
+use Rattle.std.proofs.Common.{◌≡◌, ℕ, ◌+◌, ◌≤◌, Bool, true, false, not, cond, List, arith}
 use Rattle.canonical_play.specs.declared.limits.TheConstants.{MOST_MOVES, MOST_OTHER_EVENTS}
 use Rattle.canonical_play.specs.PlayedScript.{is_move}
 use Rattle.hand_canon.specs.declared.limits.TheConstants.{MOST_FILE_MOVES}

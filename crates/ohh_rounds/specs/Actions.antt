@@ -1,5 +1,5 @@
 -- An action of a round: its word, its player, and then its amount or its cards.
-use Rattle.std.specs.Prelude.{⊤, ℕ, ◌+◌, ◌==◌, nat_le, Bool, not, ◌&&◌, if◌then◌else◌, List, [], ◌∷◌, ◌++◌, length, Option, Some, None, Result, Ok, Err}
+use Rattle.std.specs.Prelude.{⊤, ℕ, ◌+◌, ◌==◌, nat_le, Bool, not, ◌&&◌, if◌then◌else◌, List, [], length, Some, None, Result, Ok}
 use Rattle.serde_json.specs.Data.{Data}
 use Rattle.chip_ledger.specs.declared.numbers.TheConstants.{MOST_CHIPS}
 use Rattle.canonical_play.specs.declared.limits.TheConstants.{MOST_MOVES, MOST_OTHER_EVENTS}
@@ -28,7 +28,7 @@ use Rattle.ohh_posts.specs.Table.{seat_count}
 use Rattle.ohh_rounds.specs.declared.words.Word.{Word}
 use Rattle.ohh_rounds.specs.declared.words.Word.TheVariants as words
 use Rattle.ohh_rounds.specs.Words.{is_deal, word_named}
-use Rattle.ohh_rounds.specs.Steps.{PlainDeed, PlainStep, Posted, Dealt, Happened, Passed, dealt_to, has_folded, is_move_deed, moves_in, next_number, others_in}
+use Rattle.ohh_rounds.specs.Steps.{PlainDeed, PlainStep, Posted, Dealt, Happened, Passed, dealt_to, has_folded, moves_in, next_number, others_in}
 use Rattle.ohh_rounds.specs.Setting.{PlainSetting}
 
 -- the path of a member of an action

@@ -1,6 +1,6 @@
 -- The play of a hand: its posts meet their conditions, and give antes and blinds; hole cards are dealt first, and then
 -- comes what happened.
-use Rattle.std.specs.Prelude.{⊤, ℕ, ◌+◌, ◌-◌, List, [], ◌∷◌, ◌++◌, length, map, flat_map, find, replicate, Option, Some, None, Result, Ok, Err}
+use Rattle.std.specs.Prelude.{⊤, ℕ, ◌+◌, ◌-◌, List, [], ◌∷◌, ◌++◌, length, map, flat_map, replicate, Result, Ok, Err}
 use Rattle.std.specs.Option.{option_map_or}
 use Rattle.serde_json.specs.Data.{Data}
 use Rattle.card_set.specs.declared.card.Slot.{Slot}

@@ -1,9 +1,8 @@
-use Rattle.std.proofs.Common.{◌≡◌, ◌+◌, ◌-◌, ◌∙◌, sym, refl, arith, map, length, Ok}
-use Rattle.first_fault.specs.Reading.{◌>>=◌, each_from}
+use Rattle.std.proofs.Common.{◌≡◌, ◌-◌, ◌∙◌, sym, refl, arith, map, Ok}
 use Rattle.serde_json.specs.View.{view}
 use Rattle.card_set.specs.Row.{slots_of}
 use Rattle.ohh_members.specs.Paths.{card_path}
-use Rattle.ohh_members.specs.Values.{few_said, slot_said, slots_from, slots_said}
+use Rattle.ohh_members.specs.Values.{slot_said, slots_from, slots_said}
 use Rattle.std.proofs.lemmas.List.{length-map}
 use Rattle.ohh_rounds.proofs.Lengths.{as_many}
 use Rattle.ohh_rounds.proofs.actions.read_listed.Goals as goal

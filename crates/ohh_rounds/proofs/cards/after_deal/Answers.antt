@@ -1,7 +1,7 @@
-use Rattle.std.proofs.Common.{◌≡◌, ◌-◌, ◌+◌, ◌≤◌, ◌++◌, ◌∷◌, [], ◌∙◌, length, ap, arith, subst, map, refl, get_or}
+use Rattle.std.proofs.Common.{◌-◌, ◌++◌, ◌∷◌, [], length, ap, arith, subst, map, refl, get_or}
 use Rattle.card_set.specs.Row.{slots_of}
 use Rattle.ohh_rounds.specs.Kept.{IsToldOf}
-use Rattle.ohh_rounds.specs.Steps.{Dealt, dealt_to, plain_step}
+use Rattle.ohh_rounds.specs.Steps.{Dealt, plain_step}
 use Rattle.ohh_rounds.specs.declared.seat_told.SeatTold.{SeatTold}
 use Rattle.ohh_rounds.proofs.Indexed.{at_index}
 use Rattle.ohh_rounds.proofs.OneMore.{deal_elsewhere, deal_here, dealt, each_seat, is_elsewhere, is_here, row_length, untold}

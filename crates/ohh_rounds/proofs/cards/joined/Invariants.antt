@@ -1,4 +1,4 @@
-use Rattle.std.proofs.Common.{◌≡◌, ◌≤◌, ◌+◌, ◌++◌, drop}
+use Rattle.std.proofs.Common.{◌≡◌, ◌+◌, ◌++◌, drop}
 use Rattle.card_set.specs.Row.{slots_of}
 use Rattle.ohh_rounds.proofs.cards.joined.Given as goal
 

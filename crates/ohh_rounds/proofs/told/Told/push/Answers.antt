@@ -1,4 +1,4 @@
-use Rattle.std.proofs.Common.{◌≡◌, ◌+◌, ◌++◌, ◌∷◌, [], cond, min, ◌∙◌, refl, sym, ap, arith, map}
+use Rattle.std.proofs.Common.{◌∙◌, sym, ap, arith, map}
 use Rattle.std.proofs.lemmas.List.{map_push}
 use Rattle.list_laws.proofs.Counting.{count_by-push}
 use Rattle.ohh_rounds.specs.Steps.{is_action, is_move_deed, is_other_deed, plain_deed, plain_step}
