@@ -41,12 +41,24 @@ no_hole early late street low =
 
 pub holdem : (no_limit : Bool) (code : Code) → is_code_of no_limit code ≡ true → IsHoldem code
 holdem no_limit codes.NT is = record {
-  holes = refl; later_holes = no_hole sizes.Least sizes.Least; no_board = refl; flop = refl; turn = refl; river = refl;
-  no_draw = λ street. no_draw_at sizes.Least sizes.Least (street - 1); streets = refl;
+  holes = refl;
+  later_holes = no_hole sizes.Least sizes.Least;
+  no_board = refl;
+  flop = refl;
+  turn = refl;
+  river = refl;
+  no_draw = λ street. no_draw_at sizes.Least sizes.Least (street - 1);
+  streets = refl;
 }
 holdem no_limit codes.FT is = record {
-  holes = refl; later_holes = no_hole sizes.Small sizes.Big; no_board = refl; flop = refl; turn = refl; river = refl;
-  no_draw = λ street. no_draw_at sizes.Small sizes.Big (street - 1); streets = refl;
+  holes = refl;
+  later_holes = no_hole sizes.Small sizes.Big;
+  no_board = refl;
+  flop = refl;
+  turn = refl;
+  river = refl;
+  no_draw = λ street. no_draw_at sizes.Small sizes.Big (street - 1);
+  streets = refl;
 }
 holdem no_limit codes.NS is = absurd (cc (is))
 holdem no_limit codes.PO is = absurd (cc (is))

@@ -51,9 +51,9 @@ rows_same : (row other : SeatRow) → row.seats ≡ other.seats → bytes_eq (am
 rows_same row other seats equal =
     let same : amounts_in row ≡ amounts_in other = (bytes_eq-Decides (amounts_in row) (amounts_in other)).0 equal in
     seat_row_same_by_seats row other seats (λ n low high.
-        sym (taken_at row.amounts row.seats (n - 1) (omega (arith, low, high)))
-        ∙ ap (λ (list : List ℕ). slice_index list (n - 1)) same
-        ∙ taken_at other.amounts other.seats (n - 1) (omega (arith, low, high, seats)))
+    sym (taken_at row.amounts row.seats (n - 1) (omega (arith, low, high)))
+    ∙ ap (λ (list : List ℕ). slice_index list (n - 1)) same
+    ∙ taken_at other.amounts other.seats (n - 1) (omega (arith, low, high, seats)))
 
 rest_none : (first rest : Bool) → (first || rest) ≡ false → (first ≡ false) × (rest ≡ false)
 rest_none true rest none = absurd (true≢false none)
@@ -112,8 +112,8 @@ setup_is game setup valid has =
     let blinds : setup.blinds ≡ game.blinds = rows_same setup.blinds game.blinds (valid.same_blinds ∙ has.seats ∙ sym game.one_row) has.blinds in
     let antes = none_in setup.antes has.antes in
     let sizes = sizes_are game.no_limit setup.small_bet setup.big_bet setup.min_bet (greatest_blind setup) (greatest (amounts_in game.blinds)) game.small_raise game.big_raise
-        (subst (λ (c : Code). HasSizes c setup.small_bet setup.big_bet setup.min_bet) code (record { small_bet = valid.small_bet; big_bet = valid.big_bet; least_bet = valid.least_bet }))
-        has.sizes (ap (λ (row : SeatRow). greatest (amounts_in row)) blinds) game.sizes in
+    (subst (λ (c : Code). HasSizes c setup.small_bet setup.big_bet setup.min_bet) code (record { small_bet = valid.small_bet; big_bet = valid.big_bet; least_bet = valid.least_bet }))
+    has.sizes (ap (λ (row : SeatRow). greatest (amounts_in row)) blinds) game.sizes in
     record {
       code = code;
       stacks = rows_same setup.stacks game.stacks has.seats has.stacks;

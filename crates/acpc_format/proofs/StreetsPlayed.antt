@@ -6,7 +6,7 @@ use Rattle.std.proofs.lemmas.Bool.{both_ways, false_from_ne_true, le-ltb, lt-leb
 use Rattle.std.proofs.lemmas.List.{length-map}
 use Rattle.canon_blocks.proofs.StreetLists.{IsUnplayed, unplayed}
 use Rattle.canon_blocks.proofs.TraceOrder.{IsOwner, a_seat, the_board}
-use Rattle.canon_laws.proofs.StreetDeals.{group_is, length_none}
+use Rattle.canon_laws.proofs.StreetDeals.{group_is}
 use Rattle.canonical_play.specs.CanonScript.{dealt_slots}
 use Rattle.list_laws.proofs.Counting.{count_all}
 use Rattle.play_event.specs.declared.setup.Setup.{Setup}
@@ -21,7 +21,7 @@ use Rattle.play_event.specs.Seats.{all_seats, is_live, live_count}
 use Rattle.play_event.specs.Streets.{has_draw}
 use Rattle.play_event.specs.Table.{places_of}
 use Rattle.play_event.specs.Trace.{traced_places}
-use Rattle.play_laws.proofs.ClosedBetting.{fewer}
+use Rattle.list_laws.proofs.Counting.{counts_fewer}
 use Rattle.play_laws.proofs.DoneKept.{live_before}
 use Rattle.play_laws.proofs.DonePasts.{legal_done}
 use Rattle.play_laws.proofs.DueAtEvents.{turn_reaches}
@@ -29,7 +29,7 @@ use Rattle.play_laws.proofs.LegalEvents.{Stepped, stepped, deals, boards, mucks,
 use Rattle.play_laws.proofs.LegalPlaces.{group_count, legal_past}
 use Rattle.play_laws.proofs.PlaceGroups.{group_of, group_slots}
 use Rattle.play_laws.proofs.PlayedStreets.{IsDone, board_count, board_group, hole_group, reached_done}
-use Rattle.play_laws.specs.PastLaws.{plays_on}
+use Rattle.play_laws.specs.PastLaws.{is_played_on}
 
 -- moves are on streets from the first on
 abbrev AreSince : List Move → Type 0
@@ -81,7 +81,7 @@ has_street setup rules events before legal complete no_draw last =
     let done = (legal_done setup rules events legal).done in
     let law = (legal_past setup rules events legal).past in
     let quiet : is_passed setup (moves_of past) street ≡ true → IsUnplayed street past =
-    λ over. unplayed street past (false_from_ne_true (list_any (plays_on street) past) (λ some. both_ways (is_passed setup (moves_of past) street) (done.several street some) over)) in
+    λ over. unplayed street past (false_from_ne_true (list_any (is_played_on street) past) (λ some. both_ways (is_passed setup (moves_of past) street) (done.several street some) over)) in
     record {
       holes = λ seat low high. omega (arith, slots_count setup events before (Some seat) last (a_seat seat low high), group_count setup.code past street seat, done.dealt_most street seat (no_draw street));
       board = λ reached. slots_count setup events before None last the_board ∙ board_group setup past street done (reached_done setup past street law done complete (omega arith) last reached);
@@ -117,6 +117,6 @@ before_before early late (move ∷ rest) order = by_late (nat_lt move.street lat
 -- a hand that came to a street came to those before it
 pub came_before : (setup : Setup) (list : List Move) (early late : ℕ) → early ≤ late → is_passed setup list late ≡ false → is_passed setup list early ≡ false
 came_before setup list early late order reached =
-    let more = fewer (is_live (moves_before late list)) (is_live (moves_before early (moves_before late list))) (all_seats setup) (live_before (moves_before late list) early) in
+    let more = counts_fewer (is_live (moves_before late list)) (is_live (moves_before early (moves_before late list))) (live_before (moves_before late list) early) (all_seats setup) in
     let same : live_count setup (moves_before early (moves_before late list)) ≡ live_count setup (moves_before early list) = ap (live_count setup) (before_before early late list order) in
     lt-leb (live_count setup (moves_before early list)) 1 (omega (arith, more, same, leb-false (live_count setup (moves_before late list)) 1 reached))

@@ -26,13 +26,14 @@ use Rattle.canonical_play.specs.CanonScript.{dealt_slots, discarded_slots, held_
 use Rattle.canonical_play.specs.TraceCore.{TraceCore, core_of}
 use Rattle.play_laws.proofs.DiscardCounts.{is_out_of}
 use Rattle.play_laws.proofs.DonePasts.{legal_done}
-use Rattle.play_laws.proofs.HeldFew.{filter_less, held_most, holds_at}
+use Rattle.play_laws.proofs.HeldFew.{filter_less, held_most, is_held_at}
 use Rattle.play_laws.proofs.LegalPlaces.{legal_past}
 use Rattle.play_laws.proofs.PlayedStreets.{board_count}
 use Rattle.canon_blocks.proofs.TraceOrder.{finals_group, finals_of, the_board}
 use Rattle.canon_blocks.proofs.TracedSlots.{dealt_same, discarded_same}
 use Rattle.canon_laws.proofs.HeldSame.{held_script}
-use Rattle.canon_laws.proofs.LastPast.{is_in, shown_parts}
+use Rattle.canon_laws.proofs.LastPast.{shown_parts}
+use Rattle.list_laws.proofs.NumbersOfRange.{is_in}
 use Rattle.canon_laws.proofs.StreetDiscards.{out_finals}
 use Rattle.canon_laws.proofs.TidyTraces.{tidy_cards}
 use Rattle.showdown_laws.specs.ContestedEnd.{EndContested}
@@ -98,8 +99,8 @@ module _ (setup : Setup) (rules : Rules) (events : List Said) (legal : AreLegal 
         arith,
         held_most setup rules events seat (street - 1) legal,
         few_drawn setup.code street (street - 1) draws,
-        ap (λ k. length (filter (holds_at seat k) placed)) same,
-        filter_less (is_out_of street seat) (holds_at seat street) placed (λ place among is.
+        ap (λ k. length (filter (is_held_at seat k) placed)) same,
+        filter_less (is_out_of street seat) (is_held_at seat street) placed (λ place among is.
             let parts = and_parts (is_same_owner place.owner (Some seat)) (place.discarded == street) is in
             let here : place.discarded ≡ street = eqb-true place.discarded street parts.1 in
             and_from (is_same_owner place.owner (Some seat)) (nat_lt place.street street && not (nat_lt 0 place.discarded && nat_lt place.discarded street)) parts.0

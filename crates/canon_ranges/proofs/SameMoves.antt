@@ -1,7 +1,7 @@
 -- A canonical script has as many moves as its script, and so is within the limits of a hand where the script is.
 use Rattle.std.proofs.Common.{◌≡◌, ◌≤◌, List, [], ◌∷◌, length, count_by, reverse, refl, sym, ap, ◌∙◌, arith, length-append}
 use Rattle.list_laws.proofs.Counting.{count_by-cons}
-use Rattle.list_laws.proofs.CountsReversed.{count_reversed}
+use Rattle.list_laws.proofs.Reversed.{count_reversed}
 use Rattle.play_event.specs.Past.{Move, moves_of}
 use Rattle.play_event.specs.Said as said
 use Rattle.play_event.specs.Said.{Said}
