@@ -1,6 +1,6 @@
 -- The setups of the worked hands, and setups that are not valid.
 use Rattle.std.proofs.Common.{refl}
-use Rattle.std.specs.Prelude.{true, false, [], ◌∷◌}
+use Rattle.std.specs.Prelude.{ℕ, true, false, [], ◌∷◌, replicate}
 use Rattle.play_event.specs.declared.code.Code.TheVariants as games
 use Rattle.play_event.specs.declared.setup.Setup.{Setup}
 use Rattle.worked_hands.specs.Words.{hand_of}
@@ -14,7 +14,11 @@ no_limit = hand_of games.NT false 0 0 0 2 (100 ∷ 100 ∷ 100 ∷ []) (0 ∷ 0 
 abbrev pub deep_stacks : Setup
 deep_stacks = hand_of games.NT false 0 0 0 2 (MOST_CHIPS ∷ MOST_CHIPS ∷ MOST_CHIPS ∷ []) (0 ∷ 0 ∷ 0 ∷ []) (1 ∷ 2 ∷ 0 ∷ []) refl refl refl
 
--- the same with 14 chips before p1
+-- the same with such a rake of the lowest pot
+abbrev pub raked : ℕ → Setup
+raked rake = record no_limit { rakes = record { rakes = rake ∷ replicate 10 0; full = refl } }
+
+-- the first with 14 chips before p1
 abbrev pub first_short : Setup
 first_short = hand_of games.NT false 0 0 0 2 (14 ∷ 100 ∷ 100 ∷ []) (0 ∷ 0 ∷ 0 ∷ []) (1 ∷ 2 ∷ 0 ∷ []) refl refl refl
 

@@ -4,7 +4,7 @@ ghost use Rattle.std.specs.Prelude.{Some, [], false, slice_get, true, ◌∷◌,
 ghost use Rattle.play_event.specs.declared.reason.Illegal.TheVariants.{HandOver, WrongSeat, RaiseTooSmall, RaiseTooBig};
 ghost use Rattle.play_event.specs.Scripts.{has_early_end};
 ghost use Rattle.worked_hands.specs.Outcomes.{AllLegal, IllegalAt, ends_with};
-ghost use Rattle.worked_hands.specs.Setups.{deep_stacks, no_limit, one_dead_ante};
+ghost use Rattle.worked_hands.specs.Setups.{deep_stacks, no_limit, one_dead_ante, raked};
 ghost use Rattle.worked_hands.specs.BetScripts.{early_fold, folded_to_blind, one_fold, raised_to, three_folds, two_folds};
 
 /// A raise and two folds: what may not come in it, and what it ends with.
@@ -20,6 +20,8 @@ pub fn hands_won_by_folds()
     ensures a_fold_out_of_turn { IllegalAt 5 WrongSeat no_limit early_fold }
     ensures a_fold_after_the_end { IllegalAt 7 HandOver no_limit three_folds }
     ensures dead_antes { ends_with one_dead_ante folded_to_blind ≡ 99 ∷ 101 ∷ 100 ∷ [] }
+    ensures a_rake_of_one_chip { ends_with (raked 1) two_folds ≡ 99 ∷ 98 ∷ 102 ∷ [] }
+    ensures a_rake_of_the_whole_pot { ends_with (raked 5) two_folds ≡ 99 ∷ 98 ∷ 98 ∷ [] }
 {}
 
 /// Stacks of 10^12 are counted to the last chip.

@@ -1,12 +1,13 @@
 //! The setups of the worked hands are valid, and some setups are not. Each function does nothing: its contract is
 //! proved from the conditions.
 ghost use Rattle.play_event.specs.ValidSetup.{IsValid};
-ghost use Rattle.worked_hands.specs.Setups.{ante_all_in, antes_and_blinds, deep_stacks, draw_short, eight_in_stud, first_short, fixed_limit, greater_second_blind, heads_up, limit_short, limit_three, low_blinds, no_dead_antes, no_limit, no_stack, one_able, one_dead_ante, pot_limit, pot_short, razz, single_draw, stud, stud_short, stud_three, third_short, triple_draw, unused_small_bet};
+ghost use Rattle.worked_hands.specs.Setups.{ante_all_in, antes_and_blinds, deep_stacks, draw_short, eight_in_stud, first_short, fixed_limit, greater_second_blind, heads_up, limit_short, limit_three, low_blinds, no_dead_antes, no_limit, no_stack, one_able, one_dead_ante, pot_limit, pot_short, raked, razz, single_draw, stud, stud_short, stud_three, third_short, triple_draw, unused_small_bet};
 
 /// The setups of hands in no limit and pot limit are valid.
 pub fn valid_setups_in_no_limit()
     ensures three_seats { IsValid no_limit }
     ensures the_greatest_stacks { IsValid deep_stacks }
+    ensures a_rake { IsValid (raked 1) }
     ensures a_first_short_stack { IsValid first_short }
     ensures a_third_short_stack { IsValid third_short }
     ensures a_dead_ante { IsValid one_dead_ante }

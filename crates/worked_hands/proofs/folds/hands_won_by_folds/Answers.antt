@@ -50,3 +50,11 @@ returns-clause-a_fold_after_the_end c = refl
 pub returns-clause-dead_antes : goal.returns-clause-dead_antes
 unfolding turn why with_event slot_spelled rank_lettered suit_lettered pots_of after_return levels layers pots_at
 returns-clause-dead_antes c = refl
+
+pub returns-clause-a_rake_of_one_chip : goal.returns-clause-a_rake_of_one_chip
+unfolding turn why with_event slot_spelled rank_lettered suit_lettered pots_of after_return levels layers pots_at
+returns-clause-a_rake_of_one_chip c = refl
+
+pub returns-clause-a_rake_of_the_whole_pot : goal.returns-clause-a_rake_of_the_whole_pot
+unfolding turn why with_event slot_spelled rank_lettered suit_lettered pots_of after_return levels layers pots_at
+returns-clause-a_rake_of_the_whole_pot c = refl

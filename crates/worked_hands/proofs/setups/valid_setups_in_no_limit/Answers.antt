@@ -1,6 +1,6 @@
 -- Each setup passes the tests.
 use Rattle.std.proofs.Common.{refl}
-use Rattle.worked_hands.specs.Setups.{antes_and_blinds, deep_stacks, draw_short, first_short, heads_up, no_limit, one_dead_ante, pot_limit, pot_short, single_draw, third_short}
+use Rattle.worked_hands.specs.Setups.{antes_and_blinds, deep_stacks, draw_short, first_short, heads_up, no_limit, one_dead_ante, pot_limit, pot_short, raked, single_draw, third_short}
 use Rattle.worked_hands.proofs.ValidBy.{valid_by}
 use Rattle.worked_hands.proofs.setups.valid_setups_in_no_limit.Goals as goal
 
@@ -9,6 +9,9 @@ returns-clause-three_seats c = valid_by no_limit refl refl refl refl
 
 pub returns-clause-the_greatest_stacks : goal.returns-clause-the_greatest_stacks
 returns-clause-the_greatest_stacks c = valid_by deep_stacks refl refl refl refl
+
+pub returns-clause-a_rake : goal.returns-clause-a_rake
+returns-clause-a_rake c = valid_by (raked 1) refl refl refl refl
 
 pub returns-clause-a_first_short_stack : goal.returns-clause-a_first_short_stack
 returns-clause-a_first_short_stack c = valid_by first_short refl refl refl refl
