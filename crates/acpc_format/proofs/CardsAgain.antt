@@ -1,13 +1,12 @@
 -- The cards that were written are cut into those of each seat and those of each round, and read back.
-use Rattle.std.proofs.Common.{◌≡◌, ℕ, zero, suc, ◌+◌, ◌≤◌, ◌<◌, Bool, true, false, ◌&&◌, ◌||◌, ◌==◌, not, eqb, if◌then◌else◌, cond, List, [], ◌∷◌, ◌++◌, length, map, filter, Some, None, Result, Ok, refl, sym, ap, subst, ◌∙◌, arith, append_assoc, true≢false}
+use Rattle.std.proofs.Common.{◌≡◌, ℕ, zero, suc, ◌+◌, ◌≤◌, Bool, true, false, ◌&&◌, ◌||◌, ◌==◌, not, eqb, if◌then◌else◌, List, [], ◌∷◌, ◌++◌, length, map, Some, None, Ok, refl, sym, ap, ◌∙◌, arith, append_assoc, true≢false}
 use Rattle.std.specs.List.{flat_map, list_any, range_with_len}
 use Rattle.std.proofs.lemmas.Bool.{and_parts, eq-eqb}
 use Rattle.std.proofs.lemmas.Bool.Decides.{nat_tests}
 use Rattle.std.proofs.lemmas.List.{append-nil, length-append}
 use Rattle.card_set.proofs.Spelled.{slots_spelled-spelling}
 use Rattle.card_set.specs.Known.{is_unknown, known_cards}
-use Rattle.card_set.specs.Spelling.{slot_spelling, slots_spelled, spelling}
-use Rattle.card_set.specs.declared.card.Card.{Card}
+use Rattle.card_set.specs.Spelling.{slot_spelling, spelling}
 use Rattle.card_set.specs.declared.card.Slot.{Slot}
 use Rattle.card_set.specs.declared.card.Slot.TheVariants as slots
 use Rattle.canonical_play.specs.CanonScript.{dealt_slots}
@@ -19,9 +18,9 @@ use Rattle.acpc_line.specs.Cards.{board_text, boards_text, cards_text, hole_text
 use Rattle.acpc_line.specs.Names.{may_stand}
 use Rattle.acpc_line.specs.PlayFacts.{is_part_known}
 use Rattle.acpc_line.specs.Rounds.{further_streets, has_board}
-use Rattle.acpc_reading.specs.Cards.{board_said, hole_after, hole_said, holes_after, known_said, only_known}
+use Rattle.acpc_reading.specs.Cards.{board_said, hole_after, hole_said, holes_after, known_said}
 use Rattle.acpc_format.proofs.Readable.{HasHoles}
-use Rattle.acpc_format.proofs.Signs.{cards_plain, is_plain, plain_stands}
+use Rattle.acpc_format.proofs.Signs.{cards_plain, is_plain}
 use Rattle.acpc_format.proofs.Splits.{Passes, cut, cut_seats, passes_none, passes_seats, passes_wider, whole}
 
 -- a sign is no stroke

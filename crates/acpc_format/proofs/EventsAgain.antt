@@ -1,15 +1,13 @@
 -- The script of a line that was written: the deals, and a move for each letter.
-use Rattle.std.proofs.Common.{◌≡◌, ℕ, zero, suc, ◌+◌, ◌≤◌, ◌<◌, Bool, true, false, ◌&&◌, ◌==◌, not, eqb, if◌then◌else◌, cond, List, [], ◌∷◌, ◌++◌, length, map, filter, Some, None, Result, Ok, Err, refl, sym, ap, ap₂, subst, ◌∙◌, arith, append_assoc, true≢false}
+use Rattle.std.proofs.Common.{◌≡◌, ℕ, zero, suc, ◌+◌, ◌≤◌, Bool, true, false, ◌==◌, eqb, if◌then◌else◌, cond, List, [], ◌∷◌, ◌++◌, length, map, Some, None, Result, Ok, Err, refl, sym, ap, ap₂, ◌∙◌, arith, append_assoc, true≢false}
 use Rattle.std.specs.List.{flat_map, list_any, range_with_len}
-use Rattle.std.proofs.lemmas.Bool.{and_parts, eq-eqb}
-use Rattle.std.proofs.lemmas.Bool.Decides.{nat_tests}
+use Rattle.std.proofs.lemmas.Bool.{eq-eqb}
 use Rattle.std.proofs.lemmas.List.{append-nil, length-map}
 use Rattle.std.proofs.lemmas.List.FromFn.{length-range_with_len}
 use Rattle.list_laws.proofs.Any.{nothing_kept}
 use Rattle.list_laws.proofs.NumbersOfRange.{flat_none}
 use Rattle.card_set.specs.Known.{is_unknown, known_cards}
 use Rattle.card_set.specs.Spelling.{spelling}
-use Rattle.card_set.specs.declared.card.Card.{Card}
 use Rattle.card_set.specs.declared.card.Slot.{Slot}
 use Rattle.canonical_play.specs.CanonScript as canon
 use Rattle.canonical_play.specs.CanonScript.{deal_said, deals_said, dealt_slots, is_dealt_to}
@@ -27,7 +25,7 @@ use Rattle.acpc_line.specs.Betting.{hand_total}
 use Rattle.acpc_line.specs.Cards.{cards_text, hole_text, holes_text}
 use Rattle.acpc_line.specs.Rounds.{further_streets, has_board}
 use Rattle.acpc_text.specs.Parts.{parts_of}
-use Rattle.acpc_reading.specs.Cards.{Written, dealt, holes_after, next_round, script_said, step_after, steps_after, steps_said, with_letter, without_rest}
+use Rattle.acpc_reading.specs.Cards.{Written, dealt, holes_after, next_round, script_said, step_after, steps_after, steps_said, without_rest}
 use Rattle.acpc_reading.specs.declared.step.Step.{Step}
 use Rattle.acpc_reading.specs.declared.step.Step.TheVariants as steps
 use Rattle.acpc_format.specs.Again.{move_again, move_on, moves_again, numbered_from, street_again}

@@ -1,17 +1,15 @@
 -- A line that was written is cut into its fields, and reads as the hand of its play.
-use Rattle.std.proofs.Common.{◌≡◌, ℕ, zero, suc, ◌+◌, ◌-◌, ◌≤◌, ◌<◌, ◌^◌, Bool, true, false, ◌&&◌, ◌||◌, ◌==◌, not, eqb, nat_le, nat_lt, if◌then◌else◌, cond, bytes_eq, codes, decimal, List, [], ◌∷◌, ◌++◌, length, map, slice_index, slice_index_or, Option, Some, None, Result, Ok, Err, refl, sym, ap, ap₂, subst, ◌∙◌, arith, append_assoc, true≢false}
-use Rattle.std.specs.List.{flat_map, list_all, list_any, range_with_len, AllByRecursion}
-use Rattle.std.proofs.lemmas.Bool.{and_parts, eq-eqb}
-use Rattle.std.proofs.lemmas.Fmt.{decimal_is_IsNumeral}
-use Rattle.std.proofs.lemmas.List.{append-nil, length-map, length-reverse}
+use Rattle.std.proofs.Common.{◌≡◌, ℕ, ◌+◌, ◌-◌, ◌≤◌, ◌<◌, ◌^◌, Bool, true, false, ◌||◌, ◌==◌, not, eqb, nat_lt, if◌then◌else◌, codes, decimal, List, [], ◌∷◌, ◌++◌, length, map, slice_index_or, Option, Some, None, Ok, refl, sym, ap, subst, ◌∙◌, arith, append_assoc, true≢false}
+use Rattle.std.specs.List.{flat_map, range_with_len, AllByRecursion}
+use Rattle.std.proofs.lemmas.Bool.{eq-eqb}
+use Rattle.std.proofs.lemmas.List.{length-map, length-reverse}
 use Rattle.std.proofs.lemmas.List.FromFn.{length-range_with_len}
 use Rattle.chip_ledger.specs.SeatRow.{amount_of}
 use Rattle.chip_ledger.specs.declared.numbers.TheConstants.{MOST_CHIPS}
 use Rattle.card_set.specs.Spelling.{spelling}
 use Rattle.canonical_play.specs.CanonScript.{dealt_slots, plain_move, plain_moves}
-use Rattle.canonical_play.specs.declared.limits.TheConstants.{MOST_MOVES}
 use Rattle.hand_canon.specs.Agreement.{value_of}
-use Rattle.hand_canon.specs.AllowedNotes.{AreAllowed, default_name}
+use Rattle.hand_canon.specs.AllowedNotes.{default_name}
 use Rattle.hand_canon.specs.TraceRows.{core_said}
 use Rattle.hand_canon.specs.declared.limits.TheConstants.{MOST_FILE_MOVES}
 use Rattle.hand_canon.specs.declared.notes.Notes.{Notes}
@@ -21,9 +19,7 @@ use Rattle.play_event.specs.Chips.{chips_put}
 use Rattle.play_event.specs.Past.{Act, BroughtIn, Called, Folded, Move, Raised}
 use Rattle.play_event.specs.Trace.{TracedMove, TracedPlace}
 use Rattle.play_event.specs.declared.setup.Setup.{Setup}
-use Rattle.first_fault.specs.Reading.{◌>>=◌}
-use Rattle.acpc_text.specs.Parts.{begins_with, parts_of}
-use Rattle.acpc_text.specs.declared.fault.LineFault.{LineFault}
+use Rattle.acpc_text.specs.Parts.{parts_of}
 use Rattle.acpc_game.specs.declared.game.Game.{Game}
 use Rattle.acpc_line.specs.Betting.{betting_text, hand_total}
 use Rattle.acpc_line.specs.Cards.{board_text, boards_text, cards_text, hole_text, holes_text}
@@ -33,14 +29,13 @@ use Rattle.acpc_line.specs.Rounds.{further_streets, has_board}
 use Rattle.acpc_line.specs.Seats.{for_seats}
 use Rattle.acpc_line.specs.Values.{value_text, values_text}
 use Rattle.acpc_reading.specs.Betting.{betting_said, no_bets}
-use Rattle.acpc_reading.specs.Cards.{script_said}
-use Rattle.acpc_reading.specs.Logs.{FieldsSaid, HandSaid, behind, hand_of, is_passed_over, line_said, six_fields}
-use Rattle.acpc_reading.specs.Names.{hand_said, names_said}
+use Rattle.acpc_reading.specs.Logs.{FieldsSaid, behind, hand_of, line_said, six_fields}
+use Rattle.acpc_reading.specs.Names.{names_said}
 use Rattle.acpc_reading.specs.Values.{values_said}
 use Rattle.acpc_reading.specs.declared.step.Step.{Step}
 use Rattle.acpc_reading.specs.declared.step.Step.TheVariants as steps
 use Rattle.acpc_format.specs.Again.{hand_again, name_again}
-use Rattle.acpc_format.proofs.Readable.{HasLetters, IsReadable, moves_written}
+use Rattle.acpc_format.proofs.Readable.{IsReadable, moves_written}
 use Rattle.acpc_format.proofs.BettingAgain.{HasLetter, betting_again, with_steps}
 use Rattle.acpc_format.proofs.CardsAgain.{hole_plain}
 use Rattle.acpc_format.proofs.EventsAgain.{script_read}
@@ -49,7 +44,7 @@ use Rattle.acpc_format.proofs.NumbersAgain as numbers
 use Rattle.acpc_format.proofs.NumbersAgain.{values_again}
 use Rattle.acpc_format.proofs.Signs.{cards_plain, decimal_plain, default_plain, is_clear, is_plain, plain_stands, stands_clear}
 use Rattle.acpc_format.proofs.Splits.{Passes, cut, cut_seats, passes_both, passes_more, passes_none, passes_seats, passes_wider, whole}
-use Rattle.acpc_format.proofs.Steps.{all_steps, few_steps, moves_in, round_steps, step_of, step_on, step_text, steps_on, steps_text, strokes_in}
+use Rattle.acpc_format.proofs.Steps.{all_steps, few_steps, moves_in, round_steps, step_of, step_on, step_text, steps_on, steps_text}
 
 -- ---- the letters of a play
 

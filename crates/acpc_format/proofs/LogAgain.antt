@@ -1,5 +1,5 @@
 -- The lines of plays that were written read as the hands of these plays.
-use Rattle.std.proofs.Common.{◌≡◌, ℕ, zero, suc, ◌+◌, ◌-◌, ◌≤◌, ◌<◌, ◌^◌, Bool, true, false, ◌&&◌, ◌||◌, ◌==◌, not, eqb, nat_le, nat_lt, cond, codes, List, [], ◌∷◌, ◌++◌, length, map, slice_index, sum_by, Result, Ok, Err, refl, sym, ap, ap₂, subst, ◌∙◌, arith, append_assoc, ne_eqb}
+use Rattle.std.proofs.Common.{◌≡◌, ℕ, ◌+◌, ◌-◌, ◌≤◌, ◌<◌, Bool, false, eqb, List, [], ◌∷◌, ◌++◌, length, slice_index, sum_by, Result, Ok, refl, sym, ap, ap₂, ◌∙◌, arith, append_assoc, ne_eqb}
 use Rattle.std.specs.List.{AllByRecursion}
 use Rattle.std.proofs.lemmas.Bool.{lt-leb}
 use Rattle.std.proofs.lemmas.List.{append-nil, length-append}
@@ -8,13 +8,11 @@ use Rattle.hand_canon.specs.declared.limits.TheConstants.{MOST_FILE_MOVES, MOST_
 use Rattle.hand_canon.specs.declared.trace.Play.{Play}
 use Rattle.first_fault.specs.Reading.{◌>>=◌}
 use Rattle.acpc_text.proofs.LineLaws.{line_and_more}
-use Rattle.acpc_text.specs.Faults.{in_line}
-use Rattle.acpc_text.specs.Parts.{lines_of, parts_of, without_return}
+use Rattle.acpc_text.specs.Parts.{lines_of, without_return}
 use Rattle.acpc_text.specs.declared.fault.AcpcFault.{AcpcFault}
-use Rattle.acpc_text.specs.declared.fault.LineFault.{LineFault}
 use Rattle.acpc_game.specs.declared.game.Game.{Game}
-use Rattle.acpc_line.specs.Line.{line_text, lines_from, log_text}
-use Rattle.acpc_reading.specs.Logs.{HandSaid, Hands, hands_after, hands_after_line, is_passed_over, line_said, reading}
+use Rattle.acpc_line.specs.Line.{lines_from, log_text}
+use Rattle.acpc_reading.specs.Logs.{HandSaid, Hands, hands_after, hands_after_line, is_passed_over, reading}
 use Rattle.acpc_format.specs.Again.{hand_again, hands_again}
 use Rattle.acpc_format.proofs.Readable.{IsReadable, moves_written}
 use Rattle.acpc_format.proofs.LineAgain.{Fields, few_moves, fields_clear, fields_of, in_fields, inner_line, is_inner, line_is, line_read, steps_of}

@@ -1,24 +1,20 @@
 -- The names of players and the number of the hand that were written read back as the kept ones.
 use Rattle.std.proofs.Common.{◌≡◌, ℕ, zero, suc, ◌+◌, ◌-◌, ◌≤◌, ◌<◌, ◌^◌, Bool, true, false, ◌&&◌, ◌||◌, ◌==◌, not, nat_le, nat_lt, cond, bytes_eq, decimal, List, [], ◌∷◌, ◌++◌, length, map, slice_index, slice_index_or, Option, Some, None, IfSome, IsUtf8, Result, Ok, refl, sym, ap, subst, ◌∙◌, arith, append_assoc, ltb-false, ne_eqb}
-use Rattle.std.specs.List.{list_all, range_with_len}
-use Rattle.std.specs.Char.{is_digit, digit_value}
+use Rattle.std.specs.List.{range_with_len}
 use Rattle.std.specs.Str.{is_utf8}
-use Rattle.std.specs.Str.Parse.{AllDigits, digits_value}
-use Rattle.std.proofs.lemmas.Bool.{and_parts, eqb-true, eq-eqb, le-leb, leb-true, ltb-true}
+use Rattle.std.specs.Str.Parse.{AllDigits}
 use Rattle.std.proofs.lemmas.Bool.Decides.{nat_tests}
-use Rattle.std.proofs.lemmas.Fmt.{decimal-digits_value, decimal_is_IsNumeral, length-decimal-le_succ, IsAscii-from_digits}
+use Rattle.std.proofs.lemmas.Fmt.{decimal_is_IsNumeral, length-decimal-le_succ, IsAscii-from_digits}
 use Rattle.std.proofs.lemmas.List.{append-nil}
 use Rattle.std.proofs.lemmas.Slice.Eq.{bytes_eq-Decides}
 use Rattle.std.proofs.lemmas.Str.{is_utf8-from_IsUtf8, IsUtf8-from_ascii}
-use Rattle.std.proofs.lemmas.Str.Parse.{IsNumeralModel}
-use Rattle.first_fault.specs.Digits.{are_digits, number_of}
-use Rattle.hand_canon.specs.AllowedNotes.{default_name, AreAllowed, IsName, IsNoteText}
+use Rattle.hand_canon.specs.AllowedNotes.{default_name, AreAllowed, IsName}
 use Rattle.hand_canon.specs.declared.limits.TheConstants.{MOST_TEXT_BYTES}
 use Rattle.hand_canon.specs.declared.notes.Notes.{Notes}
 use Rattle.acpc_text.specs.declared.fault.LineFault.{LineFault}
-use Rattle.acpc_line.specs.Names.{hand_text, is_spelled_hand, is_spelled_name, name_or_default, name_text}
-use Rattle.acpc_reading.specs.Names.{hand_note, hand_said, name_note, name_said, names_after}
-use Rattle.acpc_format.specs.Again.{kept_hand, kept_name, name_again}
+use Rattle.acpc_line.specs.Names.{is_spelled_name, name_or_default, name_text}
+use Rattle.acpc_reading.specs.Names.{name_said, names_after}
+use Rattle.acpc_format.specs.Again.{kept_name, name_again}
 use Rattle.acpc_line.specs.Texts.{AreTexts}
 
 -- a text is its own comparison

@@ -1,12 +1,10 @@
 -- A valid setup that the logs of a game spell is that of the game.
-use Rattle.std.proofs.Common.{◌≡◌, ℕ, zero, suc, ◌+◌, ◌-◌, ◌≤◌, ◌<◌, Bool, true, false, ◌&&◌, ◌||◌, ◌==◌, not, eqb, nat_le, nat_lt, bytes_eq, if◌then◌else◌, List, [], ◌∷◌, length, take, map, slice_index, None, refl, sym, ap, subst, ◌∙◌, arith, ltb-false, true≢false, inl, inr}
+use Rattle.std.proofs.Common.{◌≡◌, ℕ, zero, suc, ◌-◌, ◌<◌, Bool, true, false, ◌&&◌, ◌||◌, not, eqb, nat_lt, bytes_eq, if◌then◌else◌, List, [], ◌∷◌, take, slice_index, None, refl, sym, ap, subst, ◌∙◌, arith, ltb-false, true≢false, inl, inr}
 use Rattle.std.specs.List.{list_any}
 use Rattle.std.proofs.lemmas.Bool.{and_parts, cases_lt, eqb-true}
-use Rattle.std.proofs.lemmas.Bool.Decides.{nat_tests}
 use Rattle.std.proofs.lemmas.Slice.Eq.{bytes_eq-Decides}
 use Rattle.chip_ledger.proofs.Same.{seat_row_same_by_seats}
 use Rattle.chip_ledger.specs.Greatest.{greatest}
-use Rattle.chip_ledger.specs.RakeRow.{rake_of}
 use Rattle.chip_ledger.specs.SeatRow.{amount_of}
 use Rattle.chip_ledger.specs.declared.rows.SeatRow.{SeatRow}
 use Rattle.list_laws.proofs.NumbersOfRange.{any_none}
@@ -19,9 +17,9 @@ use Rattle.hand_canon.specs.declared.trace.Play.{Play}
 use Rattle.hand_canon.specs.declared.writing.Keep.{Keep}
 use Rattle.acpc_game.specs.declared.game.Game.{Game}
 use Rattle.acpc_game.specs.Games.{amounts_in, fit_blinds}
-use Rattle.acpc_line.specs.SetupFacts.{greatest_blind, has_sizes_of, is_code_of}
+use Rattle.acpc_line.specs.SetupFacts.{greatest_blind, is_code_of}
 use Rattle.acpc_line.specs.Spelled.{unspelled}
-use Rattle.acpc_reading.specs.RecordView.{IsSetupOf, code_of, least_bet}
+use Rattle.acpc_reading.specs.RecordView.{IsSetupOf, code_of}
 use Rattle.acpc_format.proofs.SpelledFacts.{HasSetupOf, spelled}
 
 code_is : (no_limit : Bool) (code : Code) → is_code_of no_limit code ≡ true → code ≡ code_of no_limit

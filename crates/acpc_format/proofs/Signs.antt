@@ -1,7 +1,5 @@
 -- The signs of digits, of cards and of names.
-use Rattle.std.proofs.Common.{◌≡◌, ℕ, ◌+◌, ◌≤◌, ◌<◌, ◌^◌, Bool, true, false, ◌&&◌, ◌||◌, ◌==◌, not, List, [], ◌∷◌, ◌++◌, length, decimal, refl, sym, ap, ◌∙◌, arith, ne_eqb}
-use Rattle.std.specs.Char.{digit_value}
-use Rattle.std.specs.List.{list_all}
+use Rattle.std.proofs.Common.{◌≡◌, ℕ, ◌≤◌, ◌<◌, ◌^◌, Bool, true, false, ◌&&◌, ◌||◌, ◌==◌, not, List, [], ◌∷◌, decimal, refl, arith, ne_eqb}
 use Rattle.std.specs.Str.Parse.{AllDigits}
 use Rattle.std.proofs.lemmas.Bool.{and_parts}
 use Rattle.std.proofs.lemmas.Fmt.{decimal_is_IsNumeral}
@@ -15,7 +13,7 @@ use Rattle.card_set.specs.declared.card.Slot.TheVariants as slots
 use Rattle.card_set.specs.Spelling.{rank_letter, slot_spelling, spelling, suit_letter}
 use Rattle.hand_canon.specs.AllowedNotes.{default_name}
 use Rattle.acpc_line.specs.Names.{may_stand}
-use Rattle.acpc_format.proofs.Splits.{Passes, passes_both, passes_more, passes_none, passes_wider}
+use Rattle.acpc_format.proofs.Splits.{Passes, passes_both, passes_more, passes_none}
 
 -- a sign may stand in a field: it is no colon, and ends no line
 abbrev pub is_clear : ℕ → Bool

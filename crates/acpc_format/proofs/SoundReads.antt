@@ -1,5 +1,5 @@
 -- A sound play that the logs of its game spell reads back.
-use Rattle.std.proofs.Common.{◌≡◌, ℕ, zero, suc, ◌+◌, ◌-◌, ◌≤◌, ◌<◌, Bool, true, false, ◌&&◌, ◌||◌, ◌==◌, not, cond, nat_le, sum_by, List, [], ◌∷◌, length, map, filter, reverse, take, Option, Some, None, is_some, Ok, refl, sym, ap, subst, ◌∙◌, arith, true≢false, inl, inr}
+use Rattle.std.proofs.Common.{◌≡◌, ℕ, zero, suc, ◌+◌, ◌-◌, ◌≤◌, Bool, true, false, ◌&&◌, ◌||◌, ◌==◌, cond, sum_by, List, [], ◌∷◌, length, map, filter, reverse, take, Option, Some, None, is_some, Ok, refl, sym, ap, subst, ◌∙◌, arith, true≢false, inl, inr}
 use Rattle.std.specs.List.{AllByRecursion, list_any}
 use Rattle.std.proofs.lemmas.Bool.{and_parts, cases_lt}
 use Rattle.std.proofs.lemmas.List.{length-map, length-reverse}
@@ -19,14 +19,13 @@ use Rattle.play_event.proofs.ChipLaws.{puts_within}
 use Rattle.play_event.specs.declared.setup.Rules.{Rules}
 use Rattle.play_event.specs.declared.setup.Setup.{Setup}
 use Rattle.play_event.specs.Laws.{AreLegal}
-use Rattle.play_event.specs.Chips.{chips_put}
 use Rattle.play_event.specs.Due.{is_unfinished, turn}
-use Rattle.play_event.specs.Games.{board_cards_on, hole_cards_on, street_count}
-use Rattle.play_event.specs.Past.{Move, Past, moves_of, moves_on}
+use Rattle.play_event.specs.Games.{board_cards_on}
+use Rattle.play_event.specs.Past.{Past, moves_of, moves_on}
 use Rattle.play_event.specs.Places.{is_same_owner}
 use Rattle.play_event.specs.Said.{Said}
 use Rattle.play_event.specs.Scripts.{past_after, past_at_end, past_of}
-use Rattle.play_event.specs.Trace.{TracedMove, TracedPlace, traced_moves, traced_places}
+use Rattle.play_event.specs.Trace.{TracedPlace, traced_moves, traced_places}
 use Rattle.play_event.specs.ValidSetup.{IsValid}
 use Rattle.hand_canon.specs.AllowedNotes.{AreAllowed}
 use Rattle.hand_canon.specs.Sound.{IsSound, script_said}
@@ -42,7 +41,7 @@ use Rattle.acpc_line.specs.PlayFacts.{is_part_known}
 use Rattle.acpc_line.specs.Rounds.{has_board}
 use Rattle.acpc_line.specs.Spelled.{first_refusal, refusal_from, refused_at, unspelled}
 use Rattle.acpc_line.specs.Texts.{HasTexts}
-use Rattle.acpc_format.proofs.Readable.{HasBoards, HasHoles, HasLetters, IsReadable}
+use Rattle.acpc_format.proofs.Readable.{HasBoards, HasLetters, IsReadable}
 use Rattle.acpc_reading.specs.Logs.{reading}
 use Rattle.acpc_format.specs.Again.{hands_again, moves_written}
 use Rattle.acpc_format.proofs.LogAgain.{plays_again}

@@ -1,5 +1,5 @@
 -- What holds of a play that the logs of a game spell.
-use Rattle.std.proofs.Common.{◌≡◌, ℕ, ◌≤◌, Bool, true, false, ◌==◌, ◌&&◌, not, nat_lt, bytes_eq, if◌then◌else◌, List, [], ◌∷◌, Option, Some, None, refl, sym, ap, is_some, ◌∙◌, true≢false}
+use Rattle.std.proofs.Common.{◌≡◌, Bool, true, false, ◌==◌, ◌&&◌, not, nat_lt, bytes_eq, if◌then◌else◌, Option, Some, None, refl, ap, is_some, true≢false}
 use Rattle.std.specs.List.{list_any}
 use Rattle.std.proofs.lemmas.Bool.{eqb-true}
 use Rattle.chip_ledger.specs.Seat.{seats_of}
@@ -12,8 +12,7 @@ use Rattle.hand_canon.specs.declared.writing.Unspelled.{Unspelled}
 use Rattle.hand_canon.specs.declared.writing.Unspelled.TheVariants as facts
 use Rattle.acpc_game.specs.declared.game.Game.{Game}
 use Rattle.acpc_game.specs.Games.{amounts_in}
-use Rattle.acpc_line.specs.NoteFacts.{text_conditions}
-use Rattle.acpc_line.specs.PlayFacts.{is_above_caps, is_free_fold, is_off_unit, is_open_muck, is_part_known, is_uneven, play_conditions}
+use Rattle.acpc_line.specs.PlayFacts.{is_above_caps, is_free_fold, is_off_unit, is_part_known, play_conditions}
 use Rattle.acpc_line.specs.SetupFacts.{has_sizes_of, is_code_of, setup_conditions}
 use Rattle.acpc_line.specs.Spelled.{first_where, or_else, unspelled, unspelled_note}
 

@@ -1,8 +1,8 @@
 -- What a legal hand that is played to its end has of each street: where the hand came to the street, all its cards; and else
 -- no cards and no moves.
-use Rattle.std.proofs.Common.{◌≡◌, ℕ, zero, suc, ◌+◌, ◌-◌, ◌≤◌, ◌<◌, Bool, true, false, ◌&&◌, ◌||◌, not, cond, nat_lt, nat_le, count_by, if◌then◌else◌, List, [], ◌∷◌, ◌++◌, length, map, filter, reverse, take, Option, Some, None, refl, sym, ap, subst, ◌∙◌, arith, ltb-false, true≢false}
+use Rattle.std.proofs.Common.{◌≡◌, ℕ, ◌+◌, ◌≤◌, Bool, true, false, cond, nat_lt, nat_le, if◌then◌else◌, List, [], ◌∷◌, length, Option, Some, None, refl, sym, ap, ◌∙◌, arith, ltb-false}
 use Rattle.std.specs.List.{list_any}
-use Rattle.std.proofs.lemmas.Bool.{both_ways, false_from_ne_true, le-ltb, lt-leb, lt-ltb, leb-true, leb-false}
+use Rattle.std.proofs.lemmas.Bool.{both_ways, false_from_ne_true, le-ltb, lt-leb, leb-false}
 use Rattle.std.proofs.lemmas.List.{length-map}
 use Rattle.canon_blocks.proofs.StreetLists.{IsUnplayed, unplayed}
 use Rattle.canon_blocks.proofs.TraceOrder.{IsOwner, a_seat, the_board}
