@@ -1,0 +1,23 @@
+use Rattle.ohh_facts.proofs.Dated.{year_within, month_within, day_within, date_within, time_within}
+use Rattle.ohh_facts.proofs.notes.notes_of.Goals as goal
+
+pub returns-clause-allowed : goal.returns-clause-allowed
+returns-clause-allowed c =
+    let fit = c.requires.fit in
+    let moment = c.args.labels.moment in
+    record {
+      names = c.in_ok-names.ensures.each;
+      no_more_names = c.in_ok-names.ensures.no_more;
+      seats = c.unless_usual.ensures.allowed;
+      seat_count = fit.seat_count;
+      hand = fit.hand;
+      table = fit.table;
+      venue = fit.venue;
+      currency = fit.currency;
+      year = rw c.year_of.ensures (year_within moment fit.moment);
+      month = rw c.month_of.ensures (month_within moment fit.moment);
+      day = rw c.day_of.ensures (day_within moment fit.moment);
+      date = rw (c.year_of.ensures, c.month_of.ensures, c.day_of.ensures) (date_within moment fit.moment);
+      time = rw c.time_of.ensures (time_within moment fit.moment);
+      zone = c.in_ok-zone.ensures.allowed;
+    }

@@ -1,0 +1,8 @@
+-- What a hand says beside its play.
+pub mod Won
+pub mod PotSums
+pub mod Pots
+pub mod Moments
+pub mod MomentRanges
+pub mod Notes
+pub mod LabelRanges

@@ -1,0 +1,17 @@
+-- The ranges of a moment.
+use Rattle.std.specs.Prelude.{ℕ}
+use Rattle.hand_canon.specs.AllowedNotes.{IsDayOf, IsTime, IsWithin}
+use Rattle.ohh_facts.specs.declared.moment.Day.{Day}
+use Rattle.ohh_facts.specs.declared.moment.Moment.{Moment}
+
+-- a day of the calendar
+pub record IsDay (day : Day) : Type 0 where
+  pub year : IsWithin 1 9999 day.year
+  pub month : IsWithin 1 12 day.month
+  pub day_of_month : IsWithin 1 31 day.day
+  pub date : IsDayOf day.year day.month day.day
+
+-- a moment of such a day
+pub record IsMoment (moment : Moment) : Type 0 where
+  pub day : IsDay moment.day
+  pub time : IsTime moment.time

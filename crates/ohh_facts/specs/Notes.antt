@@ -1,0 +1,136 @@
+-- The notes of a hand, examined in this order. A note that equals its default is none.
+use Rattle.std.specs.Prelude.{ℕ, ◌+◌, ◌==◌, ◌||◌, bytes_eq, if◌then◌else◌, List, [], ◌∷◌, codes, length, map, take, Option, Some, None, option_map, option_and_then, nat_le, Result, Ok}
+use Rattle.std.specs.Fmt.{decimal, signed_decimal}
+use Rattle.std.specs.List.{range_with_len}
+use Rattle.serde_json.specs.Data.{Data, string}
+use Rattle.hand_canon.specs.declared.limits.TheConstants.{MOST_TEXT_BYTES}
+use Rattle.hand_canon.specs.declared.limits.Quantity.TheVariants as quantities
+use Rattle.hand_canon.specs.declared.notes.Clock.{Clock}
+use Rattle.hand_canon.specs.declared.notes.Notes.{Notes}
+use Rattle.hand_canon.specs.AllowedNotes.{default_name}
+use Rattle.first_fault.specs.Reading.{◌>>=◌, read_if}
+use Rattle.ohh_members.specs.declared.fault.What.TheVariants as whats
+use Rattle.ohh_members.specs.declared.fault.Path.{Path}
+use Rattle.ohh_members.specs.declared.fault.Path.TheVariants as paths
+use Rattle.ohh_members.specs.declared.fault.Fault.{Fault}
+use Rattle.ohh_facts.specs.declared.labels.Labels.{Labels}
+use Rattle.ohh_facts.specs.declared.moment.Moment.{Moment}
+use Rattle.ohh_facts.specs.Moments.{moment_said}
+use Rattle.ohh_members.specs.Players.{PlainPlayer}
+use Rattle.ohh_members.specs.Values.{wrong, field, integer_said, number_said, text_said}
+
+-- a note that equals its default is none, and an empty text is none
+abbrev pub noted : List ℕ → List ℕ → Option (List ℕ)
+noted default text = if (length text == 0) || bytes_eq text default then None else Some text
+
+-- the text of a note with this default; it is of at most 255 bytes
+unfoldable pub note_said : List ℕ → Path → List ℕ → Result (Option (List ℕ)) Fault
+note_said default path text =
+    if nat_le (length text) MOST_TEXT_BYTES then Ok (noted default text) else wrong (whats.TooMany quantities.TextBytes) path
+
+-- a text with this default
+unfoldable pub text_note_said : List ℕ → Path → Data → Result (Option (List ℕ)) Fault
+text_note_said default path value = text_said path value >>= note_said default path
+
+-- a text with this default, or a whole number that stands for its decimal text
+unfoldable pub label_said : List ℕ → Path → Data → Result (Option (List ℕ)) Fault
+label_said default path (string text) = note_said default path text
+label_said default path value = integer_said path value >>= λ number. note_said default path (signed_decimal number)
+
+-- a note that may lack
+abbrev pub or_none : {A : Type 0} → (Data → Result (Option A) Fault) → Option Data → Result (Option A) Fault
+or_none form None = Ok None
+or_none form (Some value) = form value
+
+-- how many seats the table of a hand with so many seats has
+unfoldable pub seat_count_said : ℕ → Data → Result (Option ℕ) Fault
+seat_count_said count value = number_said 1 255 paths.TableSize value >>= λ number. Ok (if number == count then None else Some number)
+
+-- where and when a hand was played
+pub record PlainLabels : Type 0 where
+  pub hand : Option (List ℕ)
+  pub table : Option (List ℕ)
+  pub seat_count : Option ℕ
+  pub moment : Option Moment
+  pub currency : Option (List ℕ)
+  pub venue : Option (List ℕ)
+
+-- what labels say
+abbrev pub plain_labels : Labels → PlainLabels
+plain_labels labels =
+    record { hand = labels.hand; table = labels.table; seat_count = labels.seat_count; moment = labels.moment; currency = labels.currency; venue = labels.venue }
+
+-- the labels of a hand with so many seats, at this place of its file, from 0
+unfoldable pub labels_said : ℕ → ℕ → Data → Result PlainLabels Fault
+labels_said place count ohh = do
+  hand ← or_none (label_said (decimal place) paths.GameNumber) (field paths.GameNumber ohh)
+  table ← or_none (text_note_said [] paths.TableName) (field paths.TableName ohh)
+  seat_count ← or_none (seat_count_said count) (field paths.TableSize ohh)
+  moment ← read_if moment_said (field paths.StartDate ohh)
+  currency ← or_none (text_note_said [] paths.Currency) (field paths.Currency ohh)
+  venue ← or_none (text_note_said [] paths.SiteName) (field paths.SiteName ohh)
+  Ok (record { hand = hand; table = table; seat_count = seat_count; moment = moment; currency = currency; venue = venue })
+
+-- the notes of a hand with plain lists
+pub record PlainNotes : Type 0 where
+  pub names : List (Option (List ℕ))
+  pub seats : Option (List ℕ)
+  pub seat_count : Option ℕ
+  pub hand : Option (List ℕ)
+  pub table : Option (List ℕ)
+  pub venue : Option (List ℕ)
+  pub currency : Option (List ℕ)
+  pub year : Option ℕ
+  pub month : Option ℕ
+  pub day : Option ℕ
+  pub time : Option Clock
+  pub zone : Option (List ℕ)
+
+-- the notes of a hand with so many seats
+abbrev pub plain_notes : ℕ → Notes → PlainNotes
+plain_notes count notes =
+    record {
+      names = take count notes.names;
+      seats = option_map (take count) notes.seats;
+      seat_count = notes.seat_count;
+      hand = notes.hand;
+      table = notes.table;
+      venue = notes.venue;
+      currency = notes.currency;
+      year = notes.year;
+      month = notes.month;
+      day = notes.day;
+      time = notes.time;
+      zone = notes.zone;
+    }
+
+-- the names of players, of whom the first has this seat in the hand
+abbrev pub names_from : ℕ → List PlainPlayer → List (Option (List ℕ))
+names_from seat [] = []
+names_from seat (player ∷ rest) = option_and_then (noted (default_name seat)) player.name ∷ names_from (seat + 1) rest
+
+-- the seats at the table, unless they are 1, 2 and so on
+abbrev pub unless_usual : List ℕ → Option (List ℕ)
+unless_usual seats = if bytes_eq seats (range_with_len 1 (length seats)) then None else Some seats
+
+-- the notes that players and labels make; a moment is one of universal time
+abbrev pub notes_of : List PlainPlayer → PlainLabels → PlainNotes
+notes_of players labels =
+    record {
+      names = names_from 1 players;
+      seats = unless_usual (map (λ player. player.seat) players);
+      seat_count = labels.seat_count;
+      hand = labels.hand;
+      table = labels.table;
+      venue = labels.venue;
+      currency = labels.currency;
+      year = option_map (λ moment. moment.day.year) labels.moment;
+      month = option_map (λ moment. moment.day.month) labels.moment;
+      day = option_map (λ moment. moment.day.day) labels.moment;
+      time = option_map (λ moment. moment.time) labels.moment;
+      zone = option_map (λ moment. codes "UTC") labels.moment;
+    }
+
+-- the notes
+unfoldable pub notes_said : ℕ → List PlainPlayer → Data → Result PlainNotes Fault
+notes_said place players ohh = labels_said place (length players) ohh >>= λ labels. Ok (notes_of players labels)

@@ -1,0 +1,96 @@
+//! Where and when a hand was played is read from its members.
+ghost use Rattle.std.specs.Prelude.{◌≡◌, ◌≤◌, IfOk, IfSome};
+ghost use Rattle.std.specs.Fmt.{decimal};
+ghost use Rattle.serde_json.specs.View.{view};
+ghost use Rattle.first_fault.specs.Reading.{Gives, read_if};
+ghost use Rattle.hand_canon.specs.AllowedNotes.{IsSeatCount};
+ghost use Rattle.ohh_members.specs.declared.fault.Path.TheVariants as paths;
+ghost use Rattle.ohh_facts.specs.LabelRanges.{AreLabels};
+ghost use Rattle.ohh_facts.specs.MomentRanges.{IsMoment};
+ghost use Rattle.ohh_facts.specs.Moments.{moment_said};
+ghost use Rattle.ohh_facts.specs.Notes.{labels_said, or_none, plain_labels, seat_count_said};
+ghost use Rattle.ohh_members.specs.Values.{field as field_said};
+
+use crate::moment::{Moment, read_moment};
+use crate::texts::{label_at, text_at};
+use first_fault::Stop;
+use hand_canon::Text;
+use ohh_members::fault::{Fault, Path};
+use ohh_members::values::{field, read_number};
+use serde_json::Value;
+use std::alloc::Global;
+
+/// Where and when a hand was played. What is not said, or equals its default, is `None`.
+#[derive(Debug, Drop)]
+pub struct Labels {
+    pub hand: Option<Text>,
+    pub table: Option<Text>,
+    pub seat_count: Option<u8>,
+    pub moment: Option<Moment>,
+    pub currency: Option<Text>,
+    pub venue: Option<Text>,
+}
+
+// How many seats the table has.
+#[tactic(auto, unfolding(crate::specs::Notes::seat_count_said))]
+fn read_seat_count(value: &Value, seats: u8) -> Result<Option<u8>, Stop<Fault>>
+    ensures said { Gives (λ count. count) result (seat_count_said seats (view value.now)) }
+    ensures allowed { IfOk result (λ count. IfSome count (IsSeatCount seats)) }
+{
+    let count = read_number(value, 1, 255, Path::TableSize)? as u8;
+    if count == seats {
+        Ok(None)
+    } else {
+        Ok(Some(count))
+    }
+}
+
+// How many seats the table has, if that is said.
+fn seat_count_at(ohh: &Value, seats: u8) -> Result<Option<u8>, Stop<Fault>>
+    ensures said { Gives (λ count. count) result
+        (or_none (seat_count_said seats) (field_said paths.TableSize (view ohh.now))) }
+    ensures allowed { IfOk result (λ count. IfSome count (IsSeatCount seats)) }
+{
+    match field(ohh, Path::TableSize) {
+        Some(value) => read_seat_count(value, seats),
+        None => Ok(None),
+    }
+}
+
+// The moment at which the hand began, if it is said.
+fn moment_at(ohh: &Value) -> Result<Option<Moment>, Stop<Fault>>
+    ensures said { Gives (λ moment. moment) result
+        (read_if moment_said (field_said paths.StartDate (view ohh.now))) }
+    ensures moment { IfOk result (λ moment. IfSome moment IsMoment) }
+{
+    match field(ohh, Path::StartDate) {
+        Some(value) => {
+            let moment = read_moment(value)?;
+            Ok(Some(moment))
+        }
+        None => Ok(None),
+    }
+}
+
+/// The labels of a hand with so many seats, at this place of its file, from 0.
+#[tactic(auto, unfolding(crate::specs::Notes::labels_said))]
+pub fn read_labels(alloc: Global, ohh: &Value, place: u32, seats: u8) -> Result<Labels, Stop<Fault>>
+    ensures said { Gives plain_labels result (labels_said place seats (view ohh.now)) }
+    ensures fit { IfOk result (AreLabels seats) }
+{
+    let usual = place.to_string(alloc)?;
+    let hand = label_at(alloc, ohh, Path::GameNumber, usual.as_str())?;
+    let table = text_at(alloc, ohh, Path::TableName)?;
+    let seat_count = seat_count_at(ohh, seats)?;
+    let moment = moment_at(ohh)?;
+    let currency = text_at(alloc, ohh, Path::Currency)?;
+    let venue = text_at(alloc, ohh, Path::SiteName)?;
+    Ok(Labels {
+        hand,
+        table,
+        seat_count,
+        moment,
+        currency,
+        venue,
+    })
+}

@@ -1,0 +1,107 @@
+//! Pots are found one after the other, and state what each seat wins, what all are together, and what is taken of each.
+ghost use Rattle.std.specs.Prelude.{◌≡◌, ◌≤◌, ◌+◌, ◌++◌, ◌∷◌, [], ℕ, map, slice_get, IfOk};
+ghost use Rattle.chip_ledger.specs.RakeRow.{rake_of};
+ghost use Rattle.chip_ledger.specs.declared.rows.TheConstants.{MOST_AMOUNT};
+ghost use Rattle.ohh_facts.specs.PotSums.{plain_pot, rake_at as rake_at_said, rakes_said};
+ghost use Rattle.ohh_facts.specs.Pots.{IsPaid, no_pots, none_paid, paid_of, plain_found, plain_paid};
+
+use crate::found::{Found, Paid};
+use crate::pot::Pot;
+use crate::won::Won;
+use card_set::Memory;
+use chip_ledger::RakeRow;
+use std::alloc::Global;
+
+// The rake of the pot with this index, or 0 where there is none.
+fn rake_at(pots: &[Pot], index: usize) -> u64
+    ensures said { result ≡ rake_at_said (map plain_pot pots.now) index }
+    ensures most { result ≤ MOST_AMOUNT }
+{
+    match pots.get(index) {
+        Some(pot) => pot.rake,
+        None => 0,
+    }
+}
+
+// The rakes of the first eleven pots.
+fn rakes_of(pots: &[Pot]) -> RakeRow
+    ensures said { result.rakes ≡ rakes_said (map plain_pot pots.now) }
+    ensures most { (pot : ℕ) → rake_of result pot ≤ MOST_AMOUNT }
+{
+    let rakes = [
+        rake_at(pots, 0),
+        rake_at(pots, 1),
+        rake_at(pots, 2),
+        rake_at(pots, 3),
+        rake_at(pots, 4),
+        rake_at(pots, 5),
+        rake_at(pots, 6),
+        rake_at(pots, 7),
+        rake_at(pots, 8),
+        rake_at(pots, 9),
+        rake_at(pots, 10),
+    ];
+    RakeRow { rakes }
+}
+
+impl Found {
+    /// No pots, of a hand with so many seats.
+    pub fn new(alloc: Global, seats: u8) -> Self
+        requires some { 2 ≤ seats }
+        requires few { seats ≤ 10 }
+        ensures none { plain_found result ≡ no_pots }
+        ensures seats { result.won.sums.seats ≡ seats }
+    {
+        Found {
+            pots: Vec::new(alloc),
+            total: 0,
+            won: Won::new(alloc, seats),
+        }
+    }
+
+    /// The same, and one more pot.
+    pub fn with_pot(self, pot: Pot) -> Result<Self, Memory>
+        requires { self.total + pot.amount ≤ MOST_AMOUNT }
+        ensures pots { IfOk result (λ after. map plain_pot after.pots.items
+            ≡ map plain_pot self.pots.items ++ plain_pot pot ∷ []) }
+        ensures won { IfOk result (λ after. after.won ≡ self.won) }
+    {
+        let Found {
+            mut pots,
+            total,
+            won,
+        } = self;
+        pots.push(pot)?;
+        Ok(Found {
+            pots,
+            total: total + pot.amount,
+            won,
+        })
+    }
+
+    /// What the pots state.
+    pub fn paid(&self) -> Paid
+        ensures said { plain_paid result ≡ paid_of self.now.won.sums.seats (plain_found self.now) }
+        ensures fits { IsPaid self.now.won.sums.seats result }
+    {
+        Paid {
+            wins: Some(self.won.sums),
+            total: Some(self.total),
+            rakes: rakes_of(&self.pots),
+        }
+    }
+}
+
+impl Paid {
+    /// Nothing is stated, and nothing is taken.
+    pub fn none() -> Self
+        ensures said { plain_paid result ≡ none_paid }
+        ensures fits { (seats : ℕ) → IsPaid seats result }
+    {
+        Paid {
+            wins: None,
+            total: None,
+            rakes: rakes_of(&[]),
+        }
+    }
+}

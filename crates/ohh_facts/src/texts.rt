@@ -1,0 +1,115 @@
+//! The text of a note is kept where it is not empty and not the default of the note.
+ghost use Rattle.std.specs.Prelude.{◌≡◌, ◌≢◌, ◌≤◌, [], length, IfOk, IfSome};
+ghost use Rattle.serde_json.specs.View.{view};
+ghost use Rattle.hand_canon.specs.AllowedNotes.{IsNoteText};
+ghost use Rattle.hand_canon.specs.declared.limits.TheConstants.{MOST_TEXT_BYTES};
+ghost use Rattle.first_fault.specs.Reading.{Gives};
+ghost use Rattle.ohh_facts.specs.Notes.{label_said, note_said, noted, or_none, text_note_said};
+ghost use Rattle.ohh_members.specs.Values.{field as field_said};
+
+use card_set::Memory;
+use first_fault::Stop;
+use hand_canon::{MOST_TEXT_BYTES, Quantity, Text};
+use ohh_members::fault::{Fault, Path, What};
+use ohh_members::values::{field, read_integer, read_text, wrong};
+use serde_json::Value;
+use std::alloc::Global;
+
+/// A copy of a text of at most 255 bytes, or nothing where it says no note.
+pub fn keep_short(alloc: Global, text: &str, default: &str) -> Result<Option<Text>, Memory>
+    requires { length text.now ≤ MOST_TEXT_BYTES }
+    ensures said { IfOk result (λ note. note ≡ noted default.now text.now) }
+    ensures allowed { IfOk result (λ note. IfSome note (λ text.
+        IsNoteText text × (text ≢ default.now))) }
+{
+    if text.is_empty() || text == default {
+        return Ok(None);
+    }
+    Ok(Some(Text::new(alloc, text)?))
+}
+
+// A copy of the text, or nothing where it says no note.
+#[tactic(auto, unfolding(crate::specs::Notes::note_said))]
+fn keep_text(
+    alloc: Global,
+    text: &str,
+    default: &str,
+    path: Path,
+) -> Result<Option<Text>, Stop<Fault>>
+    ensures said { Gives (λ note. note) result (note_said default.now path text.now) }
+    ensures allowed { IfOk result (λ note. IfSome note IsNoteText) }
+{
+    if text.len() > MOST_TEXT_BYTES {
+        let quantity = Quantity::TextBytes;
+        return Err(wrong(What::TooMany { quantity }, path));
+    }
+    if text.is_empty() || text == default {
+        return Ok(None);
+    }
+    Ok(Some(Text::new(alloc, text)?))
+}
+
+// The text of a note with this default.
+#[tactic(auto, unfolding(crate::specs::Notes::text_note_said))]
+fn read_text_note(
+    alloc: Global,
+    value: &Value,
+    default: &str,
+    path: Path,
+) -> Result<Option<Text>, Stop<Fault>>
+    ensures said { Gives (λ note. note) result
+        (text_note_said default.now path (view value.now)) }
+    ensures allowed { IfOk result (λ note. IfSome note IsNoteText) }
+{
+    keep_text(alloc, read_text(value, path)?, default, path)
+}
+
+// The same, where a whole number may stand for its decimal text.
+#[tactic(auto, unfolding(crate::specs::Notes::label_said))]
+fn read_label(
+    alloc: Global,
+    value: &Value,
+    default: &str,
+    path: Path,
+) -> Result<Option<Text>, Stop<Fault>>
+    ensures said { Gives (λ note. note) result (label_said default.now path (view value.now)) }
+    ensures allowed { IfOk result (λ note. IfSome note IsNoteText) }
+{
+    match value {
+        Value::String(text) => keep_text(alloc, text.as_str(), default, path),
+        _ => {
+            let number = read_integer(value, path)?;
+            let text = number.to_string(alloc)?;
+            keep_text(alloc, text.as_str(), default, path)
+        }
+    }
+}
+
+/// The text of a member, if there is one that is not empty.
+pub fn text_at(alloc: Global, ohh: &Value, path: Path) -> Result<Option<Text>, Stop<Fault>>
+    ensures said { Gives (λ note. note) result
+        (or_none (text_note_said [] path) (field_said path (view ohh.now))) }
+    ensures allowed { IfOk result (λ note. IfSome note IsNoteText) }
+{
+    match field(ohh, path) {
+        Some(value) => read_text_note(alloc, value, "", path),
+        None => Ok(None),
+    }
+}
+
+/// The label of a member, with this default, if there is one.
+pub fn label_at(
+    alloc: Global,
+    ohh: &Value,
+    path: Path,
+    default: &str,
+) -> Result<Option<Text>, Stop<Fault>>
+    ensures said { Gives (λ note. note) result
+        (or_none (label_said default.now path) (field_said path (view ohh.now))) }
+    ensures allowed { IfOk result (λ note. IfSome note IsNoteText) }
+{
+    match field(ohh, path) {
+        Some(value) => read_label(alloc, value, default, path),
+        None => Ok(None),
+    }
+}

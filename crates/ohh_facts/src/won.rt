@@ -1,0 +1,54 @@
+//! What is won of pots, kept as a list, with what each seat wins of them.
+ghost use Rattle.std.specs.Prelude.{◌≡◌, ◌≤◌, ◌+◌, ◌++◌, ◌∷◌, [], ℕ, List, map, IfOk};
+ghost use Rattle.chip_ledger.specs.SeatRow.{amount_of};
+ghost use Rattle.chip_ledger.specs.declared.rows.TheConstants.{MOST_AMOUNT};
+ghost use Rattle.ohh_facts.specs.Won.{plain_win, won_by};
+
+use card_set::Memory;
+use chip_ledger::{Seat, SeatRow};
+use std::alloc::Global;
+
+/// What the player in a seat wins of a pot, in chips.
+#[derive(Clone, Copy, Debug, PartialEq, Eq)]
+pub struct Win {
+    pub seat: Seat,
+    pub chips: u64,
+}
+
+/// What is won of pots, in the order in which it is listed, and what each seat wins of it.
+#[derive(Drop)]
+pub struct Won {
+    pub list: Vec<Win>,
+    pub sums: SeatRow,
+    pub ghost are_sums: { (seat : ℕ) → 1 ≤ seat
+        → amount_of sums seat ≡ won_by seat (map plain_win list.items) },
+}
+
+impl Won {
+    /// Nothing is won by so many seats.
+    pub fn new(alloc: Global, seats: u8) -> Self
+        requires some { 2 ≤ seats }
+        requires few { seats ≤ 10 }
+        ensures none { map plain_win result.list.items ≡ [] }
+        ensures seats { result.sums.seats ≡ seats }
+    {
+        Won {
+            list: Vec::new(alloc),
+            sums: SeatRow::new(seats),
+        }
+    }
+
+    /// The same, and one more win.
+    pub fn with(self, win: Win) -> Result<Self, Memory>
+        requires seated { win.seat.number ≤ self.sums.seats }
+        requires within { amount_of self.sums win.seat.number + win.chips ≤ MOST_AMOUNT }
+        ensures wins { IfOk result (λ after. map plain_win after.list.items
+            ≡ map plain_win self.list.items ++ plain_win win ∷ []) }
+        ensures seats { IfOk result (λ after. after.sums.seats ≡ self.sums.seats) }
+    {
+        let Won { mut list, mut sums } = self;
+        list.push(win)?;
+        sums.set(win.seat, sums.get(win.seat) + win.chips);
+        Ok(Won { list, sums })
+    }
+}
