@@ -1,0 +1,9 @@
+use Rattle.std.proofs.Common.{sym, arith, length, eqb}
+use Rattle.std.proofs.lemmas.List.Sums.{position_or_len_is}
+use Rattle.ohh_reading.proofs.blocks.line_len.Goals as goal
+
+pub returns-then-sign-eq10 : goal.returns-then-sign-eq10
+returns-then-sign-eq10 c = sym (position_or_len_is (λ sign. eqb sign 10) c.args.text.now c.loop-index.index 0 (omega arith) c.loop-index.invariant (λ within. grind arith))
+
+pub returns : goal.returns
+returns c = sym (position_or_len_is (λ sign. eqb sign 10) c.args.text.now (length c.args.text.now) 0 (omega arith) (λ k within. c.loop-index.invariant k (omega (arith, within))) (λ within. absurd (omega (arith, within))))

@@ -1,0 +1,33 @@
+use Rattle.std.proofs.Common.{◌∷◌, [], length, map, sum_by, sym, ap, ◌∙◌, arith, length-append}
+use Rattle.std.proofs.lemmas.List.{map_push}
+use Rattle.std.proofs.lemmas.List.Sums.{sum_by_push}
+use Rattle.std.proofs.lemmas.Result.{err_from_is_err_and}
+use Rattle.first_fault.proofs.Thread.{threads_on, thread_ends, thread_done}
+use Rattle.ohh_reading.specs.Hand.{plain}
+use Rattle.ohh_reading.specs.Reading.{IsHistory, hands_said, moves_of, numbered_hand}
+use Rattle.ohh_reading.proofs.Records.{all_push}
+use Rattle.ohh_reading.proofs.file.read_blocks.Goals as goal
+
+pub returns-in_err-record-clause-said : goal.returns-in_err-record-clause-said
+returns-in_err-record-clause-said c =
+    let p = err_from_is_err_and c.from_residual.result c.from_residual.ensures.1 in
+    let l = c.loop-index in
+    rw (p.1, p.2) (thread_ends (λ block. block.items) (numbered_hand c.args.dialect) c.in_err-record.field-0.0 (map plain l.records) l.file_moves c.args.blocks.now l.index c.index-blocks-index.result (hands_said c.args.dialect (map (λ block. block.items) c.args.blocks.now)) c.loop-index-test.true (sym c.index-blocks-index.is) (rw (← c.deref.ensures.value) c.in_err-record.ensures.said) l.invariant.read)
+
+pub loop-index-preserved : goal.loop-index-preserved
+loop-index-preserved c =
+    let l = c.loop-index in
+    let inv = l.invariant in
+    let record_read = c.in_ok-record.record in
+    let pushed = c.in_ok-push.ensures.pushed in
+    record {
+      count = ap length pushed ∙ omega (arith, inv.count, length-append l.records (record_read ∷ []));
+      few = c.in_ok-record.ensures.number;
+      moves = ap (sum_by moves_of) pushed ∙ omega (arith, sum_by_push moves_of l.records record_read, inv.moves, c.in_ok-record.ensures.moves);
+      limit = c.in_ok-record.ensures.few;
+      sound = rw pushed (all_push IsHistory l.records record_read inv.sound c.in_ok-record.ensures.sound);
+      read = rw (pushed, map_push plain l.records record_read) (threads_on (λ block. block.items) (numbered_hand c.args.dialect) (map plain l.records) l.file_moves c.in_ok-record.moves c.args.blocks.now l.index c.index-blocks-index.result (plain record_read ∷ []) (hands_said c.args.dialect (map (λ block. block.items) c.args.blocks.now)) c.loop-index-test.true (sym c.index-blocks-index.is) (rw (← c.deref.ensures.value) c.in_ok-record.ensures.said) inv.read);
+    }
+
+pub returns-clause-said : goal.returns-clause-said
+returns-clause-said c = let l = c.loop-index in thread_done (λ block. block.items) (numbered_hand c.args.dialect) (map plain l.records) l.file_moves c.args.blocks.now l.index (hands_said c.args.dialect (map (λ block. block.items) c.args.blocks.now)) c.loop-index-test.false l.invariant.read

@@ -1,0 +1,117 @@
+-- The records that bytes say, or their first fault.
+use Rattle.std.specs.Prelude.{◌≡◌, ℕ, ◌-◌, nat_lt, if◌then◌else◌, List, [], ◌∷◌, map, count_by, Option, Some, None, IfSome, Result, Ok, Err}
+use Rattle.std.specs.Str.{is_utf8}
+use Rattle.serde_json.specs.Data.{Data, object}
+use Rattle.serde_json.specs.Read.{read}
+use Rattle.hand_canon.specs.declared.limits.Quantity.TheVariants as quantities
+use Rattle.hand_canon.specs.declared.limits.TheConstants.{MOST_HANDS}
+use Rattle.hand_canon.specs.declared.record.Record.{Record}
+use Rattle.canonical_play.specs.PlayedScript.{is_move}
+use Rattle.hand_canon.specs.Sound.{script_said}
+use Rattle.hand_canon.specs.SoundRecord.{IsSoundRecord}
+use Rattle.play_event.specs.HistoryRules.{history_rules}
+use Rattle.first_fault.specs.Reading.{◌>>=◌, thread_from}
+use Rattle.ohh_members.specs.declared.dialect.Dialect.{Dialect}
+use Rattle.ohh_members.specs.declared.fault.Fault.{Fault}
+use Rattle.ohh_members.specs.declared.fault.Path.TheVariants as paths
+use Rattle.ohh_members.specs.declared.fault.What.{What}
+use Rattle.ohh_members.specs.declared.fault.What.TheVariants as whats
+use Rattle.ohh_members.specs.Paths.{path_text}
+use Rattle.ohh_members.specs.Values.{wrong, field}
+use Rattle.ohh_reading.specs.declared.fault.HandFault.{HandFault}
+use Rattle.ohh_reading.specs.declared.fault.Wrongness.{Wrongness}
+use Rattle.ohh_reading.specs.declared.fault.Wrongness.TheVariants as wrongness
+use Rattle.ohh_reading.specs.declared.fault.OhhFault.{OhhFault}
+use Rattle.ohh_reading.specs.declared.fault.OhhFault.TheVariants as faults
+use Rattle.ohh_reading.specs.Blocks.{blocks_of}
+use Rattle.ohh_reading.specs.Hand.{PlainHand, plain, hand_said}
+
+-- the object of the hand in a tree
+abbrev pub object_of : Option Data → Result Data Fault
+object_of (Some (object members)) = Ok (object members)
+object_of _ = wrong whats.MissingMember paths.Ohh
+
+-- the hand of a tree
+unfoldable pub tree_said : Dialect → ℕ → ℕ → Data → Result (PlainHand × ℕ) Fault
+tree_said dialect file_moves place tree = object_of (field paths.Ohh tree) >>= hand_said dialect file_moves place
+
+-- what is wrong with the hand that has this number: it is no tree, or has a fault at a member
+abbrev pub of_hand : {A : Type 0} → ℕ → Wrongness → Result A HandFault
+of_hand number what = Err (record { hand = number; what = what })
+
+-- a fault of the hand with this number
+abbrev pub in_hand : {A : Type 0} → ℕ → Result A Fault → Result A HandFault
+in_hand number (Ok x) = Ok x
+in_hand number (Err fault) = of_hand number (wrongness.Member fault)
+
+-- the tree that a block is
+abbrev pub tree_of : List ℕ → Option Data
+tree_of block = if is_utf8 block then read block else None
+
+-- the hand of what is a tree or is none
+unfoldable pub found_said : Dialect → ℕ → ℕ → Option Data → Result (PlainHand × ℕ) HandFault
+found_said dialect file_moves number None = of_hand number wrongness.Text
+found_said dialect file_moves number (Some tree) = in_hand number (tree_said dialect file_moves (number - 1) tree)
+
+-- there are too many hands
+abbrev pub past_hands : Fault
+past_hands = record { what = whats.TooMany quantities.Hands; path = paths.Ohh }
+
+-- the hand with this number, from 1, after so many moves of the file; and the moves of the file after it
+unfoldable pub numbered_hand : Dialect → ℕ → ℕ → List ℕ → Result (List PlainHand × ℕ) HandFault
+numbered_hand dialect file_moves number block =
+    if nat_lt MOST_HANDS number then of_hand number (wrongness.Member past_hands)
+    else (found_said dialect file_moves number (tree_of block) >>= λ found. Ok (found.0 ∷ [], found.1))
+
+-- the hands of blocks, in order, and the moves of the file after them
+abbrev pub hands_said : Dialect → List (List ℕ) → Result (List PlainHand × ℕ) HandFault
+hands_said dialect blocks = thread_from (numbered_hand dialect) 0 1 blocks
+
+-- what is wrong with bytes: a hand is no tree, or has a fault at a member
+pub data Wrong : Type 0 where
+  NoText : ℕ → Wrong
+  InHand : ℕ → List ℕ → What → Wrong
+
+-- a fault with its path as it is spelled
+abbrev pub spelled : ℕ → Wrongness → Wrong
+spelled hand wrongness.Text = NoText hand
+spelled hand (wrongness.Member fault) = InHand hand (path_text fault.path) fault.what
+
+-- the records, or the fault as it is spelled
+abbrev pub told : Result (List PlainHand × ℕ) HandFault → Result (List PlainHand) Wrong
+told (Ok found) = Ok found.0
+told (Err fault) = Err (spelled fault.hand fault.what)
+
+-- the records that bytes say in a dialect, or their first fault
+unfoldable pub reading : Dialect → List ℕ → Result (List PlainHand) Wrong
+reading dialect bytes = told (hands_said dialect (blocks_of bytes))
+
+-- what a fault says, but for want of memory
+abbrev pub wrong_of : OhhFault → Option Wrong
+wrong_of (faults.Text hand) = Some (NoText hand)
+wrong_of (faults.MissingMember hand path) = Some (InHand hand path whats.MissingMember)
+wrong_of (faults.WrongType hand path) = Some (InHand hand path whats.WrongType)
+wrong_of (faults.AmountNotWhole hand path) = Some (InHand hand path whats.AmountNotWhole)
+wrong_of (faults.AmountLimit hand path) = Some (InHand hand path whats.AmountLimit)
+wrong_of (faults.UnsupportedGame hand path) = Some (InHand hand path whats.UnsupportedGame)
+wrong_of (faults.BadPlayer hand path) = Some (InHand hand path whats.BadPlayer)
+wrong_of (faults.UnsupportedAction hand path) = Some (InHand hand path whats.UnsupportedAction)
+wrong_of (faults.BadStreet hand path) = Some (InHand hand path whats.BadStreet)
+wrong_of (faults.BadPost hand path) = Some (InHand hand path whats.BadPost)
+wrong_of (faults.RakePlace hand path) = Some (InHand hand path whats.RakePlace)
+wrong_of (faults.TooMany hand path quantity) = Some (InHand hand path (whats.TooMany quantity))
+wrong_of faults.Memory = None
+
+-- an answer is what is read: the records that it holds, or the fault that it names; want of memory says nothing
+abbrev pub Reads : Result (List Record) OhhFault → Result (List PlainHand) Wrong → Type 0
+Reads (Ok records) read = read ≡ Ok (map plain records)
+Reads (Err fault) read = IfSome (wrong_of fault) (λ wrong. read ≡ Err wrong)
+
+-- what is read of a hand is sound, and under the rules of hand histories
+pub record IsHistory (hand : Record) : Type 0 where
+  pub sound : IsSoundRecord hand
+  pub rules : hand.rules ≡ history_rules
+
+-- the moves of a hand
+abbrev pub moves_of : Record → ℕ
+moves_of hand = count_by is_move (script_said hand)

@@ -1,0 +1,86 @@
+//! Why bytes are no hands in Open Hand History: their first fault, with its hand and the path of its member.
+use hand_canon::{Quantity, Text};
+use ohh_members::fault::Fault;
+
+/// The first fault of bytes, in the order in which members are examined. `hand` counts from 1 in the order of reading.
+/// `path` is the path of the member, as `ohh.rounds[0].actions[4].amount`.
+#[derive(Debug, Drop)]
+pub enum OhhFault {
+    /// A block is no JSON.
+    Text {
+        hand: u32,
+    },
+    /// A member that is needed lacks.
+    MissingMember {
+        hand: u32,
+        path: Text,
+    },
+    /// A member is of another kind, or a text says no card or no date.
+    WrongType {
+        hand: u32,
+        path: Text,
+    },
+    /// A number is not whole.
+    AmountNotWhole {
+        hand: u32,
+        path: Text,
+    },
+    /// A number is out of its range.
+    AmountLimit {
+        hand: u32,
+        path: Text,
+    },
+    /// The game and its limit are no pair that is read.
+    UnsupportedGame {
+        hand: u32,
+        path: Text,
+    },
+    /// A player is no player of the hand, or is there twice, or there are too few or too many.
+    BadPlayer {
+        hand: u32,
+        path: Text,
+    },
+    /// An action has a word that is not read.
+    UnsupportedAction {
+        hand: u32,
+        path: Text,
+    },
+    /// A round or its cards do not come here.
+    BadStreet {
+        hand: u32,
+        path: Text,
+    },
+    /// A blind, a straddle or an ante is not as it must be.
+    BadPost {
+        hand: u32,
+        path: Text,
+    },
+    /// A rake is taken from a pot that no hand has.
+    RakePlace {
+        hand: u32,
+        path: Text,
+    },
+    /// There is more than the limit of the quantity allows.
+    TooMany {
+        hand: u32,
+        path: Text,
+        quantity: Quantity,
+    },
+    /// There was not enough memory.
+    Memory,
+}
+
+/// What is wrong with a hand: its block is no JSON, or a member has a fault.
+#[derive(Clone, Copy, Debug, PartialEq, Eq)]
+pub enum Wrongness {
+    Text,
+    Member(Fault),
+}
+
+/// A fault of a hand of a file.
+#[derive(Clone, Copy, Debug, PartialEq, Eq)]
+pub struct HandFault {
+    /// The number of the hand, from 1 in the order of reading.
+    pub hand: u32,
+    pub what: Wrongness,
+}

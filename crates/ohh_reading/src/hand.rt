@@ -1,0 +1,45 @@
+//! The object of a hand is read as its record.
+ghost use Rattle.std.specs.Prelude.{◌≡◌, ◌≤◌, ◌+◌, IfOk};
+ghost use Rattle.serde_json.specs.View.{view};
+ghost use Rattle.hand_canon.specs.declared.limits.TheConstants.{MOST_FILE_MOVES};
+ghost use Rattle.first_fault.specs.Reading.{Gives};
+ghost use Rattle.ohh_reading.specs.Hand.{hand_said, plain};
+ghost use Rattle.ohh_reading.specs.Reading.{IsHistory, moves_of};
+
+use crate::parts::{ids_in, notes_in, read_paid, stacks_in};
+use crate::play::read_play;
+use crate::record::record_of;
+use first_fault::Stop;
+use hand_canon::Record;
+use ohh_members::Dialect;
+use ohh_members::fault::Fault;
+use ohh_members::front::read_front;
+use serde_json::Value;
+use std::alloc::Global;
+
+/// The hand of an object at this place of its file, from 0, after so many moves of the file; and the moves of the file
+/// after it.
+#[tactic(auto, unfolding(crate::specs::Hand::hand_said))]
+pub fn read_hand(
+    alloc: Global,
+    dialect: Dialect,
+    ohh: &Value,
+    place: u32,
+    file_moves: usize,
+) -> Result<(Record, usize), Stop<Fault>>
+    requires { file_moves ≤ MOST_FILE_MOVES }
+    ensures said { Gives (λ found. (plain found.0, found.1)) result
+        (hand_said dialect file_moves place (view ohh.now)) }
+    ensures sound { IfOk result (λ found. IsHistory found.0) }
+    ensures moves { IfOk result (λ found. found.1 ≡ file_moves + moves_of found.0) }
+    ensures few { IfOk result (λ found. found.1 ≤ MOST_FILE_MOVES) }
+{
+    let front = read_front(alloc, ohh)?;
+    let stacks = stacks_in(&front);
+    let ids = ids_in(alloc, &front)?;
+    let play = read_play(alloc, dialect, &front, stacks, &ids, file_moves, ohh)?;
+    let moves = play.file_moves;
+    let paid = read_paid(alloc, &front, &ids, ohh)?;
+    let notes = notes_in(alloc, &front, ohh, place)?;
+    Ok((record_of(&front, stacks, play, paid, notes), moves))
+}

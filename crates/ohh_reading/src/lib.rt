@@ -1,0 +1,15 @@
+//! Bytes in Open Hand History are read as the records that they say, or refused with their first fault.
+#![tactic(auto)]
+
+mod blocks;
+pub mod fault;
+mod file;
+mod hand;
+mod parts;
+mod play;
+mod reading;
+mod record;
+mod sizes;
+
+pub use fault::OhhFault;
+pub use reading::read;

@@ -1,0 +1,69 @@
+//! The parts of a hand beside its play are read with what stands in front of its rounds.
+ghost use Rattle.std.specs.Prelude.{◌≡◌, ◌<◌, ℕ, length, map, slice_index, IfOk};
+ghost use Rattle.serde_json.specs.View.{view};
+ghost use Rattle.hand_canon.specs.AllowedNotes.{AreAllowed};
+ghost use Rattle.play_event.specs.ValidSetup.{IsSize};
+ghost use Rattle.first_fault.specs.Reading.{Gives};
+ghost use Rattle.ohh_facts.specs.Notes.{notes_said, plain_notes};
+ghost use Rattle.ohh_facts.specs.Pots.{IsPaid, plain_paid, pots_said};
+ghost use Rattle.ohh_members.specs.Front.{IsFront, amounts_in, ids_of as ids_of_said, stacks_of};
+ghost use Rattle.ohh_members.specs.Players.{plain_player};
+
+use card_set::Memory;
+use chip_ledger::SeatRow;
+use first_fault::Stop;
+use hand_canon::Notes;
+use ohh_facts::found::Paid;
+use ohh_facts::notes::read_notes;
+use ohh_facts::pots::read_pots;
+use ohh_members::fault::Fault;
+use ohh_members::front::Front;
+use ohh_members::rows::{ids_of, stack_row};
+use serde_json::Value;
+use std::alloc::Global;
+
+/// The starting stacks of the players.
+pub fn stacks_in(front: &Front) -> SeatRow
+    requires { IsFront front.now }
+    ensures said { amounts_in result ≡ stacks_of (map plain_player front.now.players.items) }
+    ensures seats { result.seats ≡ length front.now.players.items }
+    ensures sizes { (k : ℕ) → k < result.seats → IsSize (slice_index result.amounts k) }
+{
+    stack_row(&front.players)
+}
+
+/// The ids of the players, the first seat's first.
+pub fn ids_in(alloc: Global, front: &Front) -> Result<Vec<i128>, Memory>
+    ensures said { IfOk result (λ ids. ids.items
+        ≡ ids_of_said (map plain_player front.now.players.items)) }
+    ensures count { IfOk result (λ ids. length ids.items ≡ length front.now.players.items) }
+{
+    ids_of(alloc, &front.players)
+}
+
+/// What is stated of the pots of a hand with these players, whose ids they are.
+pub fn read_paid(
+    alloc: Global,
+    front: &Front,
+    ids: &Vec<i128>,
+    ohh: &Value,
+) -> Result<Paid, Stop<Fault>>
+    requires front { IsFront front.now }
+    requires count { length ids.now.items ≡ length front.now.players.items }
+    requires ids { ids.now.items ≡ ids_of_said (map plain_player front.now.players.items) }
+    ensures said { Gives plain_paid result
+        (pots_said (ids_of_said (map plain_player front.now.players.items)) (view ohh.now)) }
+    ensures fits { IfOk result (IsPaid (length front.now.players.items)) }
+{
+    read_pots(alloc, ids, ohh)
+}
+
+/// The notes of a hand with these players, at this place of its file, from 0.
+pub fn notes_in(alloc: Global, front: &Front, ohh: &Value, place: u32) -> Result<Notes, Stop<Fault>>
+    requires { IsFront front.now }
+    ensures said { Gives (plain_notes (length front.now.players.items)) result
+        (notes_said place (map plain_player front.now.players.items) (view ohh.now)) }
+    ensures allowed { IfOk result (AreAllowed (length front.now.players.items)) }
+{
+    read_notes(alloc, ohh, place, &front.players)
+}

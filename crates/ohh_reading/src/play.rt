@@ -1,0 +1,59 @@
+//! What the rounds of a hand say is read with what stands in front of them.
+ghost use Rattle.std.specs.Prelude.{◌≡◌, ◌≤◌, ◌+◌, count_by, length, map, IfOk};
+ghost use Rattle.serde_json.specs.View.{view};
+ghost use Rattle.canonical_play.specs.PlayedScript.{IsWithinLimits, is_move};
+ghost use Rattle.hand_canon.specs.declared.limits.TheConstants.{MOST_FILE_MOVES};
+ghost use Rattle.play_event.specs.Said.{said_of};
+ghost use Rattle.first_fault.specs.Reading.{Gives};
+ghost use Rattle.ohh_members.specs.Front.{IsFront, amounts_in, ids_of, plain_front, stacks_of};
+ghost use Rattle.ohh_members.specs.Players.{plain_player};
+ghost use Rattle.ohh_posts.specs.Stakes.{AreStakesFor};
+ghost use Rattle.ohh_rounds.specs.Play.{plain_play, rounds_said};
+ghost use Rattle.ohh_reading.specs.Hand.{setting_of};
+
+use crate::sizes::hole_cards;
+use chip_ledger::SeatRow;
+use first_fault::Stop;
+use ohh_members::Dialect;
+use ohh_members::fault::Fault;
+use ohh_members::front::Front;
+use ohh_posts::Table;
+use ohh_rounds::{RoundsPlay, Setting, read_rounds};
+use serde_json::Value;
+use std::alloc::Global;
+
+/// What the rounds of a hand say, with the stacks and the ids of its players.
+pub fn read_play(
+    alloc: Global,
+    dialect: Dialect,
+    front: &Front,
+    stacks: SeatRow,
+    ids: &Vec<i128>,
+    file_moves: usize,
+    ohh: &Value,
+) -> Result<RoundsPlay, Stop<Fault>>
+    requires front { IsFront front.now }
+    requires stacks { amounts_in stacks ≡ stacks_of (map plain_player front.now.players.items) }
+    requires ids { ids.now.items ≡ ids_of (map plain_player front.now.players.items) }
+    requires seats { length ids.now.items ≤ 10 }
+    requires few { file_moves ≤ MOST_FILE_MOVES }
+    ensures said { Gives plain_play result
+        (rounds_said (setting_of dialect file_moves (plain_front front.now)) (view ohh.now)) }
+    ensures stakes { IfOk result (λ play. AreStakesFor stacks play.stakes) }
+    ensures within { IfOk result (λ play. IsWithinLimits (map said_of play.script)) }
+    ensures moves { IfOk result (λ play. play.file_moves
+        ≡ file_moves + count_by is_move (map said_of play.script)) }
+    ensures few { IfOk result (λ play. play.file_moves ≤ MOST_FILE_MOVES) }
+{
+    let setting = Setting {
+        table: Table {
+            stacks,
+            small_blind: front.blinds.small,
+            big_blind: front.blinds.big,
+        },
+        hole_cards: hole_cards(front.code),
+        dialect,
+        file_moves,
+    };
+    read_rounds(alloc, ids, &setting, ohh)
+}

@@ -1,0 +1,74 @@
+//! Bytes are read as the records that they say, or refused with their first fault.
+ghost use Rattle.std.specs.Prelude.{◌≡◌, ◌≤◌, Some, sum_by, length, IfOk, IfSome};
+ghost use Rattle.std.specs.List.{AllByRecursion};
+ghost use Rattle.hand_canon.specs.declared.limits.TheConstants.{MOST_FILE_MOVES, MOST_HANDS};
+ghost use Rattle.ohh_members.specs.Paths.{path_text};
+ghost use Rattle.ohh_reading.specs.Reading.{InHand, IsHistory, Reads, moves_of, reading, spelled as spelled_said, wrong_of};
+
+use crate::fault::{HandFault, OhhFault, Wrongness};
+use crate::file::read_file;
+use first_fault::Stop;
+use hand_canon::{Records, Text};
+use ohh_members::Dialect;
+use ohh_members::fault::{Fault, What};
+use std::alloc::Global;
+
+// What is wrong at a path of a hand.
+fn wrong_at(hand: u32, path: Text, what: What) -> OhhFault
+    ensures { wrong_of result ≡ Some (InHand hand path what) }
+{
+    match what {
+        What::MissingMember => OhhFault::MissingMember { hand, path },
+        What::WrongType => OhhFault::WrongType { hand, path },
+        What::AmountNotWhole => OhhFault::AmountNotWhole { hand, path },
+        What::AmountLimit => OhhFault::AmountLimit { hand, path },
+        What::UnsupportedGame => OhhFault::UnsupportedGame { hand, path },
+        What::BadPlayer => OhhFault::BadPlayer { hand, path },
+        What::UnsupportedAction => OhhFault::UnsupportedAction { hand, path },
+        What::BadStreet => OhhFault::BadStreet { hand, path },
+        What::BadPost => OhhFault::BadPost { hand, path },
+        What::RakePlace => OhhFault::RakePlace { hand, path },
+        What::TooMany { quantity } => OhhFault::TooMany {
+            hand,
+            path,
+            quantity,
+        },
+    }
+}
+
+// A fault of a member of a hand, with its path as it is spelled.
+fn spelled_at(alloc: Global, hand: u32, fault: Fault) -> OhhFault
+    ensures { IfSome (wrong_of result) (λ wrong.
+        wrong ≡ InHand hand (path_text fault.path) fault.what) }
+{
+    match fault.path.text(alloc) {
+        Ok(path) => wrong_at(hand, path, fault.what),
+        Err(_) => OhhFault::Memory,
+    }
+}
+
+// A fault of a hand, with its path as it is spelled.
+fn spelled(alloc: Global, found: HandFault) -> OhhFault
+    ensures { IfSome (wrong_of result) (λ wrong. wrong ≡ spelled_said found.hand found.what) }
+{
+    match found.what {
+        Wrongness::Text => OhhFault::Text { hand: found.hand },
+        Wrongness::Member(fault) => spelled_at(alloc, found.hand, fault),
+    }
+}
+
+/// The records that bytes in Open Hand History say in a dialect, one for each hand in the order of reading; or their
+/// first fault. Each record is sound, and under the rules of hand histories.
+#[tactic(auto, unfolding(crate::specs::Reading::reading))]
+pub fn read(alloc: Global, dialect: Dialect, bytes: &[u8]) -> Result<Records, OhhFault>
+    ensures reads { Reads result (reading dialect bytes.now) }
+    ensures sound { IfOk result (AllByRecursion IsHistory) }
+    ensures few { IfOk result (λ records. length records ≤ MOST_HANDS) }
+    ensures moves { IfOk result (λ records. sum_by moves_of records ≤ MOST_FILE_MOVES) }
+{
+    match read_file(alloc, dialect, bytes) {
+        Ok((records, _moves)) => Ok(records),
+        Err(Stop::Memory) => Err(OhhFault::Memory),
+        Err(Stop::At(found)) => Err(spelled(alloc, found)),
+    }
+}

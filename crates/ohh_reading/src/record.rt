@@ -1,0 +1,86 @@
+//! The record of a hand is made of its parts.
+ghost use Rattle.std.specs.Prelude.{◌≡◌, ◌≤◌, ◌<◌, ℕ, length, map, slice_index};
+ghost use Rattle.canonical_play.specs.PlayedScript.{IsWithinLimits};
+ghost use Rattle.hand_canon.specs.AllowedNotes.{AreAllowed};
+ghost use Rattle.play_event.specs.Said.{said_of};
+ghost use Rattle.play_event.specs.ValidSetup.{IsSize};
+ghost use Rattle.ohh_facts.specs.Notes.{plain_notes};
+ghost use Rattle.ohh_facts.specs.Pots.{IsPaid, plain_paid};
+ghost use Rattle.ohh_members.specs.Front.{IsFront, amounts_in, plain_front, stacks_of};
+ghost use Rattle.ohh_members.specs.Players.{plain_player};
+ghost use Rattle.ohh_posts.specs.Stakes.{AreStakesFor};
+ghost use Rattle.ohh_rounds.specs.Play.{plain_play};
+ghost use Rattle.ohh_reading.specs.Hand.{hand_of, plain};
+ghost use Rattle.ohh_reading.specs.Reading.{IsHistory};
+
+use crate::sizes::{Sizes, sizes_of};
+use chip_ledger::SeatRow;
+use hand_canon::{Notes, Record, Stated};
+use ohh_facts::found::Paid;
+use ohh_members::front::Front;
+use ohh_posts::Stakes;
+use ohh_rounds::RoundsPlay;
+use play_event::{Reopen, Rules, Setup};
+
+/// The record of a hand: its setup, its script, what is stated of it, and its notes.
+pub fn record_of(
+    front: &Front,
+    stacks: SeatRow,
+    play: RoundsPlay,
+    paid: Paid,
+    notes: Notes,
+) -> Record
+    requires front { IsFront front.now }
+    requires stacks { amounts_in stacks ≡ stacks_of (map plain_player front.now.players.items) }
+    requires seats { stacks.seats ≡ length front.now.players.items }
+    requires sizes { (k : ℕ) → k < stacks.seats → IsSize (slice_index stacks.amounts k) }
+    requires stakes { AreStakesFor stacks play.stakes }
+    requires within { IsWithinLimits (map said_of play.script) }
+    requires paid { IsPaid (length front.now.players.items) paid }
+    requires allowed { AreAllowed (length front.now.players.items) notes }
+    ensures said { plain result ≡ hand_of (plain_front front.now) (plain_play play)
+        (plain_paid paid) (plain_notes (length front.now.players.items) notes) }
+    ensures history { IsHistory result }
+    ensures script { result.script ≡ play.script }
+{
+    let RoundsPlay { stakes, script, .. } = play;
+    let Stakes {
+        antes,
+        dead_antes,
+        blinds,
+    } = stakes;
+    let Sizes {
+        bring_in,
+        small_bet,
+        big_bet,
+        min_bet,
+    } = sizes_of(front.code, front.blinds.big);
+    let Paid { wins, total, rakes } = paid;
+    Record {
+        setup: Setup {
+            code: front.code,
+            stacks,
+            antes,
+            dead_antes,
+            blinds,
+            bring_in,
+            small_bet,
+            big_bet,
+            min_bet,
+            rakes,
+        },
+        rules: Rules {
+            reopen: Reopen::Full,
+            free_fold: true,
+            caps: None,
+        },
+        script,
+        stated: Stated {
+            finish: None,
+            wins,
+            pot_total: total,
+            values: None,
+        },
+        notes,
+    }
+}

@@ -1,0 +1,61 @@
+//! The sizes of the bets of a hand are told by its big blind.
+ghost use Rattle.std.specs.Prelude.{◌≡◌, ◌≤◌, ◌*◌, not, true};
+ghost use Rattle.chip_ledger.specs.declared.numbers.TheConstants.{MOST_CHIPS};
+ghost use Rattle.play_event.specs.Games.{game_of};
+ghost use Rattle.play_event.specs.ValidSetup.{IsSizeWhere};
+ghost use Rattle.ohh_members.specs.Blinds.{is_fixed_game as is_fixed_game_said};
+ghost use Rattle.ohh_reading.specs.Sizes.{sizes_of as sizes_of_said};
+
+use ohh_members::blinds::is_fixed_game;
+use play_event::Code;
+
+/// The sizes of bets, in chips. A size that the game does not use is 0.
+#[derive(Clone, Copy, Debug, PartialEq, Eq)]
+pub struct Sizes {
+    pub bring_in: u64,
+    pub small_bet: u64,
+    pub big_bet: u64,
+    pub min_bet: u64,
+}
+
+/// How many hole cards the game deals to a seat.
+pub fn hole_cards(code: Code) -> u8
+    ensures said { result ≡ (game_of code).hole }
+    ensures few { result ≤ 7 }
+{
+    match code {
+        Code::PO | Code::FO8 => 4,
+        Code::FT | Code::NT | Code::NS => 2,
+        Code::F7S | Code::F7S8 | Code::FR => 7,
+        Code::N2L1D | Code::F2L3D => 5,
+        Code::FB => 4,
+    }
+}
+
+/// The sizes of the bets of a game with this big blind.
+pub fn sizes_of(code: Code, big_blind: u64) -> Sizes
+    requires least { 1 ≤ big_blind }
+    requires most { big_blind ≤ MOST_CHIPS }
+    requires fixed { is_fixed_game_said code ≡ true → 2 * big_blind ≤ MOST_CHIPS }
+    ensures said { result ≡ sizes_of_said code big_blind }
+    ensures bring_in { result.bring_in ≡ 0 }
+    ensures small_bet { IsSizeWhere (is_fixed_game_said code) result.small_bet }
+    ensures big_bet { IsSizeWhere (is_fixed_game_said code) result.big_bet }
+    ensures min_bet { IsSizeWhere (not (is_fixed_game_said code)) result.min_bet }
+{
+    if is_fixed_game(code) {
+        Sizes {
+            bring_in: 0,
+            small_bet: big_blind,
+            big_bet: 2 * big_blind,
+            min_bet: 0,
+        }
+    } else {
+        Sizes {
+            bring_in: 0,
+            small_bet: 0,
+            big_bet: 0,
+            min_bet: big_blind,
+        }
+    }
+}
