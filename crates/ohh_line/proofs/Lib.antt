@@ -1,0 +1,8 @@
+pub mod Clean
+pub mod Counts
+pub mod Lefts
+pub mod Letters
+pub mod Plain
+pub mod Sorted
+pub mod Steps
+pub mod Tidied

@@ -1,0 +1,10 @@
+use Rattle.std.proofs.Common.{◌≡◌, ◌==◌, ◌+◌, ◌-◌}
+use Rattle.std.specs.List.{list_all, list_any, range_with_len}
+use Rattle.chip_ledger.specs.SeatRow.{amount_of}
+use Rattle.chip_ledger.specs.Seat.{seats_of}
+use Rattle.ohh_line.specs.Spelled.{is_covered_straddle, is_whole_ante}
+use Rattle.ohh_line.proofs.setup.has_whole_antes.Given as goal
+
+-- the seats that are left decide
+abbrev pub invariant-loop-index : goal.invariant-loop-index
+invariant-loop-index l = list_all (is_whole_ante l.setup) (range_with_len (l.index + 1) (l.setup.stacks.seats - l.index)) ≡ list_all (is_whole_ante l.setup) (seats_of l.setup.stacks.seats)

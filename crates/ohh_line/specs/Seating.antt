@@ -1,0 +1,42 @@
+-- The numbers of seats at the table, and which of them the format spells.
+use Rattle.std.specs.Prelude.{ℕ, ◌+◌, ◌-◌, ◌==◌, ◌&&◌, Bool, true, nat_lt, not, if◌then◌else◌, List, [], ◌∷◌, take, slice_index, slice_index_or, Option, Some, None, unwrap_or}
+use Rattle.std.specs.List.{list_any}
+use Rattle.hand_canon.specs.declared.notes.Notes.{Notes}
+use Rattle.hand_canon.specs.AllowedNotes.{default_name}
+
+-- no number stands twice
+abbrev pub all_differ : List ℕ → Bool
+all_differ [] = true
+all_differ (number ∷ rest) = not (list_any (λ other. other == number) rest) && all_differ rest
+
+-- a step from a number to another goes down
+abbrev pub fall : ℕ → ℕ → ℕ
+fall number next = if nat_lt next number then 1 else 0
+
+-- the first of some numbers, or this one behind the last
+abbrev pub first_or : ℕ → List ℕ → ℕ
+first_or back [] = back
+first_or back (next ∷ rest) = next
+
+-- how many steps go down, from each number to the next, and from the last one back to this
+abbrev pub falls : ℕ → List ℕ → ℕ
+falls back [] = 0
+falls back (number ∷ rest) = fall number (first_or back rest) + falls back rest
+
+-- numbers go round the table once: they differ, and one step goes down
+abbrev pub goes_round : List ℕ → Bool
+goes_round numbers = all_differ numbers && (falls (slice_index numbers 0) numbers == 1)
+
+-- the numbers of so many seats, where they are said and go round
+abbrev pub numbers_spelled : ℕ → Option (List ℕ) → Option (List ℕ)
+numbers_spelled count None = None
+numbers_spelled count (Some numbers) = if goes_round (take count numbers) then Some numbers else None
+
+-- the number of a seat among these, or by default that of its place
+abbrev pub number_among : Option (List ℕ) → ℕ → ℕ
+number_among None seat = seat
+number_among (Some numbers) seat = slice_index numbers (seat - 1)
+
+-- the name that is written for a seat's player: the one that is said, or its default
+abbrev pub name_written : Notes → ℕ → List ℕ
+name_written notes seat = unwrap_or (slice_index_or notes.names (seat - 1) None) (default_name seat)

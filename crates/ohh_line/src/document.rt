@@ -1,0 +1,79 @@
+//! Plays are written as the one list of lines that stands for them.
+ghost use Rattle.std.specs.Prelude.{◌≡◌, ◌⊎◌, ◌≤◌, ◌++◌, ◌∷◌, [], None, Some, length, IfOk, IfErr, OnOk};
+ghost use Rattle.std.specs.List.{AllByRecursion};
+ghost use Rattle.hand_canon.specs.Sound.{IsSound};
+ghost use Rattle.hand_canon.specs.declared.limits.TheConstants.{MOST_HANDS};
+ghost use Rattle.hand_canon.specs.declared.writing.WriteRefusal.TheVariants as refusals;
+ghost use Rattle.ohh_line.specs.Lines.{IsTextOf, Spells, empty_line_before, hand_text};
+ghost use Rattle.ohh_line.specs.Spelled.{first_refusal};
+
+use crate::hand::hand_value;
+use crate::spelled::find_refusal;
+use card_set::Memory;
+use hand_canon::{Keep, Play, WriteRefusal};
+use ohh_members::Dialect;
+use std::alloc::Global;
+
+/// The lines of some plays, each the compact text of the tree of its hand, with an empty line between two. Nothing is
+/// written where the format does not spell one of them.
+pub fn write(
+    alloc: Global,
+    dialect: Dialect,
+    plays: &[Play],
+    keep: Keep,
+) -> Result<Vec<u8>, WriteRefusal>
+    requires few { length plays.now ≤ MOST_HANDS }
+    requires sound { AllByRecursion IsSound plays.now }
+    ensures written { IfOk result (λ bytes. Spells dialect plays.now bytes.items) }
+    ensures spelled { OnOk result (first_refusal keep plays.now ≡ None) }
+    ensures refused { IfErr result (λ refusal. (refusal ≡ refusals.Memory)
+        ⊎ (first_refusal keep plays.now ≡ Some refusal)) }
+{
+    if let Some(refusal) = find_refusal(plays, keep) {
+        return Err(refusal);
+    }
+    match spell(alloc, dialect, plays) {
+        Ok(bytes) => Ok(bytes),
+        Err(Memory) => Err(WriteRefusal::Memory),
+    }
+}
+
+// The lines of some plays.
+fn spell(alloc: Global, dialect: Dialect, plays: &[Play]) -> Result<Vec<u8>, Memory>
+    requires sound { AllByRecursion IsSound plays.now }
+    ensures { IfOk result (λ bytes. Spells dialect plays.now bytes.items) }
+{
+    let mut bytes = Vec::new(alloc);
+    let mut place = 0;
+    let mut rest = plays;
+    while let [play, behind @ ..] = rest {
+        let text = make_text(alloc, dialect, place, play)?;
+        bytes.extend_from_slice(text.as_slice())?;
+        bytes.push(b'\n')?;
+        push_empty_line(&mut bytes, behind)?;
+        place += 1;
+        rest = behind;
+    }
+    Ok(bytes)
+}
+
+// The text of the hand at a place of its file, from 0.
+fn make_text(alloc: Global, dialect: Dialect, place: usize, play: &Play) -> Result<Vec<u8>, Memory>
+    requires { IsSound play.now }
+    ensures text { IfOk result (λ text. text.items ≡ hand_text dialect place play.now) }
+    ensures read { IfOk result (λ text. IsTextOf dialect place play.now) }
+{
+    let value = hand_value(alloc, dialect, place, play)?;
+    Ok(value.to_vec(alloc)?)
+}
+
+// Puts an empty line behind others, where other hands follow.
+fn push_empty_line(bytes: &mut Vec<u8>, behind: &[Play]) -> Result<(), Memory>
+    ensures { OnOk result (bytes.new.items ≡ bytes.old.items ++ empty_line_before behind.now) }
+{
+    if behind.is_empty() {
+        return Ok(());
+    }
+    bytes.push(b'\n')?;
+    Ok(())
+}

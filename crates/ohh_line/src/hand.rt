@@ -1,0 +1,230 @@
+//! The tree of a hand: what is written of its setup, its notes and its play.
+ghost use Rattle.std.specs.Prelude.{◌≡◌, ◌≤◌, codes, unwrap_or, IfOk, OnOk};
+ghost use Rattle.std.specs.Fmt.{decimal};
+ghost use Rattle.serde_json.specs.Data.{object, string, put as put_said};
+ghost use Rattle.serde_json.specs.View.{view, members_view};
+ghost use Rattle.chip_ledger.specs.SeatRow.{amount_of};
+ghost use Rattle.hand_canon.specs.Sound.{IsSound};
+ghost use Rattle.hand_canon.specs.TraceRows.{core_said};
+ghost use Rattle.canonical_play.specs.Tidy.{IsTidy};
+ghost use Rattle.ohh_line.specs.Actions.{small_blind_seat as small_blind_seat_said};
+ghost use Rattle.ohh_line.specs.Games.{game_word as game_said};
+ghost use Rattle.ohh_line.specs.Rounds.{hand_rounds as hand_rounds_said};
+ghost use Rattle.ohh_line.specs.Seating.{number_among as number_among_said};
+ghost use Rattle.ohh_line.specs.Moment.{moment_of as moment_said};
+ghost use Rattle.ohh_line.specs.Spelled.{big_blind as big_blind_said, greatest_ante as greatest_ante_said};
+ghost use Rattle.ohh_line.specs.Tree.{hand_members, hand_tree, limit_tree, list, numbers_written, players, pots, round_trees, table_size, text_or_empty, whole, with_date};
+
+use crate::games::{bet_word, game_word};
+use crate::moment::{moment_of, moment_text};
+use crate::players::player_values;
+use crate::posts::{amount_at, small_blind_seat};
+use crate::pots::pot_values;
+use crate::rounds::hand_rounds;
+use crate::seating::{number_among, numbers_spelled};
+use crate::setup::{big_blind, greatest_ante};
+use crate::trees::round_values;
+use card_set::Memory;
+use hand_canon::{Notes, Play, Text, Trace};
+use ohh_members::Dialect;
+use play_event::Setup;
+use serde_json::{Map, Value, json, put};
+use std::alloc::Global;
+
+/// The tree of the hand at a place of its file, from 0.
+#[tactic(auto, unfolding(crate::specs::Tree::hand_tree))]
+pub fn hand_value(
+    alloc: Global,
+    dialect: Dialect,
+    place: usize,
+    play: &Play,
+) -> Result<Value, Memory>
+    requires { IsTidy (core_said play.now.trace) }
+    ensures { IfOk result (λ value. view value ≡ hand_tree dialect place play.now) }
+{
+    let ohh = make_members(alloc, dialect, place, play)?;
+    Ok(json!(in alloc; {"ohh": ohh})?)
+}
+
+// The members of the hand at a place of its file, as an object.
+fn make_members(alloc: Global, dialect: Dialect, place: usize, play: &Play) -> Result<Value, Memory>
+    requires { IsTidy (core_said play.now.trace) }
+    ensures { IfOk result (λ value. view value
+        ≡ object (hand_members dialect place play.now.trace play.now.hand.notes)) }
+{
+    let mut ohh = Map::new(alloc);
+    put_setup(alloc, &mut ohh, &play.trace.setup)?;
+    put_seating(alloc, &mut ohh, &play.trace.setup, &play.hand.notes)?;
+    put_names(alloc, &mut ohh, place, &play.hand.notes)?;
+    put_play(alloc, &mut ohh, dialect, &play.trace)?;
+    put_versions(alloc, &mut ohh)?;
+    put_date(alloc, &mut ohh, &play.hand.notes)?;
+    Ok(Value::Object(ohh))
+}
+
+// Puts the game, the greatest ante and the blinds under their names.
+fn put_setup(alloc: Global, ohh: &mut Map<String, Value>, setup: &Setup) -> Result<(), Memory>
+    ensures { OnOk result (members_view ohh.new.entries
+        ≡ put_said (codes "small_blind_amount")
+        (whole (amount_of setup.now.blinds (small_blind_seat_said setup.now)))
+        (put_said (codes "big_blind_amount") (whole (big_blind_said setup.now))
+        (put_said (codes "ante_amount") (whole (greatest_ante_said setup.now))
+        (put_said (codes "bet_limit") (limit_tree setup.now)
+        (put_said (codes "game_type") (string (game_said setup.now.code))
+        (members_view ohh.old.entries)))))) }
+{
+    put(
+        ohh,
+        alloc,
+        "game_type",
+        text_value(alloc, game_word(setup.code))?,
+    )?;
+    put(ohh, alloc, "bet_limit", limit_value(alloc, setup)?)?;
+    put(ohh, alloc, "ante_amount", Value::from(greatest_ante(setup)))?;
+    put(
+        ohh,
+        alloc,
+        "big_blind_amount",
+        Value::from(big_blind(setup)),
+    )?;
+    let small_blind = amount_at(&setup.blinds, small_blind_seat(setup));
+    put(ohh, alloc, "small_blind_amount", Value::from(small_blind))?;
+    Ok(())
+}
+
+// The limit of the game.
+fn limit_value(alloc: Global, setup: &Setup) -> Result<Value, Memory>
+    ensures { IfOk result (λ value. view value ≡ limit_tree setup.now) }
+{
+    let bet_type = bet_word(setup.code);
+    Ok(json!(in alloc; {"bet_type": bet_type})?)
+}
+
+// Puts the players, the button and the number of the table's seats under their names.
+fn put_seating(
+    alloc: Global,
+    ohh: &mut Map<String, Value>,
+    setup: &Setup,
+    notes: &Notes,
+) -> Result<(), Memory>
+    ensures { OnOk result (members_view ohh.new.entries
+        ≡ put_said (codes "table_size") (whole (table_size setup.now notes.now))
+        (put_said (codes "players")
+        (players setup.now.stacks notes.now (numbers_written setup.now notes.now))
+        (put_said (codes "dealer_seat") (whole (number_among_said
+        (numbers_written setup.now notes.now) setup.now.stacks.seats))
+        (members_view ohh.old.entries)))) }
+{
+    let count = setup.stacks.seats;
+    let numbers = numbers_spelled(count, notes.seats);
+    put(
+        ohh,
+        alloc,
+        "dealer_seat",
+        Value::from(number_among(numbers, count)),
+    )?;
+    let players = player_values(alloc, &setup.stacks, notes, numbers)?;
+    put(ohh, alloc, "players", players)?;
+    put(
+        ohh,
+        alloc,
+        "table_size",
+        Value::from(notes.seat_count.unwrap_or(count)),
+    )?;
+    Ok(())
+}
+
+// Puts the names of the hand at a place of its file, of its table, venue and currency under their names.
+fn put_names(
+    alloc: Global,
+    ohh: &mut Map<String, Value>,
+    place: usize,
+    notes: &Notes,
+) -> Result<(), Memory>
+    ensures { OnOk result (members_view ohh.new.entries
+        ≡ put_said (codes "table_name") (text_or_empty notes.now.table)
+        (put_said (codes "site_name") (text_or_empty notes.now.venue)
+        (put_said (codes "game_number") (string (unwrap_or notes.now.hand (decimal place)))
+        (put_said (codes "currency") (text_or_empty notes.now.currency)
+        (members_view ohh.old.entries))))) }
+{
+    put(ohh, alloc, "currency", note_value(alloc, &notes.currency)?)?;
+    put(
+        ohh,
+        alloc,
+        "game_number",
+        hand_name(alloc, place, &notes.hand)?,
+    )?;
+    put(ohh, alloc, "site_name", note_value(alloc, &notes.venue)?)?;
+    put(ohh, alloc, "table_name", note_value(alloc, &notes.table)?)?;
+    Ok(())
+}
+
+// Puts the rounds and the pots under their names.
+fn put_play(
+    alloc: Global,
+    ohh: &mut Map<String, Value>,
+    dialect: Dialect,
+    trace: &Trace,
+) -> Result<(), Memory>
+    requires { IsTidy (core_said trace.now) }
+    ensures { OnOk result (members_view ohh.new.entries
+        ≡ put_said (codes "rounds") (list (round_trees 1 (hand_rounds_said dialect trace.now)))
+        (put_said (codes "pots") (pots trace.now) (members_view ohh.old.entries))) }
+{
+    put(ohh, alloc, "pots", pot_values(alloc, trace)?)?;
+    let rounds = hand_rounds(alloc, dialect, trace)?;
+    let rounds = Value::Array(round_values(alloc, rounds.as_slice())?);
+    put(ohh, alloc, "rounds", rounds)?;
+    Ok(())
+}
+
+// Puts the versions of the format and of this project's spelling under their names.
+fn put_versions(alloc: Global, ohh: &mut Map<String, Value>) -> Result<(), Memory>
+    ensures { OnOk result (members_view ohh.new.entries
+        ≡ put_said (codes "spec_version") (string (codes "1.4.6"))
+        (put_said (codes "internal_version") (string (codes "1")) (members_view ohh.old.entries))) }
+{
+    put(ohh, alloc, "internal_version", text_value(alloc, "1")?)?;
+    put(ohh, alloc, "spec_version", text_value(alloc, "1.4.6")?)?;
+    Ok(())
+}
+
+// Puts the moment under its name, where the notes say a whole one.
+fn put_date(alloc: Global, ohh: &mut Map<String, Value>, notes: &Notes) -> Result<(), Memory>
+    ensures { OnOk result (members_view ohh.new.entries
+        ≡ with_date (moment_said notes.now) (members_view ohh.old.entries)) }
+{
+    if let Some(moment) = moment_of(notes) {
+        let text = moment_text(alloc, moment)?;
+        put(ohh, alloc, "start_date_utc", Value::String(text))?;
+    }
+    Ok(())
+}
+
+// A copy of a text as a value.
+fn text_value(alloc: Global, text: &str) -> Result<Value, Memory>
+    ensures { IfOk result (λ value. view value ≡ string text.now) }
+{
+    Ok(Value::String(String::from_str(alloc, text)?))
+}
+
+// A text that is said, or the empty one.
+fn note_value(alloc: Global, note: &Option<Text>) -> Result<Value, Memory>
+    ensures { IfOk result (λ value. view value ≡ text_or_empty note.now) }
+{
+    match note {
+        Some(text) => text_value(alloc, text.as_str()),
+        None => text_value(alloc, ""),
+    }
+}
+
+// The name of the hand at a place of its file: the one that is said, or its place.
+fn hand_name(alloc: Global, place: usize, name: &Option<Text>) -> Result<Value, Memory>
+    ensures { IfOk result (λ value. view value ≡ string (unwrap_or name.now (decimal place))) }
+{
+    match name {
+        Some(text) => text_value(alloc, text.as_str()),
+        None => Ok(Value::String(place.to_string(alloc)?)),
+    }
+}

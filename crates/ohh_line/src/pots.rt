@@ -1,0 +1,76 @@
+//! The pots of a hand, with their rakes and with what is won of them.
+ghost use Rattle.std.specs.Prelude.{◌≡◌, ◌≤◌, ◌<◌, ◌++◌, ◌+◌, map, slice_index_or, IfOk, OnOk};
+ghost use Rattle.serde_json.specs.View.{view};
+ghost use Rattle.chip_ledger.specs.Fillers.{no_amounts};
+ghost use Rattle.ohh_line.specs.Tree.{pot_tree, pots as pots_said, share_at as share_said, win_object, win_tree, wins_of};
+
+use crate::posts::amount_at;
+use card_set::Memory;
+use chip_ledger::{Pot, SeatRow};
+use hand_canon::Trace;
+use serde_json::{Value, json};
+use std::alloc::Global;
+
+/// The trees of the pots, the lowest first.
+pub fn pot_values(alloc: Global, trace: &Trace) -> Result<Value, Memory>
+    ensures { IfOk result (λ value. view value ≡ pots_said trace.now) }
+{
+    let mut values = Vec::new(alloc);
+    for place in 0..trace.pots.count {
+        values.push(pot_value(alloc, trace, place, &trace.pots.pots[place as usize])?)?;
+    }
+    Ok(Value::Array(values))
+}
+
+// The tree of the pot at a place, from 0.
+fn pot_value(alloc: Global, trace: &Trace, place: u8, pot: &Pot) -> Result<Value, Memory>
+    requires { place < 11 }
+    ensures { IfOk result (λ value. view value ≡ pot_tree trace.now place pot.now) }
+{
+    let amount = pot.chips;
+    let rake = trace.setup.rakes.rakes[place as usize];
+    let wins = win_values(alloc, share_at(trace, place), trace.setup.stacks.seats)?;
+    Ok(json!(in alloc; {"amount": amount, "number": place, "player_wins": wins, "rake": rake})?)
+}
+
+// The shares of the pot at a place.
+fn share_at(trace: &Trace, place: u8) -> &SeatRow
+    requires { place < 11 }
+    ensures { result.now ≡ share_said trace.now place }
+{
+    &trace.shares.shares[place as usize]
+}
+
+// The trees of what so many seats win of a pot.
+fn win_values(alloc: Global, share: &SeatRow, seats: u8) -> Result<Value, Memory>
+    requires { seats ≤ 10 }
+    ensures { IfOk result (λ value. view value ≡ wins_of share.now seats) }
+{
+    let mut values = Vec::new(alloc);
+    for index in 0..seats {
+        push_win(alloc, &mut values, share, index + 1)?;
+    }
+    Ok(Value::Array(values))
+}
+
+// Puts what a seat wins of a pot behind other wins, where it wins something.
+fn push_win(alloc: Global, values: &mut Vec<Value>, share: &SeatRow, seat: u8) -> Result<(), Memory>
+    requires first { 1 ≤ seat }
+    requires last { seat ≤ 10 }
+    ensures { OnOk result (map view values.new.items
+        ≡ map view values.old.items ++ win_tree share.now seat) }
+{
+    let amount = amount_at(share, seat);
+    if amount == 0 {
+        return Ok(());
+    }
+    values.push(win_value(alloc, seat, amount)?)?;
+    Ok(())
+}
+
+// The tree of so many chips that a seat wins.
+fn win_value(alloc: Global, seat: u8, amount: u64) -> Result<Value, Memory>
+    ensures { IfOk result (λ value. view value ≡ win_object seat amount) }
+{
+    Ok(json!(in alloc; {"player_id": seat, "win_amount": amount})?)
+}
