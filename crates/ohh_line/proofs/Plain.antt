@@ -1,7 +1,7 @@
 -- The tree of a hand has no fraction and nests little, so its text is the compact one and reads back.
-use Rattle.std.proofs.Common.{◌≡◌, ℕ, ◌+◌, ◌≤◌, Bool, true, false, cond, ◌||◌, nat_lt, List, [], ◌∷◌, ◌++◌, length, map, codes, Option, Some, None, refl, ap, ◌∙◌, arith}
+use Rattle.std.proofs.Common.{◌≡◌, ℕ, ◌+◌, ◌≤◌, Bool, true, false, cond, nat_lt, List, [], ◌∷◌, ◌++◌, length, map, codes, Option, Some, None, refl, arith}
 use Rattle.std.specs.List.{AllByRecursion, flat_map}
-use Rattle.serde_json.specs.Data.{Data, string, object, Members, member, no_members, depth, items_depth, members_depth}
+use Rattle.serde_json.specs.Data.{Data, string, Members, member, no_members, depth, items_depth, members_depth}
 use Rattle.serde_json.specs.View.{items_of}
 use Rattle.serde_json.specs.Written.{has_float, items_have_float, members_have_float}
 use Rattle.card_set.specs.declared.card.Slot.{Slot}
@@ -20,7 +20,7 @@ use Rattle.ohh_line.specs.declared.moment.Moment.{Moment}
 use Rattle.ohh_line.specs.Actions.{PlainAction, PlainDetail, Nothing, Chips, Cards}
 use Rattle.ohh_line.specs.Moment.{moment_of}
 use Rattle.ohh_line.specs.Rounds.{PlainRound, hand_rounds}
-use Rattle.ohh_line.specs.Tree.{action_tree, action_trees, cards_tree, date_member, detail_members, hand_tree, list, numbers_written, player_tree, players, pot_tree, pot_trees, pots, round_tree, round_trees, share_at, table_size, text_or_empty, whole, win_object, win_tree, wins_of}
+use Rattle.ohh_line.specs.Tree.{action_tree, action_trees, cards_tree, date_member, hand_tree, list, numbers_written, player_tree, players, pot_tree, pot_trees, pots, round_tree, round_trees, share_at, table_size, text_or_empty, whole, win_object, win_tree, wins_of}
 
 -- a tree has no fraction, and nests no deeper than this
 pub record IsPlain (most : ℕ) (tree : Data) : Type 0 where

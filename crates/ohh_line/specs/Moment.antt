@@ -1,5 +1,5 @@
 -- When a hand was played, as the format writes it: a civil date and a time in the zone UTC.
-use Rattle.std.specs.Prelude.{ℕ, zero, suc, ◌+◌, ◌/◌, ◌%◌, ◌==◌, Bool, bytes_eq, if◌then◌else◌, List, [], ◌∷◌, ◌++◌, codes, Option, Some, None}
+use Rattle.std.specs.Prelude.{ℕ, zero, suc, ◌+◌, ◌/◌, ◌%◌, ◌==◌, bytes_eq, if◌then◌else◌, List, [], ◌∷◌, ◌++◌, codes, Option, Some, None}
 use Rattle.hand_canon.specs.declared.notes.Clock.{Clock}
 use Rattle.hand_canon.specs.declared.notes.Notes.{Notes}
 use Rattle.ohh_line.specs.declared.moment.Moment.{Moment}

@@ -1,5 +1,5 @@
 -- Which facts of a play the format spells, in the order in which they are tried, and the first play with one that it does not.
-use Rattle.std.specs.Prelude.{ℕ, ◌+◌, ◌*◌, ◌-◌, ◌==◌, ◌&&◌, ◌||◌, Bool, true, min, nat_lt, nat_le, not, if◌then◌else◌, List, [], ◌∷◌, map, Option, Some, None, is_some, is_none}
+use Rattle.std.specs.Prelude.{ℕ, ◌+◌, ◌*◌, ◌-◌, ◌==◌, ◌&&◌, ◌||◌, Bool, min, nat_lt, nat_le, not, if◌then◌else◌, List, [], ◌∷◌, map, Option, Some, None, is_some, is_none}
 use Rattle.std.specs.List.{list_all, list_any}
 use Rattle.chip_ledger.specs.Greatest.{greatest}
 use Rattle.chip_ledger.specs.SeatRow.{amount_of}
@@ -7,7 +7,6 @@ use Rattle.play_event.specs.declared.setup.Setup.{Setup}
 use Rattle.play_event.specs.Seats.{all_seats}
 use Rattle.play_event.specs.Streets.{limit_of}
 use Rattle.play_event.specs.ValidSetup.{is_fixed}
-use Rattle.hand_canon.specs.declared.notes.NoteName.{NoteName}
 use Rattle.hand_canon.specs.declared.notes.NoteName.TheVariants as names
 use Rattle.hand_canon.specs.declared.notes.Notes.{Notes}
 use Rattle.hand_canon.specs.declared.trace.Play.{Play}

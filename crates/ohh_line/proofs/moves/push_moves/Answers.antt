@@ -1,4 +1,4 @@
-use Rattle.std.proofs.Common.{◌≡◌, ◌==◌, ◌-◌, ◌∙◌, ℕ, List, [], ◌∷◌, ◌++◌, cond, map, slice_index, ap, sym, arith, append_assoc}
+use Rattle.std.proofs.Common.{◌≡◌, ◌==◌, ◌-◌, ◌∙◌, ℕ, List, [], ◌∷◌, ◌++◌, cond, map, slice_index, ap, sym, append_assoc}
 use Rattle.std.proofs.lemmas.List.{length-set}
 use Rattle.play_event.specs.declared.played.Move.{Move}
 use Rattle.play_event.specs.Played.{move_said}

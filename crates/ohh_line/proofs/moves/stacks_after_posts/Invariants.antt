@@ -1,4 +1,4 @@
-use Rattle.std.proofs.Common.{◌≡◌, ◌≤◌, ◌<◌, ◌+◌, ℕ, [], length, slice_index}
+use Rattle.std.proofs.Common.{◌≡◌, ◌<◌, ◌+◌, ℕ, [], length, slice_index}
 use Rattle.play_event.specs.Chips.{chips_left}
 use Rattle.ohh_line.proofs.moves.stacks_after_posts.Given as goal
 

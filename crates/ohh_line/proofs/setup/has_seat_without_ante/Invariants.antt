@@ -1,8 +1,7 @@
-use Rattle.std.proofs.Common.{◌≡◌, ◌==◌, ◌+◌, ◌-◌}
-use Rattle.std.specs.List.{list_all, list_any, range_with_len}
-use Rattle.chip_ledger.specs.SeatRow.{amount_of}
+use Rattle.std.proofs.Common.{◌≡◌, ◌+◌, ◌-◌}
+use Rattle.std.specs.List.{list_any, range_with_len}
 use Rattle.chip_ledger.specs.Seat.{seats_of}
-use Rattle.ohh_line.specs.Spelled.{has_no_ante, is_covered_straddle, is_whole_ante}
+use Rattle.ohh_line.specs.Spelled.{has_no_ante}
 use Rattle.ohh_line.proofs.setup.has_seat_without_ante.Given as goal
 
 -- the seats that are left decide
