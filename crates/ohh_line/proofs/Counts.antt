@@ -17,7 +17,7 @@ use Rattle.canonical_play.specs.CanonScript.{dealt_slots, held_slots, plain_move
 use Rattle.canonical_play.specs.declared.limits.TheConstants.{MOST_MOVES}
 use Rattle.hand_canon.specs.declared.trace.Trace.{Trace}
 use Rattle.hand_canon.specs.TraceRows.{core_said}
-use Rattle.hand_canon.proofs.OneByOne.{flat_few}
+use Rattle.list_laws.proofs.FlatMaps.{flat_few}
 use Rattle.ohh_members.specs.declared.dialect.Dialect.{Dialect}
 use Rattle.ohh_line.specs.declared.action.Round.{Round}
 use Rattle.ohh_line.specs.declared.action.Street.{Street}
