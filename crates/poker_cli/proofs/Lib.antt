@@ -1,2 +1,3 @@
--- How a run ends with the answer to its input.
+-- How a run ends with the answer to its input, and what is printed hand by hand.
 mod Answering
+mod HandByHand

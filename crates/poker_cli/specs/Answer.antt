@@ -1,12 +1,18 @@
--- What the program answers to the bytes of its input.
-use Rattle.std.specs.Prelude.{◌≡◌, ℕ, ◌<◌, ◌≤◌, List, [], ◌++◌, length, map, codes, Ok, Err}
-use Rattle.std.specs.Fmt.{decimal}
+-- What the program answers to the bytes of its input, and of the file of a game.
+use Rattle.std.specs.Prelude.{◌≡◌, ℕ, ◌<◌, ◌≤◌, List, [], ◌∷◌, length, codes, Option, Some, Result, Ok, Err}
+use Rattle.acpc_game.specs.GameFile.{GameSaid, game_said}
+use Rattle.acpc_game.specs.GameText.{game_text}
+use Rattle.acpc_game.specs.GameView.{game_in}
+use Rattle.acpc_game.specs.declared.game.Game.{Game}
+use Rattle.acpc_line.specs.GameOf.{game_of}
+use Rattle.acpc_text.specs.declared.fault.AcpcFault.{AcpcFault}
+use Rattle.command_words.specs.Words.{Notation, Request, Show}
+use Rattle.command_words.specs.Words as notations
 use Rattle.command_words.specs.declared.command.Command.{Command}
 use Rattle.command_words.specs.declared.command.Command.TheVariants as commands
 use Rattle.hand_canon.specs.declared.record.Record.{Record}
 use Rattle.hand_canon.specs.declared.trace.Play.{Play}
-use Rattle.phh_reading.specs.Hand.{plain}
-use Rattle.phh_reading.specs.Reading.{Wrong, reading}
+use Rattle.hand_canon.specs.declared.writing.Unspelled.{Unspelled}
 use Rattle.printed_hands.specs.Check.{check_said}
 use Rattle.printed_hands.specs.Replay.{replay_said}
 use Rattle.printed_report.specs.Report.{report_said}
@@ -15,9 +21,16 @@ use Rattle.referee.specs.declared.fault.PlaysFault.{PlaysFault}
 use Rattle.referee.specs.declared.fault.PlaysFault.TheVariants as plays_faults
 use Rattle.referee.specs.declared.fault.Refusal.{Refusal}
 use Rattle.poker_cli.specs.Faults.{wrong_line, wrong_status}
+use Rattle.poker_cli.specs.Inputs.{Fault, HaveFault, InHistory, InLog, SayRecords}
 use Rattle.poker_cli.specs.Lines.{refused_line}
+use Rattle.poker_cli.specs.LogFaults.{bad_game_line, log_line, log_status}
+use Rattle.poker_cli.specs.Unspelled.{unspelled_line}
 use Rattle.poker_cli.specs.declared.status.Status.{Status}
 use Rattle.poker_cli.specs.declared.status.Status.TheVariants as statuses
+use Rattle.poker_cli.specs.declared.task.Reader.{Reader}
+use Rattle.poker_cli.specs.declared.task.Reader.TheVariants as readers
+use Rattle.poker_cli.specs.declared.task.Task.{Task}
+use Rattle.poker_cli.specs.declared.task.Task.TheVariants as tasks
 
 -- the most bytes of an input
 abbrev pub most_input : ℕ
@@ -38,8 +51,9 @@ abbrev pub to_excess : Answer
 to_excess = refusal statuses.Limit (codes "limit: input bytes 16777216\n")
 
 -- the answer to an input that does not read as hands
-abbrev pub to_wrong : Wrong → Answer
-to_wrong wrong = refusal (wrong_status wrong) (wrong_line wrong)
+abbrev pub to_fault : Fault → Answer
+to_fault (InHistory wrong) = refusal (wrong_status wrong) (wrong_line wrong)
+to_fault (InLog fault) = refusal (log_status fault) (log_line fault)
 
 -- the answer to a refused hand
 abbrev pub to_refusal : ℕ → Refusal → Answer
@@ -56,23 +70,80 @@ text_of commands.Check plays = check_said plays
 text_of commands.Replay plays = replay_said plays
 text_of commands.Report plays = report_said plays
 
+-- an answer with its output
+abbrev pub done : List ℕ → Answer
+done output = record { status = statuses.Done; output = output; line = [] }
+
+-- the answer where the game file of the first hand is asked for: none without hands
+abbrev pub to_game : Result GameSaid Unspelled → Answer
+to_game (Ok game) = done (game_text game)
+to_game (Err fact) = refusal statuses.Unspelled (unspelled_line 1 fact)
+
+abbrev pub to_first_game : List Play → Answer
+to_first_game [] = done []
+to_first_game (play ∷ plays) = to_game (game_of play.trace.setup)
+
 -- the answer to an input whose hands are all legal and agree
-abbrev pub to_plays : Command → List Play → Answer
-to_plays command plays = record { status = statuses.Done; output = text_of command plays; line = [] }
+abbrev pub to_plays : Task → List Play → Answer
+to_plays (tasks.Show command) plays = done (text_of command plays)
+to_plays tasks.GameFile plays = to_first_game plays
 
--- The answer of a command to the records of an input.
-pub data IsAnswerTo (command : Command) (records : List Record) : Answer → Type 0 where
+-- The answer to the records of an input, of which something is to be made.
+pub data IsAnswerTo (task : Task) (records : List Record) : Answer → Type 0 where
   -- a hand is refused, and this is the first
-  Refused : (number : ℕ) (why : Refusal) → IsFirstRefused records number why → IsAnswerTo command records (to_refusal number why)
+  Refused : (number : ℕ) (why : Refusal) → IsFirstRefused records number why → IsAnswerTo task records (to_refusal number why)
   -- all hands are legal, and agree with what is stated of them
-  Played : (plays : List Play) → ArePlaysOf records plays → IsAnswerTo command records (to_plays command plays)
+  Played : (plays : List Play) → ArePlaysOf records plays → IsAnswerTo task records (to_plays task plays)
 
--- The answer of a command to the bytes of its input.
-pub data IsAnswer (command : Command) (bytes : List ℕ) : Answer → Type 0 where
+-- The answer to the bytes of an input.
+pub data IsAnswer (task : Task) (reader : Reader) (bytes : List ℕ) : Answer → Type 0 where
   -- they are too many
-  TooLong : most_input < length bytes → IsAnswer command bytes to_excess
+  TooLong : most_input < length bytes → IsAnswer task reader bytes to_excess
   -- they do not read as hands
-  Unread : length bytes ≤ most_input → (wrong : Wrong) → reading bytes ≡ Err wrong → IsAnswer command bytes (to_wrong wrong)
+  Unread : length bytes ≤ most_input → (fault : Fault) → HaveFault reader bytes fault → IsAnswer task reader bytes (to_fault fault)
   -- they read as these hands
-  Read : length bytes ≤ most_input → (records : List Record) → reading bytes ≡ Ok (map plain records)
-      → (answer : Answer) → IsAnswerTo command records answer → IsAnswer command bytes answer
+  Read : length bytes ≤ most_input → (records : List Record) → SayRecords reader bytes records
+      → (answer : Answer) → IsAnswerTo task records answer → IsAnswer task reader bytes answer
+
+-- the answers to a game's file that is too long, or says no game
+abbrev pub to_game_excess : Answer
+to_game_excess = refusal statuses.Limit (codes "limit: game bytes 16777216\n")
+
+abbrev pub to_bad_game : AcpcFault → Answer
+to_bad_game fault = refusal statuses.BadGame (bad_game_line fault)
+
+-- The file of a game gives no game, and this is the answer.
+pub data GivesNoGame (file : Option (List ℕ)) : Answer → Type 0 where
+  -- it is too long
+  FileTooLong : (text : List ℕ) → file ≡ Some text → most_input < length text → GivesNoGame file to_game_excess
+  -- it says no game that is played
+  BadGame : (text : List ℕ) → file ≡ Some text → length text ≤ most_input
+      → (fault : AcpcFault) → game_said text ≡ Err fault → GivesNoGame file (to_bad_game fault)
+
+-- The file of a game says this game.
+pub record GivesGame (file : Option (List ℕ)) (game : Game) : Type 0 where
+  pub text : List ℕ
+  pub there : file ≡ Some text
+  pub short : length text ≤ most_input
+  pub says : game_said text ≡ Ok (game_in game)
+
+-- what is made of the hands that a request asks about
+abbrev pub task_of : Request → Task
+task_of (Show command notation) = tasks.Show command
+task_of notations.Game = tasks.GameFile
+
+-- the notation of these hands
+abbrev pub notation_of : Request → Notation
+notation_of (Show command notation) = notation
+notation_of notations.Game = notations.Phh
+
+-- The files of a shelf by their names.
+abbrev pub Files : Type 0
+Files = List ℕ → Option (List ℕ)
+
+-- The answer to hands in a notation: to a log, by the file of its game.
+pub data IsAnswerIn (task : Task) (files : Files) (bytes : List ℕ) : Notation → Answer → Type 0 where
+  History : (answer : Answer) → IsAnswer task readers.Phh bytes answer → IsAnswerIn task files bytes notations.Phh answer
+  NoGame : (name : List ℕ) (answer : Answer) → GivesNoGame (files name) answer → IsAnswerIn task files bytes (notations.Acpc name) answer
+  Log : (name : List ℕ) (game : Game) → GivesGame (files name) game
+      → (answer : Answer) → IsAnswer task (readers.Acpc game) bytes answer → IsAnswerIn task files bytes (notations.Acpc name) answer

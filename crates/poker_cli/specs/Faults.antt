@@ -1,5 +1,5 @@
 -- The line that is told where an input does not read as hands.
-use Rattle.std.specs.Prelude.{ℕ, List, [], ◌++◌, codes}
+use Rattle.std.specs.Prelude.{ℕ, List, ◌++◌, codes}
 use Rattle.std.specs.Fmt.{decimal}
 use Rattle.hand_canon.specs.declared.limits.Quantity.{Quantity}
 use Rattle.hand_canon.specs.declared.limits.Quantity.TheVariants as quantities

@@ -2,6 +2,11 @@
 pub mod Status
 pub mod Lines
 pub mod Faults
+pub mod LogFaults
+pub mod Unspelled
+pub mod Inputs
 pub mod Answer
+pub mod Printing
+pub mod Lacking
 pub mod Told
 pub mod Run

@@ -1,12 +1,13 @@
 -- What a run of the program tells and leaves.
 use Rattle.std.specs.Prelude.{◌≡◌, ◌⊎◌, ℕ, List, [], codes, Option, Some, None, unwrap_or}
 use Rattle.std.specs.Io.KnownBytes.{Appends}
-use Rattle.command_words.specs.declared.command.Command.{Command}
+use Rattle.command_words.specs.Words.{Notation, Request}
+use Rattle.command_words.specs.Words as notations
 use Rattle.host_io.specs.Faults.{Rose}
 use Rattle.host_io.specs.Bytes.{AppendsPart}
 use Rattle.poker_cli.specs.declared.status.Status.{Status}
 use Rattle.poker_cli.specs.declared.status.Status.TheVariants as statuses
-use Rattle.poker_cli.specs.Answer.{Answer, IsAnswer}
+use Rattle.poker_cli.specs.Answer.{Answer, Files, GivesNoGame, IsAnswerIn, notation_of, task_of}
 
 -- the line where the words are no command
 abbrev pub usage_line : List ℕ
@@ -18,12 +19,15 @@ abbrev pub MayEnd : Answer → Status → Type 0
 MayEnd answer statuses.WriteFault = answer.status ≡ statuses.Done
 MayEnd answer status = answer.status ≡ status
 
--- The line of a status that depends on no input: none after Done, and those of faults and of words that are no command.
+-- The line of a status that depends on no input: none after Done, and those of faults, of words that are no command, and of a
+-- game's file that is not there.
 abbrev pub fixed_line : Status → Option (List ℕ)
 fixed_line statuses.Usage = Some usage_line
 fixed_line statuses.ReadFault = Some (codes "read fault\n")
 fixed_line statuses.Memory = Some (codes "out of memory\n")
 fixed_line statuses.WriteFault = Some (codes "write fault\n")
+fixed_line statuses.ShelfFault = Some (codes "shelf fault\n")
+fixed_line statuses.GameMissing = Some (codes "game missing\n")
 fixed_line statuses.Done = Some []
 fixed_line _ = None
 
@@ -48,22 +52,50 @@ pub record Sinks : Type 0 where
   pub before : ℕ
   pub now : ℕ
 
--- A run that got to its answer: the answer to its input, the status that follows from it, what was written of its output,
--- and its line.
-pub record Answers (command : Command) (bytes : List ℕ) (out diag : Sinks) (status : Status) : Type 0 where
+-- the files that a request asks for, where the shelf tells them; a request without a game asks for none
+abbrev pub files_told : Notation → Option Files → Option Files
+files_told notations.Phh told = Some (λ (name : List ℕ). None)
+files_told (notations.Acpc name) told = told
+
+-- a request asks for the file of a game
+abbrev pub AsksForGame : Notation → Type 0
+AsksForGame notations.Phh = ⊥
+AsksForGame (notations.Acpc name) = Unit {0}
+
+-- words ask for no file of a game
+abbrev pub AskForNoGame : Option Request → Type 0
+AskForNoGame None = Unit {0}
+AskForNoGame (Some request) = notation_of request ≡ notations.Phh
+
+-- the file of the game that a request asks for is not there
+abbrev pub IsGameMissing : Notation → Files → Type 0
+IsGameMissing notations.Phh files = ⊥
+IsGameMissing (notations.Acpc name) files = files name ≡ None
+
+-- the shelf tells that the file of the game that a request asks for is not there, or gives no game
+abbrev pub LacksGame : Notation → Option Files → Type 0
+LacksGame notations.Phh told = ⊥
+LacksGame (notations.Acpc name) None = ⊥
+LacksGame (notations.Acpc name) (Some files) = (files name ≡ None) ⊎ ((answer : Answer) × GivesNoGame (files name) answer)
+
+-- A run that got to its answer: the answer to its files and its input, the status that follows from it, what was written of
+-- its output, and its line.
+pub record Answers (request : Request) (files : Files) (bytes : List ℕ) (out diag : Sinks) (status : Status) : Type 0 where
   pub answer : Answer
-  pub to_input : IsAnswer command bytes answer
+  pub to_input : IsAnswerIn (task_of request) files bytes (notation_of request) answer
   pub ends : MayEnd answer status
   pub written : Writes out.held out.holds answer status
   pub line : TellsLine diag.before diag.now diag.held diag.holds (line_of answer status)
 
--- How a run of a command on these bytes may end: with the answer to them, or before it, where the input could not be read or
--- memory ran out.
-abbrev pub Ends : Command → List ℕ → Sinks → Sinks → Status → Type 0
-Ends command bytes out diag statuses.Usage = ⊥
-Ends command bytes out diag statuses.ReadFault = Unit {0}
-Ends command bytes out diag statuses.Memory = Unit {0}
-Ends command bytes out diag status = Answers command bytes out diag status
+-- How a run of a request on these files and bytes may end: with the answer to them, or before it, where the file of a
+-- game is not there, a file or the input could not be read, or memory ran out.
+abbrev pub Ends : Request → Files → List ℕ → Sinks → Sinks → Status → Type 0
+Ends request files bytes out diag statuses.Usage = ⊥
+Ends request files bytes out diag statuses.ReadFault = Unit {0}
+Ends request files bytes out diag statuses.Memory = Unit {0}
+Ends request files bytes out diag statuses.ShelfFault = AsksForGame (notation_of request)
+Ends request files bytes out diag statuses.GameMissing = IsGameMissing (notation_of request) files
+Ends request files bytes out diag status = Answers request files bytes out diag status
 
 -- a status after which nothing was written
 abbrev pub WritesNothing : Status → Type 0
@@ -77,4 +109,32 @@ IsOwn statuses.Done = Unit {0}
 IsOwn statuses.Refused = Unit {0}
 IsOwn statuses.BadInput = Unit {0}
 IsOwn statuses.Limit = Unit {0}
+IsOwn statuses.Unspelled = Unit {0}
+IsOwn statuses.BadGame = Unit {0}
 IsOwn _ = ⊥
+
+-- a status that an answer to what was read of the input has
+abbrev pub IsOfInput : Status → Type 0
+IsOfInput statuses.Done = Unit {0}
+IsOfInput statuses.Refused = Unit {0}
+IsOfInput statuses.BadInput = Unit {0}
+IsOfInput statuses.Limit = Unit {0}
+IsOfInput statuses.Unspelled = Unit {0}
+IsOfInput _ = ⊥
+
+-- a status that refuses nothing of the input: all is done, or a device failed, or memory ran out
+abbrev pub RefusesNothing : Status → Type 0
+RefusesNothing statuses.Done = Unit {0}
+RefusesNothing statuses.ReadFault = Unit {0}
+RefusesNothing statuses.WriteFault = Unit {0}
+RefusesNothing statuses.ShelfFault = Unit {0}
+RefusesNothing statuses.Memory = Unit {0}
+RefusesNothing _ = ⊥
+
+-- a status before the input is read
+abbrev pub ReadsNothing : Status → Type 0
+ReadsNothing statuses.Usage = Unit {0}
+ReadsNothing statuses.ShelfFault = Unit {0}
+ReadsNothing statuses.GameMissing = Unit {0}
+ReadsNothing statuses.BadGame = Unit {0}
+ReadsNothing _ = ⊥

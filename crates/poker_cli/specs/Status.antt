@@ -9,10 +9,14 @@ status_number statuses.Done = 0
 status_number statuses.Refused = 1
 status_number statuses.Usage = 2
 status_number statuses.BadInput = 3
+status_number statuses.Unspelled = 4
 status_number statuses.ReadFault = 5
 status_number statuses.WriteFault = 6
 status_number statuses.Limit = 7
 status_number statuses.Memory = 8
+status_number statuses.GameMissing = 9
+status_number statuses.BadGame = 10
+status_number statuses.ShelfFault = 11
 
 -- the number of a status
 abbrev pub IsStatusNumber : ℕ → Type 0

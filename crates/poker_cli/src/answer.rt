@@ -5,17 +5,21 @@ ghost use Rattle.hand_canon.specs.SoundRecord.{IsSoundRecord};
 ghost use Rattle.hand_canon.specs.declared.limits.TheConstants.{MOST_HANDS};
 ghost use Rattle.poker_cli.specs.Answer as definition;
 ghost use Rattle.poker_cli.specs.Answer.{IsAnswer, IsAnswerTo, IsToldOf, most_input};
-ghost use Rattle.poker_cli.specs.Run.{IsOwn};
+ghost use Rattle.poker_cli.specs.Run.{IsOfInput};
 ghost use Rattle.poker_cli.specs.Told.{answer_told};
 
 use crate::faults::answer_to_fault;
 use crate::lines::refused_line;
+use crate::log_faults::answer_to_log_fault;
+use crate::printing::print_records;
 use crate::status::Status;
+use crate::task::{Reader, Task};
+use crate::unspelled::unspelled_line;
+use acpc_game::{Game, write_game};
+use acpc_line::game_of;
 use card_set::Memory;
 use command_words::Command;
 use hand_canon::{Play, Records};
-use printed_hands::{check_text, replay_text};
-use printed_report::report_text;
 use referee::{PlaysFault, plays_of};
 use std::alloc::Global;
 
@@ -23,46 +27,116 @@ use std::alloc::Global;
 #[derive(Drop)]
 pub struct Answer {
     pub status: Status,
-    pub output: String,
+    pub output: Vec<u8>,
     pub line: String,
 }
 
-/// The most bytes of an input.
+/// The most bytes of an input, and of the file of a game.
 pub const MOST_INPUT: usize = 16_777_216;
 
-/// The answer of a command to bytes that are not too many.
-pub fn answer_to(alloc: Global, command: Command, bytes: &[u8]) -> Result<Answer, Memory>
+/// The answer to bytes that are not too many, as they are read.
+pub fn answer_to(alloc: Global, task: Task, reader: &Reader, bytes: &[u8]) -> Result<Answer, Memory>
     requires { length bytes.now ≤ most_input }
-    ensures answer { IfOk result (λ answer. IsAnswer command bytes.now (answer_told answer)) }
-    ensures own { IfOk result (λ answer. IsOwn answer.status) }
+    ensures answer { IfOk result (λ answer.
+        IsAnswer task reader.now bytes.now (answer_told answer)) }
+    ensures own { IfOk result (λ answer. IsOfInput answer.status) }
+{
+    match reader {
+        Reader::Phh => answer_to_history(alloc, task, bytes),
+        Reader::Acpc(game) => answer_to_log(alloc, task, game, bytes),
+    }
+}
+
+// The answer to bytes in the Poker Hand History format.
+fn answer_to_history(alloc: Global, task: Task, bytes: &[u8]) -> Result<Answer, Memory>
+    requires { length bytes.now ≤ most_input }
+    ensures answer { IfOk result (λ answer.
+        IsAnswer task Reader.Phh bytes.now (answer_told answer)) }
+    ensures own { IfOk result (λ answer. IsOfInput answer.status) }
 {
     match phh_format::read(alloc, bytes) {
-        Ok(records) => answer_to_records(alloc, command, records),
+        Ok(records) => answer_to_records(alloc, task, records),
         Err(fault) => answer_to_fault(alloc, &fault),
     }
 }
 
+// The answer to the bytes of a log under a game.
+fn answer_to_log(alloc: Global, task: Task, game: &Game, bytes: &[u8]) -> Result<Answer, Memory>
+    requires { length bytes.now ≤ most_input }
+    ensures answer { IfOk result (λ answer.
+        IsAnswer task (Reader.Acpc game.now) bytes.now (answer_told answer)) }
+    ensures own { IfOk result (λ answer. IsOfInput answer.status) }
+{
+    match acpc_reading::read(alloc, game, bytes) {
+        Ok(records) => answer_to_records(alloc, task, records),
+        Err(fault) => answer_to_log_fault(alloc, &fault),
+    }
+}
+
 // The answer to the records that bytes say.
-fn answer_to_records(alloc: Global, command: Command, records: Records) -> Result<Answer, Memory>
+fn answer_to_records(alloc: Global, task: Task, records: Records) -> Result<Answer, Memory>
     requires sound { All IsSoundRecord records }
     requires few { length records ≤ MOST_HANDS }
-    ensures answer { IfOk result (λ answer. IsAnswerTo command records (answer_told answer)) }
-    ensures own { IfOk result (λ answer. IsOwn answer.status) }
+    ensures answer { IfOk result (λ answer. IsAnswerTo task records (answer_told answer)) }
+    ensures own { IfOk result (λ answer. IsOfInput answer.status) }
+{
+    match task {
+        Task::Show(command) => answer_with_text(alloc, command, records),
+        Task::GameFile => answer_with_game(alloc, records),
+    }
+}
+
+// The answer with what a command prints of records.
+fn answer_with_text(alloc: Global, command: Command, records: Records) -> Result<Answer, Memory>
+    requires sound { All IsSoundRecord records }
+    requires few { length records ≤ MOST_HANDS }
+    ensures answer { IfOk result (λ answer.
+        IsAnswerTo (Task.Show command) records (answer_told answer)) }
+    ensures own { IfOk result (λ answer. IsOfInput answer.status) }
+{
+    match print_records(alloc, command, records) {
+        Ok(output) => Ok(done(alloc, output.into_bytes())),
+        Err(fault) => answer_to_refused(alloc, &fault),
+    }
+}
+
+// The answer with the game file of the first of records.
+fn answer_with_game(alloc: Global, records: Records) -> Result<Answer, Memory>
+    requires sound { All IsSoundRecord records }
+    requires few { length records ≤ MOST_HANDS }
+    ensures answer { IfOk result (λ answer.
+        IsAnswerTo Task.GameFile records (answer_told answer)) }
+    ensures own { IfOk result (λ answer. IsOfInput answer.status) }
 {
     match plays_of(alloc, records) {
-        Ok(plays) => Ok(Answer {
-            status: Status::Done,
-            output: text_of(alloc, command, &plays)?,
-            line: String::new(alloc),
-        }),
+        Ok(plays) => answer_with_first_game(alloc, &plays),
         Err(fault) => answer_to_refused(alloc, &fault),
+    }
+}
+
+// The answer with the game file of the first of plays.
+fn answer_with_first_game(alloc: Global, plays: &[Play]) -> Result<Answer, Memory>
+    requires sound { All IsSound plays.now }
+    ensures answer { IfOk result (λ answer.
+        answer_told answer ≡ definition.to_first_game plays.now) }
+    ensures own { IfOk result (λ answer. IsOfInput answer.status) }
+{
+    let [play, ..] = plays else {
+        return Ok(done(alloc, Vec::new(alloc)));
+    };
+    match game_of(play) {
+        Ok(game) => Ok(done(alloc, write_game(alloc, &game)?)),
+        Err(fact) => {
+            let line = unspelled_line(alloc, 1, fact)?;
+            Ok(refusal(alloc, Status::Unspelled, line))
+        }
     }
 }
 
 // The answer to records that have no plays.
 fn answer_to_refused(alloc: Global, fault: &PlaysFault) -> Result<Answer, Memory>
     ensures answer { IfOk result (λ answer. IsToldOf fault.now (answer_told answer)) }
-    ensures own { IfOk result (λ answer. IsOwn answer.status) }
+    ensures own { IfOk result (λ answer. IsOfInput answer.status) }
 {
     match fault {
         PlaysFault::Refused { hand, why } => {
@@ -73,26 +147,25 @@ fn answer_to_refused(alloc: Global, fault: &PlaysFault) -> Result<Answer, Memory
     }
 }
 
-// What a command prints of plays.
-fn text_of(alloc: Global, command: Command, plays: &[Play]) -> Result<String, Memory>
-    requires sound { All IsSound plays.now }
-    requires few { length plays.now ≤ MOST_HANDS }
-    ensures { IfOk result (λ text. string_bytes text ≡ definition.text_of command plays.now) }
-{
-    match command {
-        Command::Check => check_text(alloc, plays),
-        Command::Replay => replay_text(alloc, plays),
-        Command::Report => report_text(alloc, plays),
-    }
-}
-
 /// The answer to an input that is too long.
 pub fn answer_to_excess(alloc: Global) -> Result<Answer, Memory>
     ensures answer { IfOk result (λ answer. answer_told answer ≡ definition.to_excess) }
-    ensures own { IfOk result (λ answer. IsOwn answer.status) }
+    ensures own { IfOk result (λ answer. IsOfInput answer.status) }
 {
     let line = String::from_str(alloc, "limit: input bytes 16777216\n")?;
     Ok(refusal(alloc, Status::Limit, line))
+}
+
+// An answer with its output.
+fn done(alloc: Global, output: Vec<u8>) -> Answer
+    ensures answer { answer_told result ≡ definition.done output.items }
+    ensures status { result.status ≡ Status.Done }
+{
+    Answer {
+        status: Status::Done,
+        output,
+        line: String::new(alloc),
+    }
 }
 
 /// An answer without output.
@@ -102,7 +175,7 @@ pub fn refusal(alloc: Global, status: Status, line: String) -> Answer
 {
     Answer {
         status,
-        output: String::new(alloc),
+        output: Vec::new(alloc),
         line,
     }
 }

@@ -1,23 +1,27 @@
 //! The top call: from the words and the input to the status, the output and the line.
-ghost use Rattle.std.specs.Prelude.{◌≡◌, ◌↔◌, map, bytes_eq, None, IfOk, IfSome, IsErrOf, string_bytes};
-ghost use Rattle.command_words.specs.Words.{command_said};
+ghost use Rattle.std.specs.Prelude.{◌≡◌, ◌↔◌, map, None, Some, IfErr, IfOk, IfSome, IsErrOf, string_bytes};
+ghost use Rattle.command_words.specs.Requests.{notation_in, request_in};
+ghost use Rattle.command_words.specs.Words.{Acpc, request_said};
 ghost use Rattle.host_io.specs.Faults.{Rose};
-ghost use Rattle.poker_cli.specs.Answer.{IsAnswer};
-ghost use Rattle.poker_cli.specs.Run.{Ends, IsOwn, MayEnd, TellsLine, Writes, WritesNothing, fixed_line, line_of};
+ghost use Rattle.poker_cli.specs.Answer.{IsAnswer, IsAnswerIn, notation_of, task_of};
+ghost use Rattle.poker_cli.specs.Lacking.{ComesFirst};
+ghost use Rattle.poker_cli.specs.Run.{AskForNoGame, AsksForGame, Ends, IsGameMissing, IsOfInput, IsOwn, LacksGame, MayEnd, ReadsNothing, TellsLine, Writes, WritesNothing, files_told, fixed_line, line_of};
 ghost use Rattle.poker_cli.specs.Told.{answer_told};
 
 use crate::answer::{self, Answer, MOST_INPUT};
+use crate::games::{NoGame, answer_to_lack, fetch_game};
 use crate::status::Status;
+use crate::task::{Reader, Task};
 use card_set::Memory;
-use command_words::{Command, read_words};
+use command_words::{Notation, Request, read_words};
 use host_io::{Failed, InFault, Shelf, Sink, Source, read_all, write_all};
 use std::alloc::Global;
 
 const USAGE: &[u8] = b"usage: handref check|replay|report|convert|game|load [options]\n";
 
-/// Runs the program on its words, without its own name. It reads the input to its end, writes the
-/// output where all is done, and tells one line beside it where it is not. The shelf is not called
-/// yet.
+/// Runs the program on its words, without its own name. It reads the file of a game from the shelf where the words
+/// name one, then the input to its end, writes the output where all is done, and tells one line beside it where it is
+/// not.
 pub fn run<S: Source, H: Shelf, K: Sink, D: Sink>(
     alloc: Global,
     words: &[String],
@@ -26,14 +30,72 @@ pub fn run<S: Source, H: Shelf, K: Sink, D: Sink>(
     out: &mut K,
     diag: &mut D,
 ) -> Status
-    // The words are no command: nothing is read then, and no memory is taken.
-    ensures usage { (result ≡ Status.Usage) ↔ (command_said (map string_bytes words.now) ≡ None) }
-    ensures unread { result ≡ Status.Usage → input.new ≡ input.old }
+    // The words ask for nothing: no memory is taken then.
+    ensures usage { (result ≡ Status.Usage) ↔ (request_said (map string_bytes words.now) ≡ None) }
 
-    // The words are a command: the run ends with the answer to its input, or with a fault whose
-    // count rose in this call.
-    ensures ends { IfSome (command_said (map string_bytes words.now)) (λ command.
-        IfSome (S.left input.old) (λ bytes. Ends command bytes
+    // The words ask for something: the run ends with the answer to the file that the shelf has and
+    // to the input, or with a fault whose count rose in this call.
+    ensures ends { IfSome (request_said (map string_bytes words.now)) (λ request.
+        IfSome (S.left input.old) (λ bytes.
+        IfSome (files_told (notation_of request) (H.files shelf.old)) (λ files.
+        Ends request files bytes
+        (record {
+          held = K.held out.old;
+          holds = K.held out.new;
+          before = K.faults out.old;
+          now = K.faults out.new;
+        })
+        (record {
+          held = D.held diag.old;
+          holds = D.held diag.new;
+          before = D.faults diag.old;
+          now = D.faults diag.new;
+        }) result))) }
+    ensures read_fault { result ≡ Status.ReadFault
+        → Rose (S.faults input.old) (S.faults input.new) }
+    ensures write_fault { result ≡ Status.WriteFault → Rose (K.faults out.old) (K.faults out.new) }
+    ensures shelf_fault { result ≡ Status.ShelfFault
+        → Rose (H.faults shelf.old) (H.faults shelf.new) }
+
+    // The shelf is called for a game alone, and the input is read behind it.
+    ensures shelf { AskForNoGame (request_said (map string_bytes words.now))
+        → shelf.new ≡ shelf.old }
+    ensures unread { ReadsNothing result → input.new ≡ input.old }
+    ensures without_game { IfSome (request_said (map string_bytes words.now)) (λ request.
+        LacksGame (notation_of request) (H.files shelf.old) → input.new ≡ input.old) }
+
+    // Nothing is written before all is done, and the line of a fault depends on no input.
+    ensures nothing_written { WritesNothing result → out.new ≡ out.old }
+    ensures fixed_line { IfSome (fixed_line result) (TellsLine
+        (D.faults diag.old) (D.faults diag.new) (D.held diag.old) (D.held diag.new)) }
+    ensures quiet { result ≡ Status.Done → diag.new ≡ diag.old }
+{
+    match read_words(alloc, words) {
+        Ok(Some(request)) => run_request(alloc, request, input, shelf, out, diag),
+        Ok(None) => {
+            tell(diag, USAGE);
+            Status::Usage
+        }
+        Err(Memory) => {
+            tell(diag, b"out of memory\n");
+            Status::Memory
+        }
+    }
+}
+
+// Runs what the words ask for.
+fn run_request<S: Source, H: Shelf, K: Sink, D: Sink>(
+    alloc: Global,
+    request: Request<'_>,
+    input: &mut S,
+    shelf: &mut H,
+    out: &mut K,
+    diag: &mut D,
+) -> Status
+    ensures answered { result ≡ Status.Usage → ⊥ }
+    ensures ends { IfSome (S.left input.old) (λ bytes.
+        IfSome (files_told (notation_of (request_in request.entry)) (H.files shelf.old)) (λ files.
+        Ends (request_in request.entry) files bytes
         (record {
           held = K.held out.old;
           holds = K.held out.new;
@@ -49,63 +111,30 @@ pub fn run<S: Source, H: Shelf, K: Sink, D: Sink>(
     ensures read_fault { result ≡ Status.ReadFault
         → Rose (S.faults input.old) (S.faults input.new) }
     ensures write_fault { result ≡ Status.WriteFault → Rose (K.faults out.old) (K.faults out.new) }
-
-    // Nothing is written before all is done, and the line of a fault depends on no input.
-    ensures nothing_written { WritesNothing result → out.new ≡ out.old }
-    ensures fixed_line { IfSome (fixed_line result) (TellsLine
-        (D.faults diag.old) (D.faults diag.new) (D.held diag.old) (D.held diag.new)) }
-    ensures quiet { result ≡ Status.Done → diag.new ≡ diag.old }
-    ensures shelf { shelf.new ≡ shelf.old }
-{
-    let _ = shelf;
-    match read_words(alloc, words) {
-        Ok(Some(command)) => run_command(alloc, command, input, out, diag),
-        Ok(None) => {
-            tell(diag, USAGE);
-            Status::Usage
-        }
-        Err(Memory) => {
-            tell(diag, b"out of memory\n");
-            Status::Memory
-        }
-    }
-}
-
-// Runs a command.
-fn run_command<S: Source, K: Sink, D: Sink>(
-    alloc: Global,
-    command: Command,
-    input: &mut S,
-    out: &mut K,
-    diag: &mut D,
-) -> Status
-    ensures answered { result ≡ Status.Usage → ⊥ }
-    ensures ends { IfSome (S.left input.old) (λ bytes. Ends command bytes
-        (record {
-          held = K.held out.old;
-          holds = K.held out.new;
-          before = K.faults out.old;
-          now = K.faults out.new;
-        })
-        (record {
-          held = D.held diag.old;
-          holds = D.held diag.new;
-          before = D.faults diag.old;
-          now = D.faults diag.new;
-        }) result) }
-    ensures read_fault { result ≡ Status.ReadFault
-        → Rose (S.faults input.old) (S.faults input.new) }
-    ensures write_fault { result ≡ Status.WriteFault → Rose (K.faults out.old) (K.faults out.new) }
+    ensures shelf_fault { result ≡ Status.ShelfFault
+        → Rose (H.faults shelf.old) (H.faults shelf.new) }
+    ensures shelf { AskForNoGame (Some (request_in request.entry)) → shelf.new ≡ shelf.old }
+    ensures unread { ReadsNothing result → input.new ≡ input.old }
+    ensures without_game { LacksGame (notation_of (request_in request.entry)) (H.files shelf.old)
+        → input.new ≡ input.old }
     ensures nothing_written { WritesNothing result → out.new ≡ out.old }
     ensures fixed_line { IfSome (fixed_line result) (TellsLine
         (D.faults diag.old) (D.faults diag.new) (D.held diag.old) (D.held diag.new)) }
     ensures quiet { result ≡ Status.Done → diag.new ≡ diag.old }
 {
-    match reply(alloc, command, input) {
+    match reply(alloc, request, input, shelf) {
         Ok(answer) => deliver(&answer, out, diag),
         Err(NoAnswer::ReadFault) => {
             tell(diag, b"read fault\n");
             Status::ReadFault
+        }
+        Err(NoAnswer::GameMissing) => {
+            tell(diag, b"game missing\n");
+            Status::GameMissing
+        }
+        Err(NoAnswer::ShelfFault) => {
+            tell(diag, b"shelf fault\n");
+            Status::ShelfFault
         }
         Err(NoAnswer::Memory) => {
             tell(diag, b"out of memory\n");
@@ -114,16 +143,94 @@ fn run_command<S: Source, K: Sink, D: Sink>(
     }
 }
 
-// The answer to all that the source has left.
-fn reply<S: Source>(alloc: Global, command: Command, input: &mut S) -> Result<Answer, NoAnswer>
-    ensures answer { IfOk result (λ answer. IfSome (S.left input.old)
-        (λ bytes. IsAnswer command bytes (answer_told answer))) }
+// The answer to a request, by the file of its game and by all that the source has left.
+fn reply<S: Source, H: Shelf>(
+    alloc: Global,
+    request: Request<'_>,
+    input: &mut S,
+    shelf: &mut H,
+) -> Result<Answer, NoAnswer>
+    ensures answer { IfOk result (λ answer. IfSome (S.left input.old) (λ bytes.
+        IfSome (files_told (notation_of (request_in request.entry)) (H.files shelf.old)) (λ files.
+        IsAnswerIn (task_of (request_in request.entry)) files bytes
+        (notation_of (request_in request.entry)) (answer_told answer)))) }
     ensures own { IfOk result (λ answer. IsOwn answer.status) }
     ensures read_fault { IsErrOf result NoAnswer.ReadFault
         → Rose (S.faults input.old) (S.faults input.new) }
+    ensures shelf_fault { IsErrOf result NoAnswer.ShelfFault
+        → Rose (H.faults shelf.old) (H.faults shelf.new) }
+    ensures asked { IsErrOf result NoAnswer.ShelfFault
+        → AsksForGame (notation_of (request_in request.entry)) }
+    ensures shelf { AskForNoGame (Some (request_in request.entry)) → shelf.new ≡ shelf.old }
+    ensures unread { IfOk result (λ answer. ReadsNothing answer.status → input.new ≡ input.old) }
+    ensures missing { IsErrOf result NoAnswer.GameMissing →
+        IfSome (files_told (notation_of (request_in request.entry)) (H.files shelf.old)) (λ files.
+        IsGameMissing (notation_of (request_in request.entry)) files) }
+    ensures unasked { IfErr result (λ why. ComesFirst why → input.new ≡ input.old) }
+    ensures without_game { LacksGame (notation_of (request_in request.entry)) (H.files shelf.old)
+        → input.new ≡ input.old }
+{
+    match request {
+        Request::Show(command, Notation::Phh) => {
+            reply_by(alloc, Task::Show(command), &Reader::Phh, input)
+        }
+        Request::Show(command, Notation::Acpc { game }) => {
+            reply_under(alloc, Task::Show(command), game, input, shelf)
+        }
+        Request::Game => reply_by(alloc, Task::GameFile, &Reader::Phh, input),
+    }
+}
+
+// The answer to a log, by the file of its game and by all that the source has left.
+fn reply_under<S: Source, H: Shelf>(
+    alloc: Global,
+    task: Task,
+    name: &str,
+    input: &mut S,
+    shelf: &mut H,
+) -> Result<Answer, NoAnswer>
+    ensures answer { IfOk result (λ answer. IfSome (S.left input.old) (λ bytes.
+        IfSome (H.files shelf.old) (λ files.
+        IsAnswerIn task files bytes (Acpc name.now) (answer_told answer)))) }
+    ensures own { IfOk result (λ answer. IsOwn answer.status) }
+    ensures read_fault { IsErrOf result NoAnswer.ReadFault
+        → Rose (S.faults input.old) (S.faults input.new) }
+    ensures shelf_fault { IsErrOf result NoAnswer.ShelfFault
+        → Rose (H.faults shelf.old) (H.faults shelf.new) }
+    ensures unread { IfOk result (λ answer. ReadsNothing answer.status → input.new ≡ input.old) }
+    ensures missing { IsErrOf result NoAnswer.GameMissing →
+        IfSome (H.files shelf.old) (λ files. files name.now ≡ None) }
+    ensures unasked { IfErr result (λ why. ComesFirst why → input.new ≡ input.old) }
+    ensures without_game { LacksGame (Acpc name.now) (H.files shelf.old) → input.new ≡ input.old }
+{
+    match fetch_game(alloc, shelf, name) {
+        Ok(game) => reply_by(alloc, task, &Reader::Acpc(game), input),
+        Err(NoGame::Lacking(lack)) => match answer_to_lack(alloc, lack) {
+            Ok(answer) => Ok(answer),
+            Err(Memory) => Err(NoAnswer::Memory),
+        },
+        Err(NoGame::Missing) => Err(NoAnswer::GameMissing),
+        Err(NoGame::ShelfFault) => Err(NoAnswer::ShelfFault),
+        Err(NoGame::Memory) => Err(NoAnswer::Memory),
+    }
+}
+
+// The answer to all that the source has left, as it is read.
+fn reply_by<S: Source>(
+    alloc: Global,
+    task: Task,
+    reader: &Reader,
+    input: &mut S,
+) -> Result<Answer, NoAnswer>
+    ensures answer { IfOk result (λ answer. IfSome (S.left input.old)
+        (λ bytes. IsAnswer task reader.now bytes (answer_told answer))) }
+    ensures of_input { IfOk result (λ answer. IsOfInput answer.status) }
+    ensures read_fault { IsErrOf result NoAnswer.ReadFault
+        → Rose (S.faults input.old) (S.faults input.new) }
+    ensures read_alone { IfErr result (λ why. ComesFirst why → ⊥) }
 {
     match read_all(alloc, input, MOST_INPUT) {
-        Ok(bytes) => match answer::answer_to(alloc, command, &bytes) {
+        Ok(bytes) => match answer::answer_to(alloc, task, reader, &bytes) {
             Ok(answer) => Ok(answer),
             Err(Memory) => Err(NoAnswer::Memory),
         },
@@ -140,6 +247,8 @@ fn reply<S: Source>(alloc: Global, command: Command, input: &mut S) -> Result<An
 #[derive(Clone, Copy, Debug, PartialEq, Eq)]
 enum NoAnswer {
     ReadFault,
+    GameMissing,
+    ShelfFault,
     Memory,
 }
 
@@ -157,7 +266,7 @@ fn deliver<K: Sink, D: Sink>(answer: &Answer, out: &mut K, diag: &mut D) -> Stat
     ensures quiet { result ≡ Status.Done → diag.new ≡ diag.old }
 {
     match answer.status {
-        Status::Done => match write_all(out, answer.output.as_bytes()) {
+        Status::Done => match write_all(out, &answer.output) {
             Ok(()) => Status::Done,
             Err(Failed) => {
                 tell(diag, b"write fault\n");

@@ -4,7 +4,8 @@ ghost use Rattle.std.specs.Option.{option_map};
 ghost use Rattle.phh_reading.specs.Reading.{wrong_of};
 ghost use Rattle.poker_cli.specs.Answer as definition;
 ghost use Rattle.poker_cli.specs.Faults.{bad_hand_line, limit_line as limit_line_said, limit_text as limit_said, what_text as what_said};
-ghost use Rattle.poker_cli.specs.Run.{IsOwn};
+ghost use Rattle.poker_cli.specs.Inputs.{InHistory};
+ghost use Rattle.poker_cli.specs.Run.{IsOfInput};
 ghost use Rattle.poker_cli.specs.Told.{answer_told};
 
 use crate::answer::{Answer, refusal};
@@ -17,9 +18,10 @@ use std::alloc::Global;
 
 /// The answer to an input that does not read as hands.
 pub fn answer_to_fault(alloc: Global, fault: &PhhFault) -> Result<Answer, Memory>
-    ensures answer { IfOk result (λ answer. option_map definition.to_wrong (wrong_of fault.now)
+    ensures answer { IfOk result (λ answer.
+        option_map (λ wrong. definition.to_fault (InHistory wrong)) (wrong_of fault.now)
         ≡ Some (answer_told answer)) }
-    ensures own { IfOk result (λ answer. IsOwn answer.status) }
+    ensures own { IfOk result (λ answer. IsOfInput answer.status) }
 {
     match fault {
         PhhFault::Text => {
@@ -75,8 +77,8 @@ fn what_text(what: What) -> &'static str
     }
 }
 
-// The line of a limit that is passed.
-fn limit_line(alloc: Global, quantity: Quantity) -> Result<String, Memory>
+/// The line of a limit that is passed.
+pub fn limit_line(alloc: Global, quantity: Quantity) -> Result<String, Memory>
     ensures { IfOk result (λ line. string_bytes line ≡ limit_line_said quantity) }
 {
     let limit = limit_text(quantity);

@@ -5,9 +5,14 @@
 mod answer;
 mod entry;
 mod faults;
+mod games;
 mod lines;
+mod log_faults;
+mod printing;
 mod process;
 mod status;
+mod task;
+mod unspelled;
 
 pub use entry::run;
 pub use process::run_process;

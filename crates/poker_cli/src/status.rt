@@ -13,14 +13,22 @@ pub enum Status {
     Usage,
     /// The input does not read as hands.
     BadInput,
+    /// A fact of a hand has no spelling where it is to be written.
+    Unspelled,
     /// The input could not be read.
     ReadFault,
     /// The output could not be written.
     WriteFault,
-    /// The input is too long, or it has more of something than is read.
+    /// The input or the file of a game is too long, or the input has more of something than is read.
     Limit,
     /// There was not enough memory.
     Memory,
+    /// The file of the game is not there.
+    GameMissing,
+    /// The file of the game says no game that is played here.
+    BadGame,
+    /// The file of the game could not be read.
+    ShelfFault,
 }
 
 impl Status {
@@ -33,10 +41,14 @@ impl Status {
             Status::Refused => 1,
             Status::Usage => 2,
             Status::BadInput => 3,
+            Status::Unspelled => 4,
             Status::ReadFault => 5,
             Status::WriteFault => 6,
             Status::Limit => 7,
             Status::Memory => 8,
+            Status::GameMissing => 9,
+            Status::BadGame => 10,
+            Status::ShelfFault => 11,
         }
     }
 }

@@ -1,0 +1,42 @@
+-- What the file of a game lacks, and why there is no answer.
+use Rattle.std.specs.Prelude.{◌≡◌, ◌≢◌, ℕ, ◌<◌, ◌≤◌, List, length, Option, Some, None, Err}
+use Rattle.acpc_game.specs.GameFile.{game_said}
+use Rattle.poker_cli.specs.Answer.{Answer, most_input, to_bad_game, to_fault, to_game_excess}
+use Rattle.acpc_text.specs.declared.fault.AcpcFault.{AcpcFault}
+use Rattle.acpc_text.specs.declared.fault.AcpcFault.TheVariants as faults
+use Rattle.poker_cli.specs.Inputs.{InLog}
+use Rattle.poker_cli.specs.declared.games.Lack.{Lack}
+use Rattle.poker_cli.specs.declared.games.Lack.TheVariants as lacks
+use Rattle.poker_cli.specs.declared.games.NoGame.{NoGame}
+use Rattle.poker_cli.specs.declared.games.NoGame.TheVariants as reasons
+use Rattle.poker_cli.specs.declared.entry.NoAnswer.{NoAnswer}
+use Rattle.poker_cli.specs.declared.entry.NoAnswer.TheVariants as whys
+
+-- a file lacks this
+abbrev pub Lacks : Option (List ℕ) → Lack → Type 0
+Lacks file lacks.TooLong = (text : List ℕ) × ((file ≡ Some text) × (most_input < length text))
+Lacks file (lacks.Bad fault) = (text : List ℕ) × ((file ≡ Some text) × ((length text ≤ most_input) × (game_said text ≡ Err fault)))
+
+-- a file gives no game for this reason; where it could not be read or memory ran out nothing is known of it
+abbrev pub HasNoGame : Option (List ℕ) → NoGame → Type 0
+HasNoGame file reasons.Missing = file ≡ None
+HasNoGame file (reasons.Lacking lack) = Lacks file lack
+HasNoGame file reasons.ShelfFault = Unit {0}
+HasNoGame file reasons.Memory = Unit {0}
+
+-- an answer tells this
+abbrev pub IsLackTold : Lack → Answer → Type 0
+IsLackTold lacks.TooLong answer = answer ≡ to_game_excess
+IsLackTold (lacks.Bad fault) answer = answer ≡ to_bad_game fault
+
+-- there is no answer for what comes before the input is read
+abbrev pub ComesFirst : NoAnswer → Type 0
+ComesFirst whys.GameMissing = Unit {0}
+ComesFirst whys.ShelfFault = Unit {0}
+ComesFirst whys.ReadFault = ⊥
+ComesFirst whys.Memory = ⊥
+
+-- an answer tells a fault of a log, which is not that memory ran out
+pub record IsLogFaultTold (fault : AcpcFault) (answer : Answer) : Type 0 where
+  pub told : fault ≢ faults.Memory
+  pub same : answer ≡ to_fault (InLog fault)

@@ -1,0 +1,82 @@
+//! The game of a log is what a file on the shelf says, or the reason why there is none is told.
+ghost use Rattle.std.specs.Prelude.{◌≡◌, IfErr, IfOk, IfSome, IsErrOf, string_bytes};
+ghost use Rattle.host_io.specs.Faults.{Rose};
+ghost use Rattle.poker_cli.specs.Answer.{GivesGame};
+ghost use Rattle.poker_cli.specs.Lacking.{HasNoGame, IsLackTold};
+ghost use Rattle.poker_cli.specs.LogFaults.{bad_game_line as bad_game_line_said};
+ghost use Rattle.poker_cli.specs.Run.{IsOwn};
+ghost use Rattle.poker_cli.specs.Told.{answer_told};
+
+use crate::answer::{Answer, MOST_INPUT, refusal};
+use crate::log_faults::{fault_name, line_of};
+use crate::status::Status;
+use acpc_game::{Game, read_game};
+use acpc_text::AcpcFault;
+use card_set::Memory;
+use host_io::{Fetched, Shelf, ShelfFault};
+use std::alloc::Global;
+
+/// What the file of a game lacks: it is too long, or says no game that is played here.
+#[derive(Clone, Copy, Debug, PartialEq, Eq)]
+pub enum Lack {
+    TooLong,
+    Bad(AcpcFault),
+}
+
+/// Why there is no game.
+#[derive(Clone, Copy, Debug, PartialEq, Eq)]
+pub enum NoGame {
+    /// The file is not there.
+    Missing,
+    Lacking(Lack),
+    ShelfFault,
+    Memory,
+}
+
+/// The game that the file of this name says.
+pub fn fetch_game<H: Shelf>(alloc: Global, shelf: &mut H, name: &str) -> Result<Game, NoGame>
+    ensures game { IfOk result (λ game.
+        IfSome (H.files shelf.old) (λ files. GivesGame (files name.now) game)) }
+    ensures none { IfErr result (λ reason.
+        IfSome (H.files shelf.old) (λ files. HasNoGame (files name.now) reason)) }
+    ensures failed { IsErrOf result NoGame.ShelfFault
+        → Rose (H.faults shelf.old) (H.faults shelf.new) }
+{
+    match shelf.fetch(alloc, name, MOST_INPUT) {
+        Ok(Fetched::Bytes(text)) => match read_game(alloc, &text) {
+            Ok(game) => Ok(game),
+            Err(AcpcFault::Memory) => Err(NoGame::Memory),
+            Err(fault) => Err(NoGame::Lacking(Lack::Bad(fault))),
+        },
+        Ok(Fetched::Absent) => Err(NoGame::Missing),
+        Ok(Fetched::TooLong) => Err(NoGame::Lacking(Lack::TooLong)),
+        Err(ShelfFault::Failed) => Err(NoGame::ShelfFault),
+        Err(ShelfFault::Memory) => Err(NoGame::Memory),
+    }
+}
+
+/// The answer where the file of a game lacks this.
+pub fn answer_to_lack(alloc: Global, lack: Lack) -> Result<Answer, Memory>
+    ensures answer { IfOk result (λ answer. IsLackTold lack (answer_told answer)) }
+    ensures own { IfOk result (λ answer. IsOwn answer.status) }
+{
+    match lack {
+        Lack::TooLong => {
+            let line = String::from_str(alloc, "limit: game bytes 16777216\n")?;
+            Ok(refusal(alloc, Status::Limit, line))
+        }
+        Lack::Bad(fault) => {
+            let line = bad_game_line(alloc, &fault)?;
+            Ok(refusal(alloc, Status::BadGame, line))
+        }
+    }
+}
+
+// The line of a fault of a game's file.
+fn bad_game_line(alloc: Global, fault: &AcpcFault) -> Result<String, Memory>
+    ensures { IfOk result (λ line. string_bytes line ≡ bad_game_line_said fault.now) }
+{
+    let line = line_of(fault);
+    let name = fault_name(fault);
+    Ok(format!(in alloc; "bad game: line {line}: {name}\n")?)
+}

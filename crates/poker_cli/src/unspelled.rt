@@ -1,0 +1,63 @@
+//! The line that is told where a fact of a hand has no spelling.
+ghost use Rattle.std.specs.Prelude.{◌≡◌, IfOk, string_bytes};
+ghost use Rattle.poker_cli.specs.Unspelled.{fact_text as fact_text_said, note_text as note_text_said, unspelled_line as unspelled_line_said};
+
+use card_set::Memory;
+use hand_canon::{NoteName, Unspelled};
+use std::alloc::Global;
+
+/// The line of the hand with this number, one of whose facts has no spelling.
+pub fn unspelled_line(alloc: Global, hand: u32, fact: Unspelled) -> Result<String, Memory>
+    ensures { IfOk result (λ line. string_bytes line ≡ unspelled_line_said hand fact) }
+{
+    let fact = fact_text(alloc, fact)?;
+    let fact = fact.as_str();
+    Ok(format!(in alloc; "unspelled: hand {hand}: {fact}\n")?)
+}
+
+// What a fact is called.
+fn fact_text(alloc: Global, fact: Unspelled) -> Result<String, Memory>
+    ensures { IfOk result (λ text. string_bytes text ≡ fact_text_said fact) }
+{
+    let name = match fact {
+        Unspelled::Variant => "Variant",
+        Unspelled::SeatCount => "SeatCount",
+        Unspelled::Stacks => "Stacks",
+        Unspelled::BetSizes => "BetSizes",
+        Unspelled::Antes => "Antes",
+        Unspelled::Blinds => "Blinds",
+        Unspelled::Rake => "Rake",
+        Unspelled::ReopenedShort => "ReopenedShort",
+        Unspelled::FreeFold => "FreeFold",
+        Unspelled::TooManyRaises => "TooManyRaises",
+        Unspelled::RaiseTarget => "RaiseTarget",
+        Unspelled::PartCards => "PartCards",
+        Unspelled::Muck => "Muck",
+        Unspelled::OddChip => "OddChip",
+        Unspelled::Note(note) => {
+            let note = note_text(note);
+            return Ok(format!(in alloc; "Note {note}")?);
+        }
+    };
+    Ok(String::from_str(alloc, name)?)
+}
+
+// What a note is called.
+fn note_text(note: NoteName) -> &'static str
+    ensures { result.now ≡ note_text_said note }
+{
+    match note {
+        NoteName::Players => "players",
+        NoteName::Seats => "seats",
+        NoteName::SeatCount => "seat_count",
+        NoteName::Hand => "hand",
+        NoteName::Table => "table",
+        NoteName::Venue => "venue",
+        NoteName::Currency => "currency",
+        NoteName::TimeZone => "time_zone",
+        NoteName::Year => "year",
+        NoteName::Month => "month",
+        NoteName::Day => "day",
+        NoteName::Time => "time",
+    }
+}
