@@ -1,3 +1,6 @@
--- How a run ends with the answer to its input, and what is printed hand by hand.
+-- How a run ends with the answer to its input, what is printed hand by hand, and why an input has one answer.
 mod Answering
 mod HandByHand
+mod AlikeRecords
+mod AlikeLogs
+mod OneAnswer

@@ -6,6 +6,7 @@ mod answer;
 mod entry;
 mod faults;
 mod games;
+mod laws;
 mod lines;
 mod log_faults;
 mod printing;
@@ -15,5 +16,6 @@ mod task;
 mod unspelled;
 
 pub use entry::run;
+pub use laws::{law_of_legal_inputs, law_of_one_answer};
 pub use process::run_process;
 pub use status::Status;

@@ -126,7 +126,7 @@ not_judged a play (refusals.Fact differs) same is judged =
     cc (is.differs, judged.agrees, ap₂ first_difference (one_trace a play.hand is.trace play.trace same is.traced judged.traced) same.stated)
 
 -- lists of records say the same of their plays
-pub AllTheSame : List Record → List Record → Type 0
+unfoldable pub AllTheSame : List Record → List Record → Type 0
 AllTheSame [] [] = Unit {0}
 AllTheSame [] (b ∷ others) = ⊥
 AllTheSame (a ∷ rest) [] = ⊥
@@ -174,7 +174,7 @@ no_plays records others number why plays same is are =
     (subst (λ (rs : List Record). AllTheSame rs (hands_of plays)) (sym is.where_it_stands) (subst (AllTheSame records) (sym are.same) same))
 
 -- plays have the same traces, and their records say the same
-pub AllTraced : List Play → List Play → Type 0
+unfoldable pub AllTraced : List Play → List Play → Type 0
 AllTraced [] [] = Unit {0}
 AllTraced [] (q ∷ qs) = ⊥
 AllTraced (p ∷ ps) [] = ⊥
