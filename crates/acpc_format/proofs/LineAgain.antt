@@ -9,12 +9,12 @@ use Rattle.chip_ledger.specs.declared.numbers.TheConstants.{MOST_CHIPS}
 use Rattle.card_set.specs.Spelling.{spelling}
 use Rattle.canonical_play.specs.CanonScript.{dealt_slots, plain_move, plain_moves}
 use Rattle.hand_canon.specs.Agreement.{value_of}
-use Rattle.hand_canon.specs.AllowedNotes.{default_name}
-use Rattle.hand_canon.specs.TraceRows.{core_said}
-use Rattle.hand_canon.specs.declared.limits.TheConstants.{MOST_FILE_MOVES}
-use Rattle.hand_canon.specs.declared.notes.Notes.{Notes}
-use Rattle.hand_canon.specs.declared.trace.Play.{Play}
-use Rattle.hand_canon.specs.declared.trace.Trace.{Trace}
+use Rattle.hand_records.specs.AllowedNotes.{default_name}
+use Rattle.hand_records.specs.TraceRows.{core_said}
+use Rattle.first_fault.specs.declared.limits.TheConstants.{MOST_FILE_MOVES}
+use Rattle.hand_records.specs.declared.notes.Notes.{Notes}
+use Rattle.hand_records.specs.declared.trace.Play.{Play}
+use Rattle.hand_records.specs.declared.trace.Trace.{Trace}
 use Rattle.play_event.specs.Chips.{chips_put}
 use Rattle.play_event.specs.Past.{Act, BroughtIn, Called, Folded, Move, Raised}
 use Rattle.play_event.specs.Trace.{TracedMove, TracedPlace}

@@ -4,8 +4,8 @@ use Rattle.std.specs.List.{AllByRecursion}
 use Rattle.std.proofs.lemmas.Bool.{lt-leb}
 use Rattle.std.proofs.lemmas.List.{append-nil, length-append}
 use Rattle.std.proofs.lemmas.List.Sums.{sum_by-cons}
-use Rattle.hand_canon.specs.declared.limits.TheConstants.{MOST_FILE_MOVES, MOST_HANDS}
-use Rattle.hand_canon.specs.declared.trace.Play.{Play}
+use Rattle.first_fault.specs.declared.limits.TheConstants.{MOST_FILE_MOVES, MOST_HANDS}
+use Rattle.hand_records.specs.declared.trace.Play.{Play}
 use Rattle.first_fault.specs.Reading.{◌>>=◌}
 use Rattle.acpc_text.proofs.LineLaws.{line_and_more}
 use Rattle.acpc_text.specs.Parts.{lines_of, without_return}

@@ -8,9 +8,9 @@ use Rattle.std.proofs.lemmas.Fmt.{decimal_is_IsNumeral, length-decimal-le_succ, 
 use Rattle.std.proofs.lemmas.List.{append-nil}
 use Rattle.std.proofs.lemmas.Slice.Eq.{bytes_eq-Decides}
 use Rattle.std.proofs.lemmas.Str.{is_utf8-from_IsUtf8, IsUtf8-from_ascii}
-use Rattle.hand_canon.specs.AllowedNotes.{default_name, AreAllowed, IsName}
-use Rattle.hand_canon.specs.declared.limits.TheConstants.{MOST_TEXT_BYTES}
-use Rattle.hand_canon.specs.declared.notes.Notes.{Notes}
+use Rattle.hand_records.specs.AllowedNotes.{default_name, AreAllowed, IsName}
+use Rattle.first_fault.specs.declared.limits.TheConstants.{MOST_TEXT_BYTES}
+use Rattle.hand_records.specs.declared.notes.Notes.{Notes}
 use Rattle.acpc_text.specs.declared.fault.LineFault.{LineFault}
 use Rattle.acpc_line.specs.Names.{is_spelled_name, name_or_default, name_text}
 use Rattle.acpc_reading.specs.Names.{name_said, names_after}

@@ -27,14 +27,15 @@ use Rattle.play_event.specs.Said.{Said}
 use Rattle.play_event.specs.Scripts.{past_after, past_at_end, past_of}
 use Rattle.play_event.specs.Trace.{TracedPlace, traced_moves, traced_places}
 use Rattle.play_event.specs.ValidSetup.{IsValid}
-use Rattle.hand_canon.specs.AllowedNotes.{AreAllowed}
-use Rattle.hand_canon.specs.Sound.{IsSound, script_said}
-use Rattle.hand_canon.specs.TraceRows.{core_said}
-use Rattle.hand_canon.specs.declared.trace.Play.{Play}
-use Rattle.hand_canon.specs.declared.limits.TheConstants.{MOST_FILE_MOVES, MOST_HANDS}
-use Rattle.hand_canon.specs.declared.writing.Keep.{Keep}
-use Rattle.hand_canon.specs.declared.writing.Unspelled.{Unspelled}
-use Rattle.hand_canon.specs.declared.writing.WriteRefusal.{WriteRefusal}
+use Rattle.hand_records.specs.AllowedNotes.{AreAllowed}
+use Rattle.hand_canon.specs.Sound.{IsSound}
+use Rattle.hand_records.specs.SoundRecord.{script_said}
+use Rattle.hand_records.specs.TraceRows.{core_said}
+use Rattle.hand_records.specs.declared.trace.Play.{Play}
+use Rattle.first_fault.specs.declared.limits.TheConstants.{MOST_FILE_MOVES, MOST_HANDS}
+use Rattle.hand_records.specs.declared.writing.Keep.{Keep}
+use Rattle.hand_records.specs.declared.writing.Unspelled.{Unspelled}
+use Rattle.hand_records.specs.declared.writing.WriteRefusal.{WriteRefusal}
 use Rattle.acpc_game.specs.declared.game.Game.{Game}
 use Rattle.acpc_line.specs.Line.{log_text}
 use Rattle.acpc_line.specs.PlayFacts.{is_part_known}

@@ -4,12 +4,12 @@ use Rattle.std.specs.List.{list_any}
 use Rattle.std.proofs.lemmas.Bool.{eqb-true}
 use Rattle.chip_ledger.specs.Seat.{seats_of}
 use Rattle.play_event.specs.declared.setup.Setup.{Setup}
-use Rattle.hand_canon.specs.TraceRows.{core_said}
-use Rattle.hand_canon.specs.declared.trace.Play.{Play}
-use Rattle.hand_canon.specs.declared.trace.Trace.{Trace}
-use Rattle.hand_canon.specs.declared.writing.Keep.{Keep}
-use Rattle.hand_canon.specs.declared.writing.Unspelled.{Unspelled}
-use Rattle.hand_canon.specs.declared.writing.Unspelled.TheVariants as facts
+use Rattle.hand_records.specs.TraceRows.{core_said}
+use Rattle.hand_records.specs.declared.trace.Play.{Play}
+use Rattle.hand_records.specs.declared.trace.Trace.{Trace}
+use Rattle.hand_records.specs.declared.writing.Keep.{Keep}
+use Rattle.hand_records.specs.declared.writing.Unspelled.{Unspelled}
+use Rattle.hand_records.specs.declared.writing.Unspelled.TheVariants as facts
 use Rattle.acpc_game.specs.declared.game.Game.{Game}
 use Rattle.acpc_game.specs.Games.{amounts_in}
 use Rattle.acpc_line.specs.PlayFacts.{is_above_caps, is_free_fold, is_off_unit, is_part_known, play_conditions}

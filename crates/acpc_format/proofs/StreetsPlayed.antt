@@ -6,6 +6,7 @@ use Rattle.std.proofs.lemmas.Bool.{both_ways, false_from_ne_true, le-ltb, lt-leb
 use Rattle.std.proofs.lemmas.List.{length-map}
 use Rattle.canon_blocks.proofs.StreetLists.{IsUnplayed, unplayed}
 use Rattle.canon_blocks.proofs.TraceOrder.{IsOwner, a_seat, the_board}
+use Rattle.canon_laws.proofs.AllStreets.{legal_since, none_first}
 use Rattle.canon_laws.proofs.StreetDeals.{group_is}
 use Rattle.canonical_play.specs.CanonScript.{dealt_slots}
 use Rattle.list_laws.proofs.Counting.{count_all}
@@ -30,32 +31,6 @@ use Rattle.play_laws.proofs.LegalPlaces.{group_count, legal_past}
 use Rattle.play_laws.proofs.PlaceGroups.{group_of, group_slots}
 use Rattle.play_laws.proofs.PlayedStreets.{IsDone, board_count, board_group, hole_group, reached_done}
 use Rattle.play_laws.specs.PastLaws.{is_played_on}
-
--- moves are on streets from the first on
-abbrev AreSince : List Move → Type 0
-AreSince [] = Unit {0}
-AreSince (move ∷ rest) = (1 ≤ move.street) × AreSince rest
-
-since_step : (setup : Setup) (before : Past) (at : ℕ) (event : Resolved) → 1 ≤ at → Stepped setup before at event → AreSince (moves_of before) → AreSince (moves_of (event ∷ before))
-since_step setup before at _ some (deals seat cards due is more few free) since = since
-since_step setup before at _ some (boards cards due more few free) since = since
-since_step setup before at _ some (discards seat cards no_deal draw next few free held) since = since
-since_step setup before at _ some (shows seat cards may free) since = since
-since_step setup before at _ some (mucks seat may) since = since
-since_step setup before at _ some (moves played no_deal no_draw on) since = (omega (arith, some, on), since)
-
-legal_since : (setup : Setup) (rules : Rules) (events : List Said) → AreLegal setup rules events → AreSince (moves_of (past_of setup events))
-unfolding with_event
-legal_since setup rules [] legal = tt
-legal_since setup rules (event ∷ events) legal =
-    let before = past_of setup events in
-    let it = legal_past setup rules events legal.1 in
-    let come = turn_reaches setup before it.past.within in
-    since_step setup before (turn setup before).0 _ (omega (arith, come.on, it.past.since)) (stepped setup rules before event legal.0) (legal_since setup rules events legal.1)
-
-none_first : (list : List Move) → AreSince list → moves_before 1 list ≡ []
-none_first [] since = refl
-none_first (move ∷ rest) since = ap (λ b. if b then (move ∷ moves_before 1 rest) else moves_before 1 rest) (le-ltb move.street 1 (omega (arith, since.0))) ∙ none_first rest since.1
 
 -- a hand does not come to a street with one live seat
 abbrev pub is_passed : Setup → List Move → ℕ → Bool

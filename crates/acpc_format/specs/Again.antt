@@ -12,10 +12,10 @@ use Rattle.play_event.specs.Trace.{TracedPlace}
 use Rattle.canonical_play.specs.CanonScript.{deals_said, plain_moves}
 use Rattle.canonical_play.specs.PlayedScript.{is_move}
 use Rattle.hand_canon.specs.Agreement.{value_of}
-use Rattle.hand_canon.specs.TraceRows.{core_said}
-use Rattle.hand_canon.specs.declared.notes.Notes.{Notes}
-use Rattle.hand_canon.specs.declared.trace.Play.{Play}
-use Rattle.hand_canon.specs.declared.trace.Trace.{Trace}
+use Rattle.hand_records.specs.TraceRows.{core_said}
+use Rattle.hand_records.specs.declared.notes.Notes.{Notes}
+use Rattle.hand_records.specs.declared.trace.Play.{Play}
+use Rattle.hand_records.specs.declared.trace.Trace.{Trace}
 use Rattle.acpc_text.specs.Faults.{kept}
 use Rattle.acpc_line.specs.Betting.{hand_total}
 use Rattle.acpc_line.specs.Names.{is_spelled_hand, is_spelled_name}

@@ -3,9 +3,9 @@ ghost use Rattle.std.specs.Prelude.{◌≡◌, ◌≤◌, List, None, Ok, length
 ghost use Rattle.std.specs.List.{AllByRecursion};
 ghost use Rattle.play_event.specs.ValidSetup.{IsValid};
 ghost use Rattle.hand_canon.specs.Sound.{IsSound};
-ghost use Rattle.hand_canon.specs.declared.limits.TheConstants.{MOST_FILE_MOVES, MOST_HANDS};
-ghost use Rattle.hand_canon.specs.declared.trace.Play.{Play};
-ghost use Rattle.hand_canon.specs.declared.writing.Keep.{Keep};
+ghost use Rattle.first_fault.specs.declared.limits.TheConstants.{MOST_FILE_MOVES, MOST_HANDS};
+ghost use Rattle.hand_records.specs.declared.trace.Play.{Play};
+ghost use Rattle.hand_records.specs.declared.writing.Keep.{Keep};
 ghost use Rattle.acpc_game.specs.declared.game.Game.{Game as AnyGame};
 ghost use Rattle.acpc_line.specs.Line.{log_text};
 ghost use Rattle.acpc_line.specs.Spelled.{first_refusal, unspelled};

@@ -3,8 +3,8 @@ use Rattle.std.proofs.Common.{◌≡◌, ℕ, ◌+◌, ◌-◌, ◌≤◌, List,
 use Rattle.std.specs.List.{AllByRecursion}
 use Rattle.std.proofs.lemmas.Bool.{cases_eq}
 use Rattle.hand_canon.proofs.OneByOne.{seat_more}
-use Rattle.hand_canon.specs.declared.notes.Notes.{Notes}
-use Rattle.hand_canon.specs.declared.trace.Play.{Play}
+use Rattle.hand_records.specs.declared.notes.Notes.{Notes}
+use Rattle.hand_records.specs.declared.trace.Play.{Play}
 use Rattle.acpc_line.specs.Seats.{bar_before, for_seats}
 use Rattle.acpc_line.specs.Texts.{AreTexts, HasTexts}
 

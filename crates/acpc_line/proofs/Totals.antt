@@ -12,8 +12,9 @@ use Rattle.play_event.specs.Scripts.{past_at_end}
 use Rattle.play_event.specs.Trace.{traced_moves}
 use Rattle.play_event.specs.declared.played.Move as rows
 use Rattle.play_event.specs.declared.setup.Setup.{Setup}
-use Rattle.hand_canon.specs.Sound.{IsSound, script_said}
-use Rattle.hand_canon.specs.declared.trace.Play.{Play}
+use Rattle.hand_canon.specs.Sound.{IsSound}
+use Rattle.hand_records.specs.SoundRecord.{script_said}
+use Rattle.hand_records.specs.declared.trace.Play.{Play}
 use Rattle.acpc_line.specs.Stakes.{HaveFewChips}
 
 added_append : (seat : ℕ) (moves others : List Move) → chips_added seat (moves ++ others) ≡ chips_added seat moves + chips_added seat others

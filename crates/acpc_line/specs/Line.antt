@@ -2,10 +2,10 @@
 -- between them and a newline at the end. The lines of plays stand behind one another.
 use Rattle.std.specs.Prelude.{ℕ, ◌+◌, Bool, List, [], ◌∷◌, ◌++◌, codes, Option}
 use Rattle.canonical_play.specs.CanonScript.{plain_moves}
-use Rattle.hand_canon.specs.TraceRows.{core_said}
-use Rattle.hand_canon.specs.declared.notes.Notes.{Notes}
-use Rattle.hand_canon.specs.declared.trace.Play.{Play}
-use Rattle.hand_canon.specs.declared.trace.Trace.{Trace}
+use Rattle.hand_records.specs.TraceRows.{core_said}
+use Rattle.hand_records.specs.declared.notes.Notes.{Notes}
+use Rattle.hand_records.specs.declared.trace.Play.{Play}
+use Rattle.hand_records.specs.declared.trace.Trace.{Trace}
 use Rattle.acpc_line.specs.Betting.{betting_text}
 use Rattle.acpc_line.specs.Cards.{cards_text}
 use Rattle.acpc_line.specs.Values.{values_text}

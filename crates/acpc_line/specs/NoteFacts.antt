@@ -1,10 +1,10 @@
 -- Which notes of a hand a line spells: names of players, and the number of the hand.
 use Rattle.std.specs.Prelude.{ℕ, Bool, false, not, List, [], ◌∷◌, Option, Some, None, is_some}
 use Rattle.std.specs.List.{list_any}
-use Rattle.hand_canon.specs.declared.notes.Notes.{Notes}
-use Rattle.hand_canon.specs.declared.notes.NoteName.TheVariants as names
-use Rattle.hand_canon.specs.declared.writing.Unspelled.{Unspelled}
-use Rattle.hand_canon.specs.declared.writing.Unspelled.TheVariants as facts
+use Rattle.hand_records.specs.declared.notes.Notes.{Notes}
+use Rattle.hand_records.specs.declared.notes.NoteName.TheVariants as names
+use Rattle.hand_records.specs.declared.writing.Unspelled.{Unspelled}
+use Rattle.hand_records.specs.declared.writing.Unspelled.TheVariants as facts
 use Rattle.acpc_line.specs.Names.{is_spelled_hand, is_spelled_name}
 
 -- a name is said that has no spelling

@@ -5,8 +5,8 @@ use Rattle.chip_ledger.specs.Greatest.{greatest}
 use Rattle.play_event.specs.declared.code.Code.{Code}
 use Rattle.play_event.specs.declared.code.Code.TheVariants as codes
 use Rattle.play_event.specs.declared.setup.Setup.{Setup}
-use Rattle.hand_canon.specs.declared.writing.Unspelled.{Unspelled}
-use Rattle.hand_canon.specs.declared.writing.Unspelled.TheVariants as facts
+use Rattle.hand_records.specs.declared.writing.Unspelled.{Unspelled}
+use Rattle.hand_records.specs.declared.writing.Unspelled.TheVariants as facts
 use Rattle.acpc_game.specs.declared.game.Game.{Game}
 use Rattle.acpc_game.specs.Games.{amounts_in}
 

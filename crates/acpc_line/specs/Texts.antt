@@ -1,7 +1,7 @@
 -- Names of players that are texts.
 use Rattle.std.specs.Prelude.{ℕ, ◌-◌, ◌≤◌, None, IfSome, IsUtf8, slice_index_or}
-use Rattle.hand_canon.specs.declared.notes.Notes.{Notes}
-use Rattle.hand_canon.specs.declared.trace.Play.{Play}
+use Rattle.hand_records.specs.declared.notes.Notes.{Notes}
+use Rattle.hand_records.specs.declared.trace.Play.{Play}
 
 -- the names of so many players are texts
 abbrev pub AreTexts : ℕ → Notes → Type 0

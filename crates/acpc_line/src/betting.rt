@@ -3,13 +3,13 @@ ghost use Rattle.std.specs.Prelude.{◌≡◌, ◌++◌, map, OnOk};
 ghost use Rattle.play_event.specs.Past.{Raised};
 ghost use Rattle.play_event.specs.Played.{act_said, move_said};
 ghost use Rattle.canonical_play.specs.CanonScript.{plain_move, plain_moves};
-ghost use Rattle.hand_canon.specs.TraceRows.{place_said};
+ghost use Rattle.hand_records.specs.TraceRows.{place_said};
 ghost use Rattle.acpc_line.specs.Betting.{betting_text, letter, letter_on, letters_on, round_text};
 ghost use Rattle.acpc_line.specs.Stakes.{HaveFewChips};
 
 use crate::cards::has_board;
 use crate::stakes::{add, posted_chips};
-use hand_canon::Trace;
+use hand_records::Trace;
 use play_event::{Act, Move, Setup};
 use std::alloc::{AllocError, Global};
 

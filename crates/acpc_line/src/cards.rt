@@ -6,7 +6,7 @@ ghost use Rattle.card_set.specs.Spelling.{slot_spelling, spelling};
 ghost use Rattle.canonical_play.specs.CanonScript.{dealt_slots, is_dealt_to};
 ghost use Rattle.play_event.specs.Places.{is_same_owner as is_same_owner_said};
 ghost use Rattle.play_event.specs.Said.{seat_named};
-ghost use Rattle.hand_canon.specs.TraceRows.{place_said};
+ghost use Rattle.hand_records.specs.TraceRows.{place_said};
 ghost use Rattle.acpc_line.specs.Cards.{board_text, boards_text, cards_text, hole_text, holes_text};
 ghost use Rattle.acpc_line.specs.Rounds.{has_board as has_board_said};
 ghost use Rattle.acpc_line.specs.Seats.{bar_before};

@@ -10,7 +10,7 @@ ghost use Rattle.acpc_line.specs.Spelled.{first_where};
 
 use crate::amounts::{amounts_of, are_same, has_some};
 use acpc_game::{Game, greatest};
-use hand_canon::{Play, Unspelled};
+use hand_records::{Play, Unspelled};
 use play_event::{Code, Setup};
 
 // Whether the code is that of a game with or without limit.

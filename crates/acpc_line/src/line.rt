@@ -9,7 +9,8 @@ use crate::betting::push_betting;
 use crate::cards::push_cards;
 use crate::names::{push_hand, push_names};
 use crate::values::push_values;
-use hand_canon::{Notes, Play, Text, Trace};
+use first_fault::Text;
+use hand_records::{Notes, Play, Trace};
 use std::alloc::{AllocError, Global};
 
 // The betting and the cards of a hand.

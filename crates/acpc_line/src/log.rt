@@ -2,8 +2,8 @@
 ghost use Rattle.std.specs.Prelude.{◌≡◌, ◌⊎◌, ◌≤◌, None, Some, length, IfErr, IfOk, OnOk};
 ghost use Rattle.std.specs.List.{AllByRecursion};
 ghost use Rattle.hand_canon.specs.Sound.{IsSound};
-ghost use Rattle.hand_canon.specs.declared.limits.TheConstants.{MOST_HANDS};
-ghost use Rattle.hand_canon.specs.declared.writing.WriteRefusal.TheVariants as refusals;
+ghost use Rattle.first_fault.specs.declared.limits.TheConstants.{MOST_HANDS};
+ghost use Rattle.hand_records.specs.declared.writing.WriteRefusal.TheVariants as refusals;
 ghost use Rattle.acpc_line.specs.Line.{log_text};
 ghost use Rattle.acpc_line.specs.Spelled.{first_refusal};
 ghost use Rattle.acpc_line.specs.Texts.{HasTexts};
@@ -11,7 +11,7 @@ ghost use Rattle.acpc_line.specs.Texts.{HasTexts};
 use crate::line::push_line;
 use crate::spelled::find_refusal;
 use acpc_game::Game;
-use hand_canon::{Keep, Play, WriteRefusal};
+use hand_records::{Keep, Play, WriteRefusal};
 use std::alloc::{AllocError, Global};
 
 /// The lines of some plays, one a play. Nothing is written where the logs of the game do not spell one of them.

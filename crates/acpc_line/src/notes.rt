@@ -1,12 +1,13 @@
 //! The notes of a hand are looked through for what a line does not spell.
 ghost use Rattle.std.specs.Prelude.{◌≡◌};
 ghost use Rattle.std.specs.List.{list_any};
-ghost use Rattle.hand_canon.specs.declared.writing.Keep.TheVariants as keeps;
+ghost use Rattle.hand_records.specs.declared.writing.Keep.TheVariants as keeps;
 ghost use Rattle.acpc_line.specs.NoteFacts.{is_unspelled_hand as is_unspelled_hand_said, is_unspelled_name as is_unspelled_name_said, text_conditions, time_conditions};
 ghost use Rattle.acpc_line.specs.Spelled.{first_where, unspelled_note};
 
 use crate::names::{is_spelled_hand, is_spelled_name};
-use hand_canon::{Keep, NoteName, Notes, Text, Unspelled};
+use first_fault::Text;
+use hand_records::{Keep, NoteName, Notes, Unspelled};
 
 // Whether a name is said that has no spelling.
 fn is_unspelled_name(name: &Option<Text>) -> bool

@@ -1,13 +1,13 @@
 //! The first fact of a play that the logs of a game do not spell is found.
 ghost use Rattle.std.specs.Prelude.{◌≡◌, ◌≤◌, length};
-ghost use Rattle.hand_canon.specs.declared.limits.TheConstants.{MOST_HANDS};
+ghost use Rattle.first_fault.specs.declared.limits.TheConstants.{MOST_HANDS};
 ghost use Rattle.acpc_line.specs.Spelled.{first_refusal, unspelled};
 
 use crate::fits::find_other_setup;
 use crate::notes::find_other_note;
 use crate::played::find_other_play;
 use acpc_game::Game;
-use hand_canon::{Keep, Play, Unspelled, WriteRefusal};
+use hand_records::{Keep, Play, Unspelled, WriteRefusal};
 
 /// The first fact of the play that the logs of this game do not spell. Notes count only where all of them are kept.
 #[tactic(auto, unfolding(crate::specs::Spelled::unspelled))]

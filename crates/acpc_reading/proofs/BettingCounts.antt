@@ -2,9 +2,10 @@
 use Rattle.std.proofs.Common.{◌≡◌, ℕ, ◌+◌, ◌≤◌, Bool, true, false, not, cond, nat_le, nat_lt, eqb, List, [], ◌∷◌, length, count_by, IfOk, refl, arith}
 use Rattle.std.proofs.lemmas.Bool.Decides.{nat_tests}
 use Rattle.list_laws.proofs.Counting.{count_by-push}
+use Rattle.chip_ledger.specs.declared.numbers.TheConstants.{MOST_CHIPS}
 use Rattle.canonical_play.specs.declared.limits.TheConstants.{MOST_MOVES}
-use Rattle.hand_canon.specs.declared.limits.TheConstants.{MOST_FILE_MOVES}
-use Rattle.hand_canon.specs.declared.limits.Quantity.TheVariants as quantities
+use Rattle.first_fault.specs.declared.limits.TheConstants.{MOST_FILE_MOVES}
+use Rattle.first_fault.specs.declared.limits.Quantity.TheVariants as quantities
 use Rattle.first_fault.specs.Digits.{number_of}
 use Rattle.acpc_text.specs.declared.fault.What.TheVariants as whats
 use Rattle.acpc_text.specs.Faults.{wrong}
@@ -62,7 +63,7 @@ module _ (earlier : ℕ) where
   unfolding raise_said
   raise bets at digits counted =
       either (eqb (length digits) 0) (wrong whats.BadBetting (at + 1)) _ (AreCounted earlier) (λ _. tt)
-      (λ _. where_some (number_of 1000000000000 digits) (λ total. with_move bets at (steps.RaiseTo total)) (wrong whats.AmountLimit (at + 1)) (AreCounted earlier)
+      (λ _. where_some (number_of MOST_CHIPS digits) (λ total. with_move bets at (steps.RaiseTo total)) (wrong whats.AmountLimit (at + 1)) (AreCounted earlier)
       (λ total. one_move bets at (steps.RaiseTo total) refl counted) tt)
 
   stroke : (bets : Bets) (at : ℕ) (digits : List ℕ) → AreCounted earlier bets → IfOk (stroke_said bets at digits) (AreCounted earlier)

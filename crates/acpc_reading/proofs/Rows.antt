@@ -7,14 +7,6 @@ use Rattle.acpc_game.proofs.Steps.{fails_first, fails_at}
 use Rattle.acpc_reading.specs.Values.{value_said, values_after}
 use Rattle.acpc_reading.specs.Names.{name_said, names_after}
 
--- what holds of each entry of a row holds when one of them is set to an entry of which it holds
-pub set_each : {A : Type 0} (d : A) (P : ℕ → A → Type 0) (xs : List A) (i : ℕ) (x : A) → i < length xs → ((k : ℕ) → (k ≡ i → ⊥) → P k (get_or xs k d)) → P i x → (k : ℕ) → P k (get_or (set xs i x) k d)
-set_each d P [] i x within each one k = absurd (omega (arith, within))
-set_each d P (y ∷ xs) zero x within each one zero = one
-set_each d P (y ∷ xs) zero x within each one (suc k) = each (suc k) (λ e. omega (arith, e))
-set_each d P (y ∷ xs) (suc i) x within each one zero = each zero (λ e. omega (arith, e))
-set_each d P (y ∷ xs) (suc i) x within each one (suc k) = set_each d (λ j. P (suc j)) xs i x (omega (arith, within)) (λ j other. each (suc j) (λ e. other (omega (arith, e)))) one k
-
 module _ (values : List ℤ) (at : ℕ) (all : List (List ℕ)) (whole : Result (List ℤ) LineFault) where
   -- one more value was read
   pub value_read : (part : List ℕ) (parts : List (List ℕ)) (value : ℤ) → all ≡ part ∷ parts → value_said at part ≡ Ok value

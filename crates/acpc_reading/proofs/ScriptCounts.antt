@@ -5,7 +5,7 @@ use Rattle.std.proofs.lemmas.Result.{IfOk-at_ok}
 use Rattle.list_laws.proofs.Counting.{count_by-push, count_by-cons}
 use Rattle.list_laws.proofs.Options.{along}
 use Rattle.canonical_play.specs.PlayedScript.{is_move, IsWithinLimits}
-use Rattle.hand_canon.specs.declared.limits.TheConstants.{MOST_FILE_MOVES}
+use Rattle.first_fault.specs.declared.limits.TheConstants.{MOST_FILE_MOVES}
 use Rattle.play_event.specs.declared.event.Event.{Event}
 use Rattle.play_event.specs.declared.event.Spelled.TheVariants as spelled
 use Rattle.play_event.specs.Said as said

@@ -1,8 +1,8 @@
 -- What a log says of hands, line by line.
 use Rattle.std.specs.Prelude.{ℕ, ◌+◌, ◌==◌, ◌||◌, Bool, nat_le, if◌then◌else◌, List, [], ◌∷◌, ◌++◌, length, slice_index, codes, ℤ, Option, Result, Ok}
 use Rattle.play_event.specs.Said.{Numbered}
-use Rattle.hand_canon.specs.declared.limits.TheConstants.{MOST_HANDS}
-use Rattle.hand_canon.specs.declared.limits.Quantity.TheVariants as quantities
+use Rattle.first_fault.specs.declared.limits.TheConstants.{MOST_HANDS}
+use Rattle.first_fault.specs.declared.limits.Quantity.TheVariants as quantities
 use Rattle.first_fault.specs.Reading.{◌>>=◌}
 use Rattle.acpc_text.specs.declared.fault.AcpcFault.{AcpcFault}
 use Rattle.acpc_text.specs.declared.fault.LineFault.{LineFault}

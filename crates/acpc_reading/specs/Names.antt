@@ -2,9 +2,9 @@
 use Rattle.std.specs.Prelude.{ℕ, ◌+◌, ◌==◌, ◌||◌, ◌&&◌, nat_lt, nat_le, if◌then◌else◌, List, [], ◌∷◌, ◌++◌, length, decimal, bytes_eq, Option, Some, None, Result, Ok}
 use Rattle.std.specs.Option.{option_map_or}
 use Rattle.std.specs.Str.{is_utf8}
-use Rattle.hand_canon.specs.AllowedNotes.{default_name}
-use Rattle.hand_canon.specs.declared.limits.TheConstants.{MOST_TEXT_BYTES}
-use Rattle.hand_canon.specs.declared.limits.Quantity.TheVariants as quantities
+use Rattle.hand_records.specs.AllowedNotes.{default_name}
+use Rattle.first_fault.specs.declared.limits.TheConstants.{MOST_TEXT_BYTES}
+use Rattle.first_fault.specs.declared.limits.Quantity.TheVariants as quantities
 use Rattle.first_fault.specs.Reading.{◌>>=◌}
 use Rattle.first_fault.specs.Digits.{are_digits, number_of}
 use Rattle.acpc_text.specs.declared.fault.LineFault.{LineFault}

@@ -12,12 +12,12 @@ use Rattle.play_event.specs.declared.setup.Rules.{Rules}
 use Rattle.play_event.specs.declared.setup.Reopen.TheVariants as reopen
 use Rattle.play_event.specs.Said.{numbered}
 use Rattle.canonical_play.specs.PlayedScript.{is_move}
-use Rattle.hand_canon.specs.declared.limits.TheConstants.{MOST_FILE_MOVES, MOST_HANDS}
-use Rattle.hand_canon.specs.declared.notes.Notes.{Notes}
-use Rattle.hand_canon.specs.declared.record.Record.{Record}
-use Rattle.hand_canon.specs.declared.record.Stated.{Stated}
-use Rattle.hand_canon.specs.Sound.{script_said}
-use Rattle.hand_canon.specs.SoundRecord.{IsSoundRecord}
+use Rattle.first_fault.specs.declared.limits.TheConstants.{MOST_FILE_MOVES, MOST_HANDS}
+use Rattle.hand_records.specs.declared.notes.Notes.{Notes}
+use Rattle.hand_records.specs.declared.record.Record.{Record}
+use Rattle.hand_records.specs.declared.record.Stated.{Stated}
+use Rattle.hand_records.specs.SoundRecord.{script_said}
+use Rattle.hand_records.specs.SoundRecord.{IsSoundRecord}
 use Rattle.acpc_game.specs.declared.game.Game.{Game}
 use Rattle.acpc_game.specs.Games.{amounts_in}
 use Rattle.acpc_reading.specs.Logs.{HandSaid}

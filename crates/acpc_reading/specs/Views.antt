@@ -1,6 +1,6 @@
 -- What the code has read, seen as the definitions say it.
 use Rattle.std.specs.Prelude.{List, take, ℤ}
-use Rattle.hand_canon.specs.declared.record.NetRow.{NetRow}
+use Rattle.hand_records.specs.declared.record.NetRow.{NetRow}
 use Rattle.acpc_reading.specs.declared.betting.Betting.{Betting}
 use Rattle.acpc_reading.specs.Betting.{Bets}
 

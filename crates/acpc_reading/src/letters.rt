@@ -10,9 +10,9 @@ ghost use Rattle.acpc_reading.specs.Views.{bets_in};
 use crate::betting::Betting;
 use crate::step::Step;
 use acpc_text::{LineFault, What, cut_digits, cut_first};
+use canonical_play::MOST_MOVES;
 use chip_ledger::MOST_CHIPS;
-use first_fault::{Stop, read_digits};
-use hand_canon::{MOST_FILE_MOVES, MOST_MOVES, Quantity};
+use first_fault::{MOST_FILE_MOVES, Quantity, Stop, read_digits};
 use std::alloc::Global;
 
 /// A fault at a byte.

@@ -1,7 +1,7 @@
 //! A log is read line by line as the hands that it says, or its first fault is named.
 ghost use Rattle.std.specs.Prelude.{◌≡◌, ◌≤◌, ◌<◌, ◌+◌, ◌^◌, map, sum_by, Ok, IfOk, IfErr, length};
 ghost use Rattle.std.specs.List.{AllByRecursion};
-ghost use Rattle.hand_canon.specs.declared.limits.TheConstants.{MOST_FILE_MOVES, MOST_HANDS};
+ghost use Rattle.first_fault.specs.declared.limits.TheConstants.{MOST_FILE_MOVES, MOST_HANDS};
 ghost use Rattle.first_fault.specs.Reading.{Fails, Gives};
 ghost use Rattle.acpc_text.specs.Faults.{Answers};
 ghost use Rattle.acpc_reading.specs.FieldsView.{HasRoom, fields_in};
@@ -17,8 +17,8 @@ use crate::script::read_script;
 use crate::values::read_values;
 use acpc_game::Game;
 use acpc_text::{AcpcFault, LineFault, What, fault_in_line, has_prefix, next_line};
-use first_fault::Stop;
-use hand_canon::{MOST_HANDS, Quantity, Record, Records};
+use first_fault::{MOST_HANDS, Quantity, Stop};
+use hand_records::{Record, Records};
 use std::alloc::Global;
 
 // The hand of some fields, and how many moves the file then has.

@@ -3,14 +3,13 @@ ghost use Rattle.std.specs.Prelude.{◌≡◌, ℕ, ◌≤◌, ◌<◌, ◌+◌,
 ghost use Rattle.std.specs.Str.{is_utf8};
 ghost use Rattle.first_fault.specs.Reading.{Gives};
 ghost use Rattle.acpc_text.specs.Parts.{parts_of};
-ghost use Rattle.hand_canon.specs.AllowedNotes.{IsName, IsNoteText, default_name};
+ghost use Rattle.hand_records.specs.AllowedNotes.{IsName, IsNoteText, default_name};
 ghost use Rattle.acpc_reading.specs.Names.{hand_said, name_said, names_after, names_said};
 
 use crate::letters::wrong;
 use crate::parts::next_part;
 use acpc_text::{LineFault, What, count_parts};
-use first_fault::{Stop, are_digits, read_digits};
-use hand_canon::{MOST_TEXT_BYTES, Quantity, Text};
+use first_fault::{MOST_TEXT_BYTES, Quantity, Stop, Text, are_digits, read_digits};
 use std::alloc::Global;
 
 // The most digits of a number of a hand, and the greatest such number.

@@ -1,14 +1,15 @@
 //! What a line says of a hand, with the setup and the rules of its game, is a record.
 ghost use Rattle.std.specs.Prelude.{◌≡◌, ℕ, ◌-◌, ◌≤◌, None, map, take, slice_index_or, IfSome};
 ghost use Rattle.canonical_play.specs.PlayedScript.{IsWithinLimits};
-ghost use Rattle.hand_canon.specs.AllowedNotes.{IsName, IsNoteText};
+ghost use Rattle.hand_records.specs.AllowedNotes.{IsName, IsNoteText};
 ghost use Rattle.play_event.specs.Said.{numbered, said_of};
 ghost use Rattle.acpc_reading.specs.RecordView.{IsOfGame, NotesNames, StatesValues, record_said};
 ghost use Rattle.acpc_reading.specs.Views.{nets_in};
 
 use crate::setup::{rules_of, setup_of};
 use acpc_game::Game;
-use hand_canon::{NetRow, Notes, Record, Stated, Text};
+use first_fault::Text;
+use hand_records::{NetRow, Notes, Record, Stated};
 use play_event::Script;
 
 // What is stated where each seat's win or loss is.

@@ -1,5 +1,6 @@
 //! What each seat won or lost is read as the line states it.
 ghost use Rattle.std.specs.Prelude.{◌≡◌, ◌≤◌, ◌<◌, ◌+◌, ◌-◌, ◌^◌, [], ◌∷◌, length, slice_set, IfOk};
+ghost use Rattle.chip_ledger.specs.declared.rows.TheConstants.{MOST_AMOUNT};
 ghost use Rattle.first_fault.specs.Reading.{Gives};
 ghost use Rattle.acpc_text.specs.Parts.{parts_of};
 ghost use Rattle.acpc_reading.specs.Values.{are_zeros as are_zeros_said, signed as signed_said, unsigned_said, value_said, values_after, values_said, whole_said};
@@ -10,7 +11,7 @@ use crate::parts::next_part;
 use acpc_text::{LineFault, What, count_parts, cut_at, cut_first};
 use chip_ledger::MOST_AMOUNT;
 use first_fault::{Stop, are_digits, read_digits};
-use hand_canon::NetRow;
+use hand_records::NetRow;
 
 // Whether these are one or more zeros.
 fn are_zeros(text: &[u8]) -> bool
@@ -29,7 +30,7 @@ fn are_zeros(text: &[u8]) -> bool
 
 // A number with its sign.
 fn signed(is_negative: bool, number: u64) -> i64
-    requires { number ≤ 10000000000000 }
+    requires { number ≤ MOST_AMOUNT }
     ensures { result ≡ signed_said is_negative number }
 {
     if is_negative {

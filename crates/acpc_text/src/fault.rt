@@ -2,7 +2,7 @@
 ghost use Rattle.std.specs.Prelude.{◌≡◌, min};
 ghost use Rattle.acpc_text.specs.Faults.{fault_in_line as fault_in_line_said, fault_of, kept as kept_said};
 
-use hand_canon::Quantity;
+use first_fault::Quantity;
 
 /// What is wrong with a line.
 #[derive(Clone, Copy, Debug, PartialEq, Eq)]

@@ -22,7 +22,7 @@ use Rattle.canon_laws.proofs.StreetUnplayed.{skipped}
 use Rattle.canon_laws.proofs.Street.{AtStreet}
 
 -- moves are on streets from the first on
-abbrev AreSince : List Move → Type 0
+abbrev pub AreSince : List Move → Type 0
 AreSince [] = Unit {0}
 AreSince (move ∷ rest) = (1 ≤ move.street) × AreSince rest
 
@@ -34,7 +34,8 @@ since_step setup before at _ some (shows seat cards may free) since = since
 since_step setup before at _ some (mucks seat may) since = since
 since_step setup before at _ some (moves played no_deal no_draw on) since = (omega (arith, some, on), since)
 
-legal_since : (setup : Setup) (rules : Rules) (events : List Said) → AreLegal setup rules events → AreSince (moves_of (past_of setup events))
+-- the moves of a legal script are
+pub legal_since : (setup : Setup) (rules : Rules) (events : List Said) → AreLegal setup rules events → AreSince (moves_of (past_of setup events))
 unfolding with_event
 legal_since setup rules [] legal = tt
 legal_since setup rules (event ∷ events) legal =
@@ -43,7 +44,8 @@ legal_since setup rules (event ∷ events) legal =
     let come = turn_reaches setup before it.past.within in
     since_step setup before (turn setup before).0 _ (omega (arith, come.on, it.past.since)) (stepped setup rules before event legal.0) (legal_since setup rules events legal.1)
 
-none_first : (list : List Move) → AreSince list → moves_before (0 + 1) list ≡ []
+-- so none is before the first street
+pub none_first : (list : List Move) → AreSince list → moves_before (0 + 1) list ≡ []
 none_first [] since = refl
 none_first (move ∷ rest) since = ap (λ b. if b then (move ∷ moves_before (0 + 1) rest) else moves_before (0 + 1) rest) (le-ltb move.street (0 + 1) (omega (arith, since.0))) ∙ none_first rest since.1
 

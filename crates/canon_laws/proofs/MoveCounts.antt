@@ -15,7 +15,7 @@ use Rattle.canonical_play.specs.declared.limits.TheConstants.{MOST_MOVES}
 use Rattle.canon_laws.proofs.TidyTraces.{tidy_trace}
 
 -- the moves of events, the newest first
-move_count : (setup : Setup) (events : List Said) → length (moves_of (past_of setup events)) ≡ count_by is_move events
+pub move_count : (setup : Setup) (events : List Said) → length (moves_of (past_of setup events)) ≡ count_by is_move events
 unfolding with_event
 move_count setup [] = refl
 move_count setup (said.Fold named ∷ events) = omega (arith, move_count setup events, count_by-cons is_move (said.Fold named) events)

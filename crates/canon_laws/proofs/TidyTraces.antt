@@ -227,7 +227,8 @@ tidy_cards setup rules events legal =
     by_owner _ street few (a_seat seat least most) some within = few.dealt_few seat street least most some within
     by_owner _ street few the_board some within = few.board_few street some within
 
-as_many : (setup : Setup) (list : List Move) → length (traced_moves setup list) ≡ length list
+-- a trace has as many moves as its past
+pub as_many : (setup : Setup) (list : List Move) → length (traced_moves setup list) ≡ length list
 as_many setup [] = refl
 as_many setup (move ∷ before) = omega (arith, length-append (traced_moves setup before) (traced_move setup move before ∷ []), as_many setup before)
 

@@ -18,6 +18,7 @@ use Rattle.play_event.specs.Seats.{all_seats, is_live, live_count}
 use Rattle.play_event.specs.Streets.{has_draw}
 use Rattle.play_event.specs.Trace.{streets_of}
 use Rattle.play_event.specs.ValidSetup.{IsValid}
+use Rattle.chip_ledger.specs.declared.numbers.TheConstants.{MOST_CHIPS}
 use Rattle.canonical_play.specs.CanonScript.{act_named, board_said, canon_of, canonical_script, deal_said, deals_said, dealt_slots, discards_said, discarded_slots, drawing_seats, held_slots, is_reached, move_named, moves_named, script_of, showdown_said, showing_said, street_said}
 use Rattle.canonical_play.specs.PlayedScript.{IsPlayed}
 use Rattle.canonical_play.specs.TraceCore.{TraceCore, core_after, core_of}
@@ -79,7 +80,7 @@ abbrev IsStreetOf : Setup → ℕ → Type 0
 IsStreetOf setup street = (1 ≤ street) × (street < street_count setup.code + 1)
 
 -- the events of moves
-act_in_range : (seats : ℕ) (act : Act) (seat target : ℕ) → IsSeatOf seats seat → target ≤ 1000000000000 → IsInRange seats (act_named act seat target)
+act_in_range : (seats : ℕ) (act : Act) (seat target : ℕ) → IsSeatOf seats seat → target ≤ MOST_CHIPS → IsInRange seats (act_named act seat target)
 act_in_range seats Folded seat target in_hand few = in_hand
 act_in_range seats Called seat target in_hand few = in_hand
 act_in_range seats Raised seat target in_hand few = (in_hand, few)

@@ -10,7 +10,7 @@ use Rattle.play_event.specs.Places.{Place, is_same_owner, is_held_by, places_dea
 use Rattle.play_event.specs.declared.code.Code.{Code}
 use Rattle.play_event.specs.Naming.{found_by, after_names, after_discard, after_show, discarded_now, is_named, other_names, blanks_in, is_covered, is_show_of_all}
 use Rattle.play_event.specs.CardReasons.{has_no_place}
-use Rattle.card_places.specs.Held.{is_held}
+use Rattle.play_event.specs.Held.{is_held}
 use Rattle.card_places.proofs.NamesLeast.{names_least}
 use Rattle.card_places.proofs.MarksLeast.{marks_least, unknown_count}
 

@@ -11,7 +11,7 @@ use Rattle.play_event.specs.Streets.{has_draw}
 use Rattle.play_event.specs.Places.{Place, is_same_owner, is_in_group, places_dealt}
 use Rattle.card_places.specs.declared.draws.Draws.{Draws}
 use Rattle.card_places.specs.Drawn.{named_at}
-use Rattle.card_places.specs.Held.{is_held}
+use Rattle.play_event.specs.Held.{is_held}
 use Rattle.card_places.specs.Room.{may_come, sum_from, held_most, is_owner, AreHeldWithin, IsOwed}
 use Rattle.street_laws.proofs.Groups.{still_group}
 use Rattle.street_laws.specs.Groups.{AreStill}

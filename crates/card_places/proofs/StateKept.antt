@@ -9,7 +9,7 @@ use Rattle.play_event.specs.Places.{Place, after_fold}
 use Rattle.play_event.specs.Naming.{after_discard, after_show}
 use Rattle.card_places.specs.declared.draws.Draws.{Draws}
 use Rattle.card_places.specs.Drawn.{named_at}
-use Rattle.card_places.specs.Held.{is_held}
+use Rattle.play_event.specs.Held.{is_held}
 use Rattle.card_places.specs.Room.{is_seat_of, IsWithin, AreNamedWithin, AreHeldWithin}
 use Rattle.street_laws.specs.Groups.{AreStill}
 use Rattle.card_places.proofs.HeldCards.{discard_fewer, show_fewer, fold_fewer}

@@ -1,7 +1,6 @@
 -- The state of the cards, and what is read from it.
 pub mod Plain
 pub mod Placed
-pub mod Held
 pub mod Covered
 pub mod Marks
 pub mod Searches

@@ -6,7 +6,7 @@ use Rattle.play_event.specs.Streets.{has_draw}
 use Rattle.play_event.specs.Places.{Place, is_in_group}
 use Rattle.card_places.specs.declared.draws.Draws.{Draws}
 use Rattle.card_places.specs.Drawn.{named_at}
-use Rattle.card_places.specs.Held.{is_held}
+use Rattle.play_event.specs.Held.{is_held}
 
 -- a number is that of a seat of so many
 abbrev pub is_seat_of : ℕ → ℕ → Bool

@@ -2,7 +2,7 @@
 ghost use Rattle.std.specs.Prelude.{◌≡◌};
 ghost use Rattle.play_event.specs.Places as places;
 ghost use Rattle.play_event.specs.Places.{is_in_group};
-ghost use Rattle.card_places.specs.Held.{is_held};
+ghost use Rattle.play_event.specs.Held.{is_held};
 ghost use Rattle.card_places.specs.Plain.{place_of, seat_of};
 
 use card_set::Slot;

@@ -7,7 +7,7 @@ ghost use Rattle.chip_ledger.specs.LiveRow.{flag_of};
 ghost use Rattle.play_event.specs.Places as places;
 ghost use Rattle.play_event.specs.Places.{is_held_by};
 ghost use Rattle.play_event.specs.SeatSlots.{slots_of_hand, ups_of};
-ghost use Rattle.card_places.specs.Held as held;
+ghost use Rattle.play_event.specs.Held as held;
 ghost use Rattle.card_places.specs.Placed.{placed};
 ghost use Rattle.card_places.specs.Plain.{place_of, seat_of};
 ghost use Rattle.card_places.specs.Room.{is_owner};

@@ -13,7 +13,7 @@ use Rattle.play_event.specs.Naming.{found_by, after_names, discarded_now, is_nam
 use Rattle.play_event.specs.Past.{Past, Dealt, Boarded, Moved, Discarded, Shown, Mucked, is_fold}
 use Rattle.play_event.specs.Places.{Place, is_same_owner, is_in_group, is_held_by, is_past_deck, is_up, places_dealt, after_fold, folded_place, gone_now}
 use Rattle.play_event.specs.Table.{places_of}
-use Rattle.card_places.specs.Held.{is_held, held_slots}
+use Rattle.play_event.specs.Held.{is_held, held_slots}
 use Rattle.deal_core.specs.Board.{board_cards}
 
 -- a card of a seat is none of the board

@@ -23,7 +23,7 @@ ghost use Rattle.card_places.specs.CardEvents.{is_deal, is_discard};
 ghost use Rattle.card_places.specs.Dealt.{IsDealt};
 ghost use Rattle.card_places.specs.Discarded.{IsDiscarded};
 ghost use Rattle.card_places.specs.DueStreet.{due_street};
-ghost use Rattle.card_places.specs.Held.{held_slots};
+ghost use Rattle.play_event.specs.Held.{held_slots};
 ghost use Rattle.card_places.specs.Refusals as refusals;
 ghost use Rattle.card_places.specs.Shown.{IsMucked, IsShown};
 ghost use Rattle.deal_core.specs.Board.{board_cards};

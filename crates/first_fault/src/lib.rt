@@ -2,7 +2,11 @@
 #![tactic(auto)]
 
 mod digits;
+mod limits;
 mod stop;
+mod text;
 
 pub use digits::{are_digits, read_digits};
+pub use limits::{MOST_FILE_MOVES, MOST_HANDS, MOST_TEXT_BYTES, Quantity};
 pub use stop::Stop;
+pub use text::Text;

@@ -1,6 +1,6 @@
 -- What a record states of the end of a hand, beside what its trace comes to, and the first number that differs.
 use Rattle.std.specs.Prelude.{◌≡◌, ℕ, ℤ, pos, ◌-ℤ◌, ◌≤◌, Bool, not, if◌then◌else◌, List, [], ◌∷◌, ◌++◌, map, find, sum_by, Option, Some, None, All}
-use Rattle.std.specs.Option.{ForSome, option_map_or}
+use Rattle.std.specs.Option.{option_map_or}
 use Rattle.std.specs.Ordering.{int_eq}
 use Rattle.chip_ledger.specs.declared.pots.Pot.{Pot}
 use Rattle.chip_ledger.specs.declared.rows.SeatRow.{SeatRow}
@@ -11,10 +11,10 @@ use Rattle.play_event.specs.Seats.{all_seats}
 use Rattle.hand_canon.specs.declared.agreement.FactDiffers.{FactDiffers}
 use Rattle.hand_canon.specs.declared.agreement.Which.{Which}
 use Rattle.hand_canon.specs.declared.agreement.Which.TheVariants as whiches
-use Rattle.hand_canon.specs.declared.record.NetRow.{NetRow}
-use Rattle.hand_canon.specs.declared.record.Stated.{Stated}
-use Rattle.hand_canon.specs.declared.trace.Trace.{Trace}
-use Rattle.hand_canon.specs.NetRow.{net_of}
+use Rattle.hand_records.specs.declared.record.NetRow.{NetRow}
+use Rattle.hand_records.specs.declared.record.Stated.{Stated}
+use Rattle.hand_records.specs.declared.trace.Trace.{Trace}
+use Rattle.hand_records.specs.NetRow.{net_of}
 
 -- a fact that may be stated: a seat's finishing stack, what it wins of the pots, all pots together, what it won or lost
 pub data Fact : Type 0 where
@@ -102,13 +102,6 @@ which_said (whiches.Value seat) = Value seat.number
 -- what is said of a fact that differs
 abbrev pub difference_said : FactDiffers → Comparison
 difference_said differs = comparison (which_said differs.which) differs.stated differs.replayed
-
--- what is stated fits a trace: its rows are of so many seats, and its total is no more than a row may hold
-pub record IsStatedFor (seats : ℕ) (stated : Stated) : Type 0 where
-  pub finish : ForSome stated.finish (λ row. row.seats ≡ seats)
-  pub wins : ForSome stated.wins (λ row. row.seats ≡ seats)
-  pub pot_total : ForSome stated.pot_total (λ total. total ≤ MOST_AMOUNT)
-  pub values : ForSome stated.values (λ row. row.seats ≡ seats)
 
 -- each pot has no more chips than a row may hold
 abbrev pub HasBoundedPots : Trace → Type 0

@@ -1,16 +1,12 @@
--- Records and traces: what is said of their rows, the shares of a whole trace, which notes are allowed, and what stated facts
--- are compared with. What a trace keeps but for its shares, and its canonical script, are passed on.
+-- Legal hands, the shares of a whole trace, sound plays, and what stated facts are compared with. What a trace keeps but for its
+-- shares, and its canonical script, are passed on.
 pub use Rattle.canonical_play.specs.TraceCore
 pub use Rattle.canonical_play.specs.CanonScript
 pub use Rattle.canonical_play.specs.PlayedScript
 pub use Rattle.canonical_play.specs.Tidy
-pub mod NetRow
-pub mod TraceRows
 pub mod LegalHand
 pub mod WholeTrace
-pub mod AllowedNotes
 pub mod Sound
-pub mod SoundRecord
 pub mod Agreement
 pub mod Numbers
 pub mod Words

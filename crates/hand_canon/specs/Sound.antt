@@ -1,18 +1,12 @@
 -- Sound plays: a valid setup, a legal script within the limits, its trace, and allowed notes.
-use Rattle.std.specs.Prelude.{List, map}
-use Rattle.play_event.specs.Said.{Said, said_of}
 use Rattle.play_event.specs.Scripts.{past_at_end}
 use Rattle.play_event.specs.ValidSetup.{IsValid}
-use Rattle.hand_canon.specs.declared.record.Record.{Record}
-use Rattle.hand_canon.specs.declared.trace.Play.{Play}
-use Rattle.hand_canon.specs.AllowedNotes.{AreAllowed}
+use Rattle.hand_records.specs.declared.trace.Play.{Play}
+use Rattle.hand_records.specs.AllowedNotes.{AreAllowed}
+use Rattle.hand_records.specs.SoundRecord.{script_said}
 use Rattle.canonical_play.specs.PlayedScript.{IsWithinLimits}
 use Rattle.hand_canon.specs.LegalHand.{IsLegalHand}
 use Rattle.hand_canon.specs.WholeTrace.{IsTraceOf}
-
--- the script of a record
-abbrev pub script_said : Record → List Said
-script_said hand = map said_of hand.script
 
 -- a play is sound
 pub record IsSound (play : Play) : Type 0 where

@@ -4,11 +4,11 @@ ghost use Rattle.std.specs.Option.{ForSome};
 ghost use Rattle.std.specs.Result.{result_err};
 ghost use Rattle.chip_ledger.specs.SeatRow.{amount_of};
 ghost use Rattle.chip_ledger.specs.declared.rows.TheConstants.{MOST_AMOUNT};
-ghost use Rattle.hand_canon.specs.Agreement.{HasBoundedPots, IsStatedFor, comparison, difference_of, difference_said, finish_compared, first_difference, is_different, pot_total_of, row_compared, total_compared, value_compared, value_of, which_said, win_compared, win_of};
+ghost use Rattle.hand_canon.specs.Agreement.{HasBoundedPots, comparison, difference_of, difference_said, finish_compared, first_difference, is_different, pot_total_of, row_compared, total_compared, value_compared, value_of, which_said, win_compared, win_of};
+ghost use Rattle.hand_records.specs.SoundRecord.{IsStatedFor};
 
-use crate::record::{NetRow, Stated};
-use crate::trace::Trace;
 use chip_ledger::{Seat, SeatRow};
+use hand_records::{NetRow, Stated, Trace};
 
 /// A fact that a record may state of the end of a hand.
 #[derive(Clone, Copy, Debug, PartialEq, Eq)]

@@ -9,16 +9,16 @@ ghost use Rattle.chip_ledger.specs.Seat.{seats_of};
 ghost use Rattle.canonical_play.specs.CanonScript.{board_said, canonical_script, deal_said, deals_said, discards_said, move_named, plain_move, plain_moves, showdown_said, street_said};
 ghost use Rattle.hand_canon.specs.RowTests.{discards_from, said_on, showings_from};
 ghost use Rattle.canonical_play.specs.Tidy.{HasTidyCards, IsTidy};
-ghost use Rattle.hand_canon.specs.TraceRows.{core_said};
+ghost use Rattle.hand_records.specs.TraceRows.{core_said};
 ghost use Rattle.hand_canon.specs.Words.{words_of};
 
 use crate::folds::{count_unfolded, folds, folds_before};
 use crate::gathered::{dealt_to_board, dealt_to_seats, discarded_by_seats};
 use crate::numbered::Numbered;
 use crate::streets::{count_streets, draws};
-use crate::trace::Trace;
 use card_set::{Memory, SlotRow, known_row};
 use chip_ledger::{LiveRow, Seat};
+use hand_records::Trace;
 use play_event::{Act, HandRow, Kind, Move, Script, Spelled};
 use std::alloc::Global;
 

@@ -2,10 +2,11 @@
 ghost use Rattle.std.specs.Prelude.{◌≡◌, ◌≤◌, IfSome, IsTrue};
 ghost use Rattle.std.specs.Option.{ForSome};
 ghost use Rattle.chip_ledger.specs.declared.rows.TheConstants.{MOST_AMOUNT};
-ghost use Rattle.hand_canon.specs.Agreement.{IsStatedFor};
+ghost use Rattle.hand_records.specs.SoundRecord.{IsStatedFor};
 
 use chip_ledger::{MOST_AMOUNT, Seat, SeatRow};
-use hand_canon::{FactDiffers, NetRow, Stated, Which};
+use hand_records::{NetRow, Stated};
+use hand_canon::{FactDiffers, Which};
 use hand_rows::row_of;
 use std::alloc::{AllocError, Global};
 

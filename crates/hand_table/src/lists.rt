@@ -1,6 +1,7 @@
 // What a list holds after one item was put into it, and what a text holds.
 use chip_ledger::Seat;
-use hand_canon::{Moves, Notes, Places, Record, Records, Stated, Text};
+use first_fault::Text;
+use hand_records::{Moves, Notes, Places, Record, Records, Stated};
 use hand_rows::{event_text, kind_of, setup_of, slots_text};
 use play_event::{Act, Event, Kind, Move, Place, Rules, Script, Setup};
 use std::alloc::{AllocError, Global};

@@ -1,6 +1,6 @@
 // Traces, scripts and faults in words.
 use chip_ledger::{LiveRow, Seat};
-use hand_canon::Trace;
+use hand_records::Trace;
 use hand_rows::{event_text, row_text};
 use play_event::{Illegal, Script};
 use replay_core::ReplayFault;

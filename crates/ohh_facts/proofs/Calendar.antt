@@ -2,7 +2,7 @@
 use Rattle.std.proofs.Common.{◌≡◌, ℕ, ◌≤◌, ◌≤ℤ◌, ◌↔◌, Bool, true, false, nat_le, IsTrue, pos, neg_ℤ, sym, ◌∙◌, refl, inl, inr, arith}
 use Rattle.std.proofs.lemmas.Bool.{cases_Bool, leb-true, le-leb}
 use Rattle.jiff.specs.Words.{IsDate}
-use Rattle.hand_canon.specs.AllowedNotes.{days_in_month}
+use Rattle.hand_records.specs.AllowedNotes.{days_in_month}
 
 signed : (a b : ℕ) → a ≤ b → pos a ≤ℤ pos b
 signed a b le = grind (arith, le)

@@ -1,7 +1,7 @@
 -- The parts of a moment are within their ranges.
 use Rattle.std.proofs.Common.{Option, Some, None, IfSome}
 use Rattle.std.specs.Prelude.{option_map}
-use Rattle.hand_canon.specs.AllowedNotes.{IsDayOf, IsTime, IsWithin}
+use Rattle.hand_records.specs.AllowedNotes.{IsDayOf, IsTime, IsWithin}
 use Rattle.ohh_facts.specs.declared.moment.Moment.{Moment}
 use Rattle.ohh_facts.specs.MomentRanges.{IsMoment}
 

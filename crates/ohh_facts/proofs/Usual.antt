@@ -3,7 +3,7 @@ use Rattle.std.proofs.Common.{◌≡◌, ◌≢◌, ℕ, zero, suc, ◌+◌, ◌
 use Rattle.std.specs.List.{range_with_len}
 use Rattle.std.proofs.lemmas.Slice.Eq.{bytes_eq-Decides}
 use Rattle.std.proofs.lemmas.Bool.{false≢true}
-use Rattle.hand_canon.specs.AllowedNotes.{default_numbers}
+use Rattle.hand_records.specs.AllowedNotes.{default_numbers}
 
 -- the first numbers of a range
 pub take_range : (start n m : ℕ) → n ≤ m → take n (range_with_len start m) ≡ range_with_len start n

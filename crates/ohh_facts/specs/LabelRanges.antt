@@ -1,6 +1,6 @@
 -- The ranges of what is said of where and when a hand was played.
 use Rattle.std.specs.Prelude.{ℕ, IfSome}
-use Rattle.hand_canon.specs.AllowedNotes.{IsNoteText, IsSeatCount}
+use Rattle.hand_records.specs.AllowedNotes.{IsNoteText, IsSeatCount}
 use Rattle.ohh_facts.specs.declared.labels.Labels.{Labels}
 use Rattle.ohh_facts.specs.MomentRanges.{IsMoment}
 

@@ -4,8 +4,8 @@ use Rattle.std.specs.Char.{is_digit}
 use Rattle.std.specs.List.{prefix_len}
 use Rattle.std.specs.Str.Parse.{digits_value}
 use Rattle.serde_json.specs.Data.{Data}
-use Rattle.hand_canon.specs.declared.notes.Clock.{Clock}
-use Rattle.hand_canon.specs.AllowedNotes.{days_in_month}
+use Rattle.hand_records.specs.declared.notes.Clock.{Clock}
+use Rattle.hand_records.specs.AllowedNotes.{days_in_month}
 use Rattle.first_fault.specs.Digits.{are_digits}
 use Rattle.first_fault.specs.Reading.{◌>>=◌}
 use Rattle.ohh_facts.specs.declared.moment.Day.{Day}

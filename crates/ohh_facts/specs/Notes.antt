@@ -3,11 +3,11 @@ use Rattle.std.specs.Prelude.{ℕ, ◌+◌, ◌==◌, ◌||◌, bytes_eq, if◌t
 use Rattle.std.specs.Fmt.{decimal, signed_decimal}
 use Rattle.std.specs.List.{range_with_len}
 use Rattle.serde_json.specs.Data.{Data, string}
-use Rattle.hand_canon.specs.declared.limits.TheConstants.{MOST_TEXT_BYTES}
-use Rattle.hand_canon.specs.declared.limits.Quantity.TheVariants as quantities
-use Rattle.hand_canon.specs.declared.notes.Clock.{Clock}
-use Rattle.hand_canon.specs.declared.notes.Notes.{Notes}
-use Rattle.hand_canon.specs.AllowedNotes.{default_name}
+use Rattle.first_fault.specs.declared.limits.TheConstants.{MOST_TEXT_BYTES}
+use Rattle.first_fault.specs.declared.limits.Quantity.TheVariants as quantities
+use Rattle.hand_records.specs.declared.notes.Clock.{Clock}
+use Rattle.hand_records.specs.declared.notes.Notes.{Notes}
+use Rattle.hand_records.specs.AllowedNotes.{default_name}
 use Rattle.first_fault.specs.Reading.{◌>>=◌, read_if}
 use Rattle.ohh_members.specs.declared.fault.What.TheVariants as whats
 use Rattle.ohh_members.specs.declared.fault.Path.{Path}

@@ -3,7 +3,7 @@ ghost use Rattle.std.specs.Prelude.{◌≡◌, ◌≤◌, IfOk, IfSome};
 ghost use Rattle.std.specs.Fmt.{decimal};
 ghost use Rattle.serde_json.specs.View.{view};
 ghost use Rattle.first_fault.specs.Reading.{Gives, read_if};
-ghost use Rattle.hand_canon.specs.AllowedNotes.{IsSeatCount};
+ghost use Rattle.hand_records.specs.AllowedNotes.{IsSeatCount};
 ghost use Rattle.ohh_members.specs.declared.fault.Path.TheVariants as paths;
 ghost use Rattle.ohh_facts.specs.LabelRanges.{AreLabels};
 ghost use Rattle.ohh_facts.specs.MomentRanges.{IsMoment};
@@ -13,8 +13,7 @@ ghost use Rattle.ohh_members.specs.Values.{field as field_said};
 
 use crate::moment::{Moment, read_moment};
 use crate::texts::{label_at, text_at};
-use first_fault::Stop;
-use hand_canon::Text;
+use first_fault::{Stop, Text};
 use ohh_members::fault::{Fault, Path};
 use ohh_members::values::{field, read_number};
 use serde_json::Value;

@@ -1,14 +1,14 @@
 //! When a hand was played is read from a text: a day of the calendar and a time of the day, in universal time.
 ghost use Rattle.std.specs.Prelude.{◌≡◌, ◌≤◌, ◌+◌, ◌-◌, ◌↔◌, nat_le, pos, length, take, IfOk, IsTrue};
 ghost use Rattle.serde_json.specs.View.{view};
-ghost use Rattle.hand_canon.specs.AllowedNotes.{IsTime, IsWithin, days_in_month};
+ghost use Rattle.hand_records.specs.AllowedNotes.{IsTime, IsWithin, days_in_month};
 ghost use Rattle.jiff.specs.Words.{IsDate};
 ghost use Rattle.first_fault.specs.Reading.{Gives};
 ghost use Rattle.ohh_facts.specs.MomentRanges.{IsDay, IsMoment};
 ghost use Rattle.ohh_facts.specs.Moments.{clock_said, day_said, digits_in_front as digits_in_front_said, digits_said, fraction_of, fraction_said, has_point as has_point_said, has_signs as has_signs_said, is_universal as is_universal_said, moment_in, moment_said, nine_of, part as part_said, parts_said, zoned};
 
 use first_fault::{Stop, are_digits, read_digits};
-use hand_canon::Clock;
+use hand_records::Clock;
 use jiff::civil::Date;
 use ohh_members::fault::{Fault, Path, What};
 use ohh_members::values::{read_text, wrong};

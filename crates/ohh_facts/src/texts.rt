@@ -1,15 +1,14 @@
 //! The text of a note is kept where it is not empty and not the default of the note.
 ghost use Rattle.std.specs.Prelude.{◌≡◌, ◌≢◌, ◌≤◌, [], length, IfOk, IfSome};
 ghost use Rattle.serde_json.specs.View.{view};
-ghost use Rattle.hand_canon.specs.AllowedNotes.{IsNoteText};
-ghost use Rattle.hand_canon.specs.declared.limits.TheConstants.{MOST_TEXT_BYTES};
+ghost use Rattle.hand_records.specs.AllowedNotes.{IsNoteText};
+ghost use Rattle.first_fault.specs.declared.limits.TheConstants.{MOST_TEXT_BYTES};
 ghost use Rattle.first_fault.specs.Reading.{Gives};
 ghost use Rattle.ohh_facts.specs.Notes.{label_said, note_said, noted, or_none, text_note_said};
 ghost use Rattle.ohh_members.specs.Values.{field as field_said};
 
 use card_set::Memory;
-use first_fault::Stop;
-use hand_canon::{MOST_TEXT_BYTES, Quantity, Text};
+use first_fault::{MOST_TEXT_BYTES, Quantity, Stop, Text};
 use ohh_members::fault::{Fault, Path, What};
 use ohh_members::values::{field, read_integer, read_text, wrong};
 use serde_json::Value;

@@ -1,7 +1,7 @@
 -- When a hand was played, as the format writes it: a civil date and a time in the zone UTC.
 use Rattle.std.specs.Prelude.{ℕ, zero, suc, ◌+◌, ◌/◌, ◌%◌, ◌==◌, bytes_eq, if◌then◌else◌, List, [], ◌∷◌, ◌++◌, codes, Option, Some, None}
-use Rattle.hand_canon.specs.declared.notes.Clock.{Clock}
-use Rattle.hand_canon.specs.declared.notes.Notes.{Notes}
+use Rattle.hand_records.specs.declared.notes.Clock.{Clock}
+use Rattle.hand_records.specs.declared.notes.Notes.{Notes}
 use Rattle.ohh_line.specs.declared.moment.Moment.{Moment}
 
 -- the moment, where the zone is UTC

@@ -1,8 +1,8 @@
 -- The numbers of seats at the table, and which of them the format spells.
 use Rattle.std.specs.Prelude.{ℕ, ◌+◌, ◌-◌, ◌==◌, ◌&&◌, Bool, true, nat_lt, not, if◌then◌else◌, List, [], ◌∷◌, take, slice_index, slice_index_or, Option, Some, None, unwrap_or}
 use Rattle.std.specs.List.{list_any}
-use Rattle.hand_canon.specs.declared.notes.Notes.{Notes}
-use Rattle.hand_canon.specs.AllowedNotes.{default_name}
+use Rattle.hand_records.specs.declared.notes.Notes.{Notes}
+use Rattle.hand_records.specs.AllowedNotes.{default_name}
 
 -- no number stands twice
 abbrev pub all_differ : List ℕ → Bool

@@ -14,9 +14,9 @@ use Rattle.chip_ledger.specs.Seat.{seats_of}
 use Rattle.chip_ledger.specs.RakeRow.{rake_of}
 use Rattle.chip_ledger.specs.SeatRow.{amount_of}
 use Rattle.play_event.specs.declared.setup.Setup.{Setup}
-use Rattle.hand_canon.specs.declared.notes.Notes.{Notes}
-use Rattle.hand_canon.specs.declared.trace.Play.{Play}
-use Rattle.hand_canon.specs.declared.trace.Trace.{Trace}
+use Rattle.hand_records.specs.declared.notes.Notes.{Notes}
+use Rattle.hand_records.specs.declared.trace.Play.{Play}
+use Rattle.hand_records.specs.declared.trace.Trace.{Trace}
 use Rattle.ohh_members.specs.declared.dialect.Dialect.{Dialect}
 use Rattle.ohh_line.specs.declared.action.Street.{Street}
 use Rattle.ohh_line.specs.declared.action.Street.TheVariants as streets

@@ -4,7 +4,7 @@ ghost use Rattle.card_set.specs.Known.{is_unknown};
 ghost use Rattle.card_set.specs.Row.{slots_of};
 ghost use Rattle.play_event.specs.Places.{is_same_owner};
 ghost use Rattle.canonical_play.specs.CanonScript.{dealt_slots, held_slots};
-ghost use Rattle.hand_canon.specs.TraceRows.{place_said};
+ghost use Rattle.hand_records.specs.TraceRows.{place_said};
 ghost use Rattle.ohh_line.specs.Actions.{has_known as has_known_said};
 
 use card_set::{Slot, SlotRow};

@@ -2,15 +2,15 @@
 ghost use Rattle.std.specs.Prelude.{◌≡◌, ◌⊎◌, ◌≤◌, ◌++◌, ◌∷◌, [], None, Some, length, IfOk, IfErr, OnOk};
 ghost use Rattle.std.specs.List.{AllByRecursion};
 ghost use Rattle.hand_canon.specs.Sound.{IsSound};
-ghost use Rattle.hand_canon.specs.declared.limits.TheConstants.{MOST_HANDS};
-ghost use Rattle.hand_canon.specs.declared.writing.WriteRefusal.TheVariants as refusals;
+ghost use Rattle.first_fault.specs.declared.limits.TheConstants.{MOST_HANDS};
+ghost use Rattle.hand_records.specs.declared.writing.WriteRefusal.TheVariants as refusals;
 ghost use Rattle.ohh_line.specs.Lines.{IsTextOf, Spells, empty_line_before, hand_text};
 ghost use Rattle.ohh_line.specs.Spelled.{first_refusal};
 
 use crate::hand::hand_value;
 use crate::spelled::find_refusal;
 use card_set::Memory;
-use hand_canon::{Keep, Play, WriteRefusal};
+use hand_records::{Keep, Play, WriteRefusal};
 use ohh_members::Dialect;
 use std::alloc::Global;
 

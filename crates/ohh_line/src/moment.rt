@@ -3,7 +3,7 @@ ghost use Rattle.std.specs.Prelude.{◌≡◌, ◌++◌, string_bytes, IfOk, OnO
 ghost use Rattle.ohh_line.specs.Moment.{by_digits, fraction_text, moment_in as moment_in_said, moment_of as moment_said, moment_text as text_said, time_text};
 
 use card_set::Memory;
-use hand_canon::{Clock, Notes};
+use hand_records::{Clock, Notes};
 use std::alloc::Global;
 
 /// A date, and a time of that day.

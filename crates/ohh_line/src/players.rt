@@ -8,7 +8,7 @@ use crate::posts::amount_at;
 use crate::seating::number_among;
 use card_set::Memory;
 use chip_ledger::SeatRow;
-use hand_canon::Notes;
+use hand_records::Notes;
 use serde_json::{Value, json};
 use std::alloc::Global;
 

@@ -7,7 +7,7 @@ ghost use Rattle.ohh_line.specs.Tree.{pot_tree, pots as pots_said, share_at as s
 use crate::posts::amount_at;
 use card_set::Memory;
 use chip_ledger::{Pot, SeatRow};
-use hand_canon::Trace;
+use hand_records::Trace;
 use serde_json::{Value, json};
 use std::alloc::Global;
 

@@ -3,7 +3,7 @@ ghost use Rattle.std.specs.Prelude.{◌≡◌, ◌≤◌, None, [], ◌∷◌, �
 ghost use Rattle.card_set.specs.Row.{slots_of};
 ghost use Rattle.canonical_play.specs.CanonScript.{dealt_slots};
 ghost use Rattle.canonical_play.specs.Tidy.{HasTidyCards};
-ghost use Rattle.hand_canon.specs.TraceRows.{core_said};
+ghost use Rattle.hand_records.specs.TraceRows.{core_said};
 ghost use Rattle.ohh_line.specs.Actions.{action_said, showings};
 ghost use Rattle.ohh_line.specs.Rounds.{board_round_on, first_actions, hand_rounds as hand_rounds_said, moves_on as moves_on_said, round, round_said, showdown_round};
 ghost use Rattle.ohh_line.specs.declared.action.Street.TheVariants as streets;
@@ -14,7 +14,7 @@ use crate::moves::push_moves;
 use crate::posts::push_posts;
 use crate::shows::{push_deals, push_showings};
 use card_set::{Memory, SlotRow};
-use hand_canon::Trace;
+use hand_records::Trace;
 use ohh_members::Dialect;
 use std::alloc::Global;
 

@@ -5,7 +5,7 @@ ghost use Rattle.card_set.specs.Row.{slots_of};
 ghost use Rattle.play_event.specs.Seats.{all_seats};
 ghost use Rattle.canonical_play.specs.CanonScript.{dealt_slots};
 ghost use Rattle.canonical_play.specs.Tidy.{HasTidyCards};
-ghost use Rattle.hand_canon.specs.TraceRows.{core_said};
+ghost use Rattle.hand_records.specs.TraceRows.{core_said};
 ghost use Rattle.ohh_line.specs.Actions.{action_said, alone, deal_written, deals, showing, showings, with_cards};
 ghost use Rattle.ohh_line.specs.declared.action.Word.TheVariants as words;
 
@@ -13,7 +13,7 @@ use crate::action::{Action, Detail, Word};
 use crate::cards::{dealt_cards, has_known, held_cards};
 use card_set::{Memory, SlotRow};
 use chip_ledger::Seat;
-use hand_canon::Trace;
+use hand_records::Trace;
 
 /// Puts the deals to the seats behind other actions, from p1 upward.
 pub fn push_deals(actions: &mut Vec<Action>, trace: &Trace) -> Result<(), Memory>

@@ -1,14 +1,14 @@
 //! The first fact of a play that the format does not spell, and the first play that has one.
 ghost use Rattle.std.specs.Prelude.{◌≡◌, ◌≤◌, length};
 ghost use Rattle.std.specs.List.{list_any};
-ghost use Rattle.hand_canon.specs.declared.limits.TheConstants.{MOST_HANDS};
+ghost use Rattle.first_fault.specs.declared.limits.TheConstants.{MOST_HANDS};
 ghost use Rattle.ohh_line.specs.Spelled.{first_refusal, first_unspelled, has_spelled_numbers as has_numbers_said, kept_facts, note_facts, trace_facts, unspelled};
 
 use crate::games::is_spelled_game;
 use crate::moment::moment_of;
 use crate::seating::numbers_spelled;
 use crate::setup::{has_spelled_antes, has_spelled_blinds, has_spelled_sizes};
-use hand_canon::{Keep, NoteName, Notes, Play, Trace, Unspelled, WriteRefusal};
+use hand_records::{Keep, NoteName, Notes, Play, Trace, Unspelled, WriteRefusal};
 use play_event::Move;
 
 /// The first fact of the play that the format does not spell, in either dialect. Notes count where all are kept.

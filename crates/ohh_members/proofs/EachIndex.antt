@@ -4,11 +4,8 @@ use Rattle.first_fault.specs.declared.stop.Stop.{Stop}
 use Rattle.first_fault.specs.Reading.{◌>>=◌, Fails, each_from, thread_from}
 use Rattle.first_fault.proofs.EachItem.{with_front, goes_on, ends, is_done}
 use Rattle.first_fault.proofs.Thread.{behind, threads_on, thread_ends, thread_done}
+use Rattle.list_laws.proofs.Numbers.{plus_one_less_one}
 use Rattle.ohh_members.specs.declared.fault.Fault.{Fault}
-
--- one more and one less
-pub plus_one_less_one : (n : ℕ) → n + 1 - 1 ≡ n
-plus_one_less_one n = omega arith
 
 -- the items from an index on
 abbrev pub items_left : {V D A : Type 0} → (V → D) → (ℕ → D → Result A Fault) → ℕ → List V → Result (List A) Fault

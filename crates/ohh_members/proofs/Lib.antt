@@ -3,6 +3,5 @@ pub mod Lists
 pub mod Cards
 pub mod EachIndex
 pub mod Added
-pub mod SetEach
 pub mod Taken
 pub mod Round

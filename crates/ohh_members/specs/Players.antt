@@ -4,8 +4,8 @@ use Rattle.std.specs.List.{list_any}
 use Rattle.std.specs.Ordering.{int_eq}
 use Rattle.serde_json.specs.Data.{Data}
 use Rattle.chip_ledger.specs.declared.numbers.TheConstants.{MOST_CHIPS}
-use Rattle.hand_canon.specs.declared.limits.TheConstants.{MOST_TEXT_BYTES}
-use Rattle.hand_canon.specs.declared.limits.Quantity.TheVariants as quantities
+use Rattle.first_fault.specs.declared.limits.TheConstants.{MOST_TEXT_BYTES}
+use Rattle.first_fault.specs.declared.limits.Quantity.TheVariants as quantities
 use Rattle.first_fault.specs.Reading.{◌>>=◌, read_if}
 use Rattle.ohh_members.specs.declared.fault.PlayerMember.{PlayerMember}
 use Rattle.ohh_members.specs.declared.fault.PlayerMember.TheVariants as members

@@ -3,7 +3,7 @@ ghost use Rattle.std.specs.Prelude.{◌≡◌, IfOk, string_bytes};
 ghost use Rattle.ohh_members.specs.Paths.{action_name, action_text, card_path, member_name, path_text, player_name, pot_name, pot_text, round_name, round_text, win_name, with_point};
 
 use card_set::Memory;
-use hand_canon::{Quantity, Text};
+use first_fault::{Quantity, Text};
 use std::alloc::{AllocError, Global};
 
 /// What is wrong.

@@ -2,7 +2,7 @@
 ghost use Rattle.std.specs.Prelude.{◌≤◌, length};
 ghost use Rattle.std.specs.Option.{ForSome};
 ghost use Rattle.chip_ledger.specs.declared.numbers.TheConstants.{MOST_CHIPS};
-ghost use Rattle.hand_canon.specs.declared.limits.TheConstants.{MOST_TEXT_BYTES};
+ghost use Rattle.first_fault.specs.declared.limits.TheConstants.{MOST_TEXT_BYTES};
 
 /// A player of a hand.
 #[derive(Clone, Copy)]

@@ -3,12 +3,12 @@ use Rattle.std.specs.Prelude.{◌≡◌, ℕ, ◌-◌, nat_lt, if◌then◌else�
 use Rattle.std.specs.Str.{is_utf8}
 use Rattle.serde_json.specs.Data.{Data, object}
 use Rattle.serde_json.specs.Read.{read}
-use Rattle.hand_canon.specs.declared.limits.Quantity.TheVariants as quantities
-use Rattle.hand_canon.specs.declared.limits.TheConstants.{MOST_HANDS}
-use Rattle.hand_canon.specs.declared.record.Record.{Record}
+use Rattle.first_fault.specs.declared.limits.Quantity.TheVariants as quantities
+use Rattle.first_fault.specs.declared.limits.TheConstants.{MOST_HANDS}
+use Rattle.hand_records.specs.declared.record.Record.{Record}
 use Rattle.canonical_play.specs.PlayedScript.{is_move}
-use Rattle.hand_canon.specs.Sound.{script_said}
-use Rattle.hand_canon.specs.SoundRecord.{IsSoundRecord}
+use Rattle.hand_records.specs.SoundRecord.{script_said}
+use Rattle.hand_records.specs.SoundRecord.{IsSoundRecord}
 use Rattle.play_event.specs.HistoryRules.{history_rules}
 use Rattle.first_fault.specs.Reading.{◌>>=◌, thread_from}
 use Rattle.ohh_members.specs.declared.dialect.Dialect.{Dialect}

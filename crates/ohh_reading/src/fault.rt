@@ -1,5 +1,5 @@
 //! Why bytes are no hands in Open Hand History: their first fault, with its hand and the path of its member.
-use hand_canon::{Quantity, Text};
+use first_fault::{Quantity, Text};
 use ohh_members::fault::Fault;
 
 /// The first fault of bytes, in the order in which members are examined. `hand` counts from 1 in the order of reading.

@@ -2,7 +2,7 @@
 ghost use Rattle.std.specs.Prelude.{◌≡◌, ◌≤◌, ◌+◌, [], ◌∷◌, Some, option_map, length, map, sum_by, IfOk};
 ghost use Rattle.std.specs.List.{AllByRecursion};
 ghost use Rattle.serde_json.specs.View.{view};
-ghost use Rattle.hand_canon.specs.declared.limits.TheConstants.{MOST_FILE_MOVES, MOST_HANDS};
+ghost use Rattle.first_fault.specs.declared.limits.TheConstants.{MOST_FILE_MOVES, MOST_HANDS};
 ghost use Rattle.first_fault.specs.Reading.{Gives};
 ghost use Rattle.ohh_members.specs.declared.fault.Path.TheVariants as paths;
 ghost use Rattle.ohh_members.specs.Values.{field as field_said};
@@ -15,7 +15,8 @@ use crate::fault::{HandFault, Wrongness};
 use crate::hand::read_hand;
 use card_set::Memory;
 use first_fault::Stop;
-use hand_canon::{MOST_HANDS, Quantity, Record, Records};
+use first_fault::{MOST_HANDS, Quantity};
+use hand_records::{Record, Records};
 use ohh_members::Dialect;
 use ohh_members::fault::{Fault, Path, What};
 use ohh_members::values::{field, wrong};

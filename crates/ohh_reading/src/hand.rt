@@ -1,7 +1,7 @@
 //! The object of a hand is read as its record.
 ghost use Rattle.std.specs.Prelude.{◌≡◌, ◌≤◌, ◌+◌, IfOk};
 ghost use Rattle.serde_json.specs.View.{view};
-ghost use Rattle.hand_canon.specs.declared.limits.TheConstants.{MOST_FILE_MOVES};
+ghost use Rattle.first_fault.specs.declared.limits.TheConstants.{MOST_FILE_MOVES};
 ghost use Rattle.first_fault.specs.Reading.{Gives};
 ghost use Rattle.ohh_reading.specs.Hand.{hand_said, plain};
 ghost use Rattle.ohh_reading.specs.Reading.{IsHistory, moves_of};
@@ -10,7 +10,7 @@ use crate::parts::{ids_in, notes_in, read_paid, stacks_in};
 use crate::play::read_play;
 use crate::record::record_of;
 use first_fault::Stop;
-use hand_canon::Record;
+use hand_records::Record;
 use ohh_members::Dialect;
 use ohh_members::fault::Fault;
 use ohh_members::front::read_front;

@@ -1,7 +1,7 @@
 //! The parts of a hand beside its play are read with what stands in front of its rounds.
 ghost use Rattle.std.specs.Prelude.{◌≡◌, ◌<◌, ℕ, length, map, slice_index, IfOk};
 ghost use Rattle.serde_json.specs.View.{view};
-ghost use Rattle.hand_canon.specs.AllowedNotes.{AreAllowed};
+ghost use Rattle.hand_records.specs.AllowedNotes.{AreAllowed};
 ghost use Rattle.play_event.specs.ValidSetup.{IsSize};
 ghost use Rattle.first_fault.specs.Reading.{Gives};
 ghost use Rattle.ohh_facts.specs.Notes.{notes_said, plain_notes};
@@ -12,7 +12,7 @@ ghost use Rattle.ohh_members.specs.Players.{plain_player};
 use card_set::Memory;
 use chip_ledger::SeatRow;
 use first_fault::Stop;
-use hand_canon::Notes;
+use hand_records::Notes;
 use ohh_facts::found::Paid;
 use ohh_facts::notes::read_notes;
 use ohh_facts::pots::read_pots;

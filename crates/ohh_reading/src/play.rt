@@ -2,7 +2,7 @@
 ghost use Rattle.std.specs.Prelude.{◌≡◌, ◌≤◌, ◌+◌, count_by, length, map, IfOk};
 ghost use Rattle.serde_json.specs.View.{view};
 ghost use Rattle.canonical_play.specs.PlayedScript.{IsWithinLimits, is_move};
-ghost use Rattle.hand_canon.specs.declared.limits.TheConstants.{MOST_FILE_MOVES};
+ghost use Rattle.first_fault.specs.declared.limits.TheConstants.{MOST_FILE_MOVES};
 ghost use Rattle.play_event.specs.Said.{said_of};
 ghost use Rattle.first_fault.specs.Reading.{Gives};
 ghost use Rattle.ohh_members.specs.Front.{IsFront, amounts_in, ids_of, plain_front, stacks_of};

@@ -1,14 +1,15 @@
 //! Bytes are read as the records that they say, or refused with their first fault.
 ghost use Rattle.std.specs.Prelude.{◌≡◌, ◌≤◌, Some, sum_by, length, IfOk, IfSome};
 ghost use Rattle.std.specs.List.{AllByRecursion};
-ghost use Rattle.hand_canon.specs.declared.limits.TheConstants.{MOST_FILE_MOVES, MOST_HANDS};
+ghost use Rattle.first_fault.specs.declared.limits.TheConstants.{MOST_FILE_MOVES, MOST_HANDS};
 ghost use Rattle.ohh_members.specs.Paths.{path_text};
 ghost use Rattle.ohh_reading.specs.Reading.{InHand, IsHistory, Reads, moves_of, reading, spelled as spelled_said, wrong_of};
 
 use crate::fault::{HandFault, OhhFault, Wrongness};
 use crate::file::read_file;
 use first_fault::Stop;
-use hand_canon::{Records, Text};
+use first_fault::Text;
+use hand_records::Records;
 use ohh_members::Dialect;
 use ohh_members::fault::{Fault, What};
 use std::alloc::Global;

@@ -1,7 +1,7 @@
 //! The record of a hand is made of its parts.
 ghost use Rattle.std.specs.Prelude.{◌≡◌, ◌≤◌, ◌<◌, ℕ, length, map, slice_index};
 ghost use Rattle.canonical_play.specs.PlayedScript.{IsWithinLimits};
-ghost use Rattle.hand_canon.specs.AllowedNotes.{AreAllowed};
+ghost use Rattle.hand_records.specs.AllowedNotes.{AreAllowed};
 ghost use Rattle.play_event.specs.Said.{said_of};
 ghost use Rattle.play_event.specs.ValidSetup.{IsSize};
 ghost use Rattle.ohh_facts.specs.Notes.{plain_notes};
@@ -15,7 +15,7 @@ ghost use Rattle.ohh_reading.specs.Reading.{IsHistory};
 
 use crate::sizes::{Sizes, sizes_of};
 use chip_ledger::SeatRow;
-use hand_canon::{Notes, Record, Stated};
+use hand_records::{Notes, Record, Stated};
 use ohh_facts::found::Paid;
 use ohh_members::front::Front;
 use ohh_posts::Stakes;

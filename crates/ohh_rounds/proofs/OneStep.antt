@@ -2,7 +2,7 @@
 use Rattle.std.proofs.Common.{◌≡◌, ℕ, ◌+◌, ◌≤◌, Bool, true, false, not, cond, List, arith}
 use Rattle.canonical_play.specs.declared.limits.TheConstants.{MOST_MOVES, MOST_OTHER_EVENTS}
 use Rattle.canonical_play.specs.PlayedScript.{is_move}
-use Rattle.hand_canon.specs.declared.limits.TheConstants.{MOST_FILE_MOVES}
+use Rattle.first_fault.specs.declared.limits.TheConstants.{MOST_FILE_MOVES}
 use Rattle.ohh_rounds.specs.Steps.{HasRoom, IsWithin, PlainDeed, PlainStep, Posted, Dealt, Happened, Passed, is_move_deed, is_other_deed, moves_in, others_in}
 
 -- the counts of a hand with so many seats, after so many moves of the file, pass no limit

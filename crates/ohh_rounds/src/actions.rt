@@ -14,7 +14,8 @@ use crate::words::{Word, is_deal, word_named};
 use card_set::SlotRow;
 use chip_ledger::{Chips, MOST_CHIPS, Seat};
 use first_fault::Stop;
-use hand_canon::{MOST_FILE_MOVES, MOST_MOVES, MOST_OTHER_EVENTS, Quantity};
+use first_fault::{MOST_FILE_MOVES, Quantity};
+use canonical_play::{MOST_MOVES, MOST_OTHER_EVENTS};
 use ohh_members::dialect::Dialect;
 use ohh_members::fault::{ActionMember, Fault, Path, RoundMember, What};
 use ohh_members::values::{

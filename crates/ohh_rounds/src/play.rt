@@ -4,7 +4,7 @@ ghost use Rattle.serde_json.specs.View.{view};
 ghost use Rattle.canonical_play.specs.PlayedScript.{IsWithinLimits, is_move};
 ghost use Rattle.card_set.specs.Row.{slots_of};
 ghost use Rattle.chip_ledger.specs.Seat.{seats_of};
-ghost use Rattle.hand_canon.specs.declared.limits.TheConstants.{MOST_FILE_MOVES};
+ghost use Rattle.first_fault.specs.declared.limits.TheConstants.{MOST_FILE_MOVES};
 ghost use Rattle.play_event.specs.Said.{numbered, said_of};
 ghost use Rattle.first_fault.specs.Reading.{Gives};
 ghost use Rattle.ohh_posts.specs.Conditions.{posts_checked};

@@ -1,6 +1,6 @@
 // What stands before the rounds of a hand.
 ghost use Rattle.std.specs.Prelude.{◌≤◌};
-ghost use Rattle.hand_canon.specs.declared.limits.TheConstants.{MOST_FILE_MOVES};
+ghost use Rattle.first_fault.specs.declared.limits.TheConstants.{MOST_FILE_MOVES};
 
 use ohh_members::dialect::Dialect;
 use ohh_posts::Table;

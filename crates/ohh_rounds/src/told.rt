@@ -1,7 +1,7 @@
 //! What is told so far is kept step by step, with what later actions ask of it.
 ghost use Rattle.std.specs.Prelude.{◌≡◌, ◌≤◌, ◌+◌, length, map};
 ghost use Rattle.canonical_play.specs.declared.limits.TheConstants.{MOST_MOVES, MOST_OTHER_EVENTS};
-ghost use Rattle.hand_canon.specs.declared.limits.TheConstants.{MOST_FILE_MOVES};
+ghost use Rattle.first_fault.specs.declared.limits.TheConstants.{MOST_FILE_MOVES};
 ghost use Rattle.ohh_rounds.specs.Kept.{AreTold, IsToldOf};
 ghost use Rattle.ohh_rounds.specs.Steps.{next_number, moves_in, others_in, plain_step};
 

@@ -3,7 +3,7 @@ use Rattle.std.proofs.Common.{◌≡◌, ◌≢◌, ℕ, zero, suc, ◌+◌, ◌
 use Rattle.std.specs.List.{range_with_len}
 use Rattle.std.proofs.lemmas.Slice.Eq.{bytes_eq-Decides}
 use Rattle.std.proofs.lemmas.Bool.{false≢true}
-use Rattle.hand_canon.specs.AllowedNotes.{default_numbers}
+use Rattle.hand_records.specs.AllowedNotes.{default_numbers}
 
 take_front : (start n : ℕ) (back : List ℕ) → take n (range_with_len start n ++ back) ≡ range_with_len start n
 take_front start zero back = refl

@@ -1,7 +1,7 @@
 //! When a hand was played is read from its fields: a day of the calendar, and a time of the day.
 ghost use Rattle.std.specs.Prelude.{◌≡◌, ◌≤◌, Option, Some, None, nat_le, true, IfOk, IfSome, IsTrue, option_map, pos, ◌↔◌};
 ghost use Rattle.toml.specs.View.{table_view, view};
-ghost use Rattle.hand_canon.specs.AllowedNotes.{IsTime, IsWithin, days_in_month};
+ghost use Rattle.hand_records.specs.AllowedNotes.{IsTime, IsWithin, days_in_month};
 ghost use Rattle.jiff.specs.Words.{IsDate};
 ghost use Rattle.first_fault.specs.Reading.{Gives, read_if};
 ghost use Rattle.phh_fields.specs.declared.fault.Key.TheVariants as keys;
@@ -11,7 +11,7 @@ ghost use Rattle.phh_fields.specs.NoteFields.{clock_of as clock_of_said, clock_s
 use crate::fault::{Fault, Key, Place, What};
 use crate::values::{field, read_number, wrong};
 use first_fault::Stop;
-use hand_canon::Clock;
+use hand_records::Clock;
 use jiff::civil::Date;
 use toml::value::{Datetime, Time};
 use toml::{Table, Value};

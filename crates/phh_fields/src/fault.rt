@@ -2,7 +2,7 @@
 ghost use Rattle.std.specs.Prelude.{◌≡◌};
 ghost use Rattle.phh_fields.specs.Fields.{at_item as item_of, at_key as place_of, key_text};
 
-use hand_canon::Quantity;
+use first_fault::Quantity;
 
 /// What is wrong.
 #[derive(Clone, Copy, Debug, PartialEq, Eq)]

@@ -2,7 +2,7 @@
 ghost use Rattle.std.specs.Prelude.{◌≡◌, ◌≢◌, ◌<◌, ◌^◌, [], IfOk, IfSome, option_map};
 ghost use Rattle.std.specs.Fmt.{decimal};
 ghost use Rattle.toml.specs.View.{table_view, view};
-ghost use Rattle.hand_canon.specs.AllowedNotes.{IsNoteText};
+ghost use Rattle.hand_records.specs.AllowedNotes.{IsNoteText};
 ghost use Rattle.first_fault.specs.Reading.{Gives};
 ghost use Rattle.phh_fields.specs.Fields.{at_key, field as field_said};
 ghost use Rattle.phh_fields.specs.NoteFields.{label_said, labels_said, or_none, plain_labels, text_note_said};
@@ -11,7 +11,7 @@ use crate::fault::{Fault, Key, Place};
 use crate::texts::{read_label, read_text_note};
 use crate::values::field;
 use first_fault::Stop;
-use hand_canon::Text;
+use first_fault::Text;
 use std::alloc::Global;
 use toml::{Table, Value};
 

@@ -1,7 +1,7 @@
 //! The notes of a hand are read from its fields, and are allowed.
 ghost use Rattle.std.specs.Prelude.{◌≡◌, ◌≤◌, IfOk};
 ghost use Rattle.toml.specs.View.{table_view};
-ghost use Rattle.hand_canon.specs.AllowedNotes.{AreAllowed};
+ghost use Rattle.hand_records.specs.AllowedNotes.{AreAllowed};
 ghost use Rattle.first_fault.specs.Reading.{Gives};
 ghost use Rattle.phh_fields.specs.NoteFields.{notes_said, plain_notes};
 
@@ -10,7 +10,7 @@ use crate::fault::{Fault, Key};
 use crate::labels::{Labels, read_labels, text_at};
 use crate::seating::{Seating, read_seating};
 use first_fault::Stop;
-use hand_canon::Notes;
+use hand_records::Notes;
 use std::alloc::Global;
 use toml::Table;
 

@@ -2,7 +2,7 @@
 ghost use Rattle.std.specs.Prelude.{◌≡◌, ◌≢◌, ℕ, ◌+◌, ◌-◌, ◌≤◌, ◌<◌, None, length, map, replicate, take, slice_index, slice_index_or, bytes_eq, IfOk, IfSome, option_map};
 ghost use Rattle.std.specs.List.{range_with_len};
 ghost use Rattle.toml.specs.View.{table_view, view};
-ghost use Rattle.hand_canon.specs.AllowedNotes.{AreSeatNumbers, IsName, IsNoteText, IsSeatCount, IsWithin, default_name, default_numbers};
+ghost use Rattle.hand_records.specs.AllowedNotes.{AreSeatNumbers, IsName, IsNoteText, IsSeatCount, IsWithin, default_name, default_numbers};
 ghost use Rattle.first_fault.specs.Reading.{Gives};
 ghost use Rattle.phh_fields.specs.declared.fault.Key.TheVariants as keys;
 ghost use Rattle.phh_fields.specs.Fields.{at_item, field as field_said};
@@ -12,7 +12,7 @@ use crate::fault::{Fault, Key, Place};
 use crate::texts::read_text_note;
 use crate::values::{field, read_items, read_number};
 use first_fault::Stop;
-use hand_canon::Text;
+use first_fault::Text;
 use std::alloc::Global;
 use toml::{Table, Value};
 

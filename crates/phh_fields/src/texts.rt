@@ -1,14 +1,14 @@
 //! The text of a note is kept where it is not empty and not the default of the note.
 ghost use Rattle.std.specs.Prelude.{◌≡◌, ◌≢◌, IfOk, IfSome, option_map};
 ghost use Rattle.toml.specs.View.{view};
-ghost use Rattle.hand_canon.specs.AllowedNotes.{IsNoteText};
+ghost use Rattle.hand_records.specs.AllowedNotes.{IsNoteText};
 ghost use Rattle.first_fault.specs.Reading.{Gives};
 ghost use Rattle.phh_fields.specs.NoteFields.{label_said, note_said, text_note_said};
 
 use crate::fault::{Fault, Place, What};
 use crate::values::{read_text, wrong};
 use first_fault::Stop;
-use hand_canon::{MOST_TEXT_BYTES, Quantity, Text};
+use first_fault::{MOST_TEXT_BYTES, Quantity, Text};
 use std::alloc::Global;
 use toml::Value;
 

@@ -7,7 +7,7 @@ use Rattle.list_laws.proofs.Counting.{count_by-cons}
 use Rattle.first_fault.specs.Reading.{thread_from}
 use Rattle.canonical_play.specs.declared.limits.TheConstants.{MOST_MOVES, MOST_OTHER_EVENTS}
 use Rattle.canonical_play.specs.PlayedScript.{is_move}
-use Rattle.hand_canon.specs.declared.limits.TheConstants.{MOST_FILE_MOVES}
+use Rattle.first_fault.specs.declared.limits.TheConstants.{MOST_FILE_MOVES}
 use Rattle.play_event.specs.Said.{Said}
 use Rattle.phh_words.specs.Written.{CanBeSaid, event_text}
 use Rattle.phh_words.proofs.SaidAgain.{event_again}

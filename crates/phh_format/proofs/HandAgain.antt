@@ -7,7 +7,7 @@ use Rattle.toml.specs.Data.{Data, string, integer, Members}
 use Rattle.chip_ledger.specs.declared.rows.TheConstants.{MOST_AMOUNT}
 use Rattle.play_event.specs.declared.setup.Setup.{Setup}
 use Rattle.first_fault.specs.Reading.{◌>>=◌, read_if}
-use Rattle.hand_canon.specs.declared.trace.Play.{Play}
+use Rattle.hand_records.specs.declared.trace.Play.{Play}
 use Rattle.phh_words.specs.Written.{event_text}
 use Rattle.phh_fields.specs.declared.fault.Fault.{Fault}
 use Rattle.phh_fields.specs.declared.fault.Key.{Key}

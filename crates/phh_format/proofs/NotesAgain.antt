@@ -9,9 +9,9 @@ use Rattle.std.proofs.lemmas.Str.Parse.{IsNumeralModel}
 use Rattle.toml.specs.Data.{string, integer}
 use Rattle.first_fault.specs.Digits.{are_digits, number_of}
 use Rattle.first_fault.specs.Reading.{read_if}
-use Rattle.hand_canon.specs.declared.limits.TheConstants.{MOST_TEXT_BYTES}
-use Rattle.hand_canon.specs.declared.notes.Clock.{Clock}
-use Rattle.hand_canon.specs.AllowedNotes.{IsNoteText, IsTime, IsWithin, days_in_month}
+use Rattle.first_fault.specs.declared.limits.TheConstants.{MOST_TEXT_BYTES}
+use Rattle.hand_records.specs.declared.notes.Clock.{Clock}
+use Rattle.hand_records.specs.AllowedNotes.{IsNoteText, IsTime, IsWithin, days_in_month}
 use Rattle.phh_fields.specs.declared.fault.Place.{Place}
 use Rattle.phh_fields.specs.Fields.{number_said, kept_within, text_said}
 use Rattle.phh_fields.specs.NoteFields.{clock_said, is_in_calendar, label_said, note_said, noted, or_none, or_zero, text_note_said, time_said}

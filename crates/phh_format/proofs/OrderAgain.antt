@@ -14,7 +14,7 @@ use Rattle.std.proofs.lemmas.Slice.Eq.{bytes_eq-Decides}
 use Rattle.std.proofs.lemmas.Fmt.{decimal_is_IsNumeral}
 use Rattle.std.proofs.lemmas.List.{append-nil}
 use Rattle.toml.specs.Data.{Data, Members, no_members, member, table}
-use Rattle.hand_canon.specs.declared.trace.Play.{Play}
+use Rattle.hand_records.specs.declared.trace.Play.{Play}
 use Rattle.phh_reading.specs.Order.{Entry, are_hands, in_order, is_table, key_cmp, placed, placed_all, tables_among}
 use Rattle.phh_table.specs.Members.{put, table_of}
 use Rattle.phh_table.specs.Document.{hand_table, numbered_hands}

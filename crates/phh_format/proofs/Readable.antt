@@ -4,8 +4,8 @@ use Rattle.std.specs.List.{AllByRecursion}
 use Rattle.canonical_play.specs.PlayedScript.{IsWithinLimits, is_move}
 use Rattle.chip_ledger.specs.RakeRow.{rake_of}
 use Rattle.play_event.specs.ValidSetup.{IsValid}
-use Rattle.hand_canon.specs.declared.trace.Play.{Play}
-use Rattle.hand_canon.specs.AllowedNotes.{AreAllowed}
+use Rattle.hand_records.specs.declared.trace.Play.{Play}
+use Rattle.hand_records.specs.AllowedNotes.{AreAllowed}
 use Rattle.phh_words.specs.Written.{CanBeSaid}
 use Rattle.phh_table.specs.HandFields.{script_of}
 

@@ -12,7 +12,7 @@ use Rattle.play_event.specs.Games.{game_of}
 use Rattle.play_event.specs.Streets.{is_stud, limit_of}
 use Rattle.play_event.specs.ValidSetup.{IsSizeWhere, IsValid, is_fixed}
 use Rattle.first_fault.specs.Reading.{◌>>=◌, each_from}
-use Rattle.hand_canon.specs.declared.trace.Play.{Play}
+use Rattle.hand_records.specs.declared.trace.Play.{Play}
 use Rattle.phh_fields.specs.declared.fault.Key.{Key}
 use Rattle.phh_fields.specs.declared.fault.Key.TheVariants as keys
 use Rattle.phh_fields.specs.Fields.{at_item, at_key, field, flag_said, key_text, needed, text_said}

@@ -20,11 +20,12 @@ use Rattle.canonical_play.specs.PlayedScript.{IsWithinLimits, is_move}
 use Rattle.canon_ranges.specs.Ranges.{IsInRange}
 use Rattle.canon_ranges.proofs.EventRanges.{events_in_range}
 use Rattle.canon_ranges.proofs.SameMoves.{canon_within, same_moves}
-use Rattle.hand_canon.specs.AllowedNotes.{AreAllowed}
-use Rattle.hand_canon.specs.Sound.{IsSound, script_said}
-use Rattle.hand_canon.specs.TraceRows.{core_said}
-use Rattle.hand_canon.specs.declared.limits.TheConstants.{MOST_FILE_MOVES, MOST_HANDS}
-use Rattle.hand_canon.specs.declared.trace.Play.{Play}
+use Rattle.hand_records.specs.AllowedNotes.{AreAllowed}
+use Rattle.hand_canon.specs.Sound.{IsSound}
+use Rattle.hand_records.specs.SoundRecord.{script_said}
+use Rattle.hand_records.specs.TraceRows.{core_said}
+use Rattle.first_fault.specs.declared.limits.TheConstants.{MOST_FILE_MOVES, MOST_HANDS}
+use Rattle.hand_records.specs.declared.trace.Play.{Play}
 use Rattle.trace_laws.proofs.ShareBounds.{shares_and_rakes}
 use Rattle.phh_reading.specs.Reading.{reading}
 use Rattle.phh_table.specs.Document.{Spells}

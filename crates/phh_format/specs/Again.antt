@@ -5,8 +5,8 @@ use Rattle.std.specs.Fmt.{decimal}
 use Rattle.std.specs.List.{range_with_len}
 use Rattle.play_event.specs.HistoryRules.{history_rules}
 use Rattle.play_event.specs.Said.{Numbered, Said}
-use Rattle.hand_canon.specs.declared.notes.Notes.{Notes}
-use Rattle.hand_canon.specs.declared.trace.Play.{Play}
+use Rattle.hand_records.specs.declared.notes.Notes.{Notes}
+use Rattle.hand_records.specs.declared.trace.Play.{Play}
 use Rattle.phh_fields.specs.NoteFields.{PlainNotes, unless_usual}
 use Rattle.phh_fields.specs.Rows.{amounts_in}
 use Rattle.phh_fields.specs.SetupFields.{plain_setup}

@@ -1,8 +1,8 @@
 //! What was written of plays reads back, proved over the definitions.
 ghost use Rattle.std.specs.Prelude.{◌≡◌, ℕ, ◌≤◌, List, length, sum_by, Ok};
 ghost use Rattle.std.specs.List.{AllByRecursion};
-ghost use Rattle.hand_canon.specs.declared.limits.TheConstants.{MOST_FILE_MOVES, MOST_HANDS};
-ghost use Rattle.hand_canon.specs.declared.trace.Play.{Play};
+ghost use Rattle.first_fault.specs.declared.limits.TheConstants.{MOST_FILE_MOVES, MOST_HANDS};
+ghost use Rattle.hand_records.specs.declared.trace.Play.{Play};
 ghost use Rattle.hand_canon.specs.Sound.{IsSound};
 ghost use Rattle.phh_reading.specs.Reading.{reading};
 ghost use Rattle.phh_table.specs.Document.{Spells};

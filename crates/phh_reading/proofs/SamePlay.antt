@@ -7,9 +7,9 @@ use Rattle.chip_ledger.specs.declared.numbers.Seat.{Seat}
 use Rattle.chip_ledger.specs.declared.rakes.RakeRow.{RakeRow}
 use Rattle.chip_ledger.specs.declared.rows.SeatRow.{SeatRow}
 use Rattle.chip_ledger.proofs.Same.{seat_row_same_by_seats, seat_same}
-use Rattle.hand_canon.specs.declared.record.NetRow.{NetRow}
-use Rattle.hand_canon.specs.declared.record.Record.{Record}
-use Rattle.hand_canon.specs.declared.record.Stated.{Stated}
+use Rattle.hand_records.specs.declared.record.NetRow.{NetRow}
+use Rattle.hand_records.specs.declared.record.Record.{Record}
+use Rattle.hand_records.specs.declared.record.Stated.{Stated}
 use Rattle.play_event.specs.declared.code.Code.{Code}
 use Rattle.play_event.specs.declared.event.Event.{Event}
 use Rattle.play_event.specs.declared.event.Kind.{Kind}

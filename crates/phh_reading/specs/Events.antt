@@ -1,10 +1,10 @@
 -- The events of actions, counted, with the numbers of their actions.
 use Rattle.std.specs.Prelude.{◌≡◌, ℕ, ◌+◌, ◌≤◌, Bool, not, cond, map, count_by, nat_le, min, if◌then◌else◌, List, [], ◌∷◌, Option, Some, None, Result, Ok, Err}
 use Rattle.toml.specs.Data.{Data}
-use Rattle.hand_canon.specs.declared.limits.Quantity.TheVariants as quantities
+use Rattle.first_fault.specs.declared.limits.Quantity.TheVariants as quantities
 use Rattle.canonical_play.specs.declared.limits.TheConstants.{MOST_MOVES, MOST_OTHER_EVENTS}
 use Rattle.canonical_play.specs.PlayedScript.{is_move}
-use Rattle.hand_canon.specs.declared.limits.TheConstants.{MOST_FILE_MOVES}
+use Rattle.first_fault.specs.declared.limits.TheConstants.{MOST_FILE_MOVES}
 use Rattle.play_event.specs.declared.event.Event.{Event}
 use Rattle.play_event.specs.Said.{Said, Numbered, numbered, said_of}
 use Rattle.first_fault.specs.Reading.{◌>>=◌, thread_from}

@@ -2,8 +2,8 @@
 use Rattle.std.specs.Prelude.{ℕ, List, map, length, replicate, Option, Some, None, option_map, Result, Ok}
 use Rattle.toml.specs.Data.{Members}
 use Rattle.chip_ledger.specs.declared.rows.TheConstants.{MOST_AMOUNT}
-use Rattle.hand_canon.specs.declared.record.Record.{Record}
-use Rattle.hand_canon.specs.declared.record.NetRow.{NetRow}
+use Rattle.hand_records.specs.declared.record.Record.{Record}
+use Rattle.hand_records.specs.declared.record.NetRow.{NetRow}
 use Rattle.chip_ledger.specs.declared.rows.SeatRow.{SeatRow}
 use Rattle.play_event.specs.declared.setup.Rules.{Rules}
 use Rattle.play_event.specs.HistoryRules.{history_rules}

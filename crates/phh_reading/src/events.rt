@@ -2,7 +2,7 @@
 ghost use Rattle.std.specs.Prelude.{◌≡◌, ◌≤◌, ◌+◌, ◌++◌, ℕ, min, map, List, [], ◌∷◌, count_by, IfOk, OnOk, option_map};
 ghost use Rattle.std.specs.Option.{option_map_or};
 ghost use Rattle.toml.specs.View.{view};
-ghost use Rattle.hand_canon.specs.declared.limits.TheConstants.{MOST_FILE_MOVES};
+ghost use Rattle.first_fault.specs.declared.limits.TheConstants.{MOST_FILE_MOVES};
 ghost use Rattle.canonical_play.specs.PlayedScript.{is_move as is_move_said};
 ghost use Rattle.play_event.specs.Said.{kind_said, numbered, said_of};
 ghost use Rattle.first_fault.specs.Reading.{Gives};
@@ -11,7 +11,8 @@ ghost use Rattle.phh_reading.specs.Events.{AreCounted, AreFew, IsAfter, IsOneMor
 
 use card_set::Memory;
 use first_fault::Stop;
-use hand_canon::{MOST_FILE_MOVES, MOST_MOVES, MOST_OTHER_EVENTS, Quantity};
+use first_fault::{MOST_FILE_MOVES, Quantity};
+use canonical_play::{MOST_MOVES, MOST_OTHER_EVENTS};
 use phh_fields::fault::{Fault, Key, Place, What};
 use phh_fields::values::{read_text, wrong};
 use phh_words::{ActionFault, read_action};

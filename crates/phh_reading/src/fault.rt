@@ -1,5 +1,5 @@
 //! Why bytes are no hands in the Poker Hand History format: their first fault, with its hand and its key.
-use hand_canon::{Quantity, Text};
+use first_fault::{Quantity, Text};
 use phh_fields::fault::{Fault, What};
 
 /// The first fault of bytes, in the order in which fields are examined. `hand` counts from 1 in the order of reading.

@@ -2,7 +2,7 @@
 ghost use Rattle.std.specs.Prelude.{◌≡◌, ◌≤◌, ◌+◌, map, sum_by, length, [], ◌∷◌, IfOk};
 ghost use Rattle.std.specs.List.{AllByRecursion};
 ghost use Rattle.toml.specs.View.{table_view};
-ghost use Rattle.hand_canon.specs.declared.limits.TheConstants.{MOST_FILE_MOVES, MOST_HANDS};
+ghost use Rattle.first_fault.specs.declared.limits.TheConstants.{MOST_FILE_MOVES, MOST_HANDS};
 ghost use Rattle.first_fault.specs.Reading.{Gives};
 ghost use Rattle.phh_fields.specs.declared.fault.Key.TheVariants as keys;
 ghost use Rattle.phh_fields.specs.Fields.{at_key};
@@ -13,7 +13,8 @@ use crate::fault::HandFault;
 use crate::hand::read_hand;
 use crate::order::{are_hands, tables_in_order};
 use first_fault::Stop;
-use hand_canon::{MOST_HANDS, Quantity, Record, Records};
+use first_fault::{MOST_HANDS, Quantity};
+use hand_records::{Record, Records};
 use phh_fields::fault::{Fault, Key, Place, What};
 use phh_fields::values::field;
 use std::alloc::Global;

@@ -2,7 +2,7 @@
 ghost use Rattle.std.specs.Prelude.{◌≡◌, ◌≤◌, Some, sum_by, length, IfOk, IfSome};
 ghost use Rattle.std.specs.List.{AllByRecursion};
 ghost use Rattle.toml.specs.View.{table_view};
-ghost use Rattle.hand_canon.specs.declared.limits.TheConstants.{MOST_FILE_MOVES, MOST_HANDS};
+ghost use Rattle.first_fault.specs.declared.limits.TheConstants.{MOST_FILE_MOVES, MOST_HANDS};
 ghost use Rattle.phh_fields.specs.Fields.{place_text as place_text_said};
 ghost use Rattle.phh_reading.specs.Reading.{InHand, IsHistory, Reads, document_said, moves_of, reading, wrong_of};
 
@@ -10,7 +10,8 @@ use crate::fault::{HandFault, PhhFault};
 use crate::file::read_hands;
 use card_set::Memory;
 use first_fault::Stop;
-use hand_canon::{Records, Text};
+use first_fault::Text;
+use hand_records::Records;
 use phh_fields::fault::{Place, What};
 use std::alloc::Global;
 use toml::Table;

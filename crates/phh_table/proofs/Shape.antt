@@ -7,17 +7,17 @@ use Rattle.std.proofs.lemmas.Bool.{and_parts, lt-ltb}
 use Rattle.toml.specs.Data.{Data, string, integer, Members, no_members, member, depth, items_depth, members_depth, has_valid_dates, items_have_valid_dates, members_have_valid_dates}
 use Rattle.toml.specs.View.{items_of}
 use Rattle.toml_datetime.specs.Valid.{is_none_or_below, is_valid, is_valid_time}
-use Rattle.hand_canon.specs.declared.notes.Clock.{Clock}
-use Rattle.hand_canon.specs.declared.notes.Notes.{Notes}
-use Rattle.hand_canon.specs.declared.trace.Play.{Play}
-use Rattle.hand_canon.specs.AllowedNotes.{AreAllowed, IsTime}
+use Rattle.hand_records.specs.declared.notes.Clock.{Clock}
+use Rattle.hand_records.specs.declared.notes.Notes.{Notes}
+use Rattle.hand_records.specs.declared.trace.Play.{Play}
+use Rattle.hand_records.specs.AllowedNotes.{AreAllowed, IsTime}
 use Rattle.hand_canon.specs.Sound.{IsSound}
 use Rattle.play_event.specs.declared.setup.Setup.{Setup}
 use Rattle.play_event.specs.Code.{code_text}
 use Rattle.play_event.specs.Streets.{is_stud, limit_of}
 use Rattle.play_event.specs.ValidSetup.{is_fixed}
 use Rattle.phh_words.specs.Written.{event_text}
-use Rattle.hand_canon.specs.declared.trace.Trace.{Trace}
+use Rattle.hand_records.specs.declared.trace.Trace.{Trace}
 use Rattle.phh_table.specs.Members.{Field, put, table_of}
 use Rattle.phh_table.specs.HandFields.{amounts_of, blinds_written, hand_field, hand_fields, label, local_time, name_written, note_fields, number_field, number_written, numbers, script_of, setup_fields, texts, trace_fields}
 use Rattle.phh_table.specs.Document.{document, hand_table, numbered_hands}

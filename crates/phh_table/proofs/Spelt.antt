@@ -2,7 +2,7 @@
 use Rattle.std.proofs.Common.{◌≡◌, List, [], ◌∷◌, length, refl, arith}
 use Rattle.std.proofs.lemmas.Str.{IsUtf8-nil}
 use Rattle.toml.proofs.OnLiterals.{toml_on_literals}
-use Rattle.hand_canon.specs.declared.trace.Play.{Play}
+use Rattle.hand_records.specs.declared.trace.Play.{Play}
 use Rattle.phh_table.specs.Document.{Spells}
 
 nothing_written : Spells [] []

@@ -4,7 +4,7 @@ use Rattle.std.specs.Fmt.{decimal}
 use Rattle.std.specs.Str.{IsUtf8}
 use Rattle.toml.specs.Data.{Members, no_members, table}
 use Rattle.toml.specs.Parse.{parse_document}
-use Rattle.hand_canon.specs.declared.trace.Play.{Play}
+use Rattle.hand_records.specs.declared.trace.Play.{Play}
 use Rattle.phh_table.specs.Members.{Field, table_of}
 use Rattle.phh_table.specs.HandFields.{hand_fields}
 

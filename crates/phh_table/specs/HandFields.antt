@@ -12,13 +12,13 @@ use Rattle.play_event.specs.Said.{Said}
 use Rattle.play_event.specs.Streets.{limit_of, is_stud}
 use Rattle.play_event.specs.ValidSetup.{is_fixed}
 use Rattle.play_event.specs.declared.setup.Setup.{Setup}
-use Rattle.hand_canon.specs.declared.notes.Clock.{Clock}
-use Rattle.hand_canon.specs.declared.notes.Notes.{Notes}
-use Rattle.hand_canon.specs.declared.trace.Play.{Play}
-use Rattle.hand_canon.specs.declared.trace.Trace.{Trace}
-use Rattle.hand_canon.specs.AllowedNotes.{default_name}
+use Rattle.hand_records.specs.declared.notes.Clock.{Clock}
+use Rattle.hand_records.specs.declared.notes.Notes.{Notes}
+use Rattle.hand_records.specs.declared.trace.Play.{Play}
+use Rattle.hand_records.specs.declared.trace.Trace.{Trace}
+use Rattle.hand_records.specs.AllowedNotes.{default_name}
 use Rattle.canonical_play.specs.CanonScript.{canonical_script}
-use Rattle.hand_canon.specs.TraceRows.{core_said}
+use Rattle.hand_records.specs.TraceRows.{core_said}
 use Rattle.phh_words.specs.Written.{event_text}
 use Rattle.phh_table.specs.Members.{Field}
 

@@ -1,11 +1,11 @@
 -- Which plays the format spells, and the first play that it does not.
 use Rattle.std.specs.Prelude.{ℕ, ◌+◌, if◌then◌else◌, List, [], ◌∷◌, Option, Some, None}
 use Rattle.std.specs.List.{list_any}
-use Rattle.hand_canon.specs.declared.trace.Play.{Play}
-use Rattle.hand_canon.specs.declared.writing.Unspelled.{Unspelled}
-use Rattle.hand_canon.specs.declared.writing.Unspelled.TheVariants as facts
-use Rattle.hand_canon.specs.declared.writing.WriteRefusal.{WriteRefusal}
-use Rattle.hand_canon.specs.declared.writing.WriteRefusal.TheVariants as refusals
+use Rattle.hand_records.specs.declared.trace.Play.{Play}
+use Rattle.hand_records.specs.declared.writing.Unspelled.{Unspelled}
+use Rattle.hand_records.specs.declared.writing.Unspelled.TheVariants as facts
+use Rattle.hand_records.specs.declared.writing.WriteRefusal.{WriteRefusal}
+use Rattle.hand_records.specs.declared.writing.WriteRefusal.TheVariants as refusals
 
 -- The fact of a play that has no spelling: the format lets a seat raise again only after a full raise, so a raise that is
 -- closed under that rule has none. Every other fact is spelled, and every note.

@@ -6,14 +6,15 @@ ghost use Rattle.toml.specs.View.{table_view, view};
 ghost use Rattle.play_event.specs.Said.{said_of};
 ghost use Rattle.play_event.specs.ValidSetup.{IsValid};
 ghost use Rattle.canonical_play.specs.Tidy.{IsTidy};
-ghost use Rattle.hand_canon.specs.TraceRows.{core_said};
+ghost use Rattle.hand_records.specs.TraceRows.{core_said};
 ghost use Rattle.phh_words.specs.Written.{event_text as text_said, has_words};
 ghost use Rattle.phh_table.specs.Members.{put as put_said, put_if, with_fields};
 ghost use Rattle.phh_table.specs.HandFields.{rakes_field, texts, trace_fields};
 
 use crate::members::{put, put_amounts, put_row};
 use card_set::Memory;
-use hand_canon::{Trace, canon};
+use hand_records::Trace;
+use hand_canon::canon;
 use phh_words::event_text;
 use play_event::Script;
 use std::alloc::Global;

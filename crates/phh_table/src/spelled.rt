@@ -1,10 +1,10 @@
 //! The format spells each play in which no raise is closed by a short one before it.
 ghost use Rattle.std.specs.Prelude.{◌≡◌, ◌≤◌, length};
 ghost use Rattle.std.specs.List.{list_any};
-ghost use Rattle.hand_canon.specs.declared.limits.TheConstants.{MOST_HANDS};
+ghost use Rattle.first_fault.specs.declared.limits.TheConstants.{MOST_HANDS};
 ghost use Rattle.phh_table.specs.Spelled.{first_refusal, unspelled};
 
-use hand_canon::{Keep, Play, Unspelled, WriteRefusal};
+use hand_records::{Keep, Play, Unspelled, WriteRefusal};
 use play_event::Move;
 
 /// The first fact of the play that the format does not spell. It spells all notes, so which of them are kept does not

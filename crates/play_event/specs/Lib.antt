@@ -21,6 +21,7 @@ pub mod Targets
 pub mod Raising
 pub mod TurnTargets
 pub mod Places
+pub mod Held
 pub mod Naming
 pub mod Table
 pub mod Taken

@@ -12,9 +12,9 @@ use Rattle.chip_ledger.proofs.Same.{seat_row_same_by_seats}
 use Rattle.play_event.specs.declared.code.Code.{Code}
 use Rattle.play_event.specs.declared.setup.Setup.{Setup}
 use Rattle.play_event.specs.Said.{Numbered, numbered}
-use Rattle.hand_canon.specs.declared.record.NetRow.{NetRow}
-use Rattle.hand_canon.specs.declared.record.Record.{Record}
-use Rattle.hand_canon.specs.declared.record.Stated.{Stated}
+use Rattle.hand_records.specs.declared.record.NetRow.{NetRow}
+use Rattle.hand_records.specs.declared.record.Record.{Record}
+use Rattle.hand_records.specs.declared.record.Stated.{Stated}
 use Rattle.acpc_game.specs.declared.game.Game.{Game}
 use Rattle.acpc_game.specs.GameFile.{GameSaid, has_short_stack, is_reversed}
 use Rattle.acpc_game.specs.GameView.{game_in}

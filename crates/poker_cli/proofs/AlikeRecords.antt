@@ -1,6 +1,6 @@
 -- Records that are read alike say the same of their plays, and name their players alike.
 use Rattle.std.proofs.Common.{◌≡◌, ℕ, ◌<◌, List, [], ◌∷◌, map, slice_index_or, None}
-use Rattle.hand_canon.specs.declared.record.Record.{Record}
+use Rattle.hand_records.specs.declared.record.Record.{Record}
 use Rattle.phh_reading.specs.Hand.{plain}
 use Rattle.phh_reading.proofs.SamePlay.{same_name, same_rules, same_script, same_setup, same_stated}
 use Rattle.referee.proofs.OneOutcome.{AllTheSame, SayTheSame, turned}

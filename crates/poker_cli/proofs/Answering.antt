@@ -12,9 +12,9 @@ use Rattle.acpc_text.specs.declared.fault.AcpcFault.TheVariants as faults
 use Rattle.command_words.specs.Words.{Request}
 use Rattle.command_words.specs.Words as notations
 use Rattle.command_words.specs.declared.command.Command.{Command}
-use Rattle.hand_canon.specs.declared.record.Record.{Record}
-use Rattle.hand_canon.specs.declared.trace.Play.{Play}
-use Rattle.hand_canon.specs.SoundRecord.{IsSoundRecord}
+use Rattle.hand_records.specs.declared.record.Record.{Record}
+use Rattle.hand_records.specs.declared.trace.Play.{Play}
+use Rattle.hand_records.specs.SoundRecord.{IsSoundRecord}
 use Rattle.phh_reading.specs.Reading.{IsHistory, Wrong, reading}
 use Rattle.referee.specs.Judged.{ArePlaysOf, IsPlaysFaultOf}
 use Rattle.referee.specs.declared.fault.PlaysFault.{PlaysFault}

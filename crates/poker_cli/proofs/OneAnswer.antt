@@ -10,10 +10,10 @@ use Rattle.acpc_game.specs.GameView.{game_in}
 use Rattle.command_words.specs.Words.{Acpc, Game, Phh, Request, Show}
 use Rattle.command_words.specs.declared.command.Command.{Command}
 use Rattle.command_words.specs.declared.command.Command.TheVariants as commands
-use Rattle.hand_canon.specs.declared.record.Record.{Record}
-use Rattle.hand_canon.specs.declared.trace.Play.{Play}
-use Rattle.hand_canon.specs.declared.trace.Trace.{Trace}
-use Rattle.hand_canon.specs.AllowedNotes.{default_name}
+use Rattle.hand_records.specs.declared.record.Record.{Record}
+use Rattle.hand_records.specs.declared.trace.Play.{Play}
+use Rattle.hand_records.specs.declared.trace.Trace.{Trace}
+use Rattle.hand_records.specs.AllowedNotes.{default_name}
 use Rattle.play_event.specs.declared.event.Event.{Event}
 use Rattle.play_event.specs.declared.setup.Setup.{Setup}
 use Rattle.printed_hands.specs.Check.{check_end, check_line, each_hand}

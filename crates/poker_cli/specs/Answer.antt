@@ -10,9 +10,9 @@ use Rattle.command_words.specs.Words.{Notation, Request, Show}
 use Rattle.command_words.specs.Words as notations
 use Rattle.command_words.specs.declared.command.Command.{Command}
 use Rattle.command_words.specs.declared.command.Command.TheVariants as commands
-use Rattle.hand_canon.specs.declared.record.Record.{Record}
-use Rattle.hand_canon.specs.declared.trace.Play.{Play}
-use Rattle.hand_canon.specs.declared.writing.Unspelled.{Unspelled}
+use Rattle.hand_records.specs.declared.record.Record.{Record}
+use Rattle.hand_records.specs.declared.trace.Play.{Play}
+use Rattle.hand_records.specs.declared.writing.Unspelled.{Unspelled}
 use Rattle.printed_hands.specs.Check.{check_said}
 use Rattle.printed_hands.specs.Replay.{replay_said}
 use Rattle.printed_report.specs.Report.{report_said}

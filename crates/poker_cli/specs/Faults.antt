@@ -1,8 +1,8 @@
 -- The line that is told where an input does not read as hands.
 use Rattle.std.specs.Prelude.{ℕ, List, ◌++◌, codes}
 use Rattle.std.specs.Fmt.{decimal}
-use Rattle.hand_canon.specs.declared.limits.Quantity.{Quantity}
-use Rattle.hand_canon.specs.declared.limits.Quantity.TheVariants as quantities
+use Rattle.first_fault.specs.declared.limits.Quantity.{Quantity}
+use Rattle.first_fault.specs.declared.limits.Quantity.TheVariants as quantities
 use Rattle.phh_fields.specs.declared.fault.What.{What}
 use Rattle.phh_fields.specs.declared.fault.What.TheVariants as whats
 use Rattle.phh_reading.specs.Reading.{InHand, NoDocument, Wrong}

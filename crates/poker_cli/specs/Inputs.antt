@@ -4,7 +4,7 @@ use Rattle.std.specs.List.{AllByRecursion}
 use Rattle.acpc_reading.specs.Logs as logs
 use Rattle.acpc_reading.specs.RecordView.{IsOfGame, record_said}
 use Rattle.acpc_text.specs.declared.fault.AcpcFault.{AcpcFault}
-use Rattle.hand_canon.specs.declared.record.Record.{Record}
+use Rattle.hand_records.specs.declared.record.Record.{Record}
 use Rattle.phh_reading.specs.Hand.{plain}
 use Rattle.phh_reading.specs.Reading as phh
 use Rattle.poker_cli.specs.declared.task.Reader.{Reader}

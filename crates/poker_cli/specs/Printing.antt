@@ -1,8 +1,8 @@
 -- What is printed of records, hand by hand.
 use Rattle.std.specs.Prelude.{◌≡◌, ℕ, List, length}
 use Rattle.command_words.specs.declared.command.Command.{Command}
-use Rattle.hand_canon.specs.declared.record.Record.{Record}
-use Rattle.hand_canon.specs.declared.trace.Play.{Play}
+use Rattle.hand_records.specs.declared.record.Record.{Record}
+use Rattle.hand_records.specs.declared.trace.Play.{Play}
 use Rattle.printed_hands.specs.Check.{check_line, each_hand}
 use Rattle.printed_hands.specs.Steps.{replay_lines}
 use Rattle.referee.specs.Judged.{ArePlaysOf}

@@ -1,10 +1,10 @@
 -- The line that is told where a fact of a hand has no spelling.
 use Rattle.std.specs.Prelude.{ℕ, List, ◌++◌, codes}
 use Rattle.std.specs.Fmt.{decimal}
-use Rattle.hand_canon.specs.declared.notes.NoteName.{NoteName}
-use Rattle.hand_canon.specs.declared.notes.NoteName.TheVariants as names
-use Rattle.hand_canon.specs.declared.writing.Unspelled.{Unspelled}
-use Rattle.hand_canon.specs.declared.writing.Unspelled.TheVariants as facts
+use Rattle.hand_records.specs.declared.notes.NoteName.{NoteName}
+use Rattle.hand_records.specs.declared.notes.NoteName.TheVariants as names
+use Rattle.hand_records.specs.declared.writing.Unspelled.{Unspelled}
+use Rattle.hand_records.specs.declared.writing.Unspelled.TheVariants as facts
 
 -- what a note is called
 abbrev pub note_text : NoteName → List ℕ

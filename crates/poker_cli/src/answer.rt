@@ -1,8 +1,8 @@
 //! What the program answers to the bytes of its input.
 ghost use Rattle.std.specs.Prelude.{◌≡◌, ◌≤◌, All, length, IfOk, string_bytes};
 ghost use Rattle.hand_canon.specs.Sound.{IsSound};
-ghost use Rattle.hand_canon.specs.SoundRecord.{IsSoundRecord};
-ghost use Rattle.hand_canon.specs.declared.limits.TheConstants.{MOST_HANDS};
+ghost use Rattle.hand_records.specs.SoundRecord.{IsSoundRecord};
+ghost use Rattle.first_fault.specs.declared.limits.TheConstants.{MOST_HANDS};
 ghost use Rattle.poker_cli.specs.Answer as definition;
 ghost use Rattle.poker_cli.specs.Answer.{IsAnswer, IsAnswerTo, IsToldOf, most_input};
 ghost use Rattle.poker_cli.specs.Run.{IsOfInput};
@@ -19,7 +19,7 @@ use acpc_game::{Game, write_game};
 use acpc_line::game_of;
 use card_set::Memory;
 use command_words::Command;
-use hand_canon::{Play, Records};
+use hand_records::{Play, Records};
 use referee::{PlaysFault, plays_of};
 use std::alloc::Global;
 

@@ -11,7 +11,7 @@ ghost use Rattle.poker_cli.specs.Told.{answer_told};
 use crate::answer::{Answer, refusal};
 use crate::status::Status;
 use card_set::Memory;
-use hand_canon::{Quantity, Text};
+use first_fault::{Quantity, Text};
 use phh_fields::fault::What;
 use phh_format::PhhFault;
 use std::alloc::Global;

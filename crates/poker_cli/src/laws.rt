@@ -3,8 +3,8 @@ ghost use Rattle.std.specs.Prelude.{◌≡◌, ◌⊎◌, ◌≤◌, ℕ, List, 
 ghost use Rattle.acpc_game.specs.declared.game.Game.{Game as AnyGame};
 ghost use Rattle.command_words.specs.Words.{Acpc, Game, Phh, Show};
 ghost use Rattle.command_words.specs.declared.command.Command.{Command};
-ghost use Rattle.hand_canon.specs.declared.record.Record.{Record};
-ghost use Rattle.hand_canon.specs.declared.trace.Play.{Play};
+ghost use Rattle.hand_records.specs.declared.record.Record.{Record};
+ghost use Rattle.hand_records.specs.declared.trace.Play.{Play};
 ghost use Rattle.poker_cli.specs.Answer.{Answer, Files, GivesGame, IsAnswer, most_input, to_first_game};
 ghost use Rattle.poker_cli.specs.Inputs.{SayRecords};
 ghost use Rattle.poker_cli.specs.Run.{Ends, RefusesNothing, Sinks};

@@ -1,9 +1,9 @@
 //! Hands are judged and printed one after the other, so that of each hand no more than its lines is kept.
 ghost use Rattle.std.specs.Prelude.{◌≡◌, ◌≤◌, ◌++◌, List, All, length, IfErr, IfOk, OnOk, string_bytes};
 ghost use Rattle.hand_canon.specs.Sound.{IsSound};
-ghost use Rattle.hand_canon.specs.SoundRecord.{IsSoundRecord};
-ghost use Rattle.hand_canon.specs.declared.limits.TheConstants.{MOST_HANDS};
-ghost use Rattle.hand_canon.specs.declared.record.Record.{Record};
+ghost use Rattle.hand_records.specs.SoundRecord.{IsSoundRecord};
+ghost use Rattle.first_fault.specs.declared.limits.TheConstants.{MOST_HANDS};
+ghost use Rattle.hand_records.specs.declared.record.Record.{Record};
 ghost use Rattle.printed_hands.specs.Check.{check_end};
 ghost use Rattle.printed_report.specs.Report.{report_said};
 ghost use Rattle.referee.specs.Judged.{IsPlaysFaultOf};
@@ -11,7 +11,7 @@ ghost use Rattle.poker_cli.specs.Printing.{IsPrinted, AreLinesOf, lines_said};
 
 use card_set::Memory;
 use command_words::Command;
-use hand_canon::{Play, Records};
+use hand_records::{Play, Records};
 use printed_hands::{push_check_end, push_check_line, push_replay_lines};
 use printed_report::report_text;
 use referee::{PlaysFault, play_of, plays_of};

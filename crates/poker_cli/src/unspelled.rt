@@ -3,7 +3,7 @@ ghost use Rattle.std.specs.Prelude.{◌≡◌, IfOk, string_bytes};
 ghost use Rattle.poker_cli.specs.Unspelled.{fact_text as fact_text_said, note_text as note_text_said, unspelled_line as unspelled_line_said};
 
 use card_set::Memory;
-use hand_canon::{NoteName, Unspelled};
+use hand_records::{NoteName, Unspelled};
 use std::alloc::Global;
 
 /// The line of the hand with this number, one of whose facts has no spelling.

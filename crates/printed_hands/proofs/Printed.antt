@@ -7,8 +7,9 @@ use Rattle.chip_ledger.specs.declared.rows.SeatRow.{SeatRow}
 use Rattle.canonical_play.specs.CanonScript.{move_named, plain_move}
 use Rattle.canonical_play.specs.PlayedScript.{is_move}
 use Rattle.canonical_play.specs.TraceCore.{TraceCore}
-use Rattle.hand_canon.specs.Sound.{IsSound, script_said}
-use Rattle.hand_canon.specs.declared.trace.Play.{Play}
+use Rattle.hand_canon.specs.Sound.{IsSound}
+use Rattle.hand_records.specs.SoundRecord.{script_said}
+use Rattle.hand_records.specs.declared.trace.Play.{Play}
 use Rattle.phh_words.specs.Written.{event_text}
 use Rattle.play_event.proofs.ChipLaws.{puts_within}
 use Rattle.play_event.specs.Chips.{chips_put}

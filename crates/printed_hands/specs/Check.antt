@@ -1,7 +1,7 @@
 -- What the command check prints of legal hands.
 use Rattle.std.specs.Prelude.{ℕ, ◌+◌, List, [], ◌∷◌, ◌++◌, length, codes}
 use Rattle.std.specs.Fmt.{decimal}
-use Rattle.hand_canon.specs.declared.trace.Play.{Play}
+use Rattle.hand_records.specs.declared.trace.Play.{Play}
 use Rattle.printed_hands.specs.Amounts.{amounts_in, amounts_text}
 
 -- the lines of hands, the first of which has this number

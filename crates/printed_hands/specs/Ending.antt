@@ -4,7 +4,7 @@ use Rattle.std.specs.Fmt.{decimal}
 use Rattle.chip_ledger.specs.declared.pots.Pot.{Pot}
 use Rattle.chip_ledger.specs.declared.rows.SeatRow.{SeatRow}
 use Rattle.chip_ledger.specs.PotRow.{pots_in, shares_in}
-use Rattle.hand_canon.specs.declared.trace.Trace.{Trace}
+use Rattle.hand_records.specs.declared.trace.Trace.{Trace}
 use Rattle.printed_hands.specs.Amounts.{amounts_in, amounts_text}
 
 -- a seat, as p3

@@ -4,7 +4,7 @@ ghost use Rattle.printed_hands.specs.Check.{check_end, check_line, check_said};
 
 use crate::amounts::push_row;
 use card_set::Memory;
-use hand_canon::Play;
+use hand_records::Play;
 use std::alloc::Global;
 
 /// The finishing stacks of each hand, a line a hand, and the number of hands.

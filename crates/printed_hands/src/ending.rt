@@ -5,7 +5,7 @@ ghost use Rattle.printed_hands.specs.Ending.{divided, ending_lines, entries, lis
 use crate::amounts::push_row;
 use card_set::Memory;
 use chip_ledger::{Pot, SeatRow};
-use hand_canon::Trace;
+use hand_records::Trace;
 
 /// Puts the last lines of a hand at the end of a text.
 pub fn push_ending(text: &mut String, trace: &Trace) -> Result<(), Memory>

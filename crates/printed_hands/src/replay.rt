@@ -5,7 +5,7 @@ ghost use Rattle.printed_hands.specs.Replay.{replay_said};
 
 use crate::steps::push_replay_lines;
 use card_set::Memory;
-use hand_canon::Play;
+use hand_records::Play;
 use std::alloc::Global;
 
 /// The lines of each hand: what each event did, with the chips of the seats after it, and what the hand came to.

@@ -2,7 +2,7 @@
 use Rattle.std.proofs.Common.{◌≡◌, ℕ, ◌+◌, ◌<◌, List, [], ◌∷◌, refl, ap}
 use Rattle.std.specs.Fmt.{digits}
 use Rattle.std.proofs.lemmas.Fmt.{decimal_digit}
-use Rattle.hand_canon.specs.AllowedNotes.{default_name}
+use Rattle.hand_records.specs.AllowedNotes.{default_name}
 
 -- one of the first nine seats
 pub short_name : (seat : ℕ) → seat < 10 → default_name seat ≡ 112 ∷ (48 + seat) ∷ []

@@ -5,8 +5,8 @@ use Rattle.std.specs.List.{list_any}
 use Rattle.std.specs.Option.{unwrap_or}
 use Rattle.chip_ledger.specs.SeatRow.{amount_of}
 use Rattle.hand_canon.specs.Agreement.{pot_total_of}
-use Rattle.hand_canon.specs.AllowedNotes.{default_name}
-use Rattle.hand_canon.specs.declared.trace.Play.{Play}
+use Rattle.hand_records.specs.AllowedNotes.{default_name}
+use Rattle.hand_records.specs.declared.trace.Play.{Play}
 use Rattle.play_event.specs.Code.{code_text}
 use Rattle.play_event.specs.Seats.{all_seats}
 use Rattle.play_event.specs.declared.code.Code.TheVariants as games

@@ -1,14 +1,14 @@
 //! Hands and their pots are added up by game.
 ghost use Rattle.std.specs.Prelude.{◌≡◌, ◌≤◌, ◌+◌, ◌*◌, ◌++◌, [], codes, filter, flat_map, length, map, sum_by, if◌then◌else◌, OnOk, string_bytes};
 ghost use Rattle.hand_canon.specs.Agreement.{pot_total_of};
-ghost use Rattle.hand_canon.specs.declared.limits.TheConstants.{MOST_HANDS};
+ghost use Rattle.first_fault.specs.declared.limits.TheConstants.{MOST_HANDS};
 ghost use Rattle.play_event.specs.Code.{code_text};
 ghost use Rattle.printed_report.specs.Games.{MOST_POTS, is_counted};
 ghost use Rattle.printed_report.specs.Report.{game_codes, game_line, hand_of, hands_line};
 
 use crate::lines::push_hands_line;
 use card_set::Memory;
-use hand_canon::{Play, Trace};
+use hand_records::{Play, Trace};
 use play_event::Code;
 use std::alloc::Global;
 

@@ -1,14 +1,14 @@
 //! The seats of all hands are tallied by their names, which stay in the order in which they are first seen.
 ghost use Rattle.std.specs.Prelude.{◌≡◌, ◌≤◌, ◌+◌, ◌*◌, ◌-◌, [], length, map, bytes_eq, IfOk, OnOk};
 ghost use Rattle.indexmap.specs.IndexMap.{insert_entry};
-ghost use Rattle.hand_canon.specs.declared.limits.TheConstants.{MOST_HANDS};
+ghost use Rattle.first_fault.specs.declared.limits.TheConstants.{MOST_HANDS};
 ghost use Rattle.printed_report.specs.Report.{hand_of, seated_in};
 ghost use Rattle.printed_report.specs.Tallies.{AreWithin, MOST_SEATS, rows_of, tally_at, with_hands, with_row, with_seats};
 
 use crate::tally::{Tally, name_of, no_tally, with_seat};
 use card_set::Memory;
 use chip_ledger::Seat;
-use hand_canon::Play;
+use hand_records::Play;
 use indexmap::IndexMap;
 use std::alloc::Global;
 

@@ -1,6 +1,6 @@
 //! The report on hands: a line for each game that was played, one for all hands, and one for each name.
 ghost use Rattle.std.specs.Prelude.{◌≡◌, ◌≤◌, ◌<◌, ◌++◌, flat_map, length, option_to_list, slice_get, IfOk, OnOk, string_bytes};
-ghost use Rattle.hand_canon.specs.declared.limits.TheConstants.{MOST_HANDS};
+ghost use Rattle.first_fault.specs.declared.limits.TheConstants.{MOST_HANDS};
 ghost use Rattle.indexmap.specs.IndexMap.{index_map_len};
 ghost use Rattle.printed_report.specs.Report.{report_said};
 ghost use Rattle.printed_report.specs.Tallies.{AreWithin, MOST_SEATS, row_names, rows_of, tally_line};
@@ -10,7 +10,7 @@ use crate::lines::push_name_line;
 use crate::names::tally_hands;
 use crate::tally::Tally;
 use card_set::Memory;
-use hand_canon::Play;
+use hand_records::Play;
 use indexmap::IndexMap;
 use std::alloc::Global;
 

@@ -1,11 +1,11 @@
 //! A tally adds up the seats of a name.
 ghost use Rattle.std.specs.Prelude.{◌≡◌, ◌==◌, ◌+◌, if◌then◌else◌};
-ghost use Rattle.hand_canon.specs.AllowedNotes.{default_name as default_said};
+ghost use Rattle.hand_records.specs.AllowedNotes.{default_name as default_said};
 ghost use Rattle.printed_report.specs.Report.{name_in, seated_in};
 ghost use Rattle.printed_report.specs.Tallies.{IsWithin, MOST_SEATS, no_tally as empty, with_seat as with_seat_said};
 
 use chip_ledger::Seat;
-use hand_canon::Play;
+use hand_records::Play;
 
 /// What is added up of a name. Amounts are chips.
 #[derive(Clone, Copy, Debug)]

@@ -2,10 +2,10 @@
 use Rattle.std.proofs.Common.{◌≡◌, ℕ, ◌+◌, List, [], ◌∷◌, ◌++◌, All, length, map, append_assoc, length-append, ap, ◌∙◌, arith}
 use Rattle.std.proofs.lemmas.List.{map-append}
 use Rattle.std.proofs.lemmas.List.Elements.{All-cons, All-head, All-nil, All-same, All-tail}
-use Rattle.hand_canon.specs.declared.record.Record.{Record}
-use Rattle.hand_canon.specs.declared.trace.Play.{Play}
+use Rattle.hand_records.specs.declared.record.Record.{Record}
+use Rattle.hand_records.specs.declared.trace.Play.{Play}
 use Rattle.hand_canon.specs.Sound.{IsSound}
-use Rattle.hand_canon.specs.SoundRecord.{IsSoundRecord}
+use Rattle.hand_records.specs.SoundRecord.{IsSoundRecord}
 use Rattle.referee.specs.declared.fault.PlaysFault.{PlaysFault}
 use Rattle.referee.specs.declared.fault.PlaysFault.TheVariants as plays_faults
 use Rattle.referee.specs.Judged.{IsFaultAt, IsJudged, IsPlaysFaultOf}

@@ -2,12 +2,12 @@
 use Rattle.std.specs.Prelude.{◌≡◌, ℕ, ◌+◌, List, ◌∷◌, ◌++◌, length, map, All, None, Some}
 use Rattle.play_event.specs.Scripts.{past_at_end}
 use Rattle.hand_canon.specs.declared.agreement.FactDiffers.{FactDiffers}
-use Rattle.hand_canon.specs.declared.record.Record.{Record}
-use Rattle.hand_canon.specs.declared.trace.Play.{Play}
-use Rattle.hand_canon.specs.declared.trace.Trace.{Trace}
+use Rattle.hand_records.specs.declared.record.Record.{Record}
+use Rattle.hand_records.specs.declared.trace.Play.{Play}
+use Rattle.hand_records.specs.declared.trace.Trace.{Trace}
 use Rattle.hand_canon.specs.Agreement.{difference_said, first_difference}
 use Rattle.hand_canon.specs.LegalHand.{IsLegalHand}
-use Rattle.hand_canon.specs.Sound.{script_said}
+use Rattle.hand_records.specs.SoundRecord.{script_said}
 use Rattle.hand_canon.specs.WholeTrace.{IsTraceOf}
 use Rattle.replay_core.specs.declared.fault.ReplayFault.{ReplayFault}
 use Rattle.replay_core.specs.declared.fault.ReplayFault.TheVariants as faults

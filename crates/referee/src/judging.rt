@@ -1,12 +1,13 @@
 //! Each record is replayed, and what it states is compared with its trace.
 ghost use Rattle.std.specs.Prelude.{◌≡◌, ◌≤◌, All, length, map, IfErr, IfOk};
 ghost use Rattle.hand_canon.specs.Sound.{IsSound};
-ghost use Rattle.hand_canon.specs.SoundRecord.{IsSoundRecord};
-ghost use Rattle.hand_canon.specs.declared.limits.TheConstants.{MOST_HANDS};
+ghost use Rattle.hand_records.specs.SoundRecord.{IsSoundRecord};
+ghost use Rattle.first_fault.specs.declared.limits.TheConstants.{MOST_HANDS};
 ghost use Rattle.referee.specs.Judged.{ArePlaysOf, IsFaultAt, IsJudged, IsPlaysFaultOf};
 
 use crate::fault::{PlaysFault, Refusal};
-use hand_canon::{Play, Record, Records, check_stated};
+use hand_records::{Play, Record, Records};
+use hand_canon::check_stated;
 use replay_core::{ReplayFault, replay};
 use std::alloc::Global;
 

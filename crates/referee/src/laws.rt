@@ -1,7 +1,7 @@
 //! Records come to one list of plays, or to one refusal.
 ghost use Rattle.std.specs.Prelude.{◌≡◌, ℕ, List};
-ghost use Rattle.hand_canon.specs.declared.record.Record.{Record};
-ghost use Rattle.hand_canon.specs.declared.trace.Play.{Play};
+ghost use Rattle.hand_records.specs.declared.record.Record.{Record};
+ghost use Rattle.hand_records.specs.declared.trace.Play.{Play};
 ghost use Rattle.referee.specs.Judged.{ArePlaysOf, IsFirstRefused};
 ghost use Rattle.referee.specs.declared.fault.Refusal.{Refusal};
 

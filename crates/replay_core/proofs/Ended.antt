@@ -3,7 +3,7 @@ use Rattle.std.proofs.Common.{◌≡◌, ℕ, ◌≤◌, false, Some, List, reve
 use Rattle.betting_numbers.specs.declared.table.Table.{Table}
 use Rattle.betting_numbers.specs.Standing as betting
 use Rattle.card_places.specs.declared.card_state.CardState.{CardState}
-use Rattle.card_places.specs.Held.{held_slots}
+use Rattle.play_event.specs.Held.{held_slots}
 use Rattle.card_set.specs.declared.row.CardRow.{CardRow}
 use Rattle.card_set.specs.Row.{cards_of}
 use Rattle.chip_ledger.specs.declared.rows.LiveRow.{LiveRow}

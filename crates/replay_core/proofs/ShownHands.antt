@@ -6,7 +6,7 @@ use Rattle.std.proofs.lemmas.List.{length-map, map-append}
 use Rattle.canon_blocks.proofs.TracedSlots.{dealt_same, discarded_same}
 use Rattle.canon_blocks.proofs.TraceOrder.{finals_group, finals_of, the_board}
 use Rattle.canon_laws.proofs.HeldSame.{any_held, held_script}
-use Rattle.card_places.specs.Held.{held_slots}
+use Rattle.play_event.specs.Held.{held_slots}
 use Rattle.card_set.specs.declared.card.Card.{Card}
 use Rattle.card_set.specs.declared.card.Slot.{Slot}
 use Rattle.card_set.specs.declared.card.Slot.TheVariants as slots

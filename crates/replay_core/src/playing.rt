@@ -18,7 +18,7 @@ use crate::ending::{HandAtEnd, at_end};
 use crate::fault::ReplayFault;
 use crate::hand_in_play::HandInPlay;
 use card_set::Memory;
-use hand_canon::Moves;
+use hand_records::Moves;
 use play_event::{Due, Event, Move, Rules, Script, Setup};
 use std::alloc::Global;
 use variant_table::Variant;

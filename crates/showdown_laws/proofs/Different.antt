@@ -3,7 +3,7 @@ use Rattle.std.proofs.Common.{◌≡◌, ◌≢◌, ℕ, Bool, true, false, ◌&
 use Rattle.std.proofs.lemmas.Bool.{and_parts, and_right}
 use Rattle.std.proofs.lemmas.List.{map-append}
 use Rattle.play_event.proofs.OwnerLaws.{is_same_owner-true}
-use Rattle.card_places.specs.Held.{held_slots, is_held}
+use Rattle.play_event.specs.Held.{held_slots, is_held}
 use Rattle.card_set.specs.declared.card.Card.{Card}
 use Rattle.card_set.specs.declared.card.Slot.{Slot}
 use Rattle.card_set.specs.declared.card.Slot.TheVariants as slots

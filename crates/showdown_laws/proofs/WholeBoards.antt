@@ -4,7 +4,7 @@ use Rattle.std.specs.Option.{option_map_or}
 use Rattle.std.specs.List.{list_any}
 use Rattle.std.proofs.lemmas.Bool.{ltb-false, lt-ltb, or_parts}
 use Rattle.std.proofs.lemmas.List.{length-append, length-map}
-use Rattle.card_places.specs.Held.{held_slots, is_held}
+use Rattle.play_event.specs.Held.{held_slots, is_held}
 use Rattle.card_set.specs.Known.{known_cards, known_slots}
 use Rattle.list_laws.proofs.Options.{some_is_none}
 use Rattle.list_laws.proofs.Tests.{false_true}

@@ -4,7 +4,7 @@ use Rattle.std.specs.Option.{option_map_or}
 use Rattle.std.specs.List.{list_any}
 use Rattle.std.proofs.lemmas.Bool.{and_left, and_right, le-ltb, lt-ltb, ltb-false, not_from_true, or_parts}
 use Rattle.std.proofs.lemmas.List.{length-map}
-use Rattle.card_places.specs.Held.{held_slots}
+use Rattle.play_event.specs.Held.{held_slots}
 use Rattle.play_laws.proofs.DrawTables.{draw_tables}
 use Rattle.play_event.proofs.OwnerLaws.{is_same_owner-true}
 use Rattle.play_laws.proofs.HeldFew.{balance, first_holes, is_held_at, no_holes, none_pass, one_more}

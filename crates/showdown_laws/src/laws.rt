@@ -1,6 +1,6 @@
 // What lies on the table where a contested hand ends. The functions do nothing: each contract is a law.
 ghost use Rattle.std.specs.Prelude.{◌≡◌, ◌≤◌, ℕ, ◌++◌, true, List, Some, None, length};
-ghost use Rattle.card_places.specs.Held.{held_slots};
+ghost use Rattle.play_event.specs.Held.{held_slots};
 ghost use Rattle.card_set.specs.Different.{AllDifferent};
 ghost use Rattle.card_set.specs.Known.{known_cards};
 ghost use Rattle.play_event.specs.Games.{game_of};

@@ -16,7 +16,7 @@ use Rattle.play_event.specs.Laws.{AreLegal}
 use Rattle.play_event.specs.Said.{Said}
 use Rattle.play_event.specs.Scripts.{past_of}
 use Rattle.play_event.specs.ValidSetup.{IsValid}
-use Rattle.hand_canon.specs.declared.trace.Trace.{Trace}
+use Rattle.hand_records.specs.declared.trace.Trace.{Trace}
 use Rattle.hand_canon.specs.LegalHand.{IsShareable}
 use Rattle.canonical_play.specs.TraceCore.{core_of}
 use Rattle.hand_canon.specs.WholeTrace.{IsTraceOf}

@@ -6,12 +6,13 @@ use Rattle.play_event.specs.declared.setup.Setup.{Setup}
 use Rattle.play_event.specs.Said.{Said}
 use Rattle.play_event.specs.ValidSetup.{IsValid}
 use Rattle.canonical_play.specs.PlayedScript.{IsWithinLimits}
-use Rattle.hand_canon.specs.declared.notes.Notes.{Notes}
-use Rattle.hand_canon.specs.declared.record.Record.{Record}
-use Rattle.hand_canon.specs.declared.trace.Trace.{Trace}
-use Rattle.hand_canon.specs.AllowedNotes.{AreAllowed}
+use Rattle.hand_records.specs.declared.notes.Notes.{Notes}
+use Rattle.hand_records.specs.declared.record.Record.{Record}
+use Rattle.hand_records.specs.declared.trace.Trace.{Trace}
+use Rattle.hand_records.specs.AllowedNotes.{AreAllowed}
 use Rattle.hand_canon.specs.LegalHand.{IsLegalHand}
-use Rattle.hand_canon.specs.Sound.{IsSound, script_said}
+use Rattle.hand_canon.specs.Sound.{IsSound}
+use Rattle.hand_records.specs.SoundRecord.{script_said}
 use Rattle.worked_canons.specs.Outcomes.{HasTrace}
 use Rattle.worked_canons.specs.Plays.{SaysHand, play_of}
 

@@ -10,7 +10,7 @@ use Rattle.chip_ledger.specs.declared.pots.ShareRow.{ShareRow}
 use Rattle.chip_ledger.specs.declared.rows.LiveRow.{LiveRow}
 use Rattle.chip_ledger.specs.declared.rows.SeatRow.{SeatRow}
 use Rattle.chip_ledger.specs.Fillers.{index-replicate, no_amounts, no_pot}
-use Rattle.hand_canon.specs.declared.record.NetRow.{NetRow}
+use Rattle.hand_records.specs.declared.record.NetRow.{NetRow}
 
 -- an entry behind a list is the filler
 pub behind : {X : Type 0} (xs : List X) (n : ℕ) (x : X) (k : ℕ)

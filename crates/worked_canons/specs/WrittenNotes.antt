@@ -1,6 +1,6 @@
 -- Notes that are written out, one fact after another.
 use Rattle.std.specs.Prelude.{ℕ, List, ◌∷◌, Option, Some, None, replicate}
-use Rattle.hand_canon.specs.declared.notes.Notes.{Notes}
+use Rattle.hand_records.specs.declared.notes.Notes.{Notes}
 
 -- nothing is noted
 abbrev pub no_notes : Notes

@@ -2,8 +2,9 @@
 //! definition of sound plays.
 ghost use Rattle.std.specs.Prelude.{◌≡◌, codes, None, Some, replicate};
 ghost use Rattle.play_event.specs.HistoryRules.{history_rules};
-ghost use Rattle.hand_canon.specs.Sound.{IsSound, script_said};
-ghost use Rattle.hand_canon.specs.declared.record.Record.{Record};
+ghost use Rattle.hand_canon.specs.Sound.{IsSound};
+ghost use Rattle.hand_records.specs.SoundRecord.{script_said};
+ghost use Rattle.hand_records.specs.declared.record.Record.{Record};
 ghost use Rattle.worked_hands.specs.Setups.{greater_second_blind, no_limit};
 ghost use Rattle.worked_hands.specs.Words.{muck};
 ghost use Rattle.worked_canons.specs.Plays.{SaysHand, cut_short, early_raise, play_of};

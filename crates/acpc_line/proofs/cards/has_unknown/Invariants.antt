@@ -3,7 +3,7 @@ use Rattle.std.specs.List.{list_any}
 use Rattle.card_set.specs.Known.{is_unknown}
 use Rattle.canonical_play.specs.CanonScript.{dealt_slots}
 use Rattle.play_event.specs.Said.{seat_named}
-use Rattle.hand_canon.specs.TraceRows.{place_said}
+use Rattle.hand_records.specs.TraceRows.{place_said}
 use Rattle.acpc_line.proofs.cards.has_unknown.Given as goal
 
 -- the places that are left decide

@@ -2,7 +2,7 @@ use Rattle.std.proofs.Common.{◌≡◌, ◌++◌, length, map}
 use Rattle.card_set.specs.Spelling.{spelling}
 use Rattle.canonical_play.specs.CanonScript.{dealt_slots}
 use Rattle.play_event.specs.Said.{seat_named}
-use Rattle.hand_canon.specs.TraceRows.{place_said}
+use Rattle.hand_records.specs.TraceRows.{place_said}
 use Rattle.acpc_line.proofs.cards.push_dealt.Given as goal
 
 -- what is written and the places to come are all cards of the owner

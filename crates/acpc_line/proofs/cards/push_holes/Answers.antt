@@ -1,6 +1,6 @@
 -- One seat more.
 use Rattle.std.proofs.Common.{map}
-use Rattle.hand_canon.specs.TraceRows.{place_said}
+use Rattle.hand_records.specs.TraceRows.{place_said}
 use Rattle.acpc_line.specs.Cards.{hole_text}
 use Rattle.acpc_line.proofs.SeatTexts.{text_more}
 use Rattle.acpc_line.proofs.cards.push_holes.Goals as goal

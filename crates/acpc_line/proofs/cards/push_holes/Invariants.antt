@@ -1,5 +1,5 @@
 use Rattle.std.proofs.Common.{◌≡◌, ◌++◌, map}
-use Rattle.hand_canon.specs.TraceRows.{place_said}
+use Rattle.hand_records.specs.TraceRows.{place_said}
 use Rattle.acpc_line.specs.Cards.{hole_text}
 use Rattle.acpc_line.specs.Seats.{for_seats}
 use Rattle.acpc_line.proofs.cards.push_holes.Given as goal

@@ -1,7 +1,7 @@
 -- One that was found.
 use Rattle.std.proofs.Common.{◌+◌, map, sym, ◌∙◌, arith}
 use Rattle.list_laws.proofs.NumbersOfRange.{any_in_range}
-use Rattle.hand_canon.specs.TraceRows.{place_said}
+use Rattle.hand_records.specs.TraceRows.{place_said}
 use Rattle.acpc_line.specs.PlayFacts.{is_open_muck}
 use Rattle.acpc_line.proofs.played.has_open_muck.Goals as goal
 

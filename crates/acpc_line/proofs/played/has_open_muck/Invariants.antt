@@ -1,7 +1,7 @@
 use Rattle.std.proofs.Common.{◌≡◌, false, map}
 use Rattle.std.specs.List.{list_any}
 use Rattle.chip_ledger.specs.Seat.{seats_of}
-use Rattle.hand_canon.specs.TraceRows.{place_said}
+use Rattle.hand_records.specs.TraceRows.{place_said}
 use Rattle.acpc_line.specs.PlayFacts.{is_open_muck}
 use Rattle.acpc_line.proofs.played.has_open_muck.Given as goal
 

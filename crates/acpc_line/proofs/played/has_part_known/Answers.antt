@@ -2,7 +2,7 @@
 use Rattle.std.proofs.Common.{◌+◌, map, sym, ◌∙◌, arith}
 use Rattle.list_laws.proofs.NumbersOfRange.{any_in_range}
 use Rattle.chip_ledger.proofs.SeatLists.{any_more}
-use Rattle.hand_canon.specs.TraceRows.{place_said}
+use Rattle.hand_records.specs.TraceRows.{place_said}
 use Rattle.acpc_line.specs.PlayFacts.{is_part_known}
 use Rattle.acpc_line.proofs.played.has_part_known.Goals as goal
 

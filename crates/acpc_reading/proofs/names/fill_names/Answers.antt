@@ -1,11 +1,12 @@
 use Rattle.std.proofs.Common.{◌≡◌, ◌+◌, ◌-◌, ◌<◌, ◌≤◌, ◌∷◌, [], None, IfSome, slice_index_or, ap, sym, subst, arith, length, take}
 use Rattle.std.proofs.lemmas.List.{length-set, take_more_set}
 use Rattle.std.proofs.lemmas.Result.{err_from_is_err_and}
-use Rattle.hand_canon.specs.AllowedNotes.{IsName}
+use Rattle.hand_records.specs.AllowedNotes.{IsName}
 use Rattle.acpc_text.specs.Parts.{parts_of}
 use Rattle.acpc_reading.specs.Left.{parts_left}
 use Rattle.acpc_reading.specs.Names.{names_after}
-use Rattle.acpc_reading.proofs.Rows.{set_each, name_read, name_fails, names_done}
+use Rattle.list_laws.proofs.Entries.{set_each}
+use Rattle.acpc_reading.proofs.Rows.{name_read, name_fails, names_done}
 use Rattle.acpc_reading.proofs.names.fill_names.Goals as goal
 
 pub returns-in_err-name-clause-said : goal.returns-in_err-name-clause-said

@@ -6,7 +6,8 @@ use Rattle.std.proofs.lemmas.Result.{err_from_is_err_and}
 use Rattle.acpc_text.specs.Parts.{parts_of}
 use Rattle.acpc_reading.specs.Left.{parts_left}
 use Rattle.acpc_reading.specs.Values.{values_after}
-use Rattle.acpc_reading.proofs.Rows.{set_each, value_read, value_fails, values_done}
+use Rattle.list_laws.proofs.Entries.{set_each}
+use Rattle.acpc_reading.proofs.Rows.{value_read, value_fails, values_done}
 use Rattle.acpc_reading.proofs.values.fill_values.Goals as goal
 
 pub returns-in_err-value-clause-said : goal.returns-in_err-value-clause-said

@@ -1,6 +1,6 @@
 use Rattle.std.proofs.Common.{◌≡◌, ◌≤◌, ℕ, Some}
 use Rattle.play_event.specs.SeatSlots.{slots_of_hand}
-use Rattle.card_places.specs.Held.{held_slots}
+use Rattle.play_event.specs.Held.{held_slots}
 use Rattle.card_places.specs.Placed.{placed}
 use Rattle.card_places.proofs.viewing.hands.Given as goal
 

@@ -1,7 +1,7 @@
 -- No owner has more than seven cards.
 use Rattle.std.proofs.Common.{◌≡◌, Bool, true, List, count_by, get_or, sym, ap, ◌∙◌, arith}
 use Rattle.play_event.specs.Places.{Place}
-use Rattle.card_places.specs.Held.{is_held}
+use Rattle.play_event.specs.Held.{is_held}
 use Rattle.card_places.specs.Placed.{placed}
 use Rattle.card_places.specs.Plain.{place_of, seat_of}
 use Rattle.card_places.specs.declared.dealt_card.DealtCard.{DealtCard}

@@ -1,6 +1,6 @@
 use Rattle.std.proofs.Common.{◌≡◌, map, take, filter, count_by}
 use Rattle.card_set.specs.Row.{slots_of}
-use Rattle.card_places.specs.Held.{is_held}
+use Rattle.play_event.specs.Held.{is_held}
 use Rattle.card_places.specs.Plain.{place_of, seat_of}
 use Rattle.card_places.proofs.viewing.held_slots.Given as goal
 

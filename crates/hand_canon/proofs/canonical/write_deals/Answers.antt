@@ -2,7 +2,7 @@
 use Rattle.std.proofs.Common.{◌∙◌, Some, None, ap, map, sym}
 use Rattle.card_set.specs.Row.{slots_of}
 use Rattle.canonical_play.specs.CanonScript.{dealt_slots}
-use Rattle.hand_canon.specs.TraceRows.{place_said}
+use Rattle.hand_records.specs.TraceRows.{place_said}
 use Rattle.hand_canon.proofs.CanonParts.{deals_are}
 use Rattle.hand_canon.proofs.canonical.write_deals.Goals as goal
 use Rattle.list_laws.proofs.Results.{on_ok}

@@ -3,7 +3,7 @@ use Rattle.std.proofs.Common.{◌∙◌, ap, arith, map, sym}
 use Rattle.std.specs.List.{list_any}
 use Rattle.canonical_play.specs.CanonScript.{discarded_slots, plain_moves}
 use Rattle.hand_canon.specs.RowTests.{is_fold_before}
-use Rattle.hand_canon.specs.TraceRows.{core_said, place_said}
+use Rattle.hand_records.specs.TraceRows.{core_said, place_said}
 use Rattle.hand_canon.proofs.CanonParts.{discards_are, not_reached}
 use Rattle.hand_canon.proofs.MoveRows.{folded_before}
 use Rattle.hand_canon.proofs.canonical.write_discards.Goals as goal

@@ -1,7 +1,7 @@
 use Rattle.std.proofs.Common.{◌≡◌, ◌++◌, None, length, map}
 use Rattle.card_set.specs.Row.{slots_of}
 use Rattle.canonical_play.specs.CanonScript.{dealt_slots}
-use Rattle.hand_canon.specs.TraceRows.{place_said}
+use Rattle.hand_records.specs.TraceRows.{place_said}
 use Rattle.hand_canon.proofs.gathered.dealt_to_board.Given as goal
 
 -- the board's cards so far and those to come are all that it was dealt

@@ -1,10 +1,10 @@
 use Rattle.std.proofs.Common.{◌≡◌, ℕ, ◌+◌, ◌<◌, ◌≤◌, ◌∙◌, ◌++◌, ap, sym, arith, map, take, drop, length, List, Option, None, IfSome}
 use Rattle.std.proofs.lemmas.List.{length-set, take_more_set}
-use Rattle.hand_canon.specs.AllowedNotes.{IsName}
+use Rattle.hand_records.specs.AllowedNotes.{IsName}
 use Rattle.ohh_facts.specs.Notes.{names_from}
 use Rattle.ohh_members.specs.Players.{plain_player}
 use Rattle.ohh_facts.proofs.NamesFrom.{name_read, names_read}
-use Rattle.ohh_members.proofs.SetEach.{set_each}
+use Rattle.list_laws.proofs.Entries.{set_each}
 use Rattle.ohh_facts.proofs.notes.names_of.Goals as goal
 
 pub loop-index-preserved : goal.loop-index-preserved

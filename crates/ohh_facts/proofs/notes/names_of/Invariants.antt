@@ -1,5 +1,5 @@
 use Rattle.std.proofs.Common.{◌≡◌, ℕ, ◌+◌, ◌<◌, ◌≤◌, ◌++◌, None, IfSome, length, map, take, drop, slice_index_or}
-use Rattle.hand_canon.specs.AllowedNotes.{IsName}
+use Rattle.hand_records.specs.AllowedNotes.{IsName}
 use Rattle.ohh_facts.specs.Notes.{names_from}
 use Rattle.ohh_members.specs.Players.{plain_player}
 use Rattle.ohh_facts.proofs.notes.names_of.Given as goal

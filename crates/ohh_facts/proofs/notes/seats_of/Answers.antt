@@ -1,8 +1,8 @@
 use Rattle.std.proofs.Common.{◌≡◌, ◌+◌, ◌<◌, ◌≤◌, sym, arith, length}
 use Rattle.std.proofs.lemmas.List.{length-set}
-use Rattle.hand_canon.specs.AllowedNotes.{IsWithin}
+use Rattle.hand_records.specs.AllowedNotes.{IsWithin}
 use Rattle.ohh_members.specs.Players.{plain_player}
-use Rattle.ohh_members.proofs.SetEach.{set_each}
+use Rattle.list_laws.proofs.Entries.{set_each}
 use Rattle.ohh_members.proofs.Taken.{one_more_taken, all_taken}
 use Rattle.ohh_facts.proofs.notes.seats_of.Goals as goal
 

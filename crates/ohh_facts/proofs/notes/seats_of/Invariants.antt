@@ -1,5 +1,5 @@
 use Rattle.std.proofs.Common.{◌≡◌, ℕ, ◌<◌, ◌≤◌, length, map, take, slice_index}
-use Rattle.hand_canon.specs.AllowedNotes.{IsWithin}
+use Rattle.hand_records.specs.AllowedNotes.{IsWithin}
 use Rattle.ohh_members.specs.Players.{plain_player}
 use Rattle.ohh_facts.proofs.notes.seats_of.Given as goal
 

@@ -1,6 +1,6 @@
 use Rattle.std.proofs.Common.{◌+◌, ◌++◌, ◌∙◌, Some, ap, map}
 use Rattle.canonical_play.specs.CanonScript.{dealt_slots}
-use Rattle.hand_canon.specs.TraceRows.{core_said, place_said}
+use Rattle.hand_records.specs.TraceRows.{core_said, place_said}
 use Rattle.hand_canon.proofs.OneByOne.{seat_more}
 use Rattle.ohh_line.specs.Actions.{action_said, deal_written}
 use Rattle.ohh_line.proofs.shows.push_deals.Goals as goal

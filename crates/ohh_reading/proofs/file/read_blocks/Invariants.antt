@@ -1,6 +1,6 @@
 use Rattle.std.proofs.Common.{◌≡◌, ◌+◌, ◌≤◌, length, map, drop, sum_by}
 use Rattle.std.specs.List.{AllByRecursion}
-use Rattle.hand_canon.specs.declared.limits.TheConstants.{MOST_FILE_MOVES, MOST_HANDS}
+use Rattle.first_fault.specs.declared.limits.TheConstants.{MOST_FILE_MOVES, MOST_HANDS}
 use Rattle.first_fault.specs.Reading.{thread_from}
 use Rattle.first_fault.proofs.Thread.{behind}
 use Rattle.ohh_reading.specs.Hand.{plain}

@@ -3,8 +3,8 @@ use Rattle.std.proofs.Common.{◌≡◌, ℕ, ◌+◌, List, ◌∷◌, length, 
 use Rattle.std.proofs.lemmas.List.Elements.{All-rest}
 use Rattle.std.proofs.lemmas.Result.{err_from_is_err_and}
 use Rattle.std.specs.Vec.Iter.{into_iter_items}
-use Rattle.hand_canon.specs.declared.record.Record.{Record}
-use Rattle.hand_canon.specs.SoundRecord.{IsSoundRecord}
+use Rattle.hand_records.specs.declared.record.Record.{Record}
+use Rattle.hand_records.specs.SoundRecord.{IsSoundRecord}
 use Rattle.poker_cli.specs.Printing.{lines_said}
 use Rattle.poker_cli.proofs.HandByHand.{ArePrintedTo, next_refused, next_sound, one_more_printed}
 use Rattle.poker_cli.proofs.printing.print_each.Goals as goal

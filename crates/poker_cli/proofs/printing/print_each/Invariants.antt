@@ -1,7 +1,7 @@
 -- The hands so far are printed, and those that are left are behind them.
 use Rattle.std.proofs.Common.{◌≡◌, ◌+◌, All, length, string_bytes}
 use Rattle.std.specs.Vec.Iter.{into_iter_items}
-use Rattle.hand_canon.specs.SoundRecord.{IsSoundRecord}
+use Rattle.hand_records.specs.SoundRecord.{IsSoundRecord}
 use Rattle.poker_cli.specs.Printing.{lines_said}
 use Rattle.poker_cli.proofs.HandByHand.{ArePrintedTo}
 use Rattle.poker_cli.proofs.printing.print_each.Given as goal

@@ -1,8 +1,8 @@
 -- The records so far have their plays, and those that are left are behind them.
 use Rattle.std.proofs.Common.{◌≡◌, ◌+◌, ◌++◌, All, length, map}
 use Rattle.std.specs.Vec.Iter.{into_iter_items}
-use Rattle.hand_canon.specs.declared.trace.Play.{Play}
-use Rattle.hand_canon.specs.SoundRecord.{IsSoundRecord}
+use Rattle.hand_records.specs.declared.trace.Play.{Play}
+use Rattle.hand_records.specs.SoundRecord.{IsSoundRecord}
 use Rattle.referee.specs.Judged.{IsJudged}
 use Rattle.referee.proofs.judging.plays_of.Given as goal
 

@@ -1,5 +1,5 @@
 use Rattle.std.proofs.Common.{◌≡◌, ◌≤◌, map, take, count_by}
-use Rattle.card_places.specs.Held.{is_held}
+use Rattle.play_event.specs.Held.{is_held}
 use Rattle.card_places.specs.Plain.{place_of, seat_of}
 use Rattle.card_places.proofs.dealt_cards.DealtCards.held.Given as goal
 

@@ -2,7 +2,7 @@
 use Rattle.std.proofs.Common.{None, List, ap, ◌∙◌}
 use Rattle.card_set.specs.Known.{known_cards}
 use Rattle.play_event.specs.Places.{Place}
-use Rattle.card_places.specs.Held.{held_slots}
+use Rattle.play_event.specs.Held.{held_slots}
 use Rattle.deal_core.specs.Board.{board_cards}
 use Rattle.deal_core.proofs.Boards.{board_held}
 use Rattle.deal_core.proofs.cards.Cards.board.Goals as goal

@@ -2,9 +2,9 @@
 use Rattle.std.specs.Prelude.{◌≡◌, ◌≢◌, ℕ, ◌-◌, ◌%◌, ◌≤◌, ◌==◌, ◌&&◌, ◌||◌, Bool, not, if◌then◌else◌, List, ◌++◌, codes, length, replicate, slice_index, slice_index_or, None, IfSome}
 use Rattle.std.specs.Fmt.{decimal}
 use Rattle.std.specs.List.{range_with_len}
-use Rattle.hand_canon.specs.declared.limits.TheConstants.{MOST_TEXT_BYTES}
-use Rattle.hand_canon.specs.declared.notes.Clock.{Clock}
-use Rattle.hand_canon.specs.declared.notes.Notes.{Notes}
+use Rattle.first_fault.specs.declared.limits.TheConstants.{MOST_TEXT_BYTES}
+use Rattle.hand_records.specs.declared.notes.Clock.{Clock}
+use Rattle.hand_records.specs.declared.notes.Notes.{Notes}
 
 -- a number lies between two others, or is one of them
 abbrev pub IsWithin : ℕ → ℕ → ℕ → Type 0

@@ -1,6 +1,6 @@
 //! A play is written whole or not at all: what of it a notation may have no spelling for.
 ghost use Rattle.std.specs.Prelude.{◌≡◌};
-ghost use Rattle.hand_canon.specs.declared.writing.WriteRefusal.TheVariants as refusals;
+ghost use Rattle.hand_records.specs.declared.writing.WriteRefusal.TheVariants as refusals;
 
 use crate::notes::NoteName;
 use std::alloc::{AllocError, AllocFailed};

@@ -1,5 +1,5 @@
 //! Notes are what a record says of a hand beside its play: who played it, where and when.
-use crate::text::Text;
+use first_fault::Text;
 
 /// A time of a day.
 #[derive(Clone, Copy, Debug, PartialEq, Eq)]

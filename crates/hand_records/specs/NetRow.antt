@@ -1,6 +1,6 @@
 -- What a row of wins and losses says of its seats.
 use Rattle.std.specs.Prelude.{ℕ, ◌-◌, ℤ, pos, slice_index_or}
-use Rattle.hand_canon.specs.declared.record.NetRow.{NetRow}
+use Rattle.hand_records.specs.declared.record.NetRow.{NetRow}
 
 -- what seat number n won or lost
 abbrev pub net_of : NetRow → ℕ → ℤ

@@ -19,7 +19,7 @@ pub struct NetRow {
 }
 
 impl NetRow {
-    ghost use Rattle.hand_canon.specs.NetRow.{net_of};
+    ghost use Rattle.hand_records.specs.NetRow.{net_of};
 
     /// A row of so many seats, each with 0.
     pub fn new(seats: u8) -> Self
@@ -84,7 +84,7 @@ pub struct Records {
 
 impl Model for Records {
     ghost use Rattle.std.specs.Prelude.{List};
-    ghost use Rattle.hand_canon.specs.declared.record.Record.{Record};
+    ghost use Rattle.hand_records.specs.declared.record.Record.{Record};
 
     ghost Value = { List Record };
 
