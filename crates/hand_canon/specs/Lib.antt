@@ -8,6 +8,7 @@ pub mod LegalHand
 pub mod WholeTrace
 pub mod Sound
 pub mod Agreement
+pub mod Judged
 pub mod Numbers
 pub mod Words
 pub mod RowTests

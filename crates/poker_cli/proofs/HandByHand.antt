@@ -10,7 +10,8 @@ use Rattle.hand_records.specs.SoundRecord.{IsSoundRecord}
 use Rattle.printed_hands.specs.Check.{check_end, check_line, each_hand}
 use Rattle.printed_hands.specs.Steps.{replay_lines}
 use Rattle.printed_hands.proofs.Hands.{one_hand_more}
-use Rattle.referee.specs.Judged.{IsFaultAt, IsJudged, IsPlaysFaultOf}
+use Rattle.hand_canon.specs.Judged.{IsJudged}
+use Rattle.referee.specs.Judged.{IsFaultAt, IsPlaysFaultOf}
 use Rattle.referee.specs.declared.fault.PlaysFault.{PlaysFault}
 use Rattle.referee.proofs.Plays.{first_refused, hands_of, judged_sound, one_more}
 use Rattle.poker_cli.specs.Printing.{AreLinesOf, IsPrinted}

@@ -19,7 +19,8 @@ use Rattle.play_event.specs.declared.setup.Setup.{Setup}
 use Rattle.printed_hands.specs.Check.{check_end, check_line, each_hand}
 use Rattle.printed_hands.specs.Steps.{replay_lines}
 use Rattle.printed_report.specs.Report.{Hand, Seated, hand_of, report_on, seated_in}
-use Rattle.referee.specs.Judged.{ArePlaysOf, IsJudged}
+use Rattle.hand_canon.specs.Judged.{IsJudged}
+use Rattle.referee.specs.Judged.{ArePlaysOf}
 use Rattle.referee.proofs.OneOutcome.{AllTraced, SayTheSame, no_plays, same_refused, same_traces}
 use Rattle.referee.proofs.Plays.{hands_of}
 use Rattle.poker_cli.specs.Answer.{Answer, Files, GivesGame, GivesNoGame, IsAnswer, IsAnswerIn, IsAnswerTo, done, most_input, notation_of, task_of, text_of, to_fault, to_first_game, to_plays, to_refusal}

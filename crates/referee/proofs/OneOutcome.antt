@@ -25,7 +25,8 @@ use Rattle.replay_core.specs.Faults.{IsFaultOf}
 use Rattle.replay_core.proofs.OneFault.{no_fault, one_fault}
 use Rattle.referee.specs.declared.fault.Refusal.{Refusal}
 use Rattle.referee.specs.declared.fault.Refusal.TheVariants as refusals
-use Rattle.referee.specs.Judged.{ArePlaysOf, HasDifference, IsFirstRefused, IsJudged, IsRefusedFor, IsReplayFaultOf, IsTraceOfLegal}
+use Rattle.hand_canon.specs.Judged.{IsJudged, IsTraceOfLegal}
+use Rattle.referee.specs.Judged.{ArePlaysOf, HasDifference, IsFirstRefused, IsRefusedFor, IsReplayFaultOf}
 use Rattle.referee.proofs.Plays.{hands_of}
 
 -- two records say the same of their play

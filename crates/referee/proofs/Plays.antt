@@ -8,7 +8,8 @@ use Rattle.hand_canon.specs.Sound.{IsSound}
 use Rattle.hand_records.specs.SoundRecord.{IsSoundRecord}
 use Rattle.referee.specs.declared.fault.PlaysFault.{PlaysFault}
 use Rattle.referee.specs.declared.fault.PlaysFault.TheVariants as plays_faults
-use Rattle.referee.specs.Judged.{IsFaultAt, IsJudged, IsPlaysFaultOf}
+use Rattle.hand_canon.specs.Judged.{IsJudged}
+use Rattle.referee.specs.Judged.{IsFaultAt, IsPlaysFaultOf}
 
 -- the records of plays
 abbrev pub hands_of : List Play → List Record

@@ -1,14 +1,11 @@
 -- What records come to: each its play, or the first that is refused, and why.
 use Rattle.std.specs.Prelude.{◌≡◌, ℕ, ◌+◌, List, ◌∷◌, ◌++◌, length, map, All, None, Some}
-use Rattle.play_event.specs.Scripts.{past_at_end}
 use Rattle.hand_canon.specs.declared.agreement.FactDiffers.{FactDiffers}
 use Rattle.hand_records.specs.declared.record.Record.{Record}
 use Rattle.hand_records.specs.declared.trace.Play.{Play}
 use Rattle.hand_records.specs.declared.trace.Trace.{Trace}
 use Rattle.hand_canon.specs.Agreement.{difference_said, first_difference}
-use Rattle.hand_canon.specs.LegalHand.{IsLegalHand}
-use Rattle.hand_records.specs.SoundRecord.{script_said}
-use Rattle.hand_canon.specs.WholeTrace.{IsTraceOf}
+use Rattle.hand_canon.specs.Judged.{IsJudged, IsTraceOfLegal}
 use Rattle.replay_core.specs.declared.fault.ReplayFault.{ReplayFault}
 use Rattle.replay_core.specs.declared.fault.ReplayFault.TheVariants as faults
 use Rattle.replay_core.specs.Faults.{IsFaultOf}
@@ -16,16 +13,6 @@ use Rattle.referee.specs.declared.fault.PlaysFault.{PlaysFault}
 use Rattle.referee.specs.declared.fault.PlaysFault.TheVariants as plays_faults
 use Rattle.referee.specs.declared.fault.Refusal.{Refusal}
 use Rattle.referee.specs.declared.fault.Refusal.TheVariants as refusals
-
--- a trace is that of a record whose hand is legal
-pub record IsTraceOfLegal (hand : Record) (trace : Trace) : Type 0 where
-  pub legal : IsLegalHand hand.setup hand.rules (script_said hand)
-  pub whole : IsTraceOf hand.setup (past_at_end hand.setup (script_said hand)) trace
-
--- a play is judged: its hand is legal and has this trace, and every stated fact agrees with it
-pub record IsJudged (play : Play) : Type 0 where
-  pub traced : IsTraceOfLegal play.hand play.trace
-  pub agrees : first_difference play.trace play.hand.stated ≡ None
 
 -- plays are those of records: as many, in their order, and each is judged
 pub record ArePlaysOf (records : List Record) (plays : List Play) : Type 0 where

@@ -3,11 +3,12 @@ ghost use Rattle.std.specs.Prelude.{◌≡◌, ◌≤◌, All, length, map, IfEr
 ghost use Rattle.hand_canon.specs.Sound.{IsSound};
 ghost use Rattle.hand_records.specs.SoundRecord.{IsSoundRecord};
 ghost use Rattle.first_fault.specs.declared.limits.TheConstants.{MOST_HANDS};
-ghost use Rattle.referee.specs.Judged.{ArePlaysOf, IsFaultAt, IsJudged, IsPlaysFaultOf};
+ghost use Rattle.hand_canon.specs.Judged.{IsJudged};
+ghost use Rattle.referee.specs.Judged.{ArePlaysOf, IsFaultAt, IsPlaysFaultOf};
 
 use crate::fault::{PlaysFault, Refusal};
-use hand_records::{Play, Record, Records};
 use hand_canon::check_stated;
+use hand_records::{Play, Record, Records};
 use replay_core::{ReplayFault, replay};
 use std::alloc::Global;
 

@@ -6,7 +6,7 @@ use Rattle.std.specs.Vec.Iter.{into_iter_items}
 use Rattle.hand_records.specs.declared.record.Record.{Record}
 use Rattle.hand_records.specs.declared.trace.Play.{Play}
 use Rattle.hand_records.specs.SoundRecord.{IsSoundRecord}
-use Rattle.referee.specs.Judged.{IsJudged}
+use Rattle.hand_canon.specs.Judged.{IsJudged}
 use Rattle.referee.proofs.Plays.{counted_more, first_refused, front_sound, hands_of, one_more}
 use Rattle.referee.proofs.judging.plays_of.Goals as goal
 

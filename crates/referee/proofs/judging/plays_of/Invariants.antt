@@ -3,7 +3,7 @@ use Rattle.std.proofs.Common.{◌≡◌, ◌+◌, ◌++◌, All, length, map}
 use Rattle.std.specs.Vec.Iter.{into_iter_items}
 use Rattle.hand_records.specs.declared.trace.Play.{Play}
 use Rattle.hand_records.specs.SoundRecord.{IsSoundRecord}
-use Rattle.referee.specs.Judged.{IsJudged}
+use Rattle.hand_canon.specs.Judged.{IsJudged}
 use Rattle.referee.proofs.judging.plays_of.Given as goal
 
 abbrev pub invariant-loop-hand : goal.invariant-loop-hand
