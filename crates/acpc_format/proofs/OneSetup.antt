@@ -16,7 +16,7 @@ use Rattle.play_event.specs.ValidSetup.{IsSizeWhere, IsValid, has_antes, is_fixe
 use Rattle.hand_records.specs.declared.trace.Play.{Play}
 use Rattle.hand_records.specs.declared.writing.Keep.{Keep}
 use Rattle.acpc_game.specs.declared.game.Game.{Game}
-use Rattle.acpc_game.specs.Games.{amounts_in, fit_blinds}
+use Rattle.acpc_game.specs.Games.{amounts_in, has_fitting_sizes}
 use Rattle.acpc_line.specs.SetupFacts.{greatest_blind, is_code_of}
 use Rattle.acpc_line.specs.Spelled.{unspelled}
 use Rattle.acpc_reading.specs.RecordView.{IsSetupOf, code_of}
@@ -76,14 +76,14 @@ record HasSizes (code : Code) (small big least : ℕ) : Type 0 where
   big_bet : IsSizeWhere (is_fixed (limit_of code)) big
   least_bet : IsSizeWhere (not (is_fixed (limit_of code))) least
 
-no_sizes : (blind small big : ℕ) → fit_blinds true blind small big ≡ true → (small ≡ 0) × (big ≡ 0)
+no_sizes : (blind small big : ℕ) → has_fitting_sizes true blind small big ≡ true → (small ≡ 0) × (big ≡ 0)
 no_sizes blind small big fits =
     let both = (and_parts (nat_lt 0 blind) (eqb small 0 && eqb big 0) fits).1 in
     let parts = and_parts (eqb small 0) (eqb big 0) both in
     (eqb-true small 0 parts.0, eqb-true big 0 parts.1)
 
 sizes_are : (no_limit : Bool) (small big least blind game_blind game_small game_big : ℕ) → HasSizes (code_of no_limit) small big least
-    → (if no_limit then eqb least blind else eqb small game_small && eqb big game_big) ≡ true → blind ≡ game_blind → fit_blinds no_limit game_blind game_small game_big ≡ true
+    → (if no_limit then eqb least blind else eqb small game_small && eqb big game_big) ≡ true → blind ≡ game_blind → has_fitting_sizes no_limit game_blind game_small game_big ≡ true
     → (small ≡ game_small) × ((big ≡ game_big) × (least ≡ (if no_limit then game_blind else 0)))
 sizes_are true small big least blind game_blind game_small game_big has same blinds fits =
     let none = no_sizes game_blind game_small game_big fits in

@@ -6,8 +6,8 @@ use Rattle.std.proofs.lemmas.Bool.Decides.{nat_tests}
 use Rattle.std.proofs.lemmas.List.{length-replicate}
 use Rattle.chip_ledger.specs.Greatest.{greatest}
 use Rattle.acpc_game.specs.declared.key.Key.TheVariants as keys
-use Rattle.acpc_game.specs.GameFile.{EntrySaid, needed, is_whole, is_for_all, has_no_limit, stands, stacks_at, numbers_at, number_at, size_at, are_sizes}
-use Rattle.acpc_game.specs.Games.{are_chips, is_size, fit_blinds}
+use Rattle.acpc_game.specs.GameFile.{EntrySaid, needed, is_whole, is_for_all, has_no_limit, has_key, stacks_at, numbers_at, number_at, size_at, are_sizes}
+use Rattle.acpc_game.specs.Games.{are_chips, is_size, has_fitting_sizes}
 use Rattle.acpc_game.proofs.Bounds.{chips_within}
 use Rattle.acpc_game.specs.Playable.{IsPlayable}
 use Rattle.chip_ledger.specs.declared.numbers.TheConstants.{MOST_CHIPS}
@@ -19,9 +19,9 @@ are_equal m n same = grind (arith, nat_tests, same)
 blinds_counted : (entries : List EntrySaid) → is_whole entries ≡ true → length (numbers_at keys.Blind entries) ≡ number_at keys.NumPlayers entries
 unfolding is_whole
 blinds_counted entries whole =
-    let first = and_parts (list_all (λ key. stands key entries) needed) _ whole in
-    let second = and_parts (stands (if has_no_limit entries then keys.Stack else keys.RaiseSize) entries) _ first.1 in
-    let third = and_parts (is_for_all keys.Blind entries) (not (stands keys.Stack entries) || is_for_all keys.Stack entries) second.1 in
+    let first = and_parts (list_all (λ key. has_key key entries) needed) _ whole in
+    let second = and_parts (has_key (if has_no_limit entries then keys.Stack else keys.RaiseSize) entries) _ first.1 in
+    let third = and_parts (is_for_all keys.Blind entries) (not (has_key keys.Stack entries) || is_for_all keys.Stack entries) second.1 in
     are_equal (length (numbers_at keys.Blind entries)) (number_at keys.NumPlayers entries) third.0
 
 stacks_by : (stand : Bool) (stacks blinds : List ℕ) (stack players : ℕ) → (not stand || eqb (length stacks) players) ≡ true → length blinds ≡ players → length (if stand then stacks else replicate (length blinds) stack) ≡ players
@@ -31,10 +31,10 @@ stacks_by false stacks blinds stack players same is = length-replicate (length b
 stacks_counted : (entries : List EntrySaid) → is_whole entries ≡ true → length (stacks_at entries) ≡ number_at keys.NumPlayers entries
 unfolding is_whole
 stacks_counted entries whole =
-    let first = and_parts (list_all (λ key. stands key entries) needed) _ whole in
-    let second = and_parts (stands (if has_no_limit entries then keys.Stack else keys.RaiseSize) entries) _ first.1 in
-    let third = and_parts (is_for_all keys.Blind entries) (not (stands keys.Stack entries) || is_for_all keys.Stack entries) second.1 in
-    stacks_by (stands keys.Stack entries) (numbers_at keys.Stack entries) (numbers_at keys.Blind entries) 2147483647 (number_at keys.NumPlayers entries) third.1 (blinds_counted entries whole)
+    let first = and_parts (list_all (λ key. has_key key entries) needed) _ whole in
+    let second = and_parts (has_key (if has_no_limit entries then keys.Stack else keys.RaiseSize) entries) _ first.1 in
+    let third = and_parts (is_for_all keys.Blind entries) (not (has_key keys.Stack entries) || is_for_all keys.Stack entries) second.1 in
+    stacks_by (has_key keys.Stack entries) (numbers_at keys.Stack entries) (numbers_at keys.Blind entries) 2147483647 (number_at keys.NumPlayers entries) third.1 (blinds_counted entries whole)
 
 -- how many rows of a game there are seats for
 pub record IsCounted (entries : List EntrySaid) : Type 0 where
@@ -57,7 +57,7 @@ sized s b blind some big few few_big first = grind (arith, nat_tests, some, big,
 fitting : (no_limit : Bool) (blind : ℕ) (sizes : List ℕ) → (no_limit && eqb blind 0) ≡ false → (not no_limit && not (are_sizes sizes)) ≡ false
     → (not no_limit && (nat_lt 0 blind && nat_lt blind (slice_index sizes 0))) ≡ false
     → slice_index sizes 0 ≤ MOST_CHIPS → slice_index sizes 2 ≤ MOST_CHIPS
-    → fit_blinds no_limit blind (if no_limit then 0 else slice_index sizes 0) (if no_limit then 0 else slice_index sizes 2) ≡ true
+    → has_fitting_sizes no_limit blind (if no_limit then 0 else slice_index sizes 0) (if no_limit then 0 else slice_index sizes 2) ≡ true
 fitting true blind sizes some sized_too first few few_big = let none : eqb blind 0 ≡ false = some in grind (arith, nat_tests, none)
 fitting false blind (s ∷ t ∷ b ∷ c ∷ []) some are first few few_big =
     let equal : are_sizes (s ∷ t ∷ b ∷ c ∷ []) ≡ true = not-false (are_sizes (s ∷ t ∷ b ∷ c ∷ [])) are in
@@ -70,6 +70,6 @@ fitting false blind (s ∷ t ∷ b ∷ []) some are first few few_big = absurd (
 fitting false blind (s ∷ t ∷ b ∷ c ∷ d ∷ more) some are first few few_big = absurd (cc (are))
 
 pub sizes_fit : (entries : List EntrySaid) → IsPlayable entries → are_chips (numbers_at keys.RaiseSize entries) ≡ true
-    → fit_blinds (has_no_limit entries) (greatest (numbers_at keys.Blind entries)) (size_at 0 entries) (size_at 2 entries) ≡ true
+    → has_fitting_sizes (has_no_limit entries) (greatest (numbers_at keys.Blind entries)) (size_at 0 entries) (size_at 2 entries) ≡ true
 sizes_fit entries playable few = fitting (has_no_limit entries) (greatest (numbers_at keys.Blind entries)) (numbers_at keys.RaiseSize entries) playable.blind playable.sizes playable.first_size
     (chips_within (numbers_at keys.RaiseSize entries) 0 few) (chips_within (numbers_at keys.RaiseSize entries) 2 few)

@@ -2,7 +2,7 @@
 use Rattle.std.specs.Prelude.{ℕ, ◌-◌, ◌==◌, Bool, ◌||◌, ◌&&◌, bytes_eq, if◌then◌else◌, List, [], ◌∷◌, length, slice_index, codes, Option, Some, None, option_and_then}
 use Rattle.std.specs.List.{list_all}
 use Rattle.first_fault.specs.Digits.{are_digits}
-use Rattle.acpc_text.specs.Parts.{parts_of, divides, words_of}
+use Rattle.acpc_text.specs.Parts.{parts_of, is_space, words_of}
 use Rattle.acpc_game.specs.declared.key.Key.{Key}
 use Rattle.acpc_game.specs.declared.key.Key.TheVariants as keys
 use Rattle.acpc_game.specs.Keys.{is_word, key_named, has_count}
@@ -22,12 +22,12 @@ only_key words = None
 
 -- the key in front of =, with spaces behind it or none
 unfoldable pub key_before : List ℕ → Option Key
-key_before front = if divides (slice_index front 0) then None else only_key (words_of front)
+key_before front = if is_space (slice_index front 0) then None else only_key (words_of front)
 
 -- the numbers behind =, with spaces before them or none, as many as the key has
 unfoldable pub numbers_behind : Key → List ℕ → Option Form
 numbers_behind key behind =
-    if divides (slice_index behind (length behind - 1)) then None
+    if is_space (slice_index behind (length behind - 1)) then None
     else if list_all are_digits (words_of behind) && has_count key (length (words_of behind)) then Some (key, words_of behind)
     else None
 

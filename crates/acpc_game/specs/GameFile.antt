@@ -39,13 +39,13 @@ abbrev pub found : Key → List EntrySaid → Option EntrySaid
 found key entries = find (is_of key) entries
 
 -- an entry with this key stands
-abbrev pub stands : Key → List EntrySaid → Bool
-stands key entries = list_any (is_of key) entries
+abbrev pub has_key : Key → List EntrySaid → Bool
+has_key key entries = list_any (is_of key) entries
 
 -- a key may stand after these entries: GAMEDEF before all others, and each other key once, until END GAMEDEF
 abbrev pub may_stand : Key → List EntrySaid → Bool
 may_stand keys.Begin entries = length entries == 0
-may_stand key entries = nat_lt 0 (length entries) && (not (stands keys.End entries) && not (stands key entries))
+may_stand key entries = nat_lt 0 (length entries) && (not (has_key keys.End entries) && not (has_key key entries))
 
 -- the number that a word says, if it is not too great for its key
 unfoldable pub number_said : ℕ → ℕ → List ℕ → Result ℕ AcpcFault
@@ -92,13 +92,13 @@ abbrev pub line_at : Key → List EntrySaid → ℕ
 line_at key entries = option_map_or (λ entry. entry.line) (found key entries) 0
 
 -- a key says that the game has no limit
-abbrev pub says_no_limit : Key → Bool
-says_no_limit keys.NoLimit = true
-says_no_limit _ = false
+abbrev pub is_no_limit : Key → Bool
+is_no_limit keys.NoLimit = true
+is_no_limit _ = false
 
 -- the game has no limit
 abbrev pub has_no_limit : List EntrySaid → Bool
-has_no_limit entries = option_map_or (λ entry. says_no_limit entry.key) (found keys.Limit entries) false
+has_no_limit entries = option_map_or (λ entry. is_no_limit entry.key) (found keys.Limit entries) false
 
 -- the keys that every game file has
 abbrev pub needed : List Key
@@ -113,9 +113,9 @@ is_for_all key entries = length (numbers_at key entries) == number_at keys.NumPl
 -- nothing is missing: in no limit the stacks are needed, in a limit game the sizes of raises, and stacks may stand
 unfoldable pub is_whole : List EntrySaid → Bool
 is_whole entries =
-    list_all (λ key. stands key entries) needed
-    && (stands (if has_no_limit entries then keys.Stack else keys.RaiseSize) entries
-    && (is_for_all keys.Blind entries && (not (stands keys.Stack entries) || is_for_all keys.Stack entries)))
+    list_all (λ key. has_key key entries) needed
+    && (has_key (if has_no_limit entries then keys.Stack else keys.RaiseSize) entries
+    && (is_for_all keys.Blind entries && (not (has_key keys.Stack entries) || is_for_all keys.Stack entries)))
 
 -- the line that a fault of the whole names, in a file with so many lines: that of END GAMEDEF, or the last one, or 1
 abbrev pub end_line : ℕ → List EntrySaid → ℕ
@@ -129,7 +129,7 @@ default_stack = 2147483647
 
 -- the stacks of the players: those that are said, or the default one for each
 abbrev pub stacks_at : List EntrySaid → List ℕ
-stacks_at entries = if stands keys.Stack entries then numbers_at keys.Stack entries else replicate (length (numbers_at keys.Blind entries)) default_stack
+stacks_at entries = if has_key keys.Stack entries then numbers_at keys.Stack entries else replicate (length (numbers_at keys.Blind entries)) default_stack
 
 -- the numbers are these four
 abbrev pub are_four : ℕ → ℕ → ℕ → ℕ → List ℕ → Bool
@@ -183,7 +183,7 @@ other_cards entries =
 -- chips that are not played; each with the key that shows them
 abbrev pub other_chips : List EntrySaid → List (Bool × Key)
 other_chips entries =
-    (has_short_stack (stacks_at entries) (numbers_at keys.Blind entries), if stands keys.Stack entries then keys.Stack else keys.Blind)
+    (has_short_stack (stacks_at entries) (numbers_at keys.Blind entries), if has_key keys.Stack entries then keys.Stack else keys.Blind)
     ∷ (is_reversed (numbers_at keys.Blind entries), keys.Blind)
     ∷ (not (are_four (opener_of (numbers_at keys.Blind entries)) 1 1 1 (numbers_at keys.FirstPlayer entries)), keys.FirstPlayer)
     ∷ (has_no_limit entries && greatest (numbers_at keys.Blind entries) == 0, keys.Blind)

@@ -18,6 +18,6 @@ is_size chips = nat_le 1 chips && nat_le chips MOST_CHIPS
 
 -- The sizes of raises fit the greatest blind: in no limit there is a blind and no size; in a limit game there are two
 -- sizes, and a blind is no less than the first of them.
-abbrev pub fit_blinds : Bool → ℕ → ℕ → ℕ → Bool
-fit_blinds true blind small big = nat_lt 0 blind && (small == 0 && big == 0)
-fit_blinds false blind small big = is_size small && (is_size big && (blind == 0 || nat_le small blind))
+abbrev pub has_fitting_sizes : Bool → ℕ → ℕ → ℕ → Bool
+has_fitting_sizes true blind small big = nat_lt 0 blind && (small == 0 && big == 0)
+has_fitting_sizes false blind small big = is_size small && (is_size big && (blind == 0 || nat_le small blind))

@@ -1,7 +1,7 @@
 //! A line of a game file is a key alone, or a key, `=`, and numbers divided by spaces.
 ghost use Rattle.std.specs.Prelude.{◌≡◌, ◌∷◌, ◌-◌, length, slice_index, option_map, true, IfSome, if◌then◌else◌, Some, None};
 ghost use Rattle.std.specs.List.{list_all};
-ghost use Rattle.acpc_text.specs.Parts.{divides, parts_of, words_of};
+ghost use Rattle.acpc_text.specs.Parts.{is_space, parts_of, words_of};
 ghost use Rattle.first_fault.specs.Digits.{are_digits as are_digits_said};
 ghost use Rattle.acpc_game.specs.Keys.{has_count};
 ghost use Rattle.acpc_game.specs.Forms.{form_of, is_passed_over as is_passed_over_said, key_and_numbers, key_before as key_before_said, numbers_behind};
@@ -19,14 +19,14 @@ pub fn is_passed_over(line: &[u8]) -> bool
 
 // Whether the text begins with a space.
 fn begins_with_space(text: &[u8]) -> bool
-    ensures { result ≡ divides (slice_index text.now 0) }
+    ensures { result ≡ is_space (slice_index text.now 0) }
 {
     !text.is_empty() && text[0] == b' '
 }
 
 // Whether the text ends with a space.
 fn ends_with_space(text: &[u8]) -> bool
-    ensures { result ≡ divides (slice_index text.now (length text.now - 1)) }
+    ensures { result ≡ is_space (slice_index text.now (length text.now - 1)) }
 {
     !text.is_empty() && text[text.len() - 1] == b' '
 }

@@ -2,7 +2,7 @@
 ghost use Rattle.std.specs.Prelude.{◌≡◌, true, map, option_map, IfSome};
 ghost use Rattle.acpc_game.specs.Entries.{entry_said};
 ghost use Rattle.acpc_game.specs.Games.{are_chips};
-ghost use Rattle.acpc_game.specs.GameFile.{found, is_of, is_for_all as is_for_all_said, line_at as line_at_said, number_at as number_at_said, numbers_at as numbers_at_said, stands as stands_said};
+ghost use Rattle.acpc_game.specs.GameFile.{found, is_of, is_for_all as is_for_all_said, line_at as line_at_said, number_at as number_at_said, numbers_at as numbers_at_said, has_key as has_key_said};
 
 use crate::entry::Entry;
 use crate::key::Key;
@@ -26,12 +26,12 @@ pub fn find_entry(entries: &[Entry], key: Key) -> Option<&Entry>
 }
 
 /// Whether an entry has this key.
-pub fn stands(entries: &[Entry], key: Key) -> bool
-    ensures { result ≡ stands_said key (map entry_said entries.now) }
+pub fn has_key(entries: &[Entry], key: Key) -> bool
+    ensures { result ≡ has_key_said key (map entry_said entries.now) }
 {
     match entries {
         [] => false,
-        [entry, rest @ ..] => entry.key.place() == key.place() || stands(rest, key),
+        [entry, rest @ ..] => entry.key.place() == key.place() || has_key(rest, key),
     }
 }
 

@@ -2,7 +2,7 @@
 ghost use Rattle.std.specs.Prelude.{◌≡◌, Bool, true, false, map, option_map, Ok};
 ghost use Rattle.chip_ledger.specs.Greatest.{greatest};
 ghost use Rattle.acpc_game.specs.GameFile.{has_short_stack, is_reversed};
-ghost use Rattle.acpc_game.specs.Games.{amounts_in, are_chips, fit_blinds};
+ghost use Rattle.acpc_game.specs.Games.{amounts_in, are_chips, has_fitting_sizes};
 
 use chip_ledger::SeatRow;
 
@@ -25,6 +25,6 @@ pub struct Game {
     pub ghost few_blinds: { are_chips (amounts_in blinds) ≡ true },
     pub ghost stacked: { has_short_stack (amounts_in stacks) (amounts_in blinds) ≡ false },
     pub ghost in_order: { is_reversed (amounts_in blinds) ≡ false },
-    pub ghost sizes: { fit_blinds no_limit (greatest (amounts_in blinds))
+    pub ghost sizes: { has_fitting_sizes no_limit (greatest (amounts_in blinds))
         small_raise big_raise ≡ true },
 }

@@ -10,7 +10,7 @@ ghost use Rattle.acpc_game.specs.GameFile.{entries_after_line, entries_said, may
 
 use crate::entry::Entry;
 use crate::form::{is_passed_over, read_form};
-use crate::found::stands;
+use crate::found::has_key;
 use crate::key::Key;
 use acpc_text::{AcpcFault, LineFault, What, fault_in_line, next_line, next_word};
 use first_fault::{Stop, read_digits};
@@ -68,7 +68,7 @@ fn may_stand(entries: &[Entry], key: Key) -> bool
 {
     match key {
         Key::Begin => entries.is_empty(),
-        _ => !entries.is_empty() && !stands(entries, Key::End) && !stands(entries, key),
+        _ => !entries.is_empty() && !has_key(entries, Key::End) && !has_key(entries, key),
     }
 }
 

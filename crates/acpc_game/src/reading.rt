@@ -11,7 +11,7 @@ ghost use Rattle.acpc_game.specs.Games.{amounts_in, are_chips};
 ghost use Rattle.acpc_game.specs.Playable.{IsPlayable};
 
 use crate::entry::Entry;
-use crate::found::{find_entry, line_at, numbers_at, stands};
+use crate::found::{find_entry, has_key, line_at, numbers_at};
 use crate::game::Game;
 use crate::key::Key;
 use crate::lines::{read_entries, wrong};
@@ -31,7 +31,7 @@ fn stacks_of(alloc: Global, entries: &[Entry]) -> Result<Vec<u64>, Stop<AcpcFaul
     ensures few { IfOk result (λ stacks. are_chips stacks.items ≡ true) }
     ensures memory { IfErr result (λ stop. stop ≡ Stop.Memory) }
 {
-    if stands(entries, Key::Stack) {
+    if has_key(entries, Key::Stack) {
         Ok(Vec::from_slice(alloc, numbers_at(entries, Key::Stack))?)
     } else {
         let count = numbers_at(entries, Key::Blind).len();

@@ -3,10 +3,10 @@ ghost use Rattle.std.specs.Prelude.{◌≡◌, ◌≤◌, ◌&&◌, nat_lt, leng
 ghost use Rattle.std.specs.List.{list_all};
 ghost use Rattle.chip_ledger.specs.Greatest.{greatest as greatest_said};
 ghost use Rattle.acpc_game.specs.Entries.{entry_said};
-ghost use Rattle.acpc_game.specs.GameFile.{are_four as are_four_said, are_sizes as are_sizes_said, end_line as end_line_said, first_unsupported as first_unsupported_said, first_where, has_no_limit as has_no_limit_said, has_short_stack as has_short_stack_said, is_reversed as is_reversed_said, is_whole as is_whole_said, last_place as last_place_said, needed, opener_of as opener_of_said, other_cards as other_cards_said, other_chips as other_chips_said, stacks_at, stands as stands_said};
+ghost use Rattle.acpc_game.specs.GameFile.{are_four as are_four_said, are_sizes as are_sizes_said, end_line as end_line_said, first_unsupported as first_unsupported_said, first_where, has_no_limit as has_no_limit_said, has_short_stack as has_short_stack_said, is_reversed as is_reversed_said, is_whole as is_whole_said, last_place as last_place_said, needed, opener_of as opener_of_said, other_cards as other_cards_said, other_chips as other_chips_said, stacks_at, has_key as has_key_said};
 
 use crate::entry::Entry;
-use crate::found::{find_entry, is_for_all, number_at, numbers_at, stands};
+use crate::found::{find_entry, has_key, is_for_all, number_at, numbers_at};
 use crate::key::Key;
 
 /// Whether the game has no limit.
@@ -24,19 +24,19 @@ pub fn has_no_limit(entries: &[Entry]) -> bool
 
 // Whether each key stands that every game file has.
 fn has_needed(entries: &[Entry]) -> bool
-    ensures { result ≡ list_all (λ key. stands_said key (map entry_said entries.now)) needed }
+    ensures { result ≡ list_all (λ key. has_key_said key (map entry_said entries.now)) needed }
 {
-    stands(entries, Key::Begin)
-        && stands(entries, Key::Limit)
-        && stands(entries, Key::NumPlayers)
-        && stands(entries, Key::NumRounds)
-        && stands(entries, Key::Blind)
-        && stands(entries, Key::FirstPlayer)
-        && stands(entries, Key::NumSuits)
-        && stands(entries, Key::NumRanks)
-        && stands(entries, Key::NumHoleCards)
-        && stands(entries, Key::NumBoardCards)
-        && stands(entries, Key::End)
+    has_key(entries, Key::Begin)
+        && has_key(entries, Key::Limit)
+        && has_key(entries, Key::NumPlayers)
+        && has_key(entries, Key::NumRounds)
+        && has_key(entries, Key::Blind)
+        && has_key(entries, Key::FirstPlayer)
+        && has_key(entries, Key::NumSuits)
+        && has_key(entries, Key::NumRanks)
+        && has_key(entries, Key::NumHoleCards)
+        && has_key(entries, Key::NumBoardCards)
+        && has_key(entries, Key::End)
 }
 
 /// Whether nothing is missing.
@@ -52,11 +52,11 @@ pub fn is_whole(entries: &[Entry]) -> bool
     } else {
         Key::RaiseSize
     };
-    if !stands(entries, sizes) {
+    if !has_key(entries, sizes) {
         return false;
     }
     is_for_all(entries, Key::Blind)
-        && (!stands(entries, Key::Stack) || is_for_all(entries, Key::Stack))
+        && (!has_key(entries, Key::Stack) || is_for_all(entries, Key::Stack))
 }
 
 /// The line that a fault of the whole names.
@@ -200,7 +200,7 @@ fn other_chips(entries: &[Entry], stacks: &[u64]) -> Option<Key>
     let no_limit = has_no_limit(entries);
     let most = greatest(blinds);
     if has_short_stack(stacks, blinds) {
-        return Some(if stands(entries, Key::Stack) {
+        return Some(if has_key(entries, Key::Stack) {
             Key::Stack
         } else {
             Key::Blind

@@ -11,7 +11,7 @@ use Rattle.play_event.specs.declared.setup.Setup.{Setup}
 use Rattle.play_event.specs.Streets.{limit_of}
 use Rattle.play_event.specs.ValidSetup.{IsSizeWhere, IsValid, is_fixed}
 use Rattle.acpc_game.specs.GameFile.{has_short_stack, is_reversed}
-use Rattle.acpc_game.specs.Games.{amounts_in, are_chips, fit_blinds}
+use Rattle.acpc_game.specs.Games.{amounts_in, are_chips, has_fitting_sizes}
 use Rattle.acpc_line.specs.GameOf.{MakesGame, fits_size, no_limit_of}
 use Rattle.acpc_line.specs.SetupFacts.{greatest_blind}
 
@@ -39,17 +39,17 @@ record HasSizes (code : Code) (small big least : ℕ) : Type 0 where
   big_bet : IsSizeWhere (is_fixed (limit_of code)) big
   least_bet : IsSizeWhere (not (is_fixed (limit_of code))) least
 
-limited : (small big blind : ℕ) → (1 ≤ small) × (small ≤ MOST_CHIPS) → (1 ≤ big) × (big ≤ MOST_CHIPS) → (eqb blind 0 || nat_le small blind) ≡ true → fit_blinds false blind small big ≡ true
+limited : (small big blind : ℕ) → (1 ≤ small) × (small ≤ MOST_CHIPS) → (1 ≤ big) × (big ≤ MOST_CHIPS) → (eqb blind 0 || nat_le small blind) ≡ true → has_fitting_sizes false blind small big ≡ true
 limited small big blind one other fits =
     rw (le-leb 1 small one.0, le-leb small MOST_CHIPS one.1, le-leb 1 big other.0, le-leb big MOST_CHIPS other.1) fits
 
-unlimited : (small big least blind : ℕ) → small ≡ 0 → big ≡ 0 → 1 ≤ least → eqb least blind ≡ true → fit_blinds true blind small big ≡ true
+unlimited : (small big least blind : ℕ) → small ≡ 0 → big ≡ 0 → 1 ≤ least → eqb least blind ≡ true → has_fitting_sizes true blind small big ≡ true
 unlimited small big least blind none nothing some fits =
     let same = eqb-true least blind fits in
     rw (none, nothing, lt-ltb 0 blind (omega (arith, some, same))) refl
 
 sizes_fit : (code : Code) (no_limit : Bool) (small big least blind : ℕ) → no_limit_of code ≡ Some no_limit → HasSizes code small big least
-    → (if no_limit then eqb least blind else eqb blind 0 || nat_le small blind) ≡ true → fit_blinds no_limit blind small big ≡ true
+    → (if no_limit then eqb least blind else eqb blind 0 || nat_le small blind) ≡ true → has_fitting_sizes no_limit blind small big ≡ true
 sizes_fit codes.NT true small big least blind is has fits = unlimited small big least blind has.small_bet has.big_bet has.least_bet.0 fits
 sizes_fit codes.FT false small big least blind is has fits = limited small big blind has.small_bet has.big_bet fits
 sizes_fit codes.NT false small big least blind is has fits = absurd (cc (is))

@@ -8,7 +8,7 @@ use Rattle.play_event.specs.declared.setup.Setup.{Setup}
 use Rattle.hand_records.specs.declared.writing.Unspelled.{Unspelled}
 use Rattle.hand_records.specs.declared.writing.Unspelled.TheVariants as facts
 use Rattle.acpc_game.specs.GameFile.{GameSaid, has_short_stack, is_reversed}
-use Rattle.acpc_game.specs.Games.{amounts_in, are_chips, fit_blinds}
+use Rattle.acpc_game.specs.Games.{amounts_in, are_chips, has_fitting_sizes}
 use Rattle.acpc_line.specs.SetupFacts.{greatest_blind}
 
 -- whether hold'em with this code has no limit; other games have no logs
@@ -54,4 +54,4 @@ pub record MakesGame (no_limit : Bool) (setup : Setup) : Type 0 where
   pub few_blinds : are_chips (amounts_in setup.blinds) ≡ true
   pub stacked : has_short_stack (amounts_in setup.stacks) (amounts_in setup.blinds) ≡ false
   pub in_order : is_reversed (amounts_in setup.blinds) ≡ false
-  pub sizes : fit_blinds no_limit (greatest_blind setup) setup.small_bet setup.big_bet ≡ true
+  pub sizes : has_fitting_sizes no_limit (greatest_blind setup) setup.small_bet setup.big_bet ≡ true

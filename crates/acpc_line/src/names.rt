@@ -7,8 +7,7 @@ ghost use Rattle.acpc_line.specs.Texts.{AreTexts};
 
 use crate::cards::push_bar;
 use chip_ledger::Seat;
-use first_fault::are_digits;
-use first_fault::Text;
+use first_fault::{Text, are_digits};
 use hand_records::Notes;
 use std::alloc::{AllocError, Global};
 

@@ -34,7 +34,8 @@ pub fn posted_chips(setup: &Setup) -> [u64; 10]
 
 /// Puts what a move adds to the chips of its seat.
 pub fn add(put: &mut [u64; 10], played: Move)
-    requires { slice_index put.old (played.seat.number - 1) + (played.to - played.from) ≤ MOST_AMOUNT }
+    requires { slice_index put.old (played.seat.number - 1) + (played.to - played.from)
+        ≤ MOST_AMOUNT }
     ensures { (setup : AnySetup) (moves : List PlainMove) → HavePut setup moves put.old
         → HavePut setup (plain_move (move_said played) ∷ moves) put.new }
 {

@@ -15,7 +15,7 @@ use Rattle.play_event.specs.Streets.{limit_of, is_stud}
 use Rattle.play_event.specs.ValidSetup.{IsSize, IsSizeWhere, IsValid, is_fixed}
 use Rattle.acpc_game.specs.declared.game.Game.{Game}
 use Rattle.acpc_game.specs.GameFile.{has_short_stack, is_reversed}
-use Rattle.acpc_game.specs.Games.{amounts_in, are_chips, is_size, fit_blinds}
+use Rattle.acpc_game.specs.Games.{amounts_in, are_chips, is_size, has_fitting_sizes}
 use Rattle.acpc_reading.specs.RecordView.{IsSetupOf, code_of}
 
 -- an amount of the first ones
@@ -69,7 +69,7 @@ record AreSized (no_limit : Bool) (blind small big : ℕ) : Type 0 where
   big_bet : IsSizeWhere (is_fixed (limit_of (code_of no_limit))) big
   least_bet : IsSizeWhere (not (is_fixed (limit_of (code_of no_limit)))) (if no_limit then blind else 0)
 
-sized : (no_limit : Bool) (blind small big : ℕ) → blind ≤ MOST_CHIPS → fit_blinds no_limit blind small big ≡ true → AreSized no_limit blind small big
+sized : (no_limit : Bool) (blind small big : ℕ) → blind ≤ MOST_CHIPS → has_fitting_sizes no_limit blind small big ≡ true → AreSized no_limit blind small big
 sized true blind small big few fit =
     let parts = and_parts (nat_lt 0 blind) (eqb small 0 && eqb big 0) fit in
     let sizes = and_parts (eqb small 0) (eqb big 0) parts.1 in

@@ -8,7 +8,7 @@ use Rattle.acpc_text.specs.declared.fault.AcpcFault.{AcpcFault}
 use Rattle.acpc_text.specs.declared.fault.LineFault.{LineFault}
 use Rattle.acpc_text.specs.declared.fault.What.TheVariants as whats
 use Rattle.acpc_text.specs.Faults.{wrong, in_line}
-use Rattle.acpc_text.specs.Parts.{parts_of, lines_of, begins_with}
+use Rattle.acpc_text.specs.Parts.{parts_of, lines_of, has_front}
 use Rattle.acpc_game.specs.declared.game.Game.{Game}
 use Rattle.acpc_reading.specs.Betting.{betting_said}
 use Rattle.acpc_reading.specs.Cards.{script_said}
@@ -61,12 +61,12 @@ hand_of game place file_moves fields =
 
 -- a line that is passed over: it is empty, or begins with # or SCORE:
 abbrev pub is_passed_over : List ℕ → Bool
-is_passed_over line = length line == 0 || (slice_index line 0 == 35 || begins_with (codes "SCORE:") line)
+is_passed_over line = length line == 0 || (slice_index line 0 == 35 || has_front (codes "SCORE:") line)
 
 -- a line of a hand
 unfoldable pub line_said : Game → ℕ → ℕ → List ℕ → Result (HandSaid × ℕ) LineFault
 line_said game place file_moves line =
-    if begins_with (codes "STATE:") line then (six_fields (length line) (parts_of 58 line) >>= hand_of game place file_moves)
+    if has_front (codes "STATE:") line then (six_fields (length line) (parts_of 58 line) >>= hand_of game place file_moves)
     else wrong whats.LineShape 1
 
 -- the hands so far, and how many moves they have

@@ -21,13 +21,13 @@ abbrev pub lines_of : List ℕ → List (List ℕ)
 lines_of text = map without_return (without_empty_end (parts_of 10 text))
 
 -- a text begins with these bytes
-abbrev pub begins_with : List ℕ → List ℕ → Bool
-begins_with front text = bytes_eq (take (length front) text) front
+abbrev pub has_front : List ℕ → List ℕ → Bool
+has_front front text = bytes_eq (take (length front) text) front
 
 -- the sign that divides words: a space
-abbrev pub divides : ℕ → Bool
-divides sign = sign == 32
+abbrev pub is_space : ℕ → Bool
+is_space sign = sign == 32
 
 -- the words of a text
 abbrev pub words_of : List ℕ → List (List ℕ)
-words_of text = filter (λ part. nat_lt 0 (length part)) (slice_split divides text)
+words_of text = filter (λ part. nat_lt 0 (length part)) (slice_split is_space text)

@@ -2,7 +2,7 @@
 ghost use Rattle.std.specs.Prelude.{◌≡◌, ◌+◌, ◌<◌, ◌≤◌, ◌==◌, ◌⊎◌, [], ◌∷◌, false, length, slice_index, IfSome};
 ghost use Rattle.std.specs.List.{position_or_len};
 ghost use Rattle.std.specs.Option.{option_map_or};
-ghost use Rattle.acpc_text.specs.Parts.{begins_with, divides, lines_of, parts_of, without_return as without_return_said, words_of};
+ghost use Rattle.acpc_text.specs.Parts.{has_front, is_space, lines_of, parts_of, without_return as without_return_said, words_of};
 
 // How many bytes stand before the first such sign.
 fn place_of(text: &[u8], sign: u8) -> usize
@@ -34,7 +34,7 @@ pub fn cut_at(text: &[u8], sign: u8) -> (&[u8], Option<&[u8]>)
 
 /// Whether the text begins with these bytes.
 pub fn has_prefix(text: &[u8], front: &[u8]) -> bool
-    ensures { result ≡ begins_with front.now text.now }
+    ensures { result ≡ has_front front.now text.now }
 {
     if text.len() < front.len() {
         return false;
@@ -80,7 +80,7 @@ pub fn next_line(text: &[u8]) -> Option<(&[u8], &[u8])>
 // The text without the spaces that it begins with.
 fn skip_spaces(text: &[u8]) -> &[u8]
     ensures words { words_of result.now ≡ words_of text.now }
-    ensures begins { result.now ≡ [] ⊎ divides (slice_index result.now 0) ≡ false }
+    ensures begins { result.now ≡ [] ⊎ is_space (slice_index result.now 0) ≡ false }
     ensures shorter { length result.now ≤ length text.now }
 {
     let mut rest = text;
@@ -92,7 +92,7 @@ fn skip_spaces(text: &[u8]) -> &[u8]
 
 // How many bytes stand before the first space.
 fn word_len(text: &[u8]) -> usize
-    ensures { result ≡ position_or_len divides text.now }
+    ensures { result ≡ position_or_len is_space text.now }
 {
     for (index, sign) in text.iter().enumerate() {
         if *sign == b' ' {

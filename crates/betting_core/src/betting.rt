@@ -308,10 +308,12 @@ impl<V: Variant> Betting<V> {
         requires due { is_bet_due self.old.table.due ≡ true }
         requires fits { may_come_at (act_said legal.act) self.old.table.due ≡ true }
         ensures stands { (past : Past) (event : Said) → StandsFor self.old.table past
-            → IsLegalMove self.old.table past event legal.seat.number (act_said legal.act) legal.target
+            → IsLegalMove self.old.table past event legal.seat.number (act_said legal.act)
+            legal.target
             → StandsFor self.new.table (past_with self.old.table past event) }
         ensures moved { (past : Past) (event : Said) → StandsFor self.old.table past
-            → IsLegalMove self.old.table past event legal.seat.number (act_said legal.act) legal.target
+            → IsLegalMove self.old.table past event legal.seat.number (act_said legal.act)
+            legal.target
             → (move : plays.Move) → past_with self.old.table past event ≡ plays.Moved move ∷ past
             → move_said result ≡ traced_move self.old.table.setup move (moves_of past) }
         ensures setup { self.new.table.setup ≡ self.old.table.setup }

@@ -86,7 +86,8 @@ fn push_fraction(text: &mut String, nano: u32) -> Result<(), Memory>
 
 // Puts so many digits of a number, its last ones, behind a text.
 fn push_digits(text: &mut String, count: u8, number: u32) -> Result<(), Memory>
-    ensures { OnOk result (string_bytes text.new ≡ string_bytes text.old ++ by_digits count number) }
+    ensures { OnOk result (string_bytes text.new
+        ≡ string_bytes text.old ++ by_digits count number) }
 {
     if count == 0 {
         return Ok(());

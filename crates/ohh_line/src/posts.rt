@@ -94,7 +94,8 @@ fn blind_action(setup: &Setup, word: Word, seat: u8) -> Action
 // Puts the antes behind other actions, from the first seat upward.
 fn push_antes(actions: &mut Vec<Action>, setup: &Setup) -> Result<(), Memory>
     ensures { OnOk result (map action_said actions.new.items
-        ≡ map action_said actions.old.items ++ flat_map (ante_post setup.now) (all_seats setup.now)) }
+        ≡ map action_said actions.old.items
+        ++ flat_map (ante_post setup.now) (all_seats setup.now)) }
 {
     for index in 0..setup.stacks.seats {
         push_ante(actions, setup, index + 1)?;
@@ -121,7 +122,8 @@ fn push_ante(actions: &mut Vec<Action>, setup: &Setup, seat: u8) -> Result<(), M
 // Puts the straddles behind other actions, from the third seat upward.
 fn push_straddles(actions: &mut Vec<Action>, setup: &Setup) -> Result<(), Memory>
     ensures { OnOk result (map action_said actions.new.items
-        ≡ map action_said actions.old.items ++ flat_map (straddle_post setup.now) (all_seats setup.now)) }
+        ≡ map action_said actions.old.items
+        ++ flat_map (straddle_post setup.now) (all_seats setup.now)) }
 {
     for index in 0..setup.stacks.seats {
         push_straddle(actions, setup, index + 1)?;

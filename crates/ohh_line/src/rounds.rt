@@ -22,7 +22,8 @@ use std::alloc::Global;
 #[tactic(auto, unfolding(crate::specs::Rounds::hand_rounds))]
 pub fn hand_rounds(alloc: Global, dialect: Dialect, trace: &Trace) -> Result<Vec<Round>, Memory>
     requires { HasTidyCards (core_said trace.now) }
-    ensures { IfOk result (λ rounds. map round_said rounds.items ≡ hand_rounds_said dialect trace.now) }
+    ensures { IfOk result (λ rounds. map round_said rounds.items
+        ≡ hand_rounds_said dialect trace.now) }
 {
     let mut rounds = Vec::new(alloc);
     rounds.push(first_round(alloc, dialect, trace)?)?;

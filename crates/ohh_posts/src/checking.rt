@@ -112,7 +112,8 @@ fn is_wrong_blind(facts: &Facts, post: &Post) -> bool
 // Whether a post is a straddle of a seat in the blinds, of no chips, a second one of its seat, or above what is left.
 fn is_wrong_straddle(facts: &Facts, before: &FirstPosts, post: &Post) -> bool
     ensures { (posts earlier : List PlainPost) → AreFacts posts facts.now
-        → AreFirst earlier before.now → result ≡ conditions.is_wrong_straddle (plain_table facts.now.table) posts earlier
+        → AreFirst earlier before.now
+        → result ≡ conditions.is_wrong_straddle (plain_table facts.now.table) posts earlier
         (plain_post post.now) }
 {
     let left = facts.left(post.seat);
@@ -159,7 +160,8 @@ fn is_uneven_ante(facts: &Facts, post: &Post) -> bool
 #[tactic(auto, unfolding(crate::specs::Conditions::breaks))]
 fn breaks(condition: Condition, facts: &Facts, before: &FirstPosts, post: &Post) -> bool
     ensures { (posts earlier : List PlainPost) → AreFacts posts facts.now
-        → AreFirst earlier before.now → result ≡ conditions.breaks condition (plain_table facts.now.table) posts earlier
+        → AreFirst earlier before.now
+        → result ≡ conditions.breaks condition (plain_table facts.now.table) posts earlier
         (plain_post post.now) }
 {
     match condition {

@@ -5,21 +5,21 @@ use Rattle.std.proofs.lemmas.Bool.{and_parts, lt-ltb, not-true}
 use Rattle.std.proofs.lemmas.List.Folds.{list_all-append}
 use Rattle.std.proofs.lemmas.List.Splits.{slice_split_at, slice_split_none}
 use Rattle.std.proofs.lemmas.List.Sums.{AllPass-from_list_all, position_or_len_is}
-use Rattle.phh_words.specs.Words.{before_commentary, commentary_sign, divides, words_of}
+use Rattle.phh_words.specs.Words.{before_commentary, commentary_sign, is_space, words_of}
 
 -- a byte that may stand in a word: no space, and not the sign of a commentary
 abbrev pub is_plain : ℕ → Bool
-is_plain sign = not (divides sign) && not (sign == commentary_sign)
+is_plain sign = not (is_space sign) && not (sign == commentary_sign)
 
 -- one or more such bytes
 pub record IsWord (word : List ℕ) : Type 0 where
   pub some : 0 < length word
   pub plain : list_all is_plain word ≡ true
 
-no_space : (word : List ℕ) → list_all is_plain word ≡ true → All (λ sign. divides sign ≡ false) word
+no_space : (word : List ℕ) → list_all is_plain word ≡ true → All (λ sign. is_space sign ≡ false) word
 no_space word plain k d within =
     let sign = get_or word k d in
-    not-true (divides sign) (and_parts (not (divides sign)) (not (sign == commentary_sign)) (AllPass-from_list_all is_plain word plain k d within)).0
+    not-true (is_space sign) (and_parts (not (is_space sign)) (not (sign == commentary_sign)) (AllPass-from_list_all is_plain word plain k d within)).0
 
 kept : (word : List ℕ) (parts : List (List ℕ)) → IsWord word → filter (λ part. nat_lt 0 (length part)) (word ∷ parts) ≡ word ∷ filter (λ part. nat_lt 0 (length part)) parts
 kept word parts is = rw (lt-ltb 0 (length word) is.some) refl
@@ -27,10 +27,10 @@ kept word parts is = rw (lt-ltb 0 (length word) is.some) refl
 cut_again : (words : List (List ℕ)) → AllByRecursion IsWord words → words_of (join_with_byte 32 words) ≡ words
 cut_again [] each = refl
 cut_again (word ∷ []) each =
-    ap (filter (λ part. nat_lt 0 (length part))) (slice_split_none divides word (no_space word each.0.plain)) ∙ kept word [] each.0
+    ap (filter (λ part. nat_lt 0 (length part))) (slice_split_none is_space word (no_space word each.0.plain)) ∙ kept word [] each.0
 cut_again (word ∷ next ∷ more) each =
-    ap (filter (λ part. nat_lt 0 (length part))) (slice_split_at divides word 32 (join_with_byte 32 (next ∷ more)) (no_space word each.0.plain) refl)
-    ∙ kept word (slice_split divides (join_with_byte 32 (next ∷ more))) each.0
+    ap (filter (λ part. nat_lt 0 (length part))) (slice_split_at is_space word 32 (join_with_byte 32 (next ∷ more)) (no_space word each.0.plain) refl)
+    ∙ kept word (slice_split is_space (join_with_byte 32 (next ∷ more))) each.0
     ∙ ap (λ (words : List (List ℕ)). word ∷ words) (cut_again (next ∷ more) each.1)
 
 -- no commentary begins at a byte
@@ -41,7 +41,7 @@ word_said : (word : List ℕ) → list_all is_plain word ≡ true → list_all i
 word_said [] plain = refl
 word_said (sign ∷ rest) plain =
     let parts = and_parts (is_plain sign) (list_all is_plain rest) plain in
-    rw ((and_parts (not (divides sign)) (is_said sign) parts.0).1, word_said rest parts.1) refl
+    rw ((and_parts (not (is_space sign)) (is_said sign) parts.0).1, word_said rest parts.1) refl
 
 all_said : (words : List (List ℕ)) → AllByRecursion IsWord words → list_all is_said (join_with_byte 32 words) ≡ true
 all_said [] each = refl

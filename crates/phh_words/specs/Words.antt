@@ -11,12 +11,12 @@ abbrev pub before_commentary : List ℕ → List ℕ
 before_commentary text = take (position_or_len (λ sign. sign == commentary_sign) text) text
 
 -- the sign that divides words: a space, and no other
-abbrev pub divides : ℕ → Bool
-divides sign = sign == 32
+abbrev pub is_space : ℕ → Bool
+is_space sign = sign == 32
 
 -- the words of a text
 abbrev pub words_of : List ℕ → List (List ℕ)
-words_of text = filter (λ part. nat_lt 0 (length part)) (slice_split divides text)
+words_of text = filter (λ part. nat_lt 0 (length part)) (slice_split is_space text)
 
 -- the name of a seat: p and its number
 abbrev pub seat_name : ℕ → List ℕ

@@ -2,7 +2,7 @@
 ghost use Rattle.std.specs.Prelude.{◌≡◌, ◌⊎◌, ◌∷◌, ◌==◌, [], false, bytes_eq, slice_index};
 ghost use Rattle.std.specs.List.{position_or_len};
 ghost use Rattle.std.specs.Option.{option_map_or};
-ghost use Rattle.phh_words.specs.Words.{before_commentary as said_part, divides, words_of};
+ghost use Rattle.phh_words.specs.Words.{before_commentary as said_part, is_space, words_of};
 
 /// The text before its commentary.
 pub fn before_commentary(text: &[u8]) -> &[u8]
@@ -39,7 +39,7 @@ pub fn next_word(text: &[u8]) -> Option<(&[u8], &[u8])>
 // The text without the spaces that it begins with.
 fn skip_spaces(text: &[u8]) -> &[u8]
     ensures words { words_of result.now ≡ words_of text.now }
-    ensures begins { result.now ≡ [] ⊎ divides (slice_index result.now 0) ≡ false }
+    ensures begins { result.now ≡ [] ⊎ is_space (slice_index result.now 0) ≡ false }
 {
     let mut rest = text;
     while let [b' ', behind @ ..] = rest {

@@ -18,7 +18,7 @@ use Rattle.hand_records.specs.declared.record.Stated.{Stated}
 use Rattle.acpc_game.specs.declared.game.Game.{Game}
 use Rattle.acpc_game.specs.GameFile.{GameSaid, has_short_stack, is_reversed}
 use Rattle.acpc_game.specs.GameView.{game_in}
-use Rattle.acpc_game.specs.Games.{amounts_in, are_chips, fit_blinds}
+use Rattle.acpc_game.specs.Games.{amounts_in, are_chips, has_fitting_sizes}
 use Rattle.acpc_reading.specs.Logs.{HandSaid}
 use Rattle.acpc_reading.specs.RecordView.{IsOfGame, IsSetupOf, StatesValues, record_said}
 use Rattle.acpc_reading.specs.Views.{nets_in}
@@ -193,7 +193,7 @@ record KeptGame (no_limit : Bool) (stacks blinds : SeatRow) (small big : ℕ) : 
   few_blinds : are_chips (amounts_in blinds) ≡ true
   stacked : has_short_stack (amounts_in stacks) (amounts_in blinds) ≡ false
   in_order : is_reversed (amounts_in blinds) ≡ false
-  sizes : fit_blinds no_limit (greatest (amounts_in blinds)) small big ≡ true
+  sizes : has_fitting_sizes no_limit (greatest (amounts_in blinds)) small big ≡ true
 
 KeptGame-prop : (no_limit : Bool) (stacks blinds : SeatRow) (small big : ℕ) → IsProp (KeptGame no_limit stacks blinds small big)
 KeptGame-prop no_limit stacks blinds small big = hlevel props

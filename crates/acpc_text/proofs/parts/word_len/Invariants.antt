@@ -1,7 +1,7 @@
 use Rattle.std.proofs.Common.{◌≡◌, ℕ, ◌<◌, get_or, false}
-use Rattle.acpc_text.specs.Parts.{divides}
+use Rattle.acpc_text.specs.Parts.{is_space}
 use Rattle.acpc_text.proofs.parts.word_len.Given as goal
 
 -- no sign so far is a space
 abbrev pub invariant-loop-index : goal.invariant-loop-index
-invariant-loop-index l = (k : ℕ) → k < l.index → divides (get_or l.text k 0) ≡ false
+invariant-loop-index l = (k : ℕ) → k < l.index → is_space (get_or l.text k 0) ≡ false
