@@ -5,8 +5,8 @@ ghost use Rattle.chip_ledger.specs.declared.rows.TheConstants.{MOST_AMOUNT};
 ghost use Rattle.hand_records.specs.SoundRecord.{IsStatedFor};
 
 use chip_ledger::{MOST_AMOUNT, Seat, SeatRow};
-use hand_records::{NetRow, Stated};
 use hand_canon::{FactDiffers, Which};
+use hand_records::{NetRow, Stated};
 use hand_rows::row_of;
 use std::alloc::{AllocError, Global};
 

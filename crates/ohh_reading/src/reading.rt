@@ -7,8 +7,7 @@ ghost use Rattle.ohh_reading.specs.Reading.{InHand, IsHistory, Reads, moves_of, 
 
 use crate::fault::{HandFault, OhhFault, Wrongness};
 use crate::file::read_file;
-use first_fault::Stop;
-use first_fault::Text;
+use first_fault::{Stop, Text};
 use hand_records::Records;
 use ohh_members::Dialect;
 use ohh_members::fault::{Fault, What};

@@ -11,11 +11,10 @@ ghost use Rattle.ohh_rounds.specs.Steps.{Dealt, Happened, HasRoom, IsWithin, Lea
 use crate::step::{Deed, Step, is_move};
 use crate::told::Told;
 use crate::words::{Word, is_deal, word_named};
+use canonical_play::{MOST_MOVES, MOST_OTHER_EVENTS};
 use card_set::SlotRow;
 use chip_ledger::{Chips, MOST_CHIPS, Seat};
-use first_fault::Stop;
-use first_fault::{MOST_FILE_MOVES, Quantity};
-use canonical_play::{MOST_MOVES, MOST_OTHER_EVENTS};
+use first_fault::{MOST_FILE_MOVES, Quantity, Stop};
 use ohh_members::dialect::Dialect;
 use ohh_members::fault::{ActionMember, Fault, Path, RoundMember, What};
 use ohh_members::values::{

@@ -10,8 +10,7 @@ ghost use Rattle.phh_fields.specs.NoteFields.{label_said, labels_said, or_none, 
 use crate::fault::{Fault, Key, Place};
 use crate::texts::{read_label, read_text_note};
 use crate::values::field;
-use first_fault::Stop;
-use first_fault::Text;
+use first_fault::{Stop, Text};
 use std::alloc::Global;
 use toml::{Table, Value};
 

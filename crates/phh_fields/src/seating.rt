@@ -11,8 +11,7 @@ ghost use Rattle.phh_fields.specs.NoteFields.{names_from, names_said, numbers_fr
 use crate::fault::{Fault, Key, Place};
 use crate::texts::read_text_note;
 use crate::values::{field, read_items, read_number};
-use first_fault::Stop;
-use first_fault::Text;
+use first_fault::{Stop, Text};
 use std::alloc::Global;
 use toml::{Table, Value};
 

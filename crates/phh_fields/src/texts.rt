@@ -7,8 +7,7 @@ ghost use Rattle.phh_fields.specs.NoteFields.{label_said, note_said, text_note_s
 
 use crate::fault::{Fault, Place, What};
 use crate::values::{read_text, wrong};
-use first_fault::Stop;
-use first_fault::{MOST_TEXT_BYTES, Quantity, Text};
+use first_fault::{MOST_TEXT_BYTES, Quantity, Stop, Text};
 use std::alloc::Global;
 use toml::Value;
 

@@ -9,10 +9,9 @@ ghost use Rattle.first_fault.specs.Reading.{Gives};
 ghost use Rattle.phh_words.specs.Action.{action_said};
 ghost use Rattle.phh_reading.specs.Events.{AreCounted, AreFew, IsAfter, IsOneMore, action_fault, at_place, counted, counts_after, event_said, events_said, kept_number, listed_event, one_event};
 
-use card_set::Memory;
-use first_fault::Stop;
-use first_fault::{MOST_FILE_MOVES, Quantity};
 use canonical_play::{MOST_MOVES, MOST_OTHER_EVENTS};
+use card_set::Memory;
+use first_fault::{MOST_FILE_MOVES, Quantity, Stop};
 use phh_fields::fault::{Fault, Key, Place, What};
 use phh_fields::values::{read_text, wrong};
 use phh_words::{ActionFault, read_action};

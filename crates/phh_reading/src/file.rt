@@ -12,8 +12,7 @@ ghost use Rattle.phh_reading.specs.Reading.{IsHistory, hands_of, hands_said, mov
 use crate::fault::HandFault;
 use crate::hand::read_hand;
 use crate::order::{are_hands, tables_in_order};
-use first_fault::Stop;
-use first_fault::{MOST_HANDS, Quantity};
+use first_fault::{MOST_HANDS, Quantity, Stop};
 use hand_records::{Record, Records};
 use phh_fields::fault::{Fault, Key, Place, What};
 use phh_fields::values::field;

@@ -9,8 +9,7 @@ ghost use Rattle.phh_reading.specs.Reading.{InHand, IsHistory, Reads, document_s
 use crate::fault::{HandFault, PhhFault};
 use crate::file::read_hands;
 use card_set::Memory;
-use first_fault::Stop;
-use first_fault::Text;
+use first_fault::{Stop, Text};
 use hand_records::Records;
 use phh_fields::fault::{Place, What};
 use std::alloc::Global;

@@ -9,8 +9,7 @@ ghost use Rattle.phh_table.specs.HandFields.{fraction as fraction_said, hand_fie
 
 use crate::members::{number, put, put_number, put_text, text};
 use card_set::Memory;
-use first_fault::{are_digits, read_digits};
-use first_fault::Text;
+use first_fault::{Text, are_digits, read_digits};
 use hand_records::{Clock, Notes};
 use std::alloc::Global;
 use toml::{Table, Value};

@@ -13,8 +13,8 @@ ghost use Rattle.phh_table.specs.HandFields.{rakes_field, texts, trace_fields};
 
 use crate::members::{put, put_amounts, put_row};
 use card_set::Memory;
-use hand_records::Trace;
 use hand_canon::canon;
+use hand_records::Trace;
 use phh_words::event_text;
 use play_event::Script;
 use std::alloc::Global;
