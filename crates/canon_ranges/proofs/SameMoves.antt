@@ -1,5 +1,5 @@
 -- A canonical script has as many moves as its script, and so is within the limits of a hand where the script is.
-use Rattle.std.proofs.Common.{◌≡◌, ◌≤◌, List, length, count_by, reverse, sym, ap, ◌∙◌}
+use Rattle.std.proofs.Common.{◌≡◌, ◌≤◌, List, length, count_by, reverse, sym, ap, ◌∙◌, arith}
 use Rattle.list_laws.proofs.Reversed.{count_reversed}
 use Rattle.play_event.specs.Past.{moves_of}
 use Rattle.play_event.specs.Said.{Said}
