@@ -6,3 +6,4 @@ pub mod CardRanges
 pub mod EventRanges
 pub mod OtherCounts
 pub mod SameMoves
+pub mod SuitedRules

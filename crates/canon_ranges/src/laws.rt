@@ -1,13 +1,16 @@
-// What the events of a canonical script may be, and how many there are. The functions do nothing: each contract is a law.
+// What the events of a canonical script may be, how many there are, and what rules a play suits. The functions do nothing: each
+// contract is a law.
 ghost use Rattle.std.specs.Prelude.{◌≡◌, ◌≤◌, List, count_by};
 ghost use Rattle.std.specs.List.{AllByRecursion};
 ghost use Rattle.canonical_play.specs.CanonScript.{canon_of};
 ghost use Rattle.canonical_play.specs.PlayedScript.{IsPlayed, IsWithinLimits, is_move};
+ghost use Rattle.canonical_play.specs.TraceCore.{core_after};
 ghost use Rattle.canonical_play.specs.declared.limits.TheConstants.{MOST_MOVES};
 ghost use Rattle.play_event.specs.Said.{Said};
 ghost use Rattle.play_event.specs.ValidSetup.{IsValid};
 ghost use Rattle.play_event.specs.declared.setup.Rules.{Rules};
 ghost use Rattle.play_event.specs.declared.setup.Setup.{Setup};
+ghost use Rattle.canon_laws.specs.OtherRules.{SuitsRules};
 ghost use Rattle.canon_ranges.specs.Ranges.{IsInRange};
 
 /// Each event of the canonical script of a script that is played to its end lies in its range, and the canonical script is
@@ -26,4 +29,11 @@ pub fn law_of_move_counts()
     ensures { (setup : Setup) (rules : Rules) (script : List Said)
         → IsPlayed setup rules script
         → count_by is_move (canon_of setup script) ≡ count_by is_move script }
+{}
+
+/// A play that is legal under some rules suits them: no raise is closed where full raises alone reopen the betting, no fold is
+/// free where folds are not, and raises are within the caps.
+pub fn law_of_own_rules()
+    ensures { (setup : Setup) (rules : Rules) (script : List Said)
+        → IsPlayed setup rules script → SuitsRules rules (core_after setup script) }
 {}
