@@ -60,7 +60,7 @@ fits_target reopen setup moves street seat target small big =
     ap (λ (t : ℕ). is_legal_target reopen setup moves street seat t) same ∙ greatest_is_legal reopen setup moves street seat
 
 -- what is open and goes to a legal target is not closed
-open_both : (open legal : Bool) → open ≡ true → legal ≡ true → (not open || not legal) ≡ false
+open_both : (reopened legal : Bool) → reopened ≡ true → legal ≡ true → (not reopened || not legal) ≡ false
 open_both true true is also = refl
 open_both true false is also = false_true also
 open_both false legal is also = false_true is
@@ -96,13 +96,13 @@ module _ (setup : Setup) (rules : Rules) (older : List Move) (street seat : ℕ)
       let late = none.1.1.1.1.1.1.1.1 in
       let may = may_parts (has_able_opponent setup older actor) (nat_lt (price setup older street) (all_in setup older street actor)) (is_within_cap rules.caps older street) (is_reopened rules.reopen setup older street actor) late.0 in
       let legal = legal_by (is_legal_target rules.reopen setup older street actor target) (nat_lt target (greatest_target setup older street actor)) (nat_lt (greatest_target setup older street actor) target) late.1.0 (fits_target rules.reopen setup older street actor target) late.1.1.0 in
-      let open : rules.reopen ≡ reopens.Full → is_closed setup older street actor target ≡ false =
+      let reopened : rules.reopen ≡ reopens.Full → is_closed setup older street actor target ≡ false =
       λ full.
       open_both (is_reopened reopens.Full setup older street actor) (is_legal_target reopens.Full setup older street actor target)
       (sym (ap (λ r. is_reopened r setup older street actor) full) ∙ may.1)
       (sym (ap (λ r. is_legal_target r setup older street actor target) full) ∙ legal) in
       subst (IsSuited rules setup older) (ap moved_of is)
-      (record { folds = λ fold free. false_true fold; caps = λ raise. may.0; reopens = λ raise full. open full })
+      (record { folds = λ fold free. false_true fold; caps = λ raise. may.0; reopens = λ raise full. reopened full })
 
 each_suits : (setup : Setup) (rules : Rules) (placed : List Place) (moves : List Move) → MovesLaw setup rules placed moves → AreSuited rules setup moves
 each_suits setup rules placed [] law = tt
