@@ -8,3 +8,4 @@ pub mod HandAgain
 pub mod OrderAgain
 pub mod FileAgain
 pub mod SoundPlays
+pub mod ReadBack

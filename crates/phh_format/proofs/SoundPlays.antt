@@ -87,7 +87,7 @@ module _ (play : Play) (sound : IsSound play) where
   same_setup = sym sound.trace.same_setup
 
   -- what is written is the canonical script of what was played
-  same_script : canon_of setup script ≡ script_of play.trace
+  pub same_script : canon_of setup script ≡ script_of play.trace
   same_script =
       sym (ap (λ (of : Setup). canonical_script of (core_said play.trace)) sound.trace.same_setup
       ∙ ap (canonical_script setup) sound.trace.core)

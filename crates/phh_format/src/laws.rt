@@ -1,12 +1,16 @@
 //! What was written of plays reads back, proved over the definitions.
-ghost use Rattle.std.specs.Prelude.{◌≡◌, ℕ, ◌≤◌, List, length, sum_by, Ok};
+ghost use Rattle.std.specs.Prelude.{◌≡◌, ℕ, ◌≤◌, List, length, map, sum_by, None, Ok};
 ghost use Rattle.std.specs.List.{AllByRecursion};
 ghost use Rattle.first_fault.specs.declared.limits.TheConstants.{MOST_FILE_MOVES, MOST_HANDS};
+ghost use Rattle.hand_records.specs.declared.record.Record.{Record};
 ghost use Rattle.hand_records.specs.declared.trace.Play.{Play};
 ghost use Rattle.hand_canon.specs.Sound.{IsSound};
+ghost use Rattle.phh_reading.specs.Hand.{plain};
 ghost use Rattle.phh_reading.specs.Reading.{reading};
 ghost use Rattle.phh_table.specs.Document.{Spells};
+ghost use Rattle.phh_table.specs.Spelled.{first_refusal};
 ghost use Rattle.phh_format.specs.Again.{hands_again, moves_played};
+ghost use Rattle.phh_format.specs.ReadBack.{AreAgain, KeepsNotes};
 
 /// Bytes that spell sound plays, no more of them and of their moves than a file may have, read as the hands of these plays:
 /// with their setups, rakes and finishing stacks, their canonical scripts, and their kept notes. The function does nothing:
@@ -16,4 +20,16 @@ pub fn law_of_reading_again()
         → length plays ≤ MOST_HANDS → AllByRecursion IsSound plays
         → sum_by moves_played plays ≤ MOST_FILE_MOVES
         → Spells plays bytes → reading bytes ≡ Ok (hands_again 0 plays) }
+{}
+
+/// What bytes say that spell sound plays, no more of them and of their moves than a file may have: as many hands, which are
+/// legal under the rules of hand histories, have the whole traces of the plays, state nothing that differs, and have all notes.
+/// It holds where the format spells the plays: no raise is closed. The function does nothing: its contract is a law.
+pub fn law_of_reading_back()
+    ensures { (plays : List Play) (bytes : List ℕ)
+        → length plays ≤ MOST_HANDS → AllByRecursion IsSound plays
+        → sum_by moves_played plays ≤ MOST_FILE_MOVES
+        → first_refusal plays ≡ None → Spells plays bytes
+        → (hands : List Record) → reading bytes ≡ Ok (map plain hands)
+        → AreAgain KeepsNotes 0 plays hands }
 {}
