@@ -9,3 +9,4 @@ pub mod OrderAgain
 pub mod FileAgain
 pub mod SoundPlays
 pub mod ReadBack
+pub mod Sharpness

@@ -1,16 +1,18 @@
 //! What was written of plays reads back, proved over the definitions.
-ghost use Rattle.std.specs.Prelude.{◌≡◌, ℕ, ◌≤◌, List, length, map, sum_by, None, Ok};
+ghost use Rattle.std.specs.Prelude.{◌≡◌, ℕ, ◌≤◌, List, length, map, sum_by, None, Ok, Some};
 ghost use Rattle.std.specs.List.{AllByRecursion};
 ghost use Rattle.first_fault.specs.declared.limits.TheConstants.{MOST_FILE_MOVES, MOST_HANDS};
 ghost use Rattle.hand_records.specs.declared.record.Record.{Record};
 ghost use Rattle.hand_records.specs.declared.trace.Play.{Play};
+ghost use Rattle.hand_records.specs.declared.writing.Unspelled.{Unspelled};
 ghost use Rattle.hand_canon.specs.Sound.{IsSound};
 ghost use Rattle.phh_reading.specs.Hand.{plain};
 ghost use Rattle.phh_reading.specs.Reading.{reading};
 ghost use Rattle.phh_table.specs.Document.{Spells};
-ghost use Rattle.phh_table.specs.Spelled.{first_refusal};
+ghost use Rattle.phh_table.specs.Spelled.{first_refusal, unspelled};
 ghost use Rattle.phh_format.specs.Again.{hands_again, moves_played};
 ghost use Rattle.phh_format.specs.ReadBack.{AreAgain, KeepsNotes};
+ghost use Rattle.phh_format.specs.Sharp.{IsOther};
 
 /// Bytes that spell sound plays, no more of them and of their moves than a file may have, read as the hands of these plays:
 /// with their setups, rakes and finishing stacks, their canonical scripts, and their kept notes. The function does nothing:
@@ -32,4 +34,12 @@ pub fn law_of_reading_back()
         → first_refusal plays ≡ None → Spells plays bytes
         → (hands : List Record) → reading bytes ≡ Ok (map plain hands)
         → AreAgain KeepsNotes 0 plays hands }
+{}
+
+/// A play that the format does not spell is written in no bytes: no hand that any bytes say is legal with the trace of the play.
+/// The function does nothing: its contract is a law.
+pub fn law_of_sharpness()
+    ensures { (play : Play) (fact : Unspelled) → unspelled play ≡ Some fact
+        → (bytes : List ℕ) (hands : List Record) → reading bytes ≡ Ok (map plain hands)
+        → AllByRecursion (IsOther play) hands }
 {}

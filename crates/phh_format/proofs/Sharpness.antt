@@ -1,0 +1,126 @@
+-- A play that the format does not spell is that of no hand that bytes say: each such hand is under the rules of hand histories,
+-- where no raise of a legal hand is closed.
+use Rattle.std.proofs.Common.{◌≡◌, ℕ, ◌+◌, ◌-◌, nat_lt, Bool, true, false, if◌then◌else◌, List, [], ◌∷◌, ◌++◌, map, Option, Some, None, Result, Ok, Err, IfOk, refl, sym, ap, subst, ◌∙◌}
+use Rattle.std.specs.List.{AllByRecursion, list_any}
+use Rattle.toml.specs.Data.{Members}
+use Rattle.list_laws.proofs.Any.{list_any-map}
+use Rattle.list_laws.proofs.Tests.{false_true}
+use Rattle.first_fault.specs.Reading.{◌>>=◌, thread_from}
+use Rattle.play_event.specs.HistoryRules.{history_rules}
+use Rattle.play_event.specs.Played.{move_said}
+use Rattle.hand_records.specs.SoundRecord.{script_said}
+use Rattle.hand_records.specs.TraceRows.{core_said}
+use Rattle.hand_records.specs.declared.record.Record.{Record}
+use Rattle.hand_records.specs.declared.trace.Play.{Play}
+use Rattle.hand_records.specs.declared.writing.Unspelled.{Unspelled}
+use Rattle.hand_records.specs.declared.writing.Unspelled.TheVariants as facts
+use Rattle.hand_canon.specs.Judged.{IsJudged}
+use Rattle.canon_ranges.proofs.SuitedRules.{suits_own}
+use Rattle.phh_reading.specs.Hand.{PlainHand, hand_said, plain}
+use Rattle.phh_reading.specs.Reading.{Wrong, at_variant, document_of, document_said, hands_of, hands_said, in_hand, numbered_hand, reading, records_said, spelled_fault, those_said}
+use Rattle.phh_reading.specs.declared.fault.HandFault.{HandFault}
+use Rattle.phh_fields.specs.declared.fault.Fault.{Fault}
+use Rattle.phh_fields.specs.declared.fault.What.{What}
+use Rattle.phh_fields.specs.declared.fault.What.TheVariants as whats
+use Rattle.first_fault.specs.declared.limits.Quantity.TheVariants as quantities
+use Rattle.first_fault.specs.declared.limits.TheConstants.{MOST_HANDS}
+use Rattle.phh_table.specs.Spelled.{unspelled}
+use Rattle.phh_format.specs.Sharp.{IsOther}
+
+-- what holds of what follows holds of the whole
+bound : {A B F : Type 0} (P : B → Type 0) (first : Result A F) (next : A → Result B F) → ((a : A) → IfOk (next a) P) → IfOk (first >>= next) P
+bound P (Ok a) next each = each a
+bound P (Err fault) next each = tt
+
+-- a hand under the rules of hand histories
+abbrev IsRuled : PlainHand → Type 0
+IsRuled hand = hand.rules ≡ history_rules
+
+abbrev AreRuled : {S : Type 0} → List PlainHand × S → Type 0
+AreRuled found = AllByRecursion IsRuled found.0
+
+hand_ruled : (file_moves place : ℕ) (members : Members) → IfOk (hand_said file_moves place members) (λ found. IsRuled found.0)
+unfolding hand_said
+hand_ruled file_moves place members =
+    bound _ _ _ (λ setup. bound _ _ _ (λ actions. bound _ _ _ (λ events. bound _ _ _ (λ finish. bound _ _ _ (λ rakes. bound _ _ _ (λ notes. refl))))))
+
+one_ruled : (number : ℕ) (read : Result (PlainHand × ℕ) Fault) → IfOk read (λ found. IsRuled found.0) → IfOk (in_hand number read >>= λ found. Ok (found.0 ∷ [], found.1)) AreRuled
+one_ruled number (Ok found) is = (is, tt)
+one_ruled number (Err fault) is = tt
+
+by_limit : {here : Result (List PlainHand × ℕ) HandFault} (number : ℕ) (what : What) (late : Bool) → IfOk here AreRuled → IfOk (if late then at_variant number what else here) AreRuled
+by_limit number what true is = tt
+by_limit number what false is = is
+
+numbered_ruled : (file_moves number : ℕ) (members : Members) → IfOk (numbered_hand file_moves number members) AreRuled
+unfolding numbered_hand
+numbered_ruled file_moves number members =
+    by_limit number (whats.TooMany quantities.Hands) (nat_lt MOST_HANDS number) (one_ruled number (hand_said file_moves (number - 1) members) (hand_ruled file_moves (number - 1) members))
+
+both_ruled : (some more : List PlainHand) → AllByRecursion IsRuled some → AllByRecursion IsRuled more → AllByRecursion IsRuled (some ++ more)
+both_ruled [] more each others = others
+both_ruled (hand ∷ some) more each others = (each.0, both_ruled some more each.1 others)
+
+then_ruled : (found : List PlainHand × ℕ) (others : Result (List PlainHand × ℕ) HandFault) → AreRuled found → IfOk others AreRuled → IfOk (others >>= λ rest. Ok (found.0 ++ rest.0, rest.1)) AreRuled
+then_ruled found (Ok rest) is all = both_ruled found.0 rest.0 is all
+then_ruled found (Err fault) is all = tt
+
+threaded : (file_moves number : ℕ) (hands : List Members) → IfOk (thread_from numbered_hand file_moves number hands) AreRuled
+unfolding thread_from
+threaded file_moves number [] = tt
+threaded file_moves number (members ∷ rest) = by_first (numbered_hand file_moves number members) (numbered_ruled file_moves number members)
+  where
+    by_first : (first : Result (List PlainHand × ℕ) HandFault) → IfOk first AreRuled → IfOk (first >>= λ found. thread_from numbered_hand found.1 (number + 1) rest >>= λ others. Ok (found.0 ++ others.0, others.1)) AreRuled
+    by_first (Ok found) is = then_ruled found (thread_from numbered_hand found.1 (number + 1) rest) is (threaded found.1 (number + 1) rest)
+    by_first (Err fault) is = tt
+
+records_ruled : (hands : List Members) → IfOk (records_said hands) (AllByRecursion IsRuled)
+records_ruled hands = by_hands (hands_said hands) (threaded 0 1 hands)
+  where
+    by_hands : (found : Result (List PlainHand × ℕ) HandFault) → IfOk found AreRuled → IfOk (found >>= λ them. Ok them.0) (AllByRecursion IsRuled)
+    by_hands (Ok found) is = is
+    by_hands (Err fault) is = tt
+
+spelled_ruled : (found : Result (List PlainHand) HandFault) → IfOk found (AllByRecursion IsRuled) → IfOk (spelled_fault found) (AllByRecursion IsRuled)
+spelled_ruled (Ok hands) is = is
+spelled_ruled (Err fault) is = tt
+
+those_ruled : (hands : Option (List Members)) → IfOk (those_said hands) (AllByRecursion IsRuled)
+those_ruled (Some hands) = records_ruled hands
+those_ruled None = tt
+
+document_ruled : (document : Option Members) → IfOk (document_said document) (AllByRecursion IsRuled)
+document_ruled None = tt
+document_ruled (Some members) = spelled_ruled (those_said (hands_of members)) (those_ruled (hands_of members))
+
+-- each hand that bytes say is under the rules of hand histories
+reading_ruled : (bytes : List ℕ) → IfOk (reading bytes) (AllByRecursion IsRuled)
+unfolding reading
+reading_ruled bytes = document_ruled (document_of bytes)
+
+-- so a legal one has no closed raise
+none_closed : (play : Play) (hand : Record) → hand.rules ≡ history_rules → IsJudged (record { hand = hand; trace = play.trace }) → list_any (λ move. move.closed) play.trace.moves ≡ false
+none_closed play hand ruled judged =
+    let traced = judged.traced in
+    let suits = suits_own hand.setup hand.rules (script_said hand) traced.legal.played in
+    sym (list_any-map (λ move. move.closed) move_said play.trace.moves)
+    ∙ ap (λ core. list_any (λ move. move.closed) core.moves) traced.whole.core
+    ∙ suits.no_closed_raise (ap (λ rules. rules.reopen) ruled)
+
+closed_is : (closed : Bool) (fact : Unspelled) → (if closed then Some facts.ReopenedShort else None) ≡ Some fact → closed ≡ true
+closed_is true fact is = refl
+closed_is false fact is = absurd (cc)
+
+each_other : (play : Play) (fact : Unspelled) → unspelled play ≡ Some fact → (hands : List Record) → AllByRecursion IsRuled (map plain hands) → AllByRecursion (IsOther play) hands
+unfolding unspelled
+each_other play fact is [] ruled = tt
+each_other play fact is (hand ∷ hands) ruled = (
+  λ judged. false_true (sym (none_closed play hand ruled.0 judged) ∙ closed_is (list_any (λ move. move.closed) play.trace.moves) fact is),
+  each_other play fact is hands ruled.1,
+)
+
+-- what the format does not spell, no bytes say
+pub unspelled_unsaid : (play : Play) (fact : Unspelled) → unspelled play ≡ Some fact → (bytes : List ℕ) (hands : List Record) → reading bytes ≡ Ok (map plain hands) → AllByRecursion (IsOther play) hands
+unspelled_unsaid play fact is bytes hands reads =
+    let P : Result (List PlainHand) Wrong → Type 0 = λ read. IfOk read (AllByRecursion IsRuled) in
+    each_other play fact is hands (subst P reads (reading_ruled bytes))
