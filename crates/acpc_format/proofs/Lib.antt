@@ -15,3 +15,17 @@ pub mod SpelledFacts
 pub mod StreetsPlayed
 pub mod SoundReads
 pub mod OneSetup
+pub mod WithoutShows
+pub mod RaiseTotals
+pub mod LetterEvents
+pub mod LetterScript
+pub mod SuitsGame
+pub mod HiddenMucks
+pub mod SetupsSame
+pub mod ValuesAgree
+pub mod HandAgain
+pub mod HandsAgain
+pub mod LogEvents
+pub mod LogPasts
+pub mod GameSetups
+pub mod Sharpness

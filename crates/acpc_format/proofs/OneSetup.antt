@@ -22,7 +22,8 @@ use Rattle.acpc_line.specs.Spelled.{unspelled}
 use Rattle.acpc_reading.specs.RecordView.{IsSetupOf, code_of}
 use Rattle.acpc_format.proofs.SpelledFacts.{HasSetupOf, spelled}
 
-code_is : (no_limit : Bool) (code : Code) → is_code_of no_limit code ≡ true → code ≡ code_of no_limit
+-- the code of a game
+pub code_is : (no_limit : Bool) (code : Code) → is_code_of no_limit code ≡ true → code ≡ code_of no_limit
 code_is true codes.NT is = refl
 code_is false codes.FT is = refl
 code_is false codes.NT is = absurd (cc (is))

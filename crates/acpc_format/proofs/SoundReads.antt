@@ -194,7 +194,7 @@ sound_reads game keep play sound texts none =
       seats = it.setup.seats;
       holes = record {
         two = reads.two;
-        whole = λ seat low high. none_at (is_part_known (core_said play.trace).places) play.trace.setup.stacks.seats seat low high it.whole;
+        whole = λ seat low high. none_at (is_part_known (core_said play.trace).places) play.trace.setup.stacks.seats seat low high it.played.whole;
         no_more = reads.no_more;
       };
       boards = reads.boards;
@@ -203,7 +203,8 @@ sound_reads game keep play sound texts none =
       texts = texts;
     }
 
-some_refused : (number : ℕ) (found : Option Unspelled) (behind : Option WriteRefusal) → refused_at number found behind ≡ None → (found ≡ None) × (behind ≡ None)
+-- plays of which none is refused
+pub some_refused : (number : ℕ) (found : Option Unspelled) (behind : Option WriteRefusal) → refused_at number found behind ≡ None → (found ≡ None) × (behind ≡ None)
 some_refused number None behind none = (refl, none)
 some_refused number (Some fact) behind none = absurd (true≢false (ap is_some none))
 

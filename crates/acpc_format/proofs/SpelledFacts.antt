@@ -12,7 +12,7 @@ use Rattle.hand_records.specs.declared.writing.Unspelled.{Unspelled}
 use Rattle.hand_records.specs.declared.writing.Unspelled.TheVariants as facts
 use Rattle.acpc_game.specs.declared.game.Game.{Game}
 use Rattle.acpc_game.specs.Games.{amounts_in}
-use Rattle.acpc_line.specs.PlayFacts.{is_above_caps, is_free_fold, is_off_unit, is_part_known, play_conditions}
+use Rattle.acpc_line.specs.PlayFacts.{is_above_caps, is_free_fold, is_off_unit, is_open_muck, is_part_known, play_conditions}
 use Rattle.acpc_line.specs.SetupFacts.{has_sizes_of, is_code_of, setup_conditions}
 use Rattle.acpc_line.specs.Spelled.{first_where, or_else, unspelled, unspelled_note}
 
@@ -60,22 +60,31 @@ has_setup game setup none =
       rakes = seven.0;
     }
 
--- no seat has one hole card known and another not
-has_whole : (game : Game) (trace : Trace) → first_where (play_conditions game trace) ≡ None → list_any (is_part_known (core_said trace).places) (seats_of trace.setup.stacks.seats) ≡ false
-has_whole game trace none =
+-- what the play has, fact by fact
+pub record HasPlayOf (game : Game) (trace : Trace) : Type 0 where
+  pub folds : list_any is_free_fold trace.moves ≡ false
+  pub caps : is_above_caps game.caps trace.moves ≡ false
+  pub units : not game.no_limit && list_any is_off_unit trace.moves ≡ false
+  pub whole : list_any (is_part_known (core_said trace).places) (seats_of trace.setup.stacks.seats) ≡ false
+  pub mucks : list_any (is_open_muck (core_said trace).places trace.mucked) (seats_of trace.setup.stacks.seats) ≡ false
+
+has_play : (game : Game) (trace : Trace) → first_where (play_conditions game trace) ≡ None → HasPlayOf game trace
+has_play game trace none =
     let one = where_none (list_any is_free_fold trace.moves) facts.FreeFold _ none in
     let two = where_none (is_above_caps game.caps trace.moves) facts.TooManyRaises _ one.1 in
     let three = where_none (not game.no_limit && list_any is_off_unit trace.moves) facts.RaiseTarget _ two.1 in
-    (where_none (list_any (is_part_known (core_said trace).places) (seats_of trace.setup.stacks.seats)) facts.PartCards _ three.1).0
+    let four = where_none (list_any (is_part_known (core_said trace).places) (seats_of trace.setup.stacks.seats)) facts.PartCards _ three.1 in
+    let five = where_none (list_any (is_open_muck (core_said trace).places trace.mucked) (seats_of trace.setup.stacks.seats)) facts.Muck _ four.1 in
+    record { folds = one.0; caps = two.0; units = three.0; whole = four.0; mucks = five.0 }
 
 -- what a play has that is spelled
 pub record IsSpelled (game : Game) (play : Play) : Type 0 where
   pub setup : HasSetupOf game play.trace.setup
-  pub whole : list_any (is_part_known (core_said play.trace).places) (seats_of play.trace.setup.stacks.seats) ≡ false
+  pub played : HasPlayOf game play.trace
 
 pub spelled : (game : Game) (keep : Keep) (play : Play) → unspelled game keep play ≡ None → IsSpelled game play
 unfolding unspelled
 spelled game keep play none =
     let first = or_none (first_where (setup_conditions game play.trace.setup)) (or_else (first_where (play_conditions game play.trace)) (unspelled_note keep play.hand.notes)) none in
     let second = or_none (first_where (play_conditions game play.trace)) (unspelled_note keep play.hand.notes) first.1 in
-    record { setup = has_setup game play.trace.setup first.0; whole = has_whole game play.trace second.0 }
+    record { setup = has_setup game play.trace.setup first.0; played = has_play game play.trace second.0 }

@@ -1,18 +1,22 @@
-//! What was written of plays reads back, proved over the definitions.
-ghost use Rattle.std.specs.Prelude.{◌≡◌, ◌≤◌, List, None, Ok, length, sum_by};
+//! What was written of plays reads back as the hands of these plays, proved over the definitions.
+ghost use Rattle.std.specs.Prelude.{◌≡◌, ◌≤◌, ℕ, true, List, None, Ok, Some, length, map, sum_by};
 ghost use Rattle.std.specs.List.{AllByRecursion};
 ghost use Rattle.play_event.specs.ValidSetup.{IsValid};
 ghost use Rattle.hand_canon.specs.Sound.{IsSound};
 ghost use Rattle.first_fault.specs.declared.limits.TheConstants.{MOST_FILE_MOVES, MOST_HANDS};
+ghost use Rattle.hand_records.specs.declared.record.Record.{Record};
 ghost use Rattle.hand_records.specs.declared.trace.Play.{Play};
 ghost use Rattle.hand_records.specs.declared.writing.Keep.{Keep};
+ghost use Rattle.hand_records.specs.declared.writing.Unspelled.{Unspelled};
 ghost use Rattle.acpc_game.specs.declared.game.Game.{Game as AnyGame};
 ghost use Rattle.acpc_line.specs.Line.{log_text};
 ghost use Rattle.acpc_line.specs.Spelled.{first_refusal, unspelled};
 ghost use Rattle.acpc_line.specs.Texts.{HasTexts};
 ghost use Rattle.acpc_reading.specs.Logs.{reading};
-ghost use Rattle.acpc_reading.specs.RecordView.{IsSetupOf};
+ghost use Rattle.acpc_reading.specs.RecordView.{IsOfGame, IsSetupOf, record_said};
 ghost use Rattle.acpc_format.specs.Again.{hands_again, moves_written};
+ghost use Rattle.acpc_format.specs.ReadBack.{AreAgain, KeepsNotes};
+ghost use Rattle.acpc_format.specs.Sharp.{IsOther, is_sharp};
 
 /// The lines of sound plays that the logs of a game spell read as the hands of these plays: with their canonical scripts as
 /// letters say them, their values, and their kept notes. The function does nothing: its contract is a law.
@@ -29,4 +33,28 @@ pub fn law_of_one_setup()
     ensures { (game : AnyGame) (keep : Keep) (play : Play)
         → IsValid play.trace.setup → unspelled game keep play ≡ None
         → IsSetupOf game play.trace.setup }
+{}
+
+/// Records of a game that the lines of sound plays say, where the logs of the game spell the plays, are the hands of these
+/// plays again, one by one and as many: each has the setup of its play, is a legal hand under the rules of the game with the
+/// whole trace of the play, states nothing that differs, and has the kept notes. The function does nothing: its contract is
+/// a law.
+pub fn law_of_reading_back()
+    ensures { (game : AnyGame) (keep : Keep) (plays : List Play)
+        → length plays ≤ MOST_HANDS → AllByRecursion IsSound plays → AllByRecursion HasTexts plays
+        → first_refusal game keep plays ≡ None → sum_by moves_written plays ≤ MOST_FILE_MOVES
+        → (records : List Record) → AllByRecursion (IsOfGame game) records
+        → reading game (log_text game.no_limit plays) ≡ Ok (map record_said records)
+        → AreAgain KeepsNotes 0 plays records }
+{}
+
+/// Whatever bytes say records of a game, none of these is a legal hand with the trace of a play of which the logs of the game
+/// do not spell a fact, unless the fact is an odd chip or a note: a line may well have these. The function does nothing: its
+/// contract is a law.
+pub fn law_of_sharpness()
+    ensures { (game : AnyGame) (keep : Keep) (play : Play) (fact : Unspelled)
+        → unspelled game keep play ≡ Some fact → is_sharp fact ≡ true
+        → (bytes : List ℕ) (records : List Record) → AllByRecursion (IsOfGame game) records
+        → reading game bytes ≡ Ok (map record_said records)
+        → AllByRecursion (IsOther play) records }
 {}
