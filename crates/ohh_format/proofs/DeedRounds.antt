@@ -1,0 +1,143 @@
+-- The rounds of a hand that was written, each with its board and what is done in it, and the steps that are read of them.
+use Rattle.std.proofs.Common.{◌≡◌, ℕ, zero, suc, ◌+◌, ◌<◌, ◌≤◌, List, [], ◌∷◌, ◌++◌, length, map, count_by, Option, Some, None, Result, Ok, refl, sym, ap, ap₂, ◌∙◌, arith, append_assoc}
+use Rattle.std.proofs.lemmas.List.{length-map, map-append}
+use Rattle.serde_json.specs.Data.{Data}
+use Rattle.card_set.specs.declared.card.Slot.{Slot}
+use Rattle.canonical_play.specs.CanonScript.{dealt_slots}
+use Rattle.first_fault.specs.Reading.{◌>>=◌}
+use Rattle.hand_records.specs.TraceRows.{core_said}
+use Rattle.hand_records.specs.declared.trace.Trace.{Trace}
+use Rattle.ohh_members.specs.declared.dialect.Dialect.{Dialect}
+use Rattle.ohh_members.specs.declared.fault.Fault.{Fault}
+use Rattle.ohh_line.specs.declared.action.Street as written_streets
+use Rattle.ohh_line.specs.declared.action.Street.TheVariants as written
+use Rattle.ohh_line.specs.Actions.{PlainAction, deals, moves_written, posts, showings}
+use Rattle.ohh_line.specs.Rounds.{PlainRound, board_round, board_round_on, first_actions, hand_rounds, moves_on, round, showdown_round}
+use Rattle.ohh_line.specs.Tree.{round_tree, round_trees}
+use Rattle.ohh_rounds.specs.declared.street.Street.{Street}
+use Rattle.ohh_rounds.specs.Rounds.{SoFar, added_from, round_said}
+use Rattle.ohh_rounds.specs.Setting.{PlainSetting}
+use Rattle.ohh_rounds.specs.Steps.{PlainStep}
+use Rattle.ohh_format.proofs.Deeds.{Deed, action_of, deal_deeds, deals_are, move_deeds, moves_are, post_deeds, posts_are, showing_deeds, showings_are}
+use Rattle.ohh_format.proofs.RoundsAgain.{FitsRound, round_read, street_of, with_board}
+use Rattle.ohh_format.proofs.StepsAgain.{steps_of}
+use Rattle.play_event.specs.Seats.{all_seats}
+
+-- a round: its street, the cards that it deals to the board, and what is done
+pub record DeedRound : Type 0 where
+  pub street : written_streets.Street
+  pub cards : List Slot
+  pub deeds : List Deed
+
+-- the round as it is written
+abbrev pub round_of : DeedRound → PlainRound
+round_of one = round one.street one.cards (map action_of one.deeds)
+
+abbrev pub deed_round : written_streets.Street → List Slot → List Deed → DeedRound
+deed_round street cards deeds = record { street = street; cards = cards; deeds = deeds }
+
+-- ---- what is read of rounds
+
+-- the steps after rounds, of which the first has this index and the first action this number
+abbrev pub steps_after : Dialect → List PlainStep → ℕ → ℕ → List DeedRound → List PlainStep
+steps_after dialect earlier n index [] = earlier
+steps_after dialect earlier n index (one ∷ rest) =
+    steps_after dialect (with_board earlier one.cards ++ steps_of dialect n index 0 one.deeds) (n + length one.deeds) (index + 1) rest
+
+-- the last street of rounds
+abbrev pub last_street : Option Street → List DeedRound → Option Street
+last_street last [] = last
+last_street last (one ∷ rest) = last_street (Some (street_of one.street)) rest
+
+module _ (setting : PlainSetting) where
+  -- each round fits, after those before it
+  abbrev pub FitRounds : Option Street → List PlainStep → ℕ → ℕ → List DeedRound → Type 0
+  FitRounds last earlier n index [] = Unit {0}
+  FitRounds last earlier n index (one ∷ rest) =
+      FitsRound setting last earlier n index one.street one.cards one.deeds
+      × FitRounds (Some (street_of one.street)) (with_board earlier one.cards ++ steps_of setting.dialect n index 0 one.deeds) (n + length one.deeds) (index + 1) rest
+
+  so_far : Option Street → List PlainStep → Result SoFar Fault
+  so_far last steps = Ok (last, steps)
+
+  pub rounds_read : (last : Option Street) (earlier : List PlainStep) (n m index : ℕ) (rounds : List DeedRound) → FitRounds last earlier n index rounds
+      → added_from (round_said setting) (last, earlier) index (round_trees m (map round_of rounds)) ≡ Ok (last_street last rounds, steps_after setting.dialect earlier n index rounds)
+  unfolding added_from
+  rounds_read last earlier n m index [] fit = refl
+  rounds_read last earlier n m index (one ∷ rest) fit =
+      rw (round_read setting last earlier n m index one.street one.cards one.deeds fit.0)
+      (rounds_read (Some (street_of one.street)) (with_board earlier one.cards ++ steps_of setting.dialect n index 0 one.deeds) (n + length one.deeds) (m + length (map action_of one.deeds)) (index + 1) rest fit.1)
+
+-- ---- the rounds of a hand
+
+-- what is done in the moves of a street
+abbrev pub deeds_on : Dialect → Trace → ℕ → List Deed
+deeds_on dialect trace number = move_deeds dialect trace.setup number [] (core_said trace).moves
+
+-- what is done in the first round
+abbrev pub first_deeds : Dialect → Trace → List Deed
+first_deeds dialect trace = post_deeds trace.setup ++ (deal_deeds (core_said trace).places (all_seats trace.setup) ++ deeds_on dialect trace 1)
+
+-- the round of a street whose cards were dealt to the board
+abbrev pub board_deeds : written_streets.Street → List Slot → List Deed → List DeedRound
+board_deeds street [] deeds = []
+board_deeds street (slot ∷ rest) deeds = deed_round street (slot ∷ rest) deeds ∷ []
+
+abbrev pub showdown_deeds : List Deed → List DeedRound
+showdown_deeds [] = []
+showdown_deeds (deed ∷ rest) = deed_round written.Showdown [] (deed ∷ rest) ∷ []
+
+abbrev pub board_deeds_on : Dialect → Trace → written_streets.Street → ℕ → List DeedRound
+board_deeds_on dialect trace street number = board_deeds street (dealt_slots (core_said trace).places None number) (deeds_on dialect trace number)
+
+abbrev pub later_rounds : Dialect → Trace → List DeedRound
+later_rounds dialect trace =
+    board_deeds_on dialect trace written.Flop 2
+    ++ (board_deeds_on dialect trace written.Turn 3
+    ++ (board_deeds_on dialect trace written.River 4
+    ++ showdown_deeds (showing_deeds trace)))
+
+abbrev pub rounds_of : Dialect → Trace → List DeedRound
+rounds_of dialect trace = deed_round written.Preflop [] (first_deeds dialect trace) ∷ later_rounds dialect trace
+
+board_is : (street : written_streets.Street) (cards : List Slot) (actions : List PlainAction) (deeds : List Deed) → actions ≡ map action_of deeds → board_round street cards actions ≡ map round_of (board_deeds street cards deeds)
+board_is street [] actions deeds is = refl
+board_is street (slot ∷ rest) actions deeds is = ap (λ (l : List PlainAction). round street (slot ∷ rest) l ∷ []) is
+
+showdown_is : (actions : List PlainAction) (deeds : List Deed) → actions ≡ map action_of deeds → showdown_round actions ≡ map round_of (showdown_deeds deeds)
+showdown_is actions deeds is = ap showdown_round is ∙ by_deeds deeds
+  where
+    by_deeds : (deeds : List Deed) → showdown_round (map action_of deeds) ≡ map round_of (showdown_deeds deeds)
+    by_deeds [] = refl
+    by_deeds (deed ∷ rest) = refl
+
+both_rounds : (some more : List PlainRound) (xs ys : List DeedRound) → some ≡ map round_of xs → more ≡ map round_of ys → some ++ more ≡ map round_of (xs ++ ys)
+both_rounds some more xs ys one other = ap₂ (λ (a b : List PlainRound). a ++ b) one other ∙ sym (map-append round_of xs ys)
+
+module _ (dialect : Dialect) (trace : Trace) where
+  moves_here : (number : ℕ) → moves_on dialect trace number ≡ map action_of (deeds_on dialect trace number)
+  moves_here number = moves_are dialect trace.setup number [] (core_said trace).moves
+
+  first_is : first_actions dialect trace ≡ map action_of (first_deeds dialect trace)
+  first_is =
+      let placed = (core_said trace).places in
+      let holes : List Deed = deal_deeds placed (all_seats trace.setup) in
+      ap₂ (λ (a b : List PlainAction). a ++ b) (posts_are trace.setup)
+      (ap₂ (λ (a b : List PlainAction). a ++ b) (deals_are trace.setup placed) (moves_here 1) ∙ sym (map-append action_of holes (deeds_on dialect trace 1)))
+      ∙ sym (map-append action_of (post_deeds trace.setup) (holes ++ deeds_on dialect trace 1))
+
+  board_here : (street : written_streets.Street) (number : ℕ) → board_round_on dialect trace street number ≡ map round_of (board_deeds_on dialect trace street number)
+  board_here street number = board_is street (dealt_slots (core_said trace).places None number) (moves_on dialect trace number) (deeds_on dialect trace number) (moves_here number)
+
+  pub rounds_are : hand_rounds dialect trace ≡ map round_of (rounds_of dialect trace)
+  unfolding hand_rounds
+  rounds_are =
+      let showdown : List DeedRound = showdown_deeds (showing_deeds trace) in
+      let river : List DeedRound = board_deeds_on dialect trace written.River 4 in
+      let turn : List DeedRound = board_deeds_on dialect trace written.Turn 3 in
+      let flop : List DeedRound = board_deeds_on dialect trace written.Flop 2 in
+      let last = showdown_is (showings trace) (showing_deeds trace) (showings_are trace) in
+      let fourth = both_rounds (board_round_on dialect trace written.River 4) (showdown_round (showings trace)) river showdown (board_here written.River 4) last in
+      let third = both_rounds (board_round_on dialect trace written.Turn 3) (board_round_on dialect trace written.River 4 ++ showdown_round (showings trace)) turn (river ++ showdown) (board_here written.Turn 3) fourth in
+      let second = both_rounds (board_round_on dialect trace written.Flop 2) (board_round_on dialect trace written.Turn 3 ++ (board_round_on dialect trace written.River 4 ++ showdown_round (showings trace))) flop (turn ++ (river ++ showdown)) (board_here written.Flop 2) third in
+      ap₂ (λ (actions : List PlainAction) (rest : List PlainRound). round written.Preflop [] actions ∷ rest) first_is second

@@ -1,0 +1,34 @@
+-- The game and the blinds of a tree that was written are those of the setup.
+use Rattle.std.proofs.Common.{◌≡◌, ℕ, ◌+◌, ◌*◌, ◌-◌, ◌≤◌, ◌<◌, Bool, true, false, cond, ◌==◌, ◌&&◌, ◌||◌, nat_le, nat_lt, true≢false, List, [], ◌∷◌, map, max, Option, Some, None, Result, Ok, Err, refl, sym, ap, ◌∙◌, arith}
+use Rattle.std.proofs.lemmas.Bool.{and_parts, le-leb, le-ltb, ltb-true, leb-true}
+use Rattle.serde_json.specs.Data.{object}
+use Rattle.chip_ledger.specs.SeatRow.{amount_of}
+use Rattle.chip_ledger.specs.declared.numbers.TheConstants.{MOST_CHIPS}
+use Rattle.play_event.specs.declared.code.Code.{Code}
+use Rattle.play_event.specs.declared.code.Code.TheVariants as games
+use Rattle.hand_records.specs.declared.notes.Notes.{Notes}
+use Rattle.hand_records.specs.declared.trace.Trace.{Trace}
+use Rattle.first_fault.specs.Reading.{◌>>=◌}
+use Rattle.ohh_members.specs.declared.dialect.Dialect.{Dialect}
+use Rattle.ohh_members.specs.Game.{game_named, game_said}
+use Rattle.ohh_members.specs.Values.{needed, object_said, text_said}
+use Rattle.ohh_line.specs.Games.{bet_word, game_word, is_spelled_game}
+use Rattle.ohh_line.specs.Tree.{hand_members}
+
+game_words_again : (code : Code) → is_spelled_game code ≡ true → game_named (game_word code) (bet_word code) ≡ Some code
+game_words_again games.FT is = refl
+game_words_again games.NT is = refl
+game_words_again games.PO is = refl
+game_words_again games.FO8 is = refl
+game_words_again games.NS is = absurd (true≢false (sym is))
+game_words_again games.F7S is = absurd (true≢false (sym is))
+game_words_again games.F7S8 is = absurd (true≢false (sym is))
+game_words_again games.FR is = absurd (true≢false (sym is))
+game_words_again games.N2L1D is = absurd (true≢false (sym is))
+game_words_again games.F2L3D is = absurd (true≢false (sym is))
+game_words_again games.FB is = absurd (true≢false (sym is))
+
+-- the game is read again
+pub game_again : (dialect : Dialect) (place : ℕ) (trace : Trace) (notes : Notes) → is_spelled_game trace.setup.code ≡ true → game_said (object (hand_members dialect place trace notes)) ≡ Ok trace.setup.code
+unfolding game_said needed text_said object_said
+game_again dialect place trace notes is = rw (game_words_again trace.setup.code is) refl

@@ -1,0 +1,133 @@
+-- The moment of a hand that was written reads as that moment.
+use Rattle.std.proofs.Common.{◌≡◌, ℕ, zero, suc, ◌+◌, ◌-◌, ◌*◌, ◌/◌, ◌%◌, ◌^◌, ◌<◌, ◌≤◌, ◌==◌, Bool, true, false, ◌&&◌, nat_le, nat_lt, cond, List, [], ◌∷◌, ◌++◌, codes, length, take, drop, replicate, Option, Some, None, Result, Ok, refl, sym, ap, ap₂, ◌∙◌, arith}
+use Rattle.std.specs.Char.{is_digit, digit_value}
+use Rattle.std.specs.List.{list_all, prefix_len}
+use Rattle.std.specs.Str.Parse.{digits_value, digits_value_after}
+use Rattle.std.proofs.lemmas.Bool.{and_parts, eqb-true, le-leb, lt-ltb}
+use Rattle.std.proofs.lemmas.Grind.{pow_more}
+use Rattle.std.proofs.lemmas.List.{append-nil, length-append}
+use Rattle.std.proofs.lemmas.List.Folds.{list_all-append}
+use Rattle.first_fault.specs.Digits.{are_digits}
+use Rattle.first_fault.specs.Reading.{◌>>=◌}
+use Rattle.hand_records.specs.AllowedNotes.{IsDayOf, IsTime, IsWithin, days_in_month}
+use Rattle.hand_records.specs.declared.notes.Clock.{Clock}
+use Rattle.ohh_facts.specs.declared.moment.Moment as read
+use Rattle.ohh_facts.specs.Moments.{clock_said, day_said, digits_in_front, digits_said, fraction_of, fraction_said, moment_in, nine_of, parts_said, zoned}
+use Rattle.ohh_line.specs.declared.moment.Moment.{Moment}
+use Rattle.ohh_line.specs.Moment.{by_digits, fraction_text, moment_text, time_text}
+
+-- ---- digits
+
+digit_is : (x : ℕ) → x < 10 → digit_value (48 + x) ≡ x
+digit_is x small = grind (arith, small)
+
+value_more : (before : ℕ) (digits : List ℕ) (digit : ℕ) → digits_value_after 10 before (digits ++ digit ∷ []) ≡ digits_value_after 10 before digits * 10 + digit_value digit
+value_more before [] digit = omega arith
+value_more before (first ∷ digits) digit = value_more (before * 10 + digit_value first) digits digit
+
+digits_count : (count n : ℕ) → length (by_digits count n) ≡ count
+digits_count zero n = refl
+digits_count (suc count) n = length-append (by_digits count (n / 10)) ((48 + n % 10) ∷ []) ∙ ap (λ k. k + 1) (digits_count count (n / 10)) ∙ omega arith
+
+digit_good : (n : ℕ) → is_digit (48 + n % 10) 10 ≡ true
+digit_good n = let small : n % 10 < 10 = omega arith in lt-ltb (digit_value (48 + n % 10)) 10 (omega (arith, digit_is (n % 10) small))
+
+all_digits : (count n : ℕ) → list_all (λ sign. is_digit sign 10) (by_digits count n) ≡ true
+all_digits zero n = refl
+all_digits (suc count) n =
+    list_all-append (λ sign. is_digit sign 10) (by_digits count (n / 10)) ((48 + n % 10) ∷ [])
+    ∙ rw (all_digits count (n / 10), digit_good n) refl
+
+-- the number that is written by so many digits
+value_again : (count n : ℕ) → n < 10 ^ count → digits_value 10 (by_digits count n) ≡ n
+value_again zero n small = omega (arith, small)
+value_again (suc count) n small =
+    let power : 10 ^ suc count ≡ 10 ^ count * 10 = ap (λ (k : ℕ). 10 ^ k) (omega arith) ∙ pow_more 10 count in
+    let low : n / 10 < 10 ^ count = omega (arith, small, power) in
+    let last : n % 10 < 10 = omega arith in
+    let digit = digit_is (n % 10) last in
+    value_more 0 (by_digits count (n / 10)) (48 + n % 10) ∙ omega (arith, value_again count (n / 10) low, digit)
+
+digits_again : (least most count n : ℕ) → 1 ≤ count → n < 10 ^ count → least ≤ n → n ≤ most → digits_said least most (by_digits count n) ≡ Ok n
+unfolding digits_said are_digits
+digits_again least most count n some small low high =
+    let count_is = digits_count count n in
+    rw (
+      lt-ltb 0 (length (by_digits count n)) (omega (arith, count_is, some)),
+      all_digits count n,
+      value_again count n small,
+      le-leb least n low,
+      le-leb n most high,
+    ) refl
+
+in_front : (digits rest : List ℕ) → list_all (λ sign. is_digit sign 10) digits ≡ true → digits_in_front (digits ++ rest) ≡ length digits + digits_in_front rest
+in_front [] rest all = omega arith
+in_front (digit ∷ digits) rest all =
+    let parts = and_parts (is_digit digit 10) (list_all (λ sign. is_digit sign 10) digits) all in
+    rw parts.0 (omega (arith, in_front digits rest parts.1))
+
+take_front : (digits rest : List ℕ) → take (length digits) (digits ++ rest) ≡ digits
+take_front [] rest = refl
+take_front (digit ∷ digits) rest = ap (λ (l : List ℕ). digit ∷ l) (take_front digits rest)
+
+-- ---- behind the seconds
+
+nine_again : (nano : ℕ) → nano ≤ 999999999 → fraction_of (digits_in_front (by_digits 9 nano ++ codes "Z")) (by_digits 9 nano ++ codes "Z") ≡ Ok nano
+unfolding fraction_of zoned
+nine_again nano few =
+    let nine : length (by_digits 9 nano) ≡ 9 = digits_count 9 nano in
+    let found : digits_in_front (by_digits 9 nano ++ codes "Z") ≡ 9 = in_front (by_digits 9 nano) (codes "Z") (all_digits 9 nano) ∙ ap (λ n. n + 0) nine in
+    let front : take 9 (by_digits 9 nano ++ codes "Z") ≡ by_digits 9 nano = ap (λ n. take n (by_digits 9 nano ++ codes "Z")) (sym nine) ∙ take_front (by_digits 9 nano) (codes "Z") in
+    let whole : nine_of (by_digits 9 nano) ≡ by_digits 9 nano = ap (λ n. by_digits 9 nano ++ replicate (9 - n) 48) nine ∙ append-nil (by_digits 9 nano) in
+    rw (found, front, whole, digits_again 0 999999999 9 nano (omega arith) (omega (arith, few)) (omega arith) few) refl
+
+fraction_again : (nano : ℕ) → nano ≤ 999999999 → (none : Bool) → (nano == 0) ≡ none → fraction_said (cond none [] (codes "." ++ by_digits 9 nano) ++ codes "Z") ≡ Ok nano
+unfolding fraction_said zoned
+fraction_again nano few true is = ap (λ (n : ℕ). Ok n) (sym (eqb-true nano 0 is))
+fraction_again nano few false is = nine_again nano few
+
+-- ---- the whole text
+
+-- a moment of the calendar
+pub record IsGood (moment : Moment) : Type 0 where
+  pub year : IsWithin 1 9999 moment.year
+  pub month : IsWithin 1 12 moment.month
+  pub day : IsWithin 1 31 moment.day
+  pub date : IsDayOf moment.year moment.month moment.day
+  pub time : IsTime moment.time
+
+-- the moment as it is read
+abbrev pub moment_read : Moment → read.Moment
+moment_read moment = record { day = record { year = moment.year; month = moment.month; day = moment.day }; time = moment.time }
+
+module _ (moment : Moment) (is : IsGood moment) where
+  abbrev text : List ℕ
+  text = moment_text moment
+
+  day_again : day_said text ≡ Ok (record { year = moment.year; month = moment.month; day = moment.day })
+  unfolding day_said
+  day_again =
+      rw (
+        digits_again 1 9999 4 moment.year (omega arith) (omega (arith, is.year.1)) is.year.0 is.year.1,
+        digits_again 1 12 2 moment.month (omega arith) (omega (arith, is.month.1)) is.month.0 is.month.1,
+        digits_again 1 31 2 moment.day (omega arith) (omega (arith, is.day.1)) is.day.0 is.day.1,
+        le-leb moment.day (days_in_month moment.year moment.month) is.date,
+      ) refl
+
+  clock_again : clock_said moment.time.nano text ≡ Ok moment.time
+  unfolding clock_said
+  clock_again =
+      rw (
+        digits_again 0 23 2 moment.time.hour (omega arith) (omega (arith, is.time.hour)) (omega arith) is.time.hour,
+        digits_again 0 59 2 moment.time.minute (omega arith) (omega (arith, is.time.minute)) (omega arith) is.time.minute,
+        digits_again 0 59 2 moment.time.second (omega arith) (omega (arith, is.time.second)) (omega arith) is.time.second,
+      ) refl
+
+  behind_again : fraction_said (drop 19 text) ≡ Ok moment.time.nano
+  behind_again = fraction_again moment.time.nano is.time.nano (moment.time.nano == 0) refl
+
+  pub moment_again : moment_in text ≡ Ok (moment_read moment)
+  unfolding moment_in parts_said
+  moment_again =
+      let long : nat_le 19 (length text) ≡ true = le-leb 19 (length text) (omega arith) in
+      rw (long, day_again, behind_again, clock_again) refl

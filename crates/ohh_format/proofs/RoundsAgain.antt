@@ -1,0 +1,96 @@
+-- Rounds that were written read as the steps of their actions, with the board dealt before them.
+use Rattle.std.proofs.Common.{◌≡◌, ℕ, zero, suc, ◌+◌, ◌<◌, ◌≤◌, ◌==◌, Bool, true, false, not, ◌&&◌, nat_le, cond, List, [], ◌∷◌, ◌++◌, length, map, count_by, Option, Some, None, Result, Ok, refl, sym, ap, ap₂, ◌∙◌, arith, append_assoc, true≢false}
+use Rattle.std.specs.List.{list_any}
+use Rattle.std.proofs.lemmas.Bool.{le-leb, lt-leb, ne_eqb}
+use Rattle.std.proofs.lemmas.List.{append-nil, length-append, length-map}
+use Rattle.serde_json.specs.Data.{Data}
+use Rattle.list_laws.proofs.Counting.{count_by-push}
+use Rattle.card_set.specs.Known.{is_unknown, known_cards}
+use Rattle.card_set.specs.declared.card.Card.{Card}
+use Rattle.card_set.specs.declared.card.Slot.{Slot}
+use Rattle.card_set.specs.declared.card.Slot.TheVariants as slots
+use Rattle.canonical_play.specs.declared.limits.TheConstants.{MOST_OTHER_EVENTS}
+use Rattle.first_fault.specs.Reading.{◌>>=◌}
+use Rattle.play_event.specs.Said as said
+use Rattle.ohh_members.specs.declared.fault.Fault.{Fault}
+use Rattle.ohh_members.specs.declared.fault.RoundMember.TheVariants as members
+use Rattle.ohh_members.specs.Values.{cards_said, field, list_said, listed, needed, object_said, text_said}
+use Rattle.ohh_line.specs.declared.action.Street as written_streets
+use Rattle.ohh_line.specs.declared.action.Street.TheVariants as written
+use Rattle.ohh_line.specs.Rounds.{PlainRound, round}
+use Rattle.ohh_line.specs.Tree.{action_trees, cards_tree, list, round_tree, round_trees, street_text}
+use Rattle.ohh_posts.specs.Table.{seat_count}
+use Rattle.ohh_rounds.specs.declared.street.Street.{Street}
+use Rattle.ohh_rounds.specs.declared.street.Street.TheVariants as streets
+use Rattle.ohh_rounds.specs.Actions.{event_counted}
+use Rattle.ohh_rounds.specs.Rounds.{SoFar, action_added, actions_added, added_from, at_round, board_dealt, board_said, no_cards, opening_said, round_said, street_said}
+use Rattle.ohh_rounds.specs.Setting.{PlainSetting}
+use Rattle.ohh_rounds.specs.Steps.{PlainStep, Happened, is_action, others_in}
+use Rattle.ohh_rounds.specs.Streets.{deals_board, street_after}
+use Rattle.ohh_format.proofs.CardLists.{cards_again, listed_again}
+use Rattle.ohh_format.proofs.Deeds.{Deed, action_of}
+use Rattle.ohh_format.proofs.StepsAgain.{AllTold, actions_read, steps_of}
+
+-- a street as it is read
+abbrev pub street_of : written_streets.Street → Street
+street_of written.Preflop = streets.Preflop
+street_of written.Flop = streets.Flop
+street_of written.Turn = streets.Turn
+street_of written.River = streets.River
+street_of written.Showdown = streets.Showdown
+
+-- the step of a board that was dealt
+abbrev pub board_step : List Slot → PlainStep
+board_step cards = record { number = 0; deed = Happened (said.Board (known_cards cards)) }
+
+-- the steps with those of the board, where it was dealt
+abbrev pub with_board : List PlainStep → List Slot → List PlainStep
+with_board earlier [] = earlier
+with_board earlier (slot ∷ rest) = earlier ++ board_step (slot ∷ rest) ∷ []
+
+all_known : (cards : List Slot) → list_any is_unknown cards ≡ false → length (known_cards cards) ≡ length cards
+all_known [] known = refl
+all_known (slots.Unknown ∷ rest) known = absurd (true≢false known)
+all_known (slots.Known card ∷ rest) known = ap suc (all_known rest known)
+
+module _ (setting : PlainSetting) where
+  -- the cards of a round
+  board_again : (street : Street) (index n : ℕ) (cards : List Slot) (word : written_streets.Street) (deeds : List Deed) → length cards ≤ 7 → list_any is_unknown cards ≡ false → (deals : Bool) → deals_board street ≡ deals → (deals ≡ false → cards ≡ [])
+      → board_said street index (round_tree n (round word cards (map action_of deeds))) ≡ Ok (known_cards cards)
+  unfolding board_said no_cards list_said
+  board_again street index n cards word deeds few known true is none = rw (is, cards_again (at_round index members.Cards) cards few known) refl
+  board_again street index n cards word deeds few known false is none = rw (is, none refl) refl
+
+  dealt_again : (earlier : List PlainStep) (index : ℕ) (cards : List Slot) → list_any is_unknown cards ≡ false → seat_count setting.table + others_in earlier < MOST_OTHER_EVENTS
+      → board_dealt setting earlier index (known_cards cards) ≡ Ok (with_board earlier cards)
+  unfolding board_dealt event_counted
+  dealt_again earlier index [] known room = refl
+  dealt_again earlier index (slots.Unknown ∷ rest) known room = absurd (true≢false known)
+  dealt_again earlier index (slots.Known card ∷ rest) known room = rw (ne_eqb (length (known_cards (slots.Known card ∷ rest))) 0 (λ none. omega (arith, none)), lt-leb MOST_OTHER_EVENTS (seat_count setting.table + others_in earlier) room) refl
+
+  board_counts : (earlier : List PlainStep) (cards : List Slot) → count_by is_action (with_board earlier cards) ≡ count_by is_action earlier
+  board_counts earlier [] = refl
+  board_counts earlier (slot ∷ rest) = omega (arith, count_by-push is_action earlier (board_step (slot ∷ rest)))
+
+  -- what a round has to have after these steps
+  pub record FitsRound (last : Option Street) (earlier : List PlainStep) (n index : ℕ) (street : written_streets.Street) (cards : List Slot) (deeds : List Deed) : Type 0 where
+    pub follows : street_after last (street_text street) ≡ Some (street_of street)
+    pub few : length cards ≤ 7
+    pub known : list_any is_unknown cards ≡ false
+    pub deals : deals_board (street_of street) ≡ false → cards ≡ []
+    pub room : seat_count setting.table + others_in earlier < MOST_OTHER_EVENTS
+    pub numbered : count_by is_action earlier + 1 ≡ n
+    pub told : AllTold setting index n 0 (with_board earlier cards) deeds
+
+  pub round_read : (last : Option Street) (earlier : List PlainStep) (n m index : ℕ) (street : written_streets.Street) (cards : List Slot) (deeds : List Deed)
+      → FitsRound last earlier n index street cards deeds
+      → round_said setting (last, earlier) index (round_tree m (round street cards (map action_of deeds))) ≡ Ok (Some (street_of street), with_board earlier cards ++ steps_of setting.dialect n index 0 deeds)
+  unfolding round_said opening_said street_said object_said needed text_said list_said
+  round_read last earlier n m index street cards deeds fits =
+      rw (
+        fits.follows,
+        board_again (street_of street) index m cards street deeds fits.few fits.known (deals_board (street_of street)) refl fits.deals,
+        dealt_again earlier index cards fits.known fits.room,
+        listed_again (action_trees m (map action_of deeds)),
+        actions_read setting index (with_board earlier cards) n 0 m deeds (omega (arith, board_counts earlier cards, fits.numbered)) fits.told,
+      ) refl

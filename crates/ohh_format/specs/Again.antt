@@ -1,0 +1,140 @@
+-- The hands that are read again of plays that were written: the same setups and rakes, the canonical scripts in the words of the
+-- format, what each seat won and the total of the pots, and the kept notes.
+use Rattle.std.specs.Prelude.{ℕ, ◌+◌, ◌-◌, ◌==◌, Bool, true, false, bytes_eq, if◌then◌else◌, List, [], ◌∷◌, ◌++◌, length, map, slice_index_or, take, Option, Some, None, option_and_then, option_map, codes}
+use Rattle.std.specs.Fmt.{decimal}
+use Rattle.std.specs.List.{flat_map}
+use Rattle.chip_ledger.specs.Seat.{seats_of}
+use Rattle.play_event.specs.declared.event.Spelled.{Spelled}
+use Rattle.play_event.specs.declared.event.Spelled.TheVariants as spelled
+use Rattle.play_event.specs.declared.setup.Setup.{Setup}
+use Rattle.play_event.specs.HistoryRules.{history_rules}
+use Rattle.play_event.specs.Past.{Act, BroughtIn, Called, Folded, Raised}
+use Rattle.play_event.specs.Said as said
+use Rattle.play_event.specs.Said.{Numbered, Said}
+use Rattle.play_event.specs.Seats.{all_seats}
+use Rattle.play_event.specs.Trace.{TracedMove, TracedPlace}
+use Rattle.canonical_play.specs.CanonScript.{deals_said, plain_moves, showdown_said}
+use Rattle.hand_canon.specs.Agreement.{pot_total_of, win_of}
+use Rattle.hand_records.specs.TraceRows.{core_said}
+use Rattle.hand_records.specs.declared.notes.Notes.{Notes}
+use Rattle.hand_records.specs.declared.trace.Play.{Play}
+use Rattle.hand_records.specs.declared.trace.Trace.{Trace}
+use Rattle.ohh_members.specs.declared.dialect.Dialect.{Dialect}
+use Rattle.ohh_members.specs.declared.dialect.Dialect.TheVariants as dialects
+use Rattle.ohh_facts.specs.Notes.{PlainNotes, unless_usual}
+use Rattle.ohh_line.specs.Actions.{has_known, posts}
+use Rattle.ohh_line.specs.Moment.{moment_of}
+use Rattle.ohh_line.specs.Seating.{numbers_spelled}
+use Rattle.ohh_rounds.specs.Steps.{kept_number}
+use Rattle.ohh_reading.specs.Hand.{PlainHand, plain_setup}
+use Rattle.ohh_reading.specs.Reading.{moves_of}
+
+-- ---- moves
+
+-- a raise in a dialect: by the chips that it adds, or by the chips of the street to which it goes
+abbrev pub raise_by_dialect : Dialect → TracedMove → Spelled
+raise_by_dialect dialects.Added move = spelled.Added (move.to - move.from)
+raise_by_dialect dialects.To move = spelled.To move.to
+
+-- a bet by the chips that it adds where nobody had put any on the street, else a raise
+abbrev pub raise_again : Dialect → TracedMove → Spelled
+raise_again dialect move = if move.price == 0 then spelled.Added (move.to - move.from) else raise_by_dialect dialect move
+
+-- A move by its act, as its word says it: a call states the chips that it adds. A bring-in has no word, and no game that is
+-- written has one.
+abbrev pub move_again : Dialect → Act → TracedMove → List Said
+move_again dialect Folded move = said.Fold (Some move.seat) ∷ []
+move_again dialect Called move = said.Call (Some move.seat) (Some (move.to - move.from)) ∷ []
+move_again dialect Raised move = said.Raise (Some move.seat) (raise_again dialect move) ∷ []
+move_again dialect BroughtIn move = []
+
+-- a move, where it is one of a street
+abbrev pub move_on : Dialect → ℕ → TracedMove → List Said
+move_on dialect street move = if move.street == street then move_again dialect move.act move else []
+
+-- the moves of a street, the oldest first
+abbrev pub moves_again : Dialect → List TracedMove → ℕ → List Said
+moves_again dialect moves street = flat_map (move_on dialect street) moves
+
+-- ---- the script
+
+-- one street of the canonical script: its deals, and its moves as their words say them
+abbrev pub street_again : Dialect → Setup → List TracedPlace → List TracedMove → ℕ → List Said
+street_again dialect setup placed moves street = deals_said setup placed street ++ moves_again dialect moves street
+
+-- the canonical script of a game of four streets without draws, the moves as their words say them
+abbrev pub script_again : Dialect → Trace → List Said
+script_again dialect trace =
+    flat_map (street_again dialect trace.setup (core_said trace).places (core_said trace).moves) (1 ∷ 2 ∷ 3 ∷ 4 ∷ [])
+    ++ showdown_said trace.setup (core_said trace).places (plain_moves (core_said trace).moves) (core_said trace).shown
+
+-- an action says the event: the board is dealt by a round, and hole cards of which none is known are not told
+abbrev pub is_told : Said → Bool
+is_told (said.Hole seat slots) = has_known slots
+is_told (said.Board cards) = false
+is_told (said.Fold actor) = true
+is_told (said.Call actor stated) = true
+is_told (said.Raise actor amount) = true
+is_told (said.BringIn actor) = true
+is_told (said.Discard seat slots) = true
+is_told (said.Show seat cards) = true
+is_told (said.Muck seat) = true
+
+-- events with the numbers of their actions, of which the first has this number; what no action says has 0
+abbrev pub numbered_from : ℕ → List Said → List Numbered
+numbered_from n [] = []
+numbered_from n (event ∷ rest) =
+    if is_told event then (kept_number n, event) ∷ numbered_from (n + 1) rest else (0, event) ∷ numbered_from n rest
+
+-- ---- notes
+
+-- a label of a hand at a place of its file, from 0; a label that is that place is none
+abbrev pub kept_label : ℕ → Option (List ℕ) → Option (List ℕ)
+kept_label place None = None
+kept_label place (Some text) = if bytes_eq text (decimal place) then None else Some text
+
+-- The kept notes of so many seats, at a place of the file: numbers of seats that go round the table, and a moment of which all
+-- is said, in the zone UTC.
+abbrev pub notes_again : ℕ → ℕ → Notes → PlainNotes
+notes_again place count notes =
+    record {
+      names = map (λ seat. slice_index_or notes.names (seat - 1) None) (seats_of count);
+      seats = option_and_then (λ numbers. unless_usual (take count numbers)) (numbers_spelled count notes.seats);
+      seat_count = notes.seat_count;
+      hand = kept_label place notes.hand;
+      table = notes.table;
+      venue = notes.venue;
+      currency = notes.currency;
+      year = option_map (λ moment. moment.year) (moment_of notes);
+      month = option_map (λ moment. moment.month) (moment_of notes);
+      day = option_map (λ moment. moment.day) (moment_of notes);
+      time = option_map (λ moment. moment.time) (moment_of notes);
+      zone = option_map (λ moment. codes "UTC") (moment_of notes);
+    }
+
+-- ---- the hands
+
+-- the hand that is read again of the play at a place of its file, from 0; its posts are the first actions
+abbrev pub hand_again : Dialect → ℕ → Play → PlainHand
+hand_again dialect place play =
+    record {
+      setup = plain_setup play.trace.setup;
+      rules = history_rules;
+      script = numbered_from (length (posts play.trace.setup) + 1) (script_again dialect play.trace);
+      stated = record {
+        finish = None;
+        wins = Some (map (win_of play.trace) (all_seats play.trace.setup));
+        pot_total = Some (pot_total_of play.trace);
+        values = None;
+      };
+      notes = notes_again place play.trace.setup.stacks.seats play.hand.notes;
+    }
+
+-- the hands that are read again of plays, of which the first is at this place
+abbrev pub hands_again : Dialect → ℕ → List Play → List PlainHand
+hands_again dialect place [] = []
+hands_again dialect place (play ∷ rest) = hand_again dialect place play ∷ hands_again dialect (place + 1) rest
+
+-- the moves that were played
+abbrev pub moves_played : Play → ℕ
+moves_played play = moves_of play.hand

@@ -1,0 +1,2 @@
+-- What is read again of plays that were written.
+pub mod Again

@@ -1,0 +1,10 @@
+//! Open Hand History, in both dialects: bytes are read as records, and plays are written as lines that read as their hands
+//! again.
+#![tactic(auto)]
+
+mod laws;
+
+pub use laws::law_of_reading_again;
+pub use ohh_line::{spells, write};
+pub use ohh_members::Dialect;
+pub use ohh_reading::{OhhFault, read};
