@@ -14,7 +14,7 @@ use Rattle.hand_records.specs.declared.record.Record.{Record}
 use Rattle.hand_records.specs.declared.trace.Play.{Play}
 use Rattle.hand_records.specs.declared.writing.Unspelled.{Unspelled}
 use Rattle.hand_records.specs.declared.writing.Unspelled.TheVariants as facts
-use Rattle.hand_canon.specs.Judged.{IsJudged}
+use Rattle.hand_canon.specs.Judged.{IsTraceOfLegal}
 use Rattle.canon_ranges.proofs.SuitedRules.{suits_own}
 use Rattle.phh_reading.specs.Hand.{PlainHand, hand_said, plain}
 use Rattle.phh_reading.specs.Reading.{Wrong, at_variant, document_of, document_said, hands_of, hands_said, in_hand, numbered_hand, reading, records_said, spelled_fault, those_said}
@@ -99,9 +99,8 @@ unfolding reading
 reading_ruled bytes = document_ruled (document_of bytes)
 
 -- so a legal one has no closed raise
-none_closed : (play : Play) (hand : Record) → hand.rules ≡ history_rules → IsJudged (record { hand = hand; trace = play.trace }) → list_any (λ move. move.closed) play.trace.moves ≡ false
-none_closed play hand ruled judged =
-    let traced = judged.traced in
+none_closed : (play : Play) (hand : Record) → hand.rules ≡ history_rules → IsTraceOfLegal hand play.trace → list_any (λ move. move.closed) play.trace.moves ≡ false
+none_closed play hand ruled traced =
     let suits = suits_own hand.setup hand.rules (script_said hand) traced.legal.played in
     sym (list_any-map (λ move. move.closed) move_said play.trace.moves)
     ∙ ap (λ core. list_any (λ move. move.closed) core.moves) traced.whole.core
@@ -115,7 +114,7 @@ each_other : (play : Play) (fact : Unspelled) → unspelled play ≡ Some fact �
 unfolding unspelled
 each_other play fact is [] ruled = tt
 each_other play fact is (hand ∷ hands) ruled = (
-  λ judged. false_true (sym (none_closed play hand ruled.0 judged) ∙ closed_is (list_any (λ move. move.closed) play.trace.moves) fact is),
+  λ traced. false_true (sym (none_closed play hand ruled.0 traced) ∙ closed_is (list_any (λ move. move.closed) play.trace.moves) fact is),
   each_other play fact is hands ruled.1,
 )
 
