@@ -1,0 +1,94 @@
+-- A script that is counted is within the limits; and what states and notes nothing is sound.
+use Rattle.std.proofs.Common.{◌≡◌, ℕ, ◌-◌, ◌≤◌, List, ◌++◌, length, map, find, count_by, slice_index_or, Option, None, IfSome, sym, ap, subst, ◌∙◌, arith}
+use Rattle.std.specs.Option.{ForSome}
+use Rattle.std.proofs.lemmas.List.{length-map}
+use Rattle.canonical_play.specs.PlayedScript.{IsWithinLimits, is_move}
+use Rattle.card_set.specs.declared.card.Card.{Card}
+use Rattle.chip_ledger.specs.declared.rows.TheConstants.{MOST_AMOUNT}
+use Rattle.chip_ledger.specs.Fillers.{index-replicate}
+use Rattle.hand_records.specs.AllowedNotes.{AreAllowed}
+use Rattle.hand_records.specs.SoundRecord.{IsStatedFor}
+use Rattle.hand_records.specs.declared.notes.Notes.{Notes}
+use Rattle.hand_records.specs.declared.record.Stated.{Stated}
+use Rattle.hand_records.specs.declared.trace.Play.{Play}
+use Rattle.hand_records.specs.declared.trace.Trace.{Trace}
+use Rattle.hand_canon.specs.Agreement.{finish_compared, first_difference, is_different, row_compared, total_compared, value_compared, win_compared}
+use Rattle.hand_canon.specs.Sound.{IsSound}
+use Rattle.list_laws.proofs.Counting.{count_both}
+use Rattle.list_laws.proofs.Reversed.{count_reversed}
+use Rattle.play_event.specs.declared.event.Event.{Event}
+use Rattle.play_event.specs.Said.{said_of}
+use Rattle.hand_gen.specs.Made.{AreNoNotes, IsNothingStated, backward}
+use Rattle.hand_gen.specs.Sound.{IsSoundHand}
+use Rattle.hand_gen.specs.Stock.{Stock}
+
+-- a script with so many events, so many of them moves, is within the limits
+pub within_limits : (script : List Event) (moves events : ℕ) → count_by is_move (backward script) ≡ moves → length script ≡ events → moves ≤ 4096 → events - moves ≤ 256 → IsWithinLimits (map said_of script)
+within_limits script moves events counted long few others =
+    let same = count_reversed is_move (map said_of script) in
+    let both = count_both is_move (map said_of script) in
+    let length_is = length-map script said_of in
+    record {
+      moves = omega (arith, same, counted, few);
+      others = omega (arith, same, counted, both, length_is, long, others);
+    }
+
+-- of nothing something holds
+for_none : {A : Type 0} (P : A → Type 0) (found : Option A) → found ≡ None → ForSome found P
+for_none P found is = λ value some. absurd (cc (is, some))
+
+if_none : {A : Type 0} (P : A → Type 0) (found : Option A) → found ≡ None → IfSome found P
+if_none P found is = subst (λ o. IfSome o P) (sym is) tt
+
+-- where nothing is stated, it fits
+pub nothing_fits : (seats : ℕ) (stated : Stated) → IsNothingStated stated → IsStatedFor seats stated
+nothing_fits seats stated is =
+    record {
+      finish = for_none (λ row. row.seats ≡ seats) stated.finish is.finish;
+      wins = for_none (λ row. row.seats ≡ seats) stated.wins is.wins;
+      pot_total = for_none (λ total. total ≤ MOST_AMOUNT) stated.pot_total is.pot_total;
+      values = for_none (λ row. row.seats ≡ seats) stated.values is.values;
+    }
+
+-- no notes are allowed ones
+pub none_allowed : (seats : ℕ) (notes : Notes) → AreNoNotes notes → AreAllowed seats notes
+none_allowed seats notes none =
+    record {
+      names = λ seat first last. if_none _ _ (ap (λ l. slice_index_or l (seat - 1) None) none.names ∙ index-replicate 10 None (seat - 1));
+      no_more_names = λ index past. ap (λ l. slice_index_or l index None) none.names ∙ index-replicate 10 None index;
+      seats = if_none _ _ none.seats;
+      seat_count = if_none _ _ none.seat_count;
+      hand = if_none _ _ none.hand;
+      table = if_none _ _ none.table;
+      venue = if_none _ _ none.venue;
+      currency = if_none _ _ none.currency;
+      year = if_none _ _ none.year;
+      month = if_none _ _ none.month;
+      day = if_none _ _ none.day;
+      date = if_none _ _ none.year;
+      time = if_none _ _ none.time;
+      zone = if_none _ _ none.zone;
+    }
+
+-- a stock is its number and its deck
+pub same_stock : (stock : Stock) (number : ℕ) (deck : List Card) → stock.number ≡ number → stock.deck ≡ deck → stock ≡ record { number = number; deck = deck }
+same_stock stock number deck number_is deck_is =
+    ap (λ n. record { number = n; deck = stock.deck }) number_is ∙ ap (λ d. record { number = number; deck = d }) deck_is
+
+-- where nothing is stated, nothing differs
+nothing_differs : (trace : Trace) (stated : Stated) → IsNothingStated stated → first_difference trace stated ≡ None
+nothing_differs trace stated is =
+    ap (find is_different)
+    (ap (λ o. row_compared trace finish_compared o ++ (row_compared trace win_compared stated.wins ++ (total_compared trace stated.pot_total ++ row_compared trace value_compared stated.values))) is.finish
+    ∙ ap (λ o. row_compared trace win_compared o ++ (total_compared trace stated.pot_total ++ row_compared trace value_compared stated.values)) is.wins
+    ∙ ap (λ o. total_compared trace o ++ row_compared trace value_compared stated.values) is.pot_total
+    ∙ ap (row_compared trace value_compared) is.values)
+
+-- the record of a sound play that states nothing is sound
+pub sound_hand : (play : Play) → IsSound play → IsNothingStated play.hand.stated → IsSoundHand play.hand
+sound_hand play is nothing =
+    record {
+      sound = record { valid = is.valid; within = is.within; stated = nothing_fits play.hand.setup.stacks.seats play.hand.stated nothing; notes = is.notes };
+      legal = is.legal;
+      agrees = λ trace. nothing_differs trace play.hand.stated nothing;
+    }

@@ -1,0 +1,30 @@
+-- One event more is made, or the script is whole.
+use Rattle.std.proofs.Common.{◌≡◌, ◌+◌, List, [], ◌∷◌, ◌++◌, length, refl, sym, ap, subst, ◌∙◌, arith, length-append}
+use Rattle.play_event.specs.declared.event.Event.{Event}
+use Rattle.play_event.specs.Past.{Past}
+use Rattle.play_event.specs.Scripts.{past_of}
+use Rattle.hand_gen.specs.Made.{backward}
+use Rattle.hand_gen.specs.MadeTo.{IsMadeTo}
+use Rattle.hand_gen.proofs.MadeLaws.{backward_more, nothing_more, one_event_more}
+use Rattle.hand_gen.proofs.hand.play_next.Goals as goal
+
+pub returns-in-None-clause-step : goal.returns-in-None-clause-step
+returns-in-None-clause-step g c = λ setup start made.
+    let past : Past = past_of setup (backward c.args.script.now) in
+    let it = nothing_more setup start c.args.hand.now.betting.table c.args.hand.now.cards.state c.args.script.now c.args.stock.now c.next.new.stock made (c.in-None.ensures.event past made.stands) (c.in-None.ensures.left past made.stands) in
+    (refl, record { ended = it.0; left = it.1 })
+
+pub returns-in-Ok-push-clause-step : goal.returns-in-Ok-push-clause-step
+returns-in-Ok-push-clause-step g c = λ setup start made.
+    let script : List Event = c.args.script.now in
+    let past : Past = past_of setup (backward script) in
+    let event : Event = record { at = c.len.result + 1; kind = c.in-Some.kind } in
+    let hand = c.advance.new.self in
+    let pushed : c.push.new.self ≡ script ++ event ∷ [] = c.in-Ok-push.ensures.pushed in
+    let more = one_event_more setup start c.args.hand.now.betting.table hand.betting.table c.args.hand.now.cards.state hand.cards.state script event c.args.stock.now c.next.new.stock made
+    (c.in-Some.ensures.event past made.stands) (c.in-Some.ensures.left past made.stands) (c.in-Ok.ensures.stands past made.stands) c.in-Ok.ensures.setup c.in-Ok.ensures.rules (ap (λ n. n + 1) c.len.ensures) in
+    record {
+      made = subst (λ (s : List Event). IsMadeTo setup start hand.betting.table hand.cards.state s c.next.new.stock) (sym pushed) more;
+      said = ap backward pushed ∙ backward_more script event;
+      longer = ap length pushed ∙ omega (arith, length-append script (event ∷ []));
+    }

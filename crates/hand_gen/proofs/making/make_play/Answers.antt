@@ -1,0 +1,38 @@
+-- The hand is made, and it is sound and legal.
+use Rattle.std.proofs.Common.{◌≡◌, subst, ◌∙◌}
+use Rattle.hand_gen.specs.Made.{IsMadeScript, stock_of}
+use Rattle.hand_gen.specs.Stock.{Stock, full_deck}
+use Rattle.hand_gen.specs.Setups.{number_behind_setup}
+use Rattle.hand_gen.proofs.RecordLaws.{none_allowed, same_stock}
+use Rattle.hand_gen.proofs.SetupLaws.{made_valid}
+use Rattle.hand_gen.proofs.making.make_play.Goals as goal
+
+pub script_by_code-requires : goal.script_by_code-requires
+script_by_code-requires c = record { valid = made_valid c.args.place c.args.number c.setup_at-setup.result c.setup_at-setup.ensures }
+
+pub replay-requires-clause-valid : goal.replay-requires-clause-valid
+replay-requires-clause-valid c = made_valid c.args.place c.args.number c.setup_at-setup.result c.setup_at-setup.ensures
+
+pub returns-clause-made : goal.returns-clause-made
+returns-clause-made c =
+    let setup = c.setup_at-setup.result in
+    let start : c.in-Ok.stock ≡ stock_of c.args.number setup =
+    same_stock c.in-Ok.stock (number_behind_setup c.args.number setup) (full_deck setup.code) (c.in-Ok.ensures.number ∙ c.number_behind_setup-start.ensures) c.in-Ok.ensures.deck in
+    record {
+      setup = c.setup_at-setup.ensures;
+      rules = c.history_rules-rules.ensures;
+      script = subst (λ (s : Stock). IsMadeScript setup s c.in-Ok-script_by_code.script) start c.in-Ok-script_by_code.ensures.made;
+      stated = c.nothing_stated.ensures;
+      notes = c.no_notes.ensures;
+    }
+
+pub returns-clause-sound : goal.returns-clause-sound
+returns-clause-sound c =
+    let setup = c.setup_at-setup.result in
+    record {
+      valid = made_valid c.args.place c.args.number setup c.setup_at-setup.ensures;
+      within = c.in-Ok-script_by_code.ensures.within;
+      legal = c.in-Ok-replay.ensures.legal;
+      trace = c.in-Ok-replay.ensures.trace;
+      notes = none_allowed setup.stacks.seats c.no_notes.result c.no_notes.ensures;
+    }

@@ -1,0 +1,137 @@
+-- Which event comes next in a hand that is made, after a past, and what it leaves of the stock.
+use Rattle.std.specs.Prelude.{ℕ, Bool, ◌==◌, nat_lt, nat_le, if◌then◌else◌, List, take, find, Option, Some, None}
+use Rattle.std.specs.Option.{option_map}
+use Rattle.card_set.specs.declared.card.Slot.{Slot}
+use Rattle.card_set.specs.Known.{known_slots}
+use Rattle.play_event.specs.declared.event.Spelled.TheVariants as spelled
+use Rattle.play_event.specs.declared.reason.Due.{Due}
+use Rattle.play_event.specs.declared.reason.Due.TheVariants as dues
+use Rattle.play_event.specs.declared.setup.Rules.{Rules}
+use Rattle.play_event.specs.declared.setup.Setup.{Setup}
+use Rattle.play_event.specs.Dealing.{board_cards_owed, cards_owed, next_to_draw}
+use Rattle.play_event.specs.Due.{turn}
+use Rattle.play_event.specs.Held.{held_slots}
+use Rattle.play_event.specs.Mover.{mover}
+use Rattle.play_event.specs.Openers.{InTurn, NoSeat, TheSeat, Undecided}
+use Rattle.play_event.specs.Past.{Move, Past, moves_of}
+use Rattle.play_event.specs.Price.{owed}
+use Rattle.play_event.specs.Raising.{may_raise}
+use Rattle.play_event.specs.Said.{Board, BringIn, Call, Discard, Fold, Hole, Raise, Said}
+use Rattle.play_event.specs.Seats.{all_seats}
+use Rattle.play_event.specs.Table.{places_of, up_cards}
+use Rattle.play_event.specs.Targets.{greatest_target, least_target}
+use Rattle.hand_gen.specs.Stock.{Stock, after_cards, after_draw, draw_of, next_cards}
+
+-- the event that comes next, if one does, and the stock behind it
+pub record Coming : Type 0 where
+  pub event : Option Said
+  pub left : Stock
+
+-- no event comes
+abbrev pub nothing_comes : Stock → Coming
+nothing_comes stock = record { event = None; left = stock }
+
+-- a seat is dealt so many cards
+abbrev pub hole_of : ℕ → Stock → ℕ → Coming
+hole_of count stock seat =
+    record { event = Some (Hole seat (known_slots (next_cards count stock))); left = after_cards count stock }
+
+-- the board is dealt so many cards
+abbrev pub board_of : ℕ → Stock → Coming
+board_of count stock =
+    record { event = Some (Board (next_cards count stock)); left = after_cards count stock }
+
+-- a seat discards the first cards that it has: none, one or two of them, by a draw
+abbrev pub discard_of : List Slot → Stock → ℕ → Coming
+discard_of held stock seat =
+    record { event = Some (Discard seat (take (draw_of 3 stock) held)); left = after_draw stock }
+
+-- a seat is dealt all that it is owed, where there is one; else the board is
+abbrev pub deal_of : Option ℕ → (ℕ → ℕ) → ℕ → Stock → Coming
+deal_of (Some seat) owed board stock = hole_of (owed seat) stock seat
+deal_of None owed board stock = board_of board stock
+
+-- the first seat, from p1 upward, that is owed cards of a street
+abbrev pub first_owed : Setup → Past → ℕ → Option ℕ
+first_owed setup past street =
+    find (λ seat. nat_lt 0 (cards_owed setup past street seat)) (all_seats setup)
+
+-- seats are dealt their cards from p1 upward, and then the board
+abbrev pub deal_comes : Setup → Past → ℕ → Stock → Coming
+deal_comes setup past street stock =
+    deal_of (first_owed setup past street) (cards_owed setup past street) (board_cards_owed setup past street) stock
+
+-- a seat discards, where there is one that draws next; else what is owed is dealt
+abbrev pub discard_or : Option ℕ → (ℕ → List Slot) → Coming → Stock → Coming
+discard_or (Some seat) held deal stock = discard_of (held seat) stock seat
+discard_or None held deal stock = deal
+
+-- the cards that a seat has, in the order of dealing
+abbrev pub held_by : Setup → Past → ℕ → List Slot
+held_by setup past seat = held_slots (Some seat) (places_of setup.code past)
+
+-- all seats that draw discard first, and then they are dealt what they are owed
+abbrev pub draw_comes : Setup → Past → ℕ → Stock → Coming
+draw_comes setup past street stock =
+    discard_or (next_to_draw setup past street) (held_by setup past) (deal_comes setup past street stock) stock
+
+-- where a seat may raise to: the least and the greatest legal target, if it may raise
+abbrev pub ends_of : Setup → Rules → List Move → ℕ → ℕ → Option (ℕ × ℕ)
+ends_of setup rules moves street seat =
+    if may_raise setup rules moves street seat
+    then Some (least_target rules.reopen setup moves street seat, greatest_target setup moves street seat)
+    else None
+
+-- a call, which states nothing
+abbrev pub call_of : ℕ → Said
+call_of seat = Call (Some seat) None
+
+-- a raise to a target; without one it is a call
+abbrev pub raise_of : ℕ → Option ℕ → Said
+raise_of seat (Some target) = Raise (Some seat) (spelled.To target)
+raise_of seat None = call_of seat
+
+-- What a seat does, by a number below 8. By 0 it folds where it owes chips; by 1 and 2 it raises to the least target, and by 3
+-- to the greatest, where it may raise; else it calls.
+abbrev pub move_of : (owes : Bool) (ends : Option (ℕ × ℕ)) (seat number : ℕ) → Said
+move_of owes ends seat number =
+    if number == 0 then (if owes then Fold (Some seat) else call_of seat)
+    else if nat_le number 2 then raise_of seat (option_map (λ (t : ℕ × ℕ). t.0) ends)
+    else if number == 3 then raise_of seat (option_map (λ (t : ℕ × ℕ). t.1) ends)
+    else call_of seat
+
+-- what a seat does after moves on a street
+abbrev pub move_by : Setup → Rules → List Move → ℕ → ℕ → ℕ → Said
+move_by setup rules moves street seat number =
+    move_of (nat_lt 0 (owed setup moves street seat)) (ends_of setup rules moves street seat) seat number
+
+-- the seat in turn moves by a draw of 8; where no seat is in turn, nothing comes
+abbrev pub move_comes : Setup → Rules → List Move → ℕ → Stock → InTurn → Coming
+move_comes setup rules moves street stock (TheSeat seat) =
+    record { event = Some (move_by setup rules moves street seat (draw_of 8 stock)); left = after_draw stock }
+move_comes setup rules moves street stock NoSeat = nothing_comes stock
+move_comes setup rules moves street stock Undecided = nothing_comes stock
+
+-- the seat in turn posts the bring-in
+abbrev pub bring_in_comes : Stock → InTurn → Coming
+bring_in_comes stock (TheSeat seat) = record { event = Some (BringIn (Some seat)); left = stock }
+bring_in_comes stock NoSeat = nothing_comes stock
+bring_in_comes stock Undecided = nothing_comes stock
+
+-- the seat in turn on a street, after a past
+abbrev pub in_turn_on : Setup → Past → ℕ → InTurn
+in_turn_on setup past street = mover setup (up_cards setup.code past) (moves_of past) street
+
+-- what comes where this is due on this street; nobody shows or mucks
+abbrev pub comes_at : Setup → Rules → Past → Stock → ℕ → Due → Coming
+comes_at setup rules past stock street (dues.Deal on) = deal_comes setup past on stock
+comes_at setup rules past stock street (dues.Draw on) = draw_comes setup past on stock
+comes_at setup rules past stock street dues.BringIn = bring_in_comes stock (in_turn_on setup past street)
+comes_at setup rules past stock street dues.Move =
+    move_comes setup rules (moves_of past) street stock (in_turn_on setup past street)
+comes_at setup rules past stock street dues.Show = nothing_comes stock
+comes_at setup rules past stock street dues.Over = nothing_comes stock
+
+-- what comes next after a past
+unfoldable pub coming : Setup → Rules → Past → Stock → Coming
+coming setup rules past stock = comes_at setup rules past stock (turn setup past).0 (turn setup past).1

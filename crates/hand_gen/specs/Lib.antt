@@ -1,0 +1,11 @@
+-- What the hands are that are made from a number: draws, the deck, the setup, each next event, the records.
+pub mod Draws
+pub mod Stock
+pub mod Setups
+pub mod Coming
+pub mod Seen
+pub mod Made
+pub mod MadeTo
+pub mod Sound
+pub mod Load
+pub mod Loaded

@@ -1,0 +1,97 @@
+-- The records of made hands.
+use Rattle.std.specs.Prelude.{◌≡◌, ℕ, ◌+◌, List, [], ◌∷◌, length, map, replicate, reverse, Option, Some, None}
+use Rattle.std.specs.List.{range_with_len}
+use Rattle.play_event.specs.declared.event.Event.{Event}
+use Rattle.play_event.specs.declared.setup.Rules.{Rules}
+use Rattle.play_event.specs.declared.setup.Setup.{Setup}
+use Rattle.play_event.specs.HistoryRules.{history_rules}
+use Rattle.play_event.specs.Said.{Said, said_of}
+use Rattle.play_event.specs.Scripts.{past_of}
+use Rattle.hand_records.specs.declared.notes.Notes.{Notes}
+use Rattle.hand_records.specs.declared.record.Record.{Record}
+use Rattle.hand_records.specs.declared.record.Stated.{Stated}
+use Rattle.hand_gen.specs.Coming.{coming}
+use Rattle.hand_gen.specs.Setups.{IsMadeSetup, number_behind_setup}
+use Rattle.hand_gen.specs.Stock.{Stock, full_deck}
+
+-- the stock behind events, the newest first, from this stock on
+abbrev pub stock_behind : Setup → Rules → Stock → List Said → Stock
+stock_behind setup rules stock [] = stock
+stock_behind setup rules stock (event ∷ before) =
+    (coming setup rules (past_of setup before) (stock_behind setup rules stock before)).left
+
+-- what comes after events
+abbrev pub next_event : Setup → Rules → Stock → List Said → Option Said
+next_event setup rules stock events =
+    (coming setup rules (past_of setup events) (stock_behind setup rules stock events)).event
+
+-- each of the events, the newest first, is the one that comes after those before it
+abbrev pub HaveCome : Setup → Rules → Stock → List Said → Type 0
+HaveCome setup rules stock [] = Unit {0}
+HaveCome setup rules stock (event ∷ before) =
+    (next_event setup rules stock before ≡ Some event) × HaveCome setup rules stock before
+
+-- what the events of a script say, the newest first
+abbrev pub backward : List Event → List Said
+backward script = reverse (map said_of script)
+
+-- a script is made from a stock: each of its events has come, nothing comes behind the last, and they are numbered from 1
+pub record IsMadeScript (setup : Setup) (stock : Stock) (script : List Event) : Type 0 where
+  pub come : HaveCome setup history_rules stock (backward script)
+  pub whole : next_event setup history_rules stock (backward script) ≡ None
+  pub numbered : map (λ (event : Event). event.at) script ≡ range_with_len 1 (length script)
+
+-- nothing is stated
+pub record IsNothingStated (stated : Stated) : Type 0 where
+  pub finish : stated.finish ≡ None
+  pub wins : stated.wins ≡ None
+  pub pot_total : stated.pot_total ≡ None
+  pub values : stated.values ≡ None
+
+-- there are no notes
+pub record AreNoNotes (notes : Notes) : Type 0 where
+  pub names : notes.names ≡ replicate 10 None
+  pub seats : notes.seats ≡ None
+  pub seat_count : notes.seat_count ≡ None
+  pub hand : notes.hand ≡ None
+  pub table : notes.table ≡ None
+  pub venue : notes.venue ≡ None
+  pub currency : notes.currency ≡ None
+  pub year : notes.year ≡ None
+  pub month : notes.month ≡ None
+  pub day : notes.day ≡ None
+  pub time : notes.time ≡ None
+  pub zone : notes.zone ≡ None
+
+-- the stock with which a hand begins: the draws behind its setup, and the whole deck
+abbrev pub stock_of : ℕ → Setup → Stock
+stock_of number setup = record { number = number_behind_setup number setup; deck = full_deck setup.code }
+
+-- a record is the made hand at a place among the hands, where the draws have come to a number
+pub record IsMade (place number : ℕ) (hand : Record) : Type 0 where
+  pub setup : IsMadeSetup place number hand.setup
+  pub rules : hand.rules ≡ history_rules
+  pub script : IsMadeScript hand.setup (stock_of number hand.setup) hand.script
+  pub stated : IsNothingStated hand.stated
+  pub notes : AreNoNotes hand.notes
+
+-- the number to which the draws come behind a hand
+abbrev pub number_behind : ℕ → Record → ℕ
+number_behind number hand =
+    (stock_behind hand.setup history_rules (stock_of number hand.setup) (backward hand.script)).number
+
+-- records are the made hands from a place on, one after the other
+abbrev pub AreMadeFrom : ℕ → ℕ → List Record → Type 0
+AreMadeFrom place number [] = Unit {0}
+AreMadeFrom place number (hand ∷ rest) =
+    IsMade place number hand × AreMadeFrom (place + 1) (number_behind number hand) rest
+
+-- records are so many made hands, from a seed
+pub record AreMade (seed count : ℕ) (hands : List Record) : Type 0 where
+  pub counted : length hands ≡ count
+  pub made : AreMadeFrom 0 seed hands
+
+-- the number to which the draws come behind hands
+abbrev pub number_behind_all : ℕ → List Record → ℕ
+number_behind_all number [] = number
+number_behind_all number (hand ∷ rest) = number_behind_all (number_behind number hand) rest

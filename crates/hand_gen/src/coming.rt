@@ -1,0 +1,78 @@
+// Which event comes next.
+ghost use Rattle.std.specs.Prelude.{◌≡◌, ◌≤◌, ℕ};
+ghost use Rattle.play_event.specs.declared.reason.Due.TheVariants as dues;
+ghost use Rattle.replay_core.specs.Told.{WhereTogether};
+ghost use Rattle.hand_gen.specs.Coming.{bring_in_comes, coming, in_turn_on, move_comes};
+ghost use Rattle.hand_gen.specs.Seen.{event_said};
+ghost use Rattle.hand_gen.specs.Stock as stocks;
+ghost use Rattle.play_event.specs.Past.{moves_of};
+
+use crate::dealing::{deal, draw};
+use crate::moving::{in_turn, make_move};
+use crate::stock::Stock;
+use play_event::{Due, Kind};
+use replay_core::HandInPlay;
+use variant_table::Variant;
+
+// The bring-in of the seat in turn.
+fn bring_in<V: Variant>(hand: &HandInPlay<V>) -> Option<Kind>
+    requires seats { hand.now.betting.table.setup.stacks.seats ≡ hand.now.cards.state.seats }
+    requires due { hand.now.betting.table.due ≡ dues.BringIn }
+    ensures event { WhereTogether hand.now.betting.table hand.now.cards.state
+        (λ past. (stock : stocks.Stock) → event_said result
+        ≡ (bring_in_comes stock (in_turn_on hand.now.betting.table.setup past
+        hand.now.betting.table.street)).event) }
+    ensures left { WhereTogether hand.now.betting.table hand.now.cards.state
+        (λ past. (stock : stocks.Stock) → stock
+        ≡ (bring_in_comes stock (in_turn_on hand.now.betting.table.setup past
+        hand.now.betting.table.street)).left) }
+{
+    let up = hand.cards.up();
+    match in_turn(&hand.betting, &up) {
+        Some(seat) => Some(Kind::BringIn { actor: Some(seat) }),
+        None => None,
+    }
+}
+
+// The move of the seat in turn.
+fn acted<V: Variant>(hand: &HandInPlay<V>, stock: &mut Stock) -> Option<Kind>
+    requires seats { hand.now.betting.table.setup.stacks.seats ≡ hand.now.cards.state.seats }
+    requires due { hand.now.betting.table.due ≡ dues.Move }
+    ensures event { WhereTogether hand.now.betting.table hand.now.cards.state
+        (λ past. event_said result
+        ≡ (move_comes hand.now.betting.table.setup hand.now.betting.table.rules (moves_of past)
+        hand.now.betting.table.street stock.old
+        (in_turn_on hand.now.betting.table.setup past hand.now.betting.table.street)).event) }
+    ensures left { WhereTogether hand.now.betting.table hand.now.cards.state
+        (λ past. stock.new
+        ≡ (move_comes hand.now.betting.table.setup hand.now.betting.table.rules (moves_of past)
+        hand.now.betting.table.street stock.old
+        (in_turn_on hand.now.betting.table.setup past hand.now.betting.table.street)).left) }
+{
+    let up = hand.cards.up();
+    match in_turn(&hand.betting, &up) {
+        Some(seat) => Some(make_move(&hand.betting, &up, seat, stock)),
+        None => None,
+    }
+}
+
+/// The event that comes next, if one does. What it takes of the stock is taken.
+pub fn next<V: Variant>(hand: &HandInPlay<V>, stock: &mut Stock) -> Option<Kind>
+    requires seats { hand.now.betting.table.setup.stacks.seats ≡ hand.now.cards.state.seats }
+    ensures event { WhereTogether hand.now.betting.table hand.now.cards.state
+        (λ past. event_said result ≡ (coming hand.now.betting.table.setup
+        hand.now.betting.table.rules past stock.old).event) }
+    ensures left { WhereTogether hand.now.betting.table hand.now.cards.state
+        (λ past. stock.new ≡ (coming hand.now.betting.table.setup
+        hand.now.betting.table.rules past stock.old).left) }
+{
+    let live = hand.betting.live();
+    match hand.betting.due() {
+        Due::Deal(on) => Some(deal(&hand.cards.state, &live, on, stock)),
+        Due::Draw(on) => Some(draw(&hand.cards.state, &live, on, stock)),
+        Due::BringIn => bring_in(hand),
+        Due::Move => acted(hand, stock),
+        Due::Show => None,
+        Due::Over => None,
+    }
+}

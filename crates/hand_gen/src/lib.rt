@@ -1,0 +1,19 @@
+//! Hands are made from a number: the same hands from the same number, each of them legal.
+#![tactic(auto)]
+
+mod coming;
+mod counting;
+mod dealing;
+mod draws;
+mod hand;
+mod loading;
+mod making;
+mod moving;
+mod numbers;
+mod owed;
+mod setups;
+mod stock;
+
+pub use loading::{load, summary_text};
+pub use making::{Made, make, make_play};
+pub use numbers::Summary;

@@ -1,0 +1,129 @@
+//! Made hands are played and counted, one hand in memory at a time.
+ghost use Rattle.std.specs.Prelude.{◌≡◌, ◌≤◌, ◌+◌, ◌++◌, IfOk, OnOk};
+ghost use Rattle.std.specs.Fmt.{decimal};
+ghost use Rattle.std.specs.String.{string_bytes};
+ghost use Rattle.first_fault.specs.declared.limits.TheConstants.{MOST_HANDS};
+ghost use Rattle.hand_gen.specs.Load as loads;
+ghost use Rattle.hand_gen.specs.Load.{IsLoad};
+ghost use Rattle.hand_gen.specs.Loaded.{IsFewIn, IsWithCounts};
+
+use crate::counting::counts_of;
+use crate::making::make_play;
+use crate::numbers::{Counts, Summary};
+use card_set::Memory;
+use std::alloc::Global;
+
+// The summary of no hands.
+fn no_hands() -> Summary
+    ensures { IsFewIn 0 result }
+{
+    Summary {
+        hands: 0,
+        moves: 0,
+        pots: 0,
+        phh: 0,
+        ohh: 0,
+        ohh_bytes: 0,
+        acpc: 0,
+        acpc_bytes: 0,
+    }
+}
+
+// The summary with the numbers of one play more. `before` is how many were counted.
+fn with_counts(summary: Summary, counts: Counts, before: u32) -> Summary
+    requires { IsFewIn before summary }
+    ensures sums { IsWithCounts summary counts result }
+    ensures few { IsFewIn (before + 1) result }
+{
+    Summary {
+        hands: summary.hands + 1,
+        moves: summary.moves + counts.moves,
+        pots: summary.pots + counts.pots,
+        phh: summary.phh + counts.phh,
+        ohh: summary.ohh + counts.ohh.hands,
+        ohh_bytes: summary.ohh_bytes + counts.ohh.bytes,
+        acpc: summary.acpc + counts.acpc.hands,
+        acpc_bytes: summary.acpc_bytes + counts.acpc.bytes,
+    }
+}
+
+/// The summary of so many made hands from a seed. It keeps one hand at a time.
+///
+/// # Errors
+///
+/// Want of memory.
+pub fn load(alloc: Global, seed: u64, count: u32) -> Result<Summary, Memory>
+    requires few { count ≤ MOST_HANDS }
+    ensures { IfOk result (IsLoad seed count) }
+{
+    let mut number = seed;
+    let mut summary = no_hands();
+    for place in 0..count {
+        let made = match make_play(alloc, place, number) {
+            Ok(made) => made,
+            Err(memory) => return Err(memory),
+        };
+        number = made.number;
+        let mut file = Vec::new(alloc);
+        match file.push(made.play) {
+            Ok(()) => {}
+            Err(_) => return Err(Memory),
+        }
+        let counts = match counts_of(alloc, file.as_slice()) {
+            Ok(counts) => counts,
+            Err(memory) => return Err(memory),
+        };
+        summary = with_counts(summary, counts, place);
+    }
+    Ok(summary)
+}
+
+// Puts a number at the end of a text, behind its label.
+fn push_number(alloc: Global, text: &mut String, label: &str, number: u128) -> Result<(), Memory>
+    ensures { OnOk result (string_bytes text.new
+        ≡ string_bytes text.old ++ (label.now ++ decimal number)) }
+{
+    let number = format!(in alloc; "{number}")?;
+    text.push_str(label)?;
+    text.push_str(number.as_str())?;
+    Ok(())
+}
+
+// Puts the lines of hands, moves, pots and tables at the end of a text.
+fn push_played(alloc: Global, text: &mut String, summary: &Summary) -> Result<(), Memory>
+    ensures { OnOk result (string_bytes text.new
+        ≡ string_bytes text.old ++ loads.played_text summary.now) }
+{
+    push_number(alloc, text, "hands ", summary.hands)?;
+    push_number(alloc, text, "\nmoves ", summary.moves)?;
+    push_number(alloc, text, "\npots ", summary.pots)?;
+    push_number(alloc, text, "\nphh ", summary.phh)?;
+    Ok(())
+}
+
+// Puts the lines of the formats that are counted in bytes at the end of a text.
+fn push_spelled(alloc: Global, text: &mut String, summary: &Summary) -> Result<(), Memory>
+    ensures { OnOk result (string_bytes text.new
+        ≡ string_bytes text.old ++ loads.spelled_text summary.now) }
+{
+    push_number(alloc, text, "\nohh ", summary.ohh)?;
+    push_number(alloc, text, " ", summary.ohh_bytes)?;
+    push_number(alloc, text, "\nacpc ", summary.acpc)?;
+    push_number(alloc, text, " ", summary.acpc_bytes)?;
+    text.push_str("\n")?;
+    Ok(())
+}
+
+/// The six lines of a summary.
+///
+/// # Errors
+///
+/// Want of memory.
+pub fn summary_text(alloc: Global, summary: &Summary) -> Result<String, Memory>
+    ensures { IfOk result (λ text. string_bytes text ≡ loads.summary_text summary.now) }
+{
+    let mut text = String::new(alloc);
+    push_played(alloc, &mut text, summary)?;
+    push_spelled(alloc, &mut text, summary)?;
+    Ok(text)
+}

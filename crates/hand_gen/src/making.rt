@@ -1,0 +1,148 @@
+//! Made hands, one after the other.
+ghost use Rattle.std.specs.Prelude.{◌≡◌, ◌≤◌, All, IfOk, length, map};
+ghost use Rattle.canonical_play.specs.PlayedScript.{IsWithinLimits};
+ghost use Rattle.first_fault.specs.declared.limits.TheConstants.{MOST_HANDS};
+ghost use Rattle.play_event.specs.HistoryRules.{history_rules as rules_of_histories};
+ghost use Rattle.play_event.specs.Said.{said_of};
+ghost use Rattle.play_event.specs.ValidSetup.{IsValid};
+ghost use Rattle.hand_gen.specs.Made.{AreMade, AreNoNotes, IsMade, IsMadeScript, IsNothingStated, backward, number_behind, stock_behind};
+ghost use Rattle.hand_gen.specs.Setups as setups;
+ghost use Rattle.hand_canon.specs.Sound.{IsSound};
+ghost use Rattle.hand_gen.specs.Sound.{IsSoundHand};
+
+use crate::hand::{history_rules, script_of};
+use crate::setups::{number_behind_setup, setup_at};
+use crate::stock::Stock;
+use card_set::Memory;
+use hand_records::{Notes, Play, Record, Records, Stated};
+use play_event::{Code, Script, Setup};
+use replay_core::replay;
+use std::alloc::Global;
+use variant_table::{F2L3D, F7S, F7S8, FB, FO8, FR, FT, N2L1D, NS, NT, PO};
+
+/// A made hand with its trace, and the number to which the draws come behind it.
+#[derive(Debug, Drop)]
+pub struct Made {
+    pub play: Play,
+    pub number: u64,
+}
+
+// The script of a made hand of the game that its setup names.
+fn script_by_code(alloc: Global, setup: &Setup, stock: &mut Stock) -> Result<Script, Memory>
+    requires valid { IsValid setup.now }
+    ensures made { IfOk result (IsMadeScript setup.now stock.old) }
+    ensures left { IfOk result (λ script. stock.new
+        ≡ stock_behind setup.now rules_of_histories stock.old (backward script)) }
+    ensures within { IfOk result (λ script. IsWithinLimits (map said_of script)) }
+{
+    match setup.code {
+        Code::FT => script_of::<FT>(alloc, setup, stock),
+        Code::NT => script_of::<NT>(alloc, setup, stock),
+        Code::NS => script_of::<NS>(alloc, setup, stock),
+        Code::PO => script_of::<PO>(alloc, setup, stock),
+        Code::FO8 => script_of::<FO8>(alloc, setup, stock),
+        Code::F7S => script_of::<F7S>(alloc, setup, stock),
+        Code::F7S8 => script_of::<F7S8>(alloc, setup, stock),
+        Code::FR => script_of::<FR>(alloc, setup, stock),
+        Code::N2L1D => script_of::<N2L1D>(alloc, setup, stock),
+        Code::F2L3D => script_of::<F2L3D>(alloc, setup, stock),
+        Code::FB => script_of::<FB>(alloc, setup, stock),
+    }
+}
+
+// No notes.
+fn no_notes() -> Notes
+    ensures { AreNoNotes result }
+{
+    Notes {
+        names: [None, None, None, None, None, None, None, None, None, None],
+        seats: None,
+        seat_count: None,
+        hand: None,
+        table: None,
+        venue: None,
+        currency: None,
+        year: None,
+        month: None,
+        day: None,
+        time: None,
+        zone: None,
+    }
+}
+
+// Nothing is stated.
+fn nothing_stated() -> Stated
+    ensures { IsNothingStated result }
+{
+    Stated {
+        finish: None,
+        wins: None,
+        pot_total: None,
+        values: None,
+    }
+}
+
+/// The hand at a place among the made hands, from 0, where the draws have come to this number, with its trace.
+///
+/// # Errors
+///
+/// Want of memory.
+pub fn make_play(alloc: Global, place: u32, number: u64) -> Result<Made, Memory>
+    ensures made { IfOk result (λ made. IsMade place number made.play.hand) }
+    ensures behind { IfOk result (λ made. made.number ≡ number_behind number made.play.hand) }
+    ensures sound { IfOk result (λ made. IsSound made.play) }
+{
+    let setup = setup_at(place, number);
+    let start = number_behind_setup(number, &setup);
+    let mut stock = match Stock::full(alloc, start, setup.code) {
+        Ok(stock) => stock,
+        Err(memory) => return Err(memory),
+    };
+    let script = match script_by_code(alloc, &setup, &mut stock) {
+        Ok(script) => script,
+        Err(memory) => return Err(memory),
+    };
+    let rules = history_rules();
+    let trace = match replay(alloc, &setup, &rules, &script) {
+        Ok(trace) => trace,
+        Err(_) => return Err(Memory),
+    };
+    let hand = Record {
+        setup,
+        rules,
+        script,
+        stated: nothing_stated(),
+        notes: no_notes(),
+    };
+    Ok(Made {
+        play: Play { hand, trace },
+        number: stock.number(),
+    })
+}
+
+/// So many made hands, from a seed.
+///
+/// # Errors
+///
+/// Want of memory.
+pub fn make(alloc: Global, seed: u64, count: u32) -> Result<Records, Memory>
+    requires few { count ≤ MOST_HANDS }
+    ensures made { IfOk result (AreMade seed count) }
+    ensures sound { IfOk result (λ hands. All IsSoundHand hands) }
+{
+    let mut number = seed;
+    let mut hands = Records::new(alloc);
+    for place in 0..count {
+        let made = match make_play(alloc, place, number) {
+            Ok(made) => made,
+            Err(memory) => return Err(memory),
+        };
+        number = made.number;
+        let play = made.play;
+        match hands.push(play.hand) {
+            Ok(()) => {}
+            Err(memory) => return Err(memory),
+        }
+    }
+    Ok(hands)
+}

@@ -1,0 +1,120 @@
+// Whose turn it is, and what that seat does.
+ghost use Rattle.std.specs.Prelude.{◌≡◌, ◌≤◌, ℕ, true, None, IfSome};
+ghost use Rattle.std.specs.Option.{option_map};
+ghost use Rattle.betting_numbers.specs.LegalMoves.{IsTurn, WhereUps};
+ghost use Rattle.betting_numbers.specs.SeatsSaid.{seat_said, turn_of};
+ghost use Rattle.play_event.specs.Openers.{TheSeat};
+ghost use Rattle.play_event.specs.Past.{moves_of};
+ghost use Rattle.play_event.specs.Said.{kind_said};
+ghost use Rattle.play_event.specs.TurnTargets.{is_bet_due};
+ghost use Rattle.hand_gen.specs.Coming.{move_by, move_of, raise_of};
+ghost use Rattle.hand_gen.specs.Seen.{ends_said};
+ghost use Rattle.hand_gen.specs.Stock.{after_draw, draw_of};
+
+use crate::stock::Stock;
+use betting_core::{Betting, Targets};
+use chip_ledger::Seat;
+use play_event::{Kind, Spelled, UpRow};
+use variant_table::{Opener, Variant};
+
+/// Whose turn it is, if it is known.
+pub fn in_turn<V: Variant>(betting: &Betting<V>, up: &UpRow) -> Option<Seat>
+    requires row { up.now.seats ≡ betting.now.table.setup.stacks.seats }
+    requires bets { is_bet_due betting.now.table.due ≡ true }
+    ensures turn { WhereUps betting.now.table up.now
+        (λ past. IsTurn betting.now.table past (turn_of (seat_said result))) }
+    ensures in_hand { IfSome result (λ seat. seat.number ≤ betting.now.table.setup.stacks.seats) }
+{
+    match V::OPEN {
+        Opener::Blinds => {
+            let opener = betting.table.blinds_opener();
+            betting.table.mover(opener)
+        }
+        Opener::LowUp => betting.table.turn_by_up(Opener::LowUp, up),
+        Opener::HighUp => betting.table.turn_by_up(Opener::HighUp, up),
+    }
+}
+
+// A call, which states nothing.
+fn call(seat: Seat) -> Kind
+    ensures { kind_said result ≡ raise_of seat.number None }
+{
+    Kind::Call {
+        actor: Some(seat),
+        stated: None,
+    }
+}
+
+// A raise to a target; without one it is a call.
+fn raise(seat: Seat, target: Option<u64>) -> Kind
+    ensures { kind_said result ≡ raise_of seat.number target }
+{
+    match target {
+        Some(target) => Kind::Raise {
+            actor: Some(seat),
+            amount: Spelled::To(target),
+        },
+        None => call(seat),
+    }
+}
+
+// The least target, if there is one.
+fn least(ends: Option<Targets>) -> Option<u64>
+    ensures { result ≡ option_map (λ (t : ℕ × ℕ). t.0) (ends_said ends) }
+{
+    match ends {
+        Some(ends) => Some(ends.least),
+        None => None,
+    }
+}
+
+// The greatest target, if there is one.
+fn greatest(ends: Option<Targets>) -> Option<u64>
+    ensures { result ≡ option_map (λ (t : ℕ × ℕ). t.1) (ends_said ends) }
+{
+    match ends {
+        Some(ends) => Some(ends.greatest),
+        None => None,
+    }
+}
+
+// What a seat does by a number that was drawn.
+fn chosen(owes: bool, ends: Option<Targets>, seat: Seat, number: u64) -> Kind
+    ensures { kind_said result ≡ move_of owes (ends_said ends) seat.number number }
+{
+    if number == 0 {
+        if owes {
+            Kind::Fold { actor: Some(seat) }
+        } else {
+            call(seat)
+        }
+    } else if number <= 2 {
+        raise(seat, least(ends))
+    } else if number == 3 {
+        raise(seat, greatest(ends))
+    } else {
+        call(seat)
+    }
+}
+
+/// The move of the seat in turn.
+pub fn make_move<V: Variant>(
+    betting: &Betting<V>,
+    up: &UpRow,
+    seat: Seat,
+    stock: &mut Stock,
+) -> Kind
+    requires row { up.now.seats ≡ betting.now.table.setup.stacks.seats }
+    requires bets { is_bet_due betting.now.table.due ≡ true }
+    requires in_hand { seat.number ≤ betting.now.table.setup.stacks.seats }
+    ensures event { WhereUps betting.now.table up.now
+        (λ past. IsTurn betting.now.table past (TheSeat seat.number)
+        → kind_said result ≡ move_by betting.now.table.setup betting.now.table.rules
+        (moves_of past) betting.now.table.street seat.number (draw_of 8 stock.old)) }
+    ensures left { stock.new ≡ after_draw stock.old }
+{
+    let number = stock.draw(8);
+    let owes = 0 < betting.table.owed(seat);
+    let ends = betting.targets(up);
+    chosen(owes, ends, seat, number)
+}
