@@ -1,9 +1,12 @@
 -- The words of a request are a word that begins with no hyphen, and options.
-use Rattle.std.proofs.Common.{◌≡◌, Bool, true, false, if◌then◌else◌, List, ◌∷◌, codes, Option, Some, None, is_some, refl, subst, sym}
+use Rattle.std.proofs.Common.{◌≡◌, Bool, true, false, if◌then◌else◌, List, [], ◌∷◌, codes, Option, Some, None, is_some, option_map, refl, subst, sym, ap, ap₂, ◌∙◌}
 use Rattle.std.specs.Prelude.{option_and_then}
 use Rattle.std.specs.Bool.{Decides}
 use Rattle.std.specs.Str.{bytes_eq}
 use Rattle.std.proofs.lemmas.Slice.Eq.{bytes_eq-Decides}
+use Rattle.clap.specs.Words.{first_value}
+use Rattle.clap.specs.declared.parser.matches.Found.{Found}
+use Rattle.command_words.specs.Requests.{IsSaidBy}
 use Rattle.clap.specs.Lexer.{strip_byte}
 use Rattle.clap.specs.Walk.{Text}
 use Rattle.command_words.specs.declared.command.Command.TheVariants as commands
@@ -49,3 +52,28 @@ by_options word words (Some options) said some = record {
 
 pub is_asked : (word : Text) (words : List Text) → is_some (request_said (word ∷ words)) ≡ true → IsAsked word words
 is_asked word words some = by_options word words (options_said no_options words) refl some
+
+-- what a parser found of words asks for what the words ask for
+again : (word : Text) (words : List Text) (given : Option Options) (from game : Option Text) → options_said no_options words ≡ given
+    → option_map (λ (options : Options). options.from) given ≡ Some from → option_map (λ (options : Options). options.game) given ≡ Some game
+    → request_of word (Some (record { from = from; game = game })) ≡ request_said (word ∷ words)
+again word words None from game said is_from is_game = cc
+again word words (Some options) from game said is_from is_game =
+    let same_from : options.from ≡ from = some_same is_from in
+    let same_game : options.game ≡ game = some_same is_game in
+    ap (request_of word) (sym (said ∙ ap Some (ap₂ (λ (f g : Option Text). record { from = f; game = g }) same_from same_game)))
+  where
+    some_same : {A : Type 0} {x y : A} → Some x ≡ Some y → x ≡ y
+    some_same e = cc
+
+pub said_again : (said : List Text) (found : Found) (word : Text) (from game : Option Text) → IsSaidBy said found
+    → Some word ≡ first_value found (codes "command") → from ≡ first_value found (codes "from") → game ≡ first_value found (codes "game")
+    → request_of word (Some (record { from = from; game = game })) ≡ request_said said
+said_again [] found word from game is first is_from is_game = cc (is.command, first)
+said_again (other ∷ words) found word from game is first is_from is_game =
+    let same : word ≡ other = some_same (first ∙ is.command) in
+    subst (λ (text : Text). request_of text (Some (record { from = from; game = game })) ≡ request_said (other ∷ words)) (sym same)
+    (again other words (options_said no_options words) from game refl (is.from ∙ ap Some (sym is_from)) (is.game ∙ ap Some (sym is_game)))
+  where
+    some_same : {A : Type 0} {x y : A} → Some x ≡ Some y → x ≡ y
+    some_same e = cc

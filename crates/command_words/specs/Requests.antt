@@ -17,12 +17,14 @@ options_in options = record { from = option_map (λ text. text.now) options.from
 -- a notation, with the name of its game's file
 abbrev pub notation_in : Notation → words.Notation
 notation_in notations.Phh = words.Phh
+notation_in notations.Ohh = words.Ohh
+notation_in notations.OhhTo = words.OhhTo
 notation_in (notations.Acpc game) = words.Acpc game.now
 
 -- a request, with its notation
 abbrev pub request_in : Request → words.Request
 request_in (requests.Show command notation) = words.Show command (notation_in notation)
-request_in requests.Game = words.Game
+request_in (requests.Game notation) = words.Game (notation_in notation)
 
 -- What a parser of command lines found is what words say: the word of the command, and the values of the options.
 pub record IsSaidBy (said : List (List ℕ)) (found : Found) : Type 0 where

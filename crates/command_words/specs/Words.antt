@@ -5,15 +5,18 @@ use Rattle.command_words.specs.declared.command.Command.{Command}
 use Rattle.command_words.specs.declared.command.Command.TheVariants as commands
 use Rattle.clap.specs.Lexer.{long_of, strip_byte}
 
--- a notation of hands; a log is read under the game of a file, which has this name
+-- a notation of hands: the Poker Hand History format, Open Hand History in its two dialects, and the competition's logs; a
+-- log is read under the game of a file, which has this name
 pub data Notation : Type 0 where
   Phh : Notation
+  Ohh : Notation
+  OhhTo : Notation
   Acpc : (game : List ℕ) → Notation
 
--- what is asked for: what a command prints of hands in a notation, or the game file of the first hand
+-- what is asked for: what a command prints of hands in a notation, or the game file of the first of them
 pub data Request : Type 0 where
   Show : Command → Notation → Request
-  Game : Request
+  Game : Notation → Request
 
 -- the values of the options that are given
 pub record Options : Type 0 where
@@ -55,7 +58,11 @@ options_said options (word ∷ value ∷ words) = option_and_then
 
 -- the notation that the options name; a game is given where the notation is that of logs, and only there
 abbrev pub notation_of_name : List ℕ → Option (List ℕ) → Option Notation
-notation_of_name name None = if bytes_eq name (codes "phh") then Some Phh else None
+notation_of_name name None =
+    if bytes_eq name (codes "phh") then Some Phh
+    else if bytes_eq name (codes "ohh") then Some Ohh
+    else if bytes_eq name (codes "ohh-to") then Some OhhTo
+    else None
 notation_of_name name (Some []) = None
 notation_of_name name (Some (first ∷ others)) = if bytes_eq name (codes "acpc") then Some (Acpc (first ∷ others)) else None
 
@@ -65,8 +72,8 @@ notation_named (Some name) game = notation_of_name name game
 
 -- what the word of a command asks for of hands in a notation; a game file is made of hands that have none
 abbrev pub game_asked : Notation → Option Request
-game_asked Phh = Some Game
 game_asked (Acpc game) = None
+game_asked notation = Some (Game notation)
 
 abbrev pub request_by : List ℕ → Notation → Option Request
 request_by word notation =

@@ -11,6 +11,10 @@ use crate::options::Options;
 pub enum Notation<'a> {
     /// The Poker Hand History format.
     Phh,
+    /// Open Hand History, where a raise states the chips that it adds.
+    Ohh,
+    /// Open Hand History, where a raise states what it goes to.
+    OhhTo,
     /// The logs of the Annual Computer Poker Competition, under the game of the file with this name.
     Acpc { game: &'a str },
 }
@@ -20,8 +24,8 @@ pub enum Notation<'a> {
 pub enum Request<'a> {
     /// What a command prints of hands in a notation.
     Show(Command, Notation<'a>),
-    /// The game file that fits the first hand of an input in the Poker Hand History format.
-    Game,
+    /// The game file that fits the first of hands in a notation, which is not that of logs.
+    Game(Notation<'a>),
 }
 
 /// What a command's word asks for with these options, or `None` where that is no command.
@@ -37,10 +41,20 @@ fn notation_named(options: Options<'_>) -> Option<Notation<'_>>
     ensures { option_map notation_in result
         ≡ notation_named (options_in options.entry).from (options_in options.entry).game }
 {
-    match (options.from?, options.game) {
-        ("phh", None) => Some(Notation::Phh),
-        ("acpc", Some(game)) if !game.is_empty() => Some(Notation::Acpc { game }),
-        _ => None,
+    let name = options.from?;
+    match options.game {
+        None => match name {
+            "phh" => Some(Notation::Phh),
+            "ohh" => Some(Notation::Ohh),
+            "ohh-to" => Some(Notation::OhhTo),
+            _ => None,
+        },
+        Some(game) => {
+            if name != "acpc" || game.is_empty() {
+                return None;
+            }
+            Some(Notation::Acpc { game })
+        }
     }
 }
 
@@ -52,7 +66,8 @@ fn request_by<'a>(word: &str, notation: Notation<'a>) -> Option<Request<'a>>
         ("check", _) => Some(Request::Show(Command::Check, notation)),
         ("replay", _) => Some(Request::Show(Command::Replay, notation)),
         ("report", _) => Some(Request::Show(Command::Report, notation)),
-        ("game", Notation::Phh) => Some(Request::Game),
+        ("game", Notation::Acpc { .. }) => None,
+        ("game", _) => Some(Request::Game(notation)),
         _ => None,
     }
 }
