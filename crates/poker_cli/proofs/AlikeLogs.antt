@@ -11,7 +11,6 @@ use Rattle.chip_ledger.specs.Greatest.{greatest}
 use Rattle.chip_ledger.proofs.Same.{seat_row_same_by_seats}
 use Rattle.play_event.specs.declared.code.Code.{Code}
 use Rattle.play_event.specs.declared.setup.Setup.{Setup}
-use Rattle.play_event.specs.Said.{Numbered, numbered}
 use Rattle.hand_records.specs.declared.record.NetRow.{NetRow}
 use Rattle.hand_records.specs.declared.record.Record.{Record}
 use Rattle.hand_records.specs.declared.record.Stated.{Stated}
@@ -22,19 +21,7 @@ use Rattle.acpc_game.specs.Games.{amounts_in, are_chips, has_fitting_sizes}
 use Rattle.acpc_reading.specs.Logs.{HandSaid}
 use Rattle.acpc_reading.specs.RecordView.{IsOfGame, IsSetupOf, StatesValues, record_said}
 use Rattle.acpc_reading.specs.Views.{nets_in}
-use Rattle.phh_reading.specs.Hand.{plain}
-use Rattle.phh_reading.proofs.SamePlay.{same_script, same_setup}
-use Rattle.poker_cli.proofs.AlikeRecords.{AllAlike, AreAlike}
-
--- scripts and rakes with the same parts are one, as in the hands of histories
-one_script : (a b : Record) → map numbered a.script ≡ map numbered b.script → a.script ≡ b.script
-one_script a b same =
-    same_script a (record a { script = b.script }) (ap (λ (events : List Numbered). record (plain a) { script = events }) same)
-
-one_rakes : (a : Record) (row : RakeRow) → a.setup.rakes.rakes ≡ row.rakes → a.setup.rakes ≡ row
-one_rakes a row same =
-    ap (λ (setup : Setup). setup.rakes)
-    (same_setup a (record a { setup = record a.setup { rakes = row } }) (ap (λ (rakes : List ℕ). record (plain a) { rakes = rakes }) same))
+use Rattle.poker_cli.proofs.AlikeRecords.{AllAlike, AreAlike, one_rakes, one_script}
 
 -- the setups of a game
 setup_from : Code → SeatRow → SeatRow → Bool → SeatRow → ℕ → ℕ → ℕ → ℕ → RakeRow → Setup

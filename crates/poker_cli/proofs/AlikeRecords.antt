@@ -1,6 +1,9 @@
 -- Records that are read alike say the same of their plays, and name their players alike.
-use Rattle.std.proofs.Common.{◌≡◌, ℕ, ◌<◌, List, [], ◌∷◌, map, slice_index_or, None}
+use Rattle.std.proofs.Common.{◌≡◌, ℕ, ◌<◌, List, [], ◌∷◌, map, slice_index_or, None, ap}
+use Rattle.chip_ledger.specs.declared.rakes.RakeRow.{RakeRow}
 use Rattle.hand_records.specs.declared.record.Record.{Record}
+use Rattle.play_event.specs.declared.setup.Setup.{Setup}
+use Rattle.play_event.specs.Said.{Numbered, numbered}
 use Rattle.phh_reading.specs.Hand.{plain}
 use Rattle.phh_reading.proofs.SamePlay.{same_name, same_rules, same_script, same_setup, same_stated}
 use Rattle.referee.proofs.OneOutcome.{AllTheSame, SayTheSame, turned}
@@ -47,3 +50,13 @@ histories_alike [] [] same = tt
 histories_alike [] (b ∷ others) same = absurd (cc)
 histories_alike (a ∷ rest) [] same = absurd (cc)
 histories_alike (a ∷ rest) (b ∷ others) same = (plain_alike a b (cc), histories_alike rest others (cc))
+
+-- scripts and rakes with the same parts are one, as in the hands of histories
+pub one_script : (a b : Record) → map numbered a.script ≡ map numbered b.script → a.script ≡ b.script
+one_script a b same =
+    same_script a (record a { script = b.script }) (ap (λ (events : List Numbered). record (plain a) { script = events }) same)
+
+pub one_rakes : (a : Record) (row : RakeRow) → a.setup.rakes.rakes ≡ row.rakes → a.setup.rakes ≡ row
+one_rakes a row same =
+    ap (λ (setup : Setup). setup.rakes)
+    (same_setup a (record a { setup = record a.setup { rakes = row } }) (ap (λ (rakes : List ℕ). record (plain a) { rakes = rakes }) same))

@@ -9,19 +9,21 @@ use Rattle.acpc_reading.specs.RecordView.{IsOfGame, record_said}
 use Rattle.acpc_text.specs.Faults.{Answers as Tells}
 use Rattle.acpc_text.specs.declared.fault.AcpcFault.{AcpcFault}
 use Rattle.acpc_text.specs.declared.fault.AcpcFault.TheVariants as faults
-use Rattle.command_words.specs.Words.{Request}
+use Rattle.command_words.specs.Words.{Notation, Request}
 use Rattle.command_words.specs.Words as notations
 use Rattle.command_words.specs.declared.command.Command.{Command}
 use Rattle.hand_records.specs.declared.record.Record.{Record}
 use Rattle.hand_records.specs.declared.trace.Play.{Play}
 use Rattle.hand_records.specs.SoundRecord.{IsSoundRecord}
+use Rattle.ohh_members.specs.declared.dialect.Dialect.{Dialect}
+use Rattle.ohh_reading.specs.Reading as ohh
 use Rattle.phh_reading.specs.Reading.{IsHistory, Wrong, reading}
 use Rattle.referee.specs.Judged.{ArePlaysOf, IsPlaysFaultOf}
 use Rattle.referee.specs.declared.fault.PlaysFault.{PlaysFault}
 use Rattle.referee.specs.declared.fault.PlaysFault.TheVariants as plays_faults
-use Rattle.poker_cli.specs.Answer.{Answer, Files, GivesGame, GivesNoGame, IsAnswer, IsAnswerIn, IsAnswerTo, IsToldOf, done, most_input, notation_of, task_of, to_excess, to_fault, to_first_game}
+use Rattle.poker_cli.specs.Answer.{Answer, Files, GivesGame, GivesNoGame, IsAnswer, IsAnswerIn, IsAnswerTo, IsToldOf, done, most_input, notation_of, task_of, reader_of, to_excess, to_fault, to_first_game}
 use Rattle.poker_cli.specs.Answer as answers
-use Rattle.poker_cli.specs.Inputs.{InHistory, InLog}
+use Rattle.poker_cli.specs.Inputs.{InHistory, InLog, InTree}
 use Rattle.poker_cli.specs.Lacking.{IsLackTold, IsLogFaultTold, Lacks}
 use Rattle.poker_cli.specs.Printing.{IsPrinted}
 use Rattle.poker_cli.specs.Told.{answer_told}
@@ -29,7 +31,7 @@ use Rattle.poker_cli.specs.declared.answer.Answer as made
 use Rattle.poker_cli.specs.declared.entry.NoAnswer.{NoAnswer}
 use Rattle.poker_cli.specs.declared.games.Lack.{Lack}
 use Rattle.poker_cli.specs.declared.games.Lack.TheVariants as lacks
-use Rattle.poker_cli.specs.Run.{Ends, IsOfInput, IsOwn, MayEnd, ReadsNothing, Sinks, TellsLine, Writes, line_of}
+use Rattle.poker_cli.specs.Run.{Ends, IsOfInput, IsOwn, MayEnd, ReadsNothing, Sinks, TellsLine, Writes, files_told, line_of}
 use Rattle.poker_cli.specs.declared.status.Status.{Status}
 use Rattle.poker_cli.specs.declared.status.Status.TheVariants as statuses
 use Rattle.poker_cli.specs.declared.task.Reader.{Reader}
@@ -60,6 +62,14 @@ pub answer_unread : (task : Task) (bytes : List ℕ) (wrong : Option Wrong) (ans
 answer_unread task bytes (Some wrong) answer few is same =
     subst (λ (a : Answer). IsAnswer task readers.Phh bytes a) (some-same same) (answers.Unread few (InHistory wrong) is)
 answer_unread task bytes None answer few is same = cc
+
+pub answer_untold : (task : Task) (dialect : Dialect) (bytes : List ℕ) (wrong : Option ohh.Wrong) (answer : Answer)
+    → length bytes ≤ most_input → IfSome wrong (λ w. ohh.reading dialect bytes ≡ Err w)
+    → option_map (λ (w : ohh.Wrong). to_fault (InTree w)) wrong ≡ Some answer
+    → IsAnswer task (readers.Ohh dialect) bytes answer
+answer_untold task dialect bytes (Some wrong) answer few is same =
+    subst (λ (a : Answer). IsAnswer task (readers.Ohh dialect) bytes a) (some-same same) (answers.Unread few (InTree wrong) is)
+answer_untold task dialect bytes None answer few is same = cc
 
 -- the fault of a log, unless memory ran out
 pub log_fault : {X Y : Type 0} (view : X → Y) (said : Result Y AcpcFault) (fault : AcpcFault) → fault ≢ faults.Memory
@@ -125,6 +135,14 @@ pub sound_records : (records : List Record) → AllByRecursion IsHistory records
 sound_records records all = All-from_recursion IsSoundRecord records (each records all)
   where
     each : (records : List Record) → AllByRecursion IsHistory records → AllByRecursion IsSoundRecord records
+    each [] all = tt
+    each (hand ∷ others) all = (all.0.sound, each others all.1)
+
+-- so are those of Open Hand History
+pub sound_trees : (records : List Record) → AllByRecursion ohh.IsHistory records → All IsSoundRecord records
+sound_trees records all = All-from_recursion IsSoundRecord records (each records all)
+  where
+    each : (records : List Record) → AllByRecursion ohh.IsHistory records → AllByRecursion IsSoundRecord records
     each [] all = tt
     each (hand ∷ others) all = (all.0.sound, each others all.1)
 
@@ -214,13 +232,16 @@ read_of_input statuses.ShelfFault of nothing = of
 read_of_input statuses.GameMissing of nothing = of
 read_of_input statuses.BadGame of nothing = of
 
--- the answer to hands in the history format asks for no file
-pub history_reply : (task : Task) (left : Option (List ℕ)) (result : Result made.Answer NoAnswer)
-    → IfOk result (λ answer. IfSome left (λ bytes. IsAnswer task readers.Phh bytes (answer_told answer)))
-    → IfOk result (λ answer. IfSome left (λ bytes. IsAnswerIn task (λ (name : List ℕ). None) bytes notations.Phh (answer_told answer)))
-history_reply task (Some bytes) (Ok answer) is = answers.History (answer_told answer) is
-history_reply task None (Ok answer) is = tt
-history_reply task left (Err why) is = tt
+-- the answer to hands in a notation without games asks for no file
+pub plain_reply : (task : Task) (notation : Notation) (reader : Reader) (told : Option Files) (left : Option (List ℕ)) (result : Result made.Answer NoAnswer)
+    → reader_of notation ≡ Some reader → IfOk result (λ answer. IfSome left (λ bytes. IsAnswer task reader bytes (answer_told answer)))
+    → IfOk result (λ answer. IfSome left (λ bytes. IfSome (files_told notation told) (λ files. IsAnswerIn task files bytes notation (answer_told answer))))
+plain_reply task notation reader told None (Ok answer) reads is = tt
+plain_reply task notation reader told left (Err why) reads is = tt
+plain_reply task notations.Phh reader told (Some bytes) (Ok answer) reads is = answers.Hands notations.Phh reader reads (answer_told answer) is
+plain_reply task notations.Ohh reader told (Some bytes) (Ok answer) reads is = answers.Hands notations.Ohh reader reads (answer_told answer) is
+plain_reply task notations.OhhTo reader told (Some bytes) (Ok answer) reads is = answers.Hands notations.OhhTo reader reads (answer_told answer) is
+plain_reply task (notations.Acpc name) reader told (Some bytes) (Ok answer) reads is = absurd (cc (reads))
 
 -- the answer to a log is by the game that its file gives
 pub log_reply : (task : Task) (told : Option Files) (left : Option (List ℕ)) (name : List ℕ) (game : Game) (result : Result made.Answer NoAnswer)

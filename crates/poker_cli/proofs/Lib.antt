@@ -2,5 +2,6 @@
 mod Answering
 mod HandByHand
 mod AlikeRecords
+mod AlikeTrees
 mod AlikeLogs
 mod OneAnswer

@@ -1,5 +1,5 @@
 -- An input has one answer, and none is refused whose hands are all legal.
-use Rattle.std.proofs.Common.{◌≡◌, ◌⊎◌, ℕ, ◌+◌, ◌-◌, ◌<◌, ◌≤◌, zero, suc, All, List, [], ◌∷◌, ◌++◌, length, map, Option, Ok, refl, sym, subst, ap, ap₂, ◌∙◌, inl, inr, arith}
+use Rattle.std.proofs.Common.{◌≡◌, ◌⊎◌, ℕ, ◌+◌, ◌-◌, ◌<◌, ◌≤◌, zero, suc, All, List, [], ◌∷◌, ◌++◌, length, map, Option, Some, Ok, refl, sym, subst, ap, ap₂, ◌∙◌, inl, inr, arith}
 use Rattle.std.specs.List.{range_with_len}
 use Rattle.std.specs.Option.{unwrap_or}
 use Rattle.std.proofs.lemmas.List.Elements.{All-head, All-tail}
@@ -7,7 +7,7 @@ use Rattle.std.proofs.lemmas.Option.{same_Some}
 use Rattle.acpc_game.specs.declared.game.Game.{Game as AnyGame}
 use Rattle.acpc_game.specs.GameFile.{game_said}
 use Rattle.acpc_game.specs.GameView.{game_in}
-use Rattle.command_words.specs.Words.{Acpc, Game, Phh, Request, Show}
+use Rattle.command_words.specs.Words.{Acpc, Game, Notation, Ohh, OhhTo, Phh, Request, Show}
 use Rattle.command_words.specs.declared.command.Command.{Command}
 use Rattle.command_words.specs.declared.command.Command.TheVariants as commands
 use Rattle.hand_records.specs.declared.record.Record.{Record}
@@ -23,9 +23,9 @@ use Rattle.hand_canon.specs.Judged.{IsJudged}
 use Rattle.referee.specs.Judged.{ArePlaysOf}
 use Rattle.referee.proofs.OneOutcome.{AllTraced, SayTheSame, no_plays, same_refused, same_traces}
 use Rattle.referee.proofs.Plays.{hands_of}
-use Rattle.poker_cli.specs.Answer.{Answer, Files, GivesGame, GivesNoGame, IsAnswer, IsAnswerIn, IsAnswerTo, done, most_input, notation_of, task_of, text_of, to_fault, to_first_game, to_plays, to_refusal}
+use Rattle.poker_cli.specs.Answer.{Answer, Files, GivesGame, GivesNoGame, IsAnswer, IsAnswerIn, IsAnswerTo, done, most_input, notation_of, reader_of, task_of, text_of, to_fault, to_first_game, to_plays, to_refusal}
 use Rattle.poker_cli.specs.Answer as answers
-use Rattle.poker_cli.specs.Inputs.{Fault, HaveFault, InHistory, InLog, SayRecords}
+use Rattle.poker_cli.specs.Inputs.{Fault, HaveFault, InHistory, InLog, InTree, SayRecords}
 use Rattle.poker_cli.specs.Run.{Ends, IsGameMissing, RefusesNothing, Sinks}
 use Rattle.poker_cli.specs.declared.status.Status.{Status}
 use Rattle.poker_cli.specs.declared.status.Status.TheVariants as statuses
@@ -34,6 +34,7 @@ use Rattle.poker_cli.specs.declared.task.Reader.TheVariants as readers
 use Rattle.poker_cli.specs.declared.task.Task.{Task}
 use Rattle.poker_cli.specs.declared.task.Task.TheVariants as tasks
 use Rattle.poker_cli.proofs.AlikeRecords.{AllAlike, AreAlike, all_the_same, all_turned, histories_alike}
+use Rattle.poker_cli.proofs.AlikeTrees.{trees_alike}
 use Rattle.poker_cli.proofs.AlikeLogs.{logs_alike, one_game}
 
 -- the lines of hands with the same traces
@@ -137,18 +138,19 @@ same_answer task records others _ _ alike (answers.Played plays are) (answers.Pl
 -- bytes have one first fault
 one_fault : (reader : Reader) (bytes : List ℕ) (fault other : Fault) → HaveFault reader bytes fault → HaveFault reader bytes other → fault ≡ other
 one_fault readers.Phh bytes (InHistory wrong) (InHistory other) is it = ap InHistory (cc)
-one_fault readers.Phh bytes (InHistory wrong) (InLog other) is it = absurd it
-one_fault readers.Phh bytes (InLog wrong) other is it = absurd is
+one_fault readers.Phh bytes (InHistory wrong) other is it = absurd it
+one_fault (readers.Ohh dialect) bytes (InTree wrong) (InTree other) is it = ap InTree (cc)
+one_fault (readers.Ohh dialect) bytes (InTree wrong) other is it = absurd it
 one_fault (readers.Acpc game) bytes (InLog wrong) (InLog other) is it = ap InLog (cc)
-one_fault (readers.Acpc game) bytes (InLog wrong) (InHistory other) is it = absurd it
-one_fault (readers.Acpc game) bytes (InHistory wrong) other is it = absurd is
+one_fault (readers.Acpc game) bytes (InLog wrong) other is it = absurd it
+one_fault reader bytes fault other is it = absurd is
 
 -- bytes with a fault say no records
 no_records : (reader : Reader) (bytes : List ℕ) (fault : Fault) (records : List Record) → HaveFault reader bytes fault → SayRecords reader bytes records → ⊥
 no_records readers.Phh bytes (InHistory wrong) records is it = cc
-no_records readers.Phh bytes (InLog wrong) records is it = is
+no_records (readers.Ohh dialect) bytes (InTree wrong) records is it = cc
 no_records (readers.Acpc game) bytes (InLog wrong) records is it = let says = it.0 in cc
-no_records (readers.Acpc game) bytes (InHistory wrong) records is it = is
+no_records reader bytes fault records is it = is
 
 -- the records of bytes are alike
 ReadAlike : Reader → List ℕ → Type 0
@@ -172,6 +174,7 @@ same_reading task reader bytes _ _ alike (answers.Read few records is answer to)
 read_alike : (reader : Reader) (bytes : List ℕ) → ReadAlike reader bytes
 unfolding ReadAlike
 read_alike readers.Phh bytes records others is it = histories_alike records others (cc (is, it))
+read_alike (readers.Ohh dialect) bytes records others is it = trees_alike records others (cc (is, it))
 read_alike (readers.Acpc game) bytes records others is it =
     let says = is.0 in
     let too = it.0 in
@@ -209,12 +212,24 @@ games_same file game other gives too =
 
 in_log : (task : Task) (files : Files) (bytes name : List ℕ) (game : AnyGame) (answer : Answer) → GivesGame (files name) game
     → IsAnswerIn task files bytes (Acpc name) answer → IsAnswer task (readers.Acpc game) bytes answer
+in_log task files bytes name game _ gives (answers.Hands _ reader reads answer is) = absurd (cc (reads))
 in_log task files bytes name game _ gives (answers.NoGame _ answer none) = absurd (no_game (files name) game answer gives none)
 in_log task files bytes name game _ gives (answers.Log _ other says answer is) =
     subst (λ (g : AnyGame). IsAnswer task (readers.Acpc g) bytes answer) (games_same (files name) other game says gives) is
 
-in_history : (task : Task) (files : Files) (bytes : List ℕ) (answer : Answer) → IsAnswerIn task files bytes Phh answer → IsAnswer task readers.Phh bytes answer
-in_history task files bytes _ (answers.History answer is) = is
+in_hands : (task : Task) (files : Files) (bytes : List ℕ) (notation : Notation) (reader : Reader) (answer : Answer) → reader_of notation ≡ Some reader
+    → IsAnswerIn task files bytes notation answer → IsAnswer task reader bytes answer
+in_hands task files bytes _ reader _ reads (answers.Hands notation other same answer is) =
+    subst (λ (r : Reader). IsAnswer task r bytes answer) (same_Some other reader (sym same ∙ reads)) is
+in_hands task files bytes _ reader _ reads (answers.NoGame name answer none) = absurd (cc (reads))
+in_hands task files bytes _ reader _ reads (answers.Log name game gives answer is) = absurd (cc (reads))
+
+-- hands in a notation without games lack none
+no_missing : (notation : Notation) (reader : Reader) (files : Files) → reader_of notation ≡ Some reader → IsGameMissing notation files → ⊥
+no_missing Phh reader files reads missing = missing
+no_missing Ohh reader files reads missing = missing
+no_missing OhhTo reader files reads missing = missing
+no_missing (Acpc name) reader files reads missing = cc (reads)
 
 -- a run whose answers all have one status, and that lacks no game, ends with it, or a device failed, or memory ran out
 ends_so : (request : Request) (files : Files) (bytes : List ℕ) (out diag : Sinks) (status own : Status)
@@ -239,14 +254,15 @@ done_so status (inl is) = is
 done_so status (inr same) = subst RefusesNothing same tt
 
 -- so a run on such an input refuses nothing
-pub legal_input : (command : Command) (files : Files) (bytes : List ℕ) (records : List Record) (plays : List Play) (out diag : Sinks) (status : Status)
-    → length bytes ≤ most_input → SayRecords readers.Phh bytes records → ArePlaysOf records plays
-    → Ends (Show command Phh) files bytes out diag status → RefusesNothing status
-legal_input command files bytes records plays out diag status few is are ends =
+pub legal_hands : (command : Command) (notation : Notation) (reader : Reader) (files : Files) (bytes : List ℕ) (records : List Record) (plays : List Play)
+    → (out diag : Sinks) (status : Status)
+    → reader_of notation ≡ Some reader → length bytes ≤ most_input → SayRecords reader bytes records → ArePlaysOf records plays
+    → Ends (Show command notation) files bytes out diag status → RefusesNothing status
+legal_hands command notation reader files bytes records plays out diag status reads few is are ends =
     done_so status
-    (ends_so (Show command Phh) files bytes out diag status statuses.Done
-    (λ answer to. legal_status (tasks.Show command) readers.Phh bytes records plays answer few is are (in_history (tasks.Show command) files bytes answer to))
-    (λ missing. missing) ends)
+    (ends_so (Show command notation) files bytes out diag status statuses.Done
+    (λ answer to. legal_status (tasks.Show command) reader bytes records plays answer few is are (in_hands (tasks.Show command) files bytes notation reader answer reads to))
+    (no_missing notation reader files reads) ends)
 
 pub legal_log : (command : Command) (name : List ℕ) (files : Files) (game : AnyGame) (bytes : List ℕ) (records : List Record) (plays : List Play)
     → (out diag : Sinks) (status : Status)
@@ -260,10 +276,11 @@ legal_log command name files game bytes records plays out diag status gives few 
     (λ missing. cc (missing, there)) ends)
 
 -- and the game file of the first hand is that of its play
-pub legal_game : (files : Files) (bytes : List ℕ) (records : List Record) (plays : List Play) (out diag : Sinks) (status : Status)
-    → length bytes ≤ most_input → SayRecords readers.Phh bytes records → ArePlaysOf records plays
-    → Ends Game files bytes out diag status → RefusesNothing status ⊎ ((to_first_game plays).status ≡ status)
-legal_game files bytes records plays out diag status few is are ends =
-    ends_so Game files bytes out diag status (to_first_game plays).status
-    (λ answer to. legal_status tasks.GameFile readers.Phh bytes records plays answer few is are (in_history tasks.GameFile files bytes answer to))
-    (λ missing. missing) ends
+pub legal_game : (notation : Notation) (reader : Reader) (files : Files) (bytes : List ℕ) (records : List Record) (plays : List Play)
+    → (out diag : Sinks) (status : Status)
+    → reader_of notation ≡ Some reader → length bytes ≤ most_input → SayRecords reader bytes records → ArePlaysOf records plays
+    → Ends (Game notation) files bytes out diag status → RefusesNothing status ⊎ ((to_first_game plays).status ≡ status)
+legal_game notation reader files bytes records plays out diag status reads few is are ends =
+    ends_so (Game notation) files bytes out diag status (to_first_game plays).status
+    (λ answer to. legal_status tasks.GameFile reader bytes records plays answer few is are (in_hands tasks.GameFile files bytes notation reader answer reads to))
+    (no_missing notation reader files reads) ends

@@ -1,5 +1,5 @@
 -- What the program answers to the bytes of its input, and of the file of a game.
-use Rattle.std.specs.Prelude.{◌≡◌, ℕ, ◌<◌, ◌≤◌, List, [], ◌∷◌, length, codes, Option, Some, Result, Ok, Err}
+use Rattle.std.specs.Prelude.{◌≡◌, ℕ, ◌<◌, ◌≤◌, List, [], ◌∷◌, length, codes, Option, Some, None, Result, Ok, Err}
 use Rattle.acpc_game.specs.GameFile.{GameSaid, game_said}
 use Rattle.acpc_game.specs.GameText.{game_text}
 use Rattle.acpc_game.specs.GameView.{game_in}
@@ -13,6 +13,7 @@ use Rattle.command_words.specs.declared.command.Command.TheVariants as commands
 use Rattle.hand_records.specs.declared.record.Record.{Record}
 use Rattle.hand_records.specs.declared.trace.Play.{Play}
 use Rattle.hand_records.specs.declared.writing.Unspelled.{Unspelled}
+use Rattle.ohh_members.specs.declared.dialect.Dialect.TheVariants as dialects
 use Rattle.printed_hands.specs.Check.{check_said}
 use Rattle.printed_hands.specs.Replay.{replay_said}
 use Rattle.printed_report.specs.Report.{report_said}
@@ -21,9 +22,10 @@ use Rattle.referee.specs.declared.fault.PlaysFault.{PlaysFault}
 use Rattle.referee.specs.declared.fault.PlaysFault.TheVariants as plays_faults
 use Rattle.referee.specs.declared.fault.Refusal.{Refusal}
 use Rattle.poker_cli.specs.Faults.{wrong_line, wrong_status}
-use Rattle.poker_cli.specs.Inputs.{Fault, HaveFault, InHistory, InLog, SayRecords}
+use Rattle.poker_cli.specs.Inputs.{Fault, HaveFault, InHistory, InLog, InTree, SayRecords}
 use Rattle.poker_cli.specs.Lines.{refused_line}
 use Rattle.poker_cli.specs.LogFaults.{bad_game_line, log_line, log_status}
+use Rattle.poker_cli.specs.TreeFaults.{tree_line, tree_status}
 use Rattle.poker_cli.specs.Unspelled.{unspelled_line}
 use Rattle.poker_cli.specs.declared.status.Status.{Status}
 use Rattle.poker_cli.specs.declared.status.Status.TheVariants as statuses
@@ -53,6 +55,7 @@ to_excess = refusal statuses.Limit (codes "limit: input bytes 16777216\n")
 -- the answer to an input that does not read as hands
 abbrev pub to_fault : Fault → Answer
 to_fault (InHistory wrong) = refusal (wrong_status wrong) (wrong_line wrong)
+to_fault (InTree wrong) = refusal (tree_status wrong) (tree_line wrong)
 to_fault (InLog fault) = refusal (log_status fault) (log_line fault)
 
 -- the answer to a refused hand
@@ -130,12 +133,19 @@ pub record GivesGame (file : Option (List ℕ)) (game : Game) : Type 0 where
 -- what is made of the hands that a request asks about
 abbrev pub task_of : Request → Task
 task_of (Show command notation) = tasks.Show command
-task_of notations.Game = tasks.GameFile
+task_of (notations.Game notation) = tasks.GameFile
 
 -- the notation of these hands
 abbrev pub notation_of : Request → Notation
 notation_of (Show command notation) = notation
-notation_of notations.Game = notations.Phh
+notation_of (notations.Game notation) = notation
+
+-- how hands in a notation without games are read
+abbrev pub reader_of : Notation → Option Reader
+reader_of notations.Phh = Some readers.Phh
+reader_of notations.Ohh = Some (readers.Ohh dialects.Added)
+reader_of notations.OhhTo = Some (readers.Ohh dialects.To)
+reader_of (notations.Acpc name) = None
 
 -- The files of a shelf by their names.
 abbrev pub Files : Type 0
@@ -143,7 +153,8 @@ Files = List ℕ → Option (List ℕ)
 
 -- The answer to hands in a notation: to a log, by the file of its game.
 pub data IsAnswerIn (task : Task) (files : Files) (bytes : List ℕ) : Notation → Answer → Type 0 where
-  History : (answer : Answer) → IsAnswer task readers.Phh bytes answer → IsAnswerIn task files bytes notations.Phh answer
+  Hands : (notation : Notation) (reader : Reader) → reader_of notation ≡ Some reader
+      → (answer : Answer) → IsAnswer task reader bytes answer → IsAnswerIn task files bytes notation answer
   NoGame : (name : List ℕ) (answer : Answer) → GivesNoGame (files name) answer → IsAnswerIn task files bytes (notations.Acpc name) answer
   Log : (name : List ℕ) (game : Game) → GivesGame (files name) game
       → (answer : Answer) → IsAnswer task (readers.Acpc game) bytes answer → IsAnswerIn task files bytes (notations.Acpc name) answer

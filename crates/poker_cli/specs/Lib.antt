@@ -2,6 +2,7 @@
 pub mod Status
 pub mod Lines
 pub mod Faults
+pub mod TreeFaults
 pub mod LogFaults
 pub mod Unspelled
 pub mod Inputs

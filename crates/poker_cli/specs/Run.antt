@@ -54,29 +54,34 @@ pub record Sinks : Type 0 where
 
 -- the files that a request asks for, where the shelf tells them; a request without a game asks for none
 abbrev pub files_told : Notation → Option Files → Option Files
-files_told notations.Phh told = Some (λ (name : List ℕ). None)
 files_told (notations.Acpc name) told = told
+files_told notation told = Some (λ (name : List ℕ). None)
 
 -- a request asks for the file of a game
 abbrev pub AsksForGame : Notation → Type 0
-AsksForGame notations.Phh = ⊥
 AsksForGame (notations.Acpc name) = Unit {0}
+AsksForGame notation = ⊥
+
+-- a request asks for no file of a game
+abbrev pub AsksForNoGame : Notation → Type 0
+AsksForNoGame (notations.Acpc name) = ⊥
+AsksForNoGame notation = Unit {0}
 
 -- words ask for no file of a game
 abbrev pub AskForNoGame : Option Request → Type 0
 AskForNoGame None = Unit {0}
-AskForNoGame (Some request) = notation_of request ≡ notations.Phh
+AskForNoGame (Some request) = AsksForNoGame (notation_of request)
 
 -- the file of the game that a request asks for is not there
 abbrev pub IsGameMissing : Notation → Files → Type 0
-IsGameMissing notations.Phh files = ⊥
 IsGameMissing (notations.Acpc name) files = files name ≡ None
+IsGameMissing notation files = ⊥
 
 -- the shelf tells that the file of the game that a request asks for is not there, or gives no game
 abbrev pub LacksGame : Notation → Option Files → Type 0
-LacksGame notations.Phh told = ⊥
 LacksGame (notations.Acpc name) None = ⊥
 LacksGame (notations.Acpc name) (Some files) = (files name ≡ None) ⊎ ((answer : Answer) × GivesNoGame (files name) answer)
+LacksGame notation told = ⊥
 
 -- A run that got to its answer: the answer to its files and its input, the status that follows from it, what was written of
 -- its output, and its line.

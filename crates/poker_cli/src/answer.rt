@@ -14,12 +14,14 @@ use crate::log_faults::answer_to_log_fault;
 use crate::printing::print_records;
 use crate::status::Status;
 use crate::task::{Reader, Task};
+use crate::tree_faults::answer_to_tree_fault;
 use crate::unspelled::unspelled_line;
 use acpc_game::{Game, write_game};
 use acpc_line::game_of;
 use card_set::Memory;
 use command_words::Command;
 use hand_records::{Play, Records};
+use ohh_members::Dialect;
 use referee::{PlaysFault, plays_of};
 use std::alloc::Global;
 
@@ -43,6 +45,7 @@ pub fn answer_to(alloc: Global, task: Task, reader: &Reader, bytes: &[u8]) -> Re
 {
     match reader {
         Reader::Phh => answer_to_history(alloc, task, bytes),
+        Reader::Ohh(dialect) => answer_to_trees(alloc, task, *dialect, bytes),
         Reader::Acpc(game) => answer_to_log(alloc, task, game, bytes),
     }
 }
@@ -54,9 +57,27 @@ fn answer_to_history(alloc: Global, task: Task, bytes: &[u8]) -> Result<Answer, 
         IsAnswer task Reader.Phh bytes.now (answer_told answer)) }
     ensures own { IfOk result (λ answer. IsOfInput answer.status) }
 {
-    match phh_format::read(alloc, bytes) {
+    match phh_reading::read(alloc, bytes) {
         Ok(records) => answer_to_records(alloc, task, records),
         Err(fault) => answer_to_fault(alloc, &fault),
+    }
+}
+
+// The answer to bytes in a dialect of Open Hand History.
+fn answer_to_trees(
+    alloc: Global,
+    task: Task,
+    dialect: Dialect,
+    bytes: &[u8],
+) -> Result<Answer, Memory>
+    requires { length bytes.now ≤ most_input }
+    ensures answer { IfOk result (λ answer.
+        IsAnswer task (Reader.Ohh dialect) bytes.now (answer_told answer)) }
+    ensures own { IfOk result (λ answer. IsOfInput answer.status) }
+{
+    match ohh_reading::read(alloc, dialect, bytes) {
+        Ok(records) => answer_to_records(alloc, task, records),
+        Err(fault) => answer_to_tree_fault(alloc, &fault),
     }
 }
 

@@ -5,7 +5,7 @@ ghost use Rattle.command_words.specs.Words.{Acpc, request_said};
 ghost use Rattle.host_io.specs.Faults.{Rose};
 ghost use Rattle.poker_cli.specs.Answer.{IsAnswer, IsAnswerIn, notation_of, task_of};
 ghost use Rattle.poker_cli.specs.Lacking.{ComesFirst};
-ghost use Rattle.poker_cli.specs.Run.{AskForNoGame, AsksForGame, Ends, IsGameMissing, IsOfInput, IsOwn, LacksGame, MayEnd, ReadsNothing, TellsLine, Writes, WritesNothing, files_told, fixed_line, line_of};
+ghost use Rattle.poker_cli.specs.Run.{AskForNoGame, AsksForGame, AsksForNoGame, Ends, IsGameMissing, IsOfInput, IsOwn, LacksGame, MayEnd, ReadsNothing, TellsLine, Writes, WritesNothing, files_told, fixed_line, line_of};
 ghost use Rattle.poker_cli.specs.Told.{answer_told};
 
 use crate::answer::{self, Answer, MOST_INPUT};
@@ -15,6 +15,7 @@ use crate::task::{Reader, Task};
 use card_set::Memory;
 use command_words::{Notation, Request, read_words};
 use host_io::{Failed, InFault, Shelf, Sink, Source, read_all, write_all};
+use ohh_members::Dialect;
 use std::alloc::Global;
 
 const USAGE: &[u8] = b"usage: handref check|replay|report|convert|game|load [options]\n";
@@ -171,13 +172,44 @@ fn reply<S: Source, H: Shelf>(
         → input.new ≡ input.old }
 {
     match request {
-        Request::Show(command, Notation::Phh) => {
-            reply_by(alloc, Task::Show(command), &Reader::Phh, input)
+        Request::Show(command, notation) => {
+            reply_in(alloc, Task::Show(command), notation, input, shelf)
         }
-        Request::Show(command, Notation::Acpc { game }) => {
-            reply_under(alloc, Task::Show(command), game, input, shelf)
-        }
-        Request::Game => reply_by(alloc, Task::GameFile, &Reader::Phh, input),
+        Request::Game(notation) => reply_in(alloc, Task::GameFile, notation, input, shelf),
+    }
+}
+
+// The answer to hands in a notation, by the file of their game and by all that the source has left.
+fn reply_in<S: Source, H: Shelf>(
+    alloc: Global,
+    task: Task,
+    notation: Notation<'_>,
+    input: &mut S,
+    shelf: &mut H,
+) -> Result<Answer, NoAnswer>
+    ensures answer { IfOk result (λ answer. IfSome (S.left input.old) (λ bytes.
+        IfSome (files_told (notation_in notation.entry) (H.files shelf.old)) (λ files.
+        IsAnswerIn task files bytes (notation_in notation.entry) (answer_told answer)))) }
+    ensures own { IfOk result (λ answer. IsOwn answer.status) }
+    ensures read_fault { IsErrOf result NoAnswer.ReadFault
+        → Rose (S.faults input.old) (S.faults input.new) }
+    ensures shelf_fault { IsErrOf result NoAnswer.ShelfFault
+        → Rose (H.faults shelf.old) (H.faults shelf.new) }
+    ensures asked { IsErrOf result NoAnswer.ShelfFault → AsksForGame (notation_in notation.entry) }
+    ensures shelf { AsksForNoGame (notation_in notation.entry) → shelf.new ≡ shelf.old }
+    ensures unread { IfOk result (λ answer. ReadsNothing answer.status → input.new ≡ input.old) }
+    ensures missing { IsErrOf result NoAnswer.GameMissing →
+        IfSome (files_told (notation_in notation.entry) (H.files shelf.old)) (λ files.
+        IsGameMissing (notation_in notation.entry) files) }
+    ensures unasked { IfErr result (λ why. ComesFirst why → input.new ≡ input.old) }
+    ensures without_game { LacksGame (notation_in notation.entry) (H.files shelf.old)
+        → input.new ≡ input.old }
+{
+    match notation {
+        Notation::Phh => reply_by(alloc, task, &Reader::Phh, input),
+        Notation::Ohh => reply_by(alloc, task, &Reader::Ohh(Dialect::Added), input),
+        Notation::OhhTo => reply_by(alloc, task, &Reader::Ohh(Dialect::To), input),
+        Notation::Acpc { game } => reply_under(alloc, task, game, input, shelf),
     }
 }
 

@@ -13,7 +13,7 @@ use crate::status::Status;
 use card_set::Memory;
 use first_fault::{Quantity, Text};
 use phh_fields::fault::What;
-use phh_format::PhhFault;
+use phh_reading::PhhFault;
 use std::alloc::Global;
 
 /// The answer to an input that does not read as hands.

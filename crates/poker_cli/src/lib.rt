@@ -13,6 +13,7 @@ mod printing;
 mod process;
 mod status;
 mod task;
+mod tree_faults;
 mod unspelled;
 
 pub use entry::run;

@@ -1,6 +1,7 @@
 //! What is made of the hands of an input, and under what the input is read.
 use acpc_game::Game;
 use command_words::Command;
+use ohh_members::Dialect;
 
 /// What is made of hands.
 #[derive(Clone, Copy, Debug, PartialEq, Eq)]
@@ -16,6 +17,8 @@ pub enum Task {
 pub enum Reader {
     /// As the Poker Hand History format.
     Phh,
+    /// As Open Hand History in this dialect.
+    Ohh(Dialect),
     /// As a log of the Annual Computer Poker Competition under this game.
     Acpc(Game),
 }
