@@ -1,11 +1,11 @@
 -- The lines of plays are cut into the texts of these plays.
-use Rattle.std.proofs.Common.{◌≡◌, ℕ, zero, suc, ◌+◌, ◌<◌, Bool, true, false, ◌&&◌, ◌==◌, not, eqb, List, [], ◌∷◌, ◌++◌, length, get_or, All, Some, None, refl, sym, ap, ◌∙◌, arith, true≢false}
-use Rattle.std.specs.List.{list_all, slice_split}
+use Rattle.std.proofs.Common.{◌≡◌, ℕ, zero, suc, ◌+◌, ◌<◌, Bool, true, false, ◌&&◌, ◌==◌, not, eqb, List, [], ◌∷◌, ◌++◌, length, get_or, None, refl, sym, ap, ◌∙◌, arith, true≢false}
+use Rattle.std.specs.List.{list_all}
 use Rattle.std.proofs.lemmas.Bool.{and_parts, eq-eqb}
 use Rattle.std.proofs.lemmas.List.Splits.{slice_split_at}
 use Rattle.hand_records.specs.declared.trace.Play.{Play}
 use Rattle.ohh_members.specs.declared.dialect.Dialect.{Dialect}
-use Rattle.ohh_line.specs.Lines.{empty_line_before, hand_text, lines_from}
+use Rattle.ohh_line.specs.Lines.{hand_text, lines_from}
 use Rattle.ohh_line.specs.Tree.{hand_tree}
 use Rattle.ohh_line.proofs.Clean.{hand_clean}
 use Rattle.ohh_reading.specs.Blocks.{blocks_from, blocks_of, is_blank, lines_of}

@@ -1,5 +1,5 @@
 -- Lists of cards that were written read as these cards.
-use Rattle.std.proofs.Common.{◌≡◌, ℕ, ◌+◌, ◌-◌, ◌≤◌, Bool, true, false, List, [], ◌∷◌, length, map, Some, Result, Ok, refl, ap, ◌∙◌, arith, true≢false}
+use Rattle.std.proofs.Common.{◌≡◌, ℕ, ◌+◌, ◌-◌, ◌≤◌, false, List, [], ◌∷◌, length, map, Some, Ok, refl, ap, arith, true≢false}
 use Rattle.std.specs.List.{list_any}
 use Rattle.std.proofs.lemmas.Bool.{le-leb}
 use Rattle.std.proofs.lemmas.List.{length-map}
@@ -10,10 +10,10 @@ use Rattle.card_set.specs.Known.{is_unknown, known_cards}
 use Rattle.card_set.specs.Spelling.{slot_spelling}
 use Rattle.card_set.specs.declared.card.Slot.{Slot}
 use Rattle.card_set.specs.declared.card.Slot.TheVariants as slots
-use Rattle.first_fault.specs.Reading.{◌>>=◌, each_from}
+use Rattle.first_fault.specs.Reading.{each_from}
 use Rattle.ohh_members.specs.declared.fault.Path.{Path}
 use Rattle.ohh_members.specs.Paths.{card_path}
-use Rattle.ohh_members.specs.Values.{card_said, cards_from, cards_said, few_said, list_said, listed, slot_in, slot_said, slots_from, slots_said, text_said}
+use Rattle.ohh_members.specs.Values.{card_said, cards_said, few_said, list_said, listed, slot_in, slot_said, slots_said, text_said}
 use Rattle.ohh_line.specs.Tree.{cards_tree}
 
 -- the items of a list that was made of them

@@ -1,19 +1,17 @@
 -- The rounds of a hand that was written, each with its board and what is done in it, and the steps that are read of them.
-use Rattle.std.proofs.Common.{◌≡◌, ℕ, zero, suc, ◌+◌, ◌<◌, ◌≤◌, List, [], ◌∷◌, ◌++◌, length, map, count_by, Option, Some, None, Result, Ok, refl, sym, ap, ap₂, ◌∙◌, arith, append_assoc}
-use Rattle.std.proofs.lemmas.List.{length-map, map-append}
-use Rattle.serde_json.specs.Data.{Data}
+use Rattle.std.proofs.Common.{◌≡◌, ℕ, ◌+◌, List, [], ◌∷◌, ◌++◌, length, map, Option, Some, None, Result, Ok, refl, sym, ap, ap₂, ◌∙◌}
+use Rattle.std.proofs.lemmas.List.{map-append}
 use Rattle.card_set.specs.declared.card.Slot.{Slot}
 use Rattle.canonical_play.specs.CanonScript.{dealt_slots}
-use Rattle.first_fault.specs.Reading.{◌>>=◌}
 use Rattle.hand_records.specs.TraceRows.{core_said}
 use Rattle.hand_records.specs.declared.trace.Trace.{Trace}
 use Rattle.ohh_members.specs.declared.dialect.Dialect.{Dialect}
 use Rattle.ohh_members.specs.declared.fault.Fault.{Fault}
 use Rattle.ohh_line.specs.declared.action.Street as written_streets
 use Rattle.ohh_line.specs.declared.action.Street.TheVariants as written
-use Rattle.ohh_line.specs.Actions.{PlainAction, deals, moves_written, posts, showings}
+use Rattle.ohh_line.specs.Actions.{PlainAction, showings}
 use Rattle.ohh_line.specs.Rounds.{PlainRound, board_round, board_round_on, first_actions, hand_rounds, moves_on, round, showdown_round}
-use Rattle.ohh_line.specs.Tree.{round_tree, round_trees}
+use Rattle.ohh_line.specs.Tree.{round_trees}
 use Rattle.ohh_rounds.specs.declared.street.Street.{Street}
 use Rattle.ohh_rounds.specs.Rounds.{SoFar, added_from, round_said}
 use Rattle.ohh_rounds.specs.Setting.{PlainSetting}

@@ -1,12 +1,12 @@
 -- What is read of the rounds of a hand: its events with the numbers of their actions, and its posts.
-use Rattle.std.proofs.Common.{◌≡◌, ◌≢◌, ℕ, zero, suc, ◌+◌, ◌-◌, ◌<◌, ◌≤◌, ◌==◌, Bool, true, false, not, ◌&&◌, ◌||◌, nat_lt, cond, if◌then◌else◌, List, [], ◌∷◌, ◌++◌, length, map, count_by, find, replicate, Option, Some, None, option_map, refl, sym, ap, ap₂, subst, ◌∙◌, arith, append_assoc, true≢false}
-use Rattle.std.specs.List.{AllByRecursion, flat_map, list_any, range_with_len}
+use Rattle.std.proofs.Common.{◌≡◌, ℕ, zero, suc, ◌+◌, ◌-◌, ◌<◌, ◌≤◌, ◌==◌, Bool, true, false, cond, if◌then◌else◌, List, [], ◌∷◌, ◌++◌, length, map, find, replicate, Option, Some, None, option_map, refl, sym, ap, ap₂, subst, ◌∙◌, arith, append_assoc, true≢false}
+use Rattle.std.specs.List.{AllByRecursion, flat_map, range_with_len}
 use Rattle.std.specs.Option.{option_map_or, option_or}
 use Rattle.std.proofs.lemmas.Bool.{eq-eqb, ne_eqb}
 use Rattle.std.proofs.lemmas.Grind.{flat_map-append}
-use Rattle.std.proofs.lemmas.List.{append-nil, length-append}
+use Rattle.std.proofs.lemmas.List.{append-nil}
 use Rattle.std.proofs.lemmas.List.Folds.{find-append, list_any-append}
-use Rattle.card_set.specs.Known.{is_unknown, known_cards}
+use Rattle.card_set.specs.Known.{known_cards}
 use Rattle.card_set.specs.declared.card.Slot.{Slot}
 use Rattle.card_set.specs.declared.card.Slot.TheVariants as slots
 use Rattle.canonical_play.specs.CanonScript.{deal_said}
@@ -18,8 +18,8 @@ use Rattle.ohh_line.specs.Actions.{has_known}
 use Rattle.ohh_posts.specs.Posts.{PlainPost}
 use Rattle.ohh_rounds.specs.Actions.{raise_by}
 use Rattle.ohh_rounds.specs.Play.{event_in, events_in, hole_cards, hole_deal, post_in, posts_in}
-use Rattle.ohh_rounds.specs.Steps.{PlainStep, dealt_in, dealt_to, first_deal, has_folded, is_deal_to, is_fold_of, kept_number}
-use Rattle.ohh_format.specs.Again.{is_told, numbered_from}
+use Rattle.ohh_rounds.specs.Steps.{PlainStep, dealt_in, dealt_to, has_folded, is_deal_to, is_fold_of, kept_number}
+use Rattle.ohh_format.specs.Again.{numbered_from}
 use Rattle.ohh_format.proofs.Deeds.{Deed, Bets, Calls, Checks, Deals, Folds, Mucks, Posts, Raises, Shows}
 use Rattle.ohh_format.proofs.DeedRounds.{DeedRound, steps_after}
 use Rattle.ohh_format.proofs.PutsAgain.{Put, posts_at}

@@ -1,17 +1,15 @@
 -- The lines of plays that were written read as the hands of these plays.
-use Rattle.std.proofs.Common.{◌≡◌, ℕ, ◌+◌, ◌-◌, ◌<◌, ◌≤◌, Bool, false, nat_lt, List, [], ◌∷◌, ◌++◌, length, map, sum_by, Option, Some, Result, Ok, Err, refl, sym, ap, ◌∙◌, arith}
+use Rattle.std.proofs.Common.{◌≡◌, ℕ, ◌+◌, ◌-◌, ◌<◌, ◌≤◌, false, nat_lt, List, [], ◌∷◌, ◌++◌, length, sum_by, Some, Result, Ok, Err, refl, ap, ◌∙◌, arith}
 use Rattle.std.specs.List.{AllByRecursion}
-use Rattle.std.specs.Str.{IsUtf8, is_utf8}
 use Rattle.std.proofs.lemmas.Bool.{le-ltb}
 use Rattle.std.proofs.lemmas.List.Sums.{sum_by-cons}
 use Rattle.std.proofs.lemmas.Str.{is_utf8-from_IsUtf8}
-use Rattle.serde_json.specs.Data.{Data, object}
 use Rattle.first_fault.specs.Reading.{◌>>=◌, thread_from}
 use Rattle.first_fault.specs.declared.limits.TheConstants.{MOST_FILE_MOVES, MOST_HANDS}
 use Rattle.hand_records.specs.declared.trace.Play.{Play}
 use Rattle.ohh_members.specs.declared.dialect.Dialect.{Dialect}
 use Rattle.ohh_line.specs.Lines.{AreRead, IsTextOf, Spells, hand_text}
-use Rattle.ohh_line.specs.Tree.{hand_members, hand_tree}
+use Rattle.ohh_line.specs.Tree.{hand_tree}
 use Rattle.ohh_reading.specs.Hand.{PlainHand}
 use Rattle.ohh_reading.specs.Reading.{found_said, hands_said, numbered_hand, reading, told, tree_of, tree_said}
 use Rattle.ohh_reading.specs.Blocks.{blocks_of}

@@ -1,17 +1,13 @@
 -- The game, the players and the blinds of a hand that was written read as those of its setup.
-use Rattle.std.proofs.Common.{◌≡◌, ℕ, zero, suc, ◌+◌, ◌-◌, ◌*◌, ◌<◌, ◌≤◌, ◌==◌, Bool, true, false, not, ◌&&◌, ◌||◌, nat_le, nat_lt, cond, max, min, if◌then◌else◌, List, [], ◌∷◌, length, map, take, get_or, Option, Some, None, IfSome, pos, ℤ, Result, Ok, refl, sym, ap, ap₂, subst, ◌∙◌, arith, inl, inr, true≢false}
+use Rattle.std.proofs.Common.{◌≡◌, ℕ, zero, suc, ◌+◌, ◌-◌, ◌*◌, ◌<◌, ◌≤◌, ◌==◌, Bool, true, false, not, ◌&&◌, ◌||◌, nat_le, nat_lt, min, if◌then◌else◌, List, ◌∷◌, map, Option, Some, pos, ℤ, Ok, refl, sym, ap, subst, ◌∙◌, arith, inl, inr, true≢false}
 use Rattle.std.specs.List.{list_all, list_any, range_with_len}
 use Rattle.std.proofs.lemmas.Bool.{and_parts, cases_lt, eqb-true, le-leb, le-ltb, leb-true, lt-leb, ltb-true, ne_eqb}
 use Rattle.std.proofs.lemmas.Bool.Decides.{nat_tests}
-use Rattle.std.proofs.lemmas.List.{length-map}
-use Rattle.std.proofs.lemmas.List.FromFn.{length-range_with_len}
 use Rattle.serde_json.specs.Data.{Data}
 use Rattle.chip_ledger.specs.Greatest.{greatest}
-use Rattle.chip_ledger.specs.Seat.{seats_of}
 use Rattle.chip_ledger.specs.SeatRow.{amount_of}
 use Rattle.chip_ledger.specs.declared.numbers.TheConstants.{MOST_CHIPS}
 use Rattle.chip_ledger.specs.declared.rows.SeatRow.{SeatRow}
-use Rattle.first_fault.specs.Reading.{◌>>=◌, read_if}
 use Rattle.hand_records.specs.declared.notes.Notes.{Notes}
 use Rattle.play_event.specs.declared.code.Code.{Code}
 use Rattle.play_event.specs.declared.code.Code.TheVariants as games
@@ -20,23 +16,20 @@ use Rattle.play_event.specs.Streets.{is_stud, limit_of}
 use Rattle.play_event.specs.ValidSetup.{IsSize, IsSizeWhere, IsValid, is_fixed}
 use Rattle.play_event.specs.declared.setup.Setup.{Setup}
 use Rattle.ohh_members.specs.declared.blinds.Blinds.{Blinds}
-use Rattle.ohh_members.specs.declared.fault.Fault.{Fault}
 use Rattle.ohh_members.specs.declared.fault.Path.TheVariants as paths
-use Rattle.ohh_members.specs.Blinds.{blinds_said, fitting, is_fixed_game}
+use Rattle.ohh_members.specs.Blinds.{blinds_said, fitting}
 use Rattle.ohh_members.specs.Front.{amounts_in, ids_of, stacks_of}
-use Rattle.ohh_members.specs.Players.{PlainPlayer}
 use Rattle.ohh_members.specs.Values.{field, needed, number_said}
 use Rattle.ohh_line.specs.Actions.{big_blind_seat, small_blind_seat}
 use Rattle.ohh_line.specs.Games.{is_spelled_game}
 use Rattle.ohh_line.specs.Spelled.{big_blind, greatest_ante, has_no_ante, has_spelled_antes, has_spelled_blinds, has_spelled_sizes, has_spelled_straddles, has_two_blinds, is_covered_straddle, is_whole_ante}
 use Rattle.ohh_line.specs.Tree.{whole}
-use Rattle.ohh_posts.specs.Table as tables
 use Rattle.ohh_posts.specs.Table.{PlainTable}
 use Rattle.ohh_posts.proofs.SeatBySeat.{row_listed}
 use Rattle.ohh_posts.proofs.Stacks.{seats_in, stack_in}
 use Rattle.ohh_reading.specs.Sizes.{sizes_of}
 use Rattle.ohh_format.proofs.PostsAgain.{IsTableOf}
-use Rattle.ohh_format.proofs.SeatingAgain.{player_of, players_from}
+use Rattle.ohh_format.proofs.SeatingAgain.{players_from}
 use Rattle.ohh_format.proofs.WinsAgain.{ids_written}
 
 -- what holds of a setup that has a spelling

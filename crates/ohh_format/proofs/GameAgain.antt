@@ -1,14 +1,10 @@
 -- The game and the blinds of a tree that was written are those of the setup.
-use Rattle.std.proofs.Common.{◌≡◌, ℕ, ◌+◌, ◌*◌, ◌-◌, ◌≤◌, ◌<◌, Bool, true, false, cond, ◌==◌, ◌&&◌, ◌||◌, nat_le, nat_lt, true≢false, List, [], ◌∷◌, map, max, Option, Some, None, Result, Ok, Err, refl, sym, ap, ◌∙◌, arith}
-use Rattle.std.proofs.lemmas.Bool.{and_parts, le-leb, le-ltb, ltb-true, leb-true}
+use Rattle.std.proofs.Common.{◌≡◌, ℕ, true, true≢false, Some, Ok, refl, sym}
 use Rattle.serde_json.specs.Data.{object}
-use Rattle.chip_ledger.specs.SeatRow.{amount_of}
-use Rattle.chip_ledger.specs.declared.numbers.TheConstants.{MOST_CHIPS}
 use Rattle.play_event.specs.declared.code.Code.{Code}
 use Rattle.play_event.specs.declared.code.Code.TheVariants as games
 use Rattle.hand_records.specs.declared.notes.Notes.{Notes}
 use Rattle.hand_records.specs.declared.trace.Trace.{Trace}
-use Rattle.first_fault.specs.Reading.{◌>>=◌}
 use Rattle.ohh_members.specs.declared.dialect.Dialect.{Dialect}
 use Rattle.ohh_members.specs.Game.{game_named, game_said}
 use Rattle.ohh_members.specs.Values.{needed, object_said, text_said}

@@ -1,16 +1,13 @@
 -- A hand that was written reads as that hand again.
-use Rattle.std.proofs.Common.{◌≡◌, ℕ, zero, suc, ◌+◌, ◌<◌, ◌≤◌, ◌==◌, Bool, true, false, cond, eqb, List, [], ◌∷◌, ◌++◌, length, map, take, get_or, decimal, Option, Some, None, IfSome, unwrap_or, Result, Ok, refl, sym, ap, ap₂, subst, ◌∙◌, arith, true≢false}
-use Rattle.std.specs.List.{AllByRecursion, flat_map, range_with_len}
+use Rattle.std.proofs.Common.{◌≡◌, ℕ, ◌+◌, ◌<◌, ◌≤◌, Bool, true, false, cond, eqb, List, [], length, map, take, Option, Some, None, IfSome, unwrap_or, Ok, refl, ◌∙◌, arith}
+use Rattle.std.specs.List.{flat_map}
 use Rattle.std.proofs.lemmas.Bool.{ne_eqb}
 use Rattle.std.proofs.lemmas.List.{length-map}
 use Rattle.std.proofs.lemmas.List.FromFn.{length-range_with_len}
 use Rattle.serde_json.specs.Data.{Data, object, string}
 use Rattle.chip_ledger.specs.Seat.{seats_of}
-use Rattle.chip_ledger.specs.SeatRow.{amount_of}
 use Rattle.canonical_play.specs.CanonScript.{plain_moves, showdown_said}
-use Rattle.first_fault.specs.Reading.{◌>>=◌}
 use Rattle.first_fault.specs.declared.limits.TheConstants.{MOST_FILE_MOVES, MOST_HANDS}
-use Rattle.hand_canon.specs.Agreement.{pot_total_of, win_of}
 use Rattle.hand_records.specs.AllowedNotes.{AreAllowed, AreSeatNumbers}
 use Rattle.hand_records.specs.TraceRows.{core_said}
 use Rattle.hand_records.specs.declared.notes.Notes.{Notes}
@@ -21,29 +18,27 @@ use Rattle.play_event.specs.Seats.{all_seats}
 use Rattle.play_event.specs.ValidSetup.{IsValid}
 use Rattle.play_event.specs.declared.setup.Setup.{Setup}
 use Rattle.ohh_members.specs.declared.dialect.Dialect.{Dialect}
-use Rattle.ohh_members.specs.declared.fault.Fault.{Fault}
 use Rattle.ohh_members.specs.declared.fault.Path.TheVariants as paths
 use Rattle.ohh_members.specs.Front.{PlainFront, amounts_in, front_said}
 use Rattle.ohh_members.specs.Players.{PlainPlayer, seated_said}
-use Rattle.ohh_members.specs.Values.{field, list_said, listed, needed}
+use Rattle.ohh_members.specs.Values.{field, list_said, needed}
 use Rattle.ohh_line.specs.declared.moment.Moment.{Moment}
 use Rattle.ohh_line.specs.Moment.{moment_of}
-use Rattle.ohh_line.specs.Rounds.{PlainRound, hand_rounds}
+use Rattle.ohh_line.specs.Rounds.{hand_rounds}
 use Rattle.ohh_line.specs.Seating.{goes_round, number_among, numbers_spelled}
-use Rattle.ohh_line.specs.Tree.{hand_members, list, round_trees, whole}
+use Rattle.ohh_line.specs.Tree.{hand_members, round_trees, whole}
 use Rattle.ohh_posts.specs.Stakes.{PlainStakes}
-use Rattle.ohh_posts.specs.Table.{PlainTable}
-use Rattle.ohh_rounds.specs.Play.{PlainPlay, rounds_said}
-use Rattle.ohh_rounds.specs.Rounds.{each_told, rounds_listed, steps_said}
+use Rattle.ohh_rounds.specs.Play.{rounds_said}
+use Rattle.ohh_rounds.specs.Rounds.{rounds_listed, steps_said}
 use Rattle.ohh_rounds.specs.Setting.{PlainSetting}
 use Rattle.ohh_rounds.specs.Steps.{PlainStep, moves_in}
-use Rattle.ohh_reading.specs.Hand.{PlainHand, hand_of, hand_said, plain_setup, setting_of}
+use Rattle.ohh_reading.specs.Hand.{hand_said, setting_of}
 use Rattle.ohh_line.specs.Actions.{posts}
-use Rattle.ohh_format.specs.Again.{hand_again, notes_again, numbered_from, script_again}
+use Rattle.ohh_format.specs.Again.{hand_again, numbered_from, script_again}
 use Rattle.ohh_format.proofs.CardLists.{listed_again}
 use Rattle.ohh_format.proofs.Circle.{IsCircle, long, said_circle, usual_circle}
 use Rattle.ohh_format.proofs.DeedRounds.{round_of, rounds_are, rounds_of, rounds_read}
-use Rattle.ohh_format.proofs.FrontAgain.{IsSpelledSetup, blinds_again, blinds_of, ids_are, sizes_again, stack_few, stacks_are, table_is}
+use Rattle.ohh_format.proofs.FrontAgain.{IsSpelledSetup, blinds_again, blinds_of, ids_are, sizes_again, stacks_are, table_is}
 use Rattle.ohh_format.proofs.GameAgain.{game_again}
 use Rattle.ohh_format.proofs.NotesAgain.{HasNotes, date_written, notes_read}
 use Rattle.ohh_format.proofs.PlayAgain.{CanBePlayed, few_moves, rounds_fit, steps}

@@ -1,20 +1,18 @@
 -- The moment of a hand that was written reads as that moment.
-use Rattle.std.proofs.Common.{◌≡◌, ℕ, zero, suc, ◌+◌, ◌-◌, ◌*◌, ◌/◌, ◌%◌, ◌^◌, ◌<◌, ◌≤◌, ◌==◌, Bool, true, false, ◌&&◌, nat_le, nat_lt, cond, List, [], ◌∷◌, ◌++◌, codes, length, take, drop, replicate, Option, Some, None, Result, Ok, refl, sym, ap, ap₂, ◌∙◌, arith}
+use Rattle.std.proofs.Common.{◌≡◌, ℕ, zero, suc, ◌+◌, ◌-◌, ◌*◌, ◌/◌, ◌%◌, ◌^◌, ◌<◌, ◌≤◌, ◌==◌, Bool, true, false, nat_le, cond, List, [], ◌∷◌, ◌++◌, codes, length, take, drop, replicate, Ok, refl, sym, ap, ◌∙◌, arith}
 use Rattle.std.specs.Char.{is_digit, digit_value}
-use Rattle.std.specs.List.{list_all, prefix_len}
+use Rattle.std.specs.List.{list_all}
 use Rattle.std.specs.Str.Parse.{digits_value, digits_value_after}
 use Rattle.std.proofs.lemmas.Bool.{and_parts, eqb-true, le-leb, lt-ltb}
 use Rattle.std.proofs.lemmas.Grind.{pow_more}
 use Rattle.std.proofs.lemmas.List.{append-nil, length-append}
 use Rattle.std.proofs.lemmas.List.Folds.{list_all-append}
 use Rattle.first_fault.specs.Digits.{are_digits}
-use Rattle.first_fault.specs.Reading.{◌>>=◌}
 use Rattle.hand_records.specs.AllowedNotes.{IsDayOf, IsTime, IsWithin, days_in_month}
-use Rattle.hand_records.specs.declared.notes.Clock.{Clock}
 use Rattle.ohh_facts.specs.declared.moment.Moment as read
 use Rattle.ohh_facts.specs.Moments.{clock_said, day_said, digits_in_front, digits_said, fraction_of, fraction_said, moment_in, nine_of, parts_said, zoned}
 use Rattle.ohh_line.specs.declared.moment.Moment.{Moment}
-use Rattle.ohh_line.specs.Moment.{by_digits, fraction_text, moment_text, time_text}
+use Rattle.ohh_line.specs.Moment.{by_digits, moment_text}
 
 -- ---- digits
 

@@ -1,8 +1,8 @@
 -- The moves of a street, as they are written and as they are read.
-use Rattle.std.proofs.Common.{◌≡◌, ℕ, zero, suc, ◌+◌, ◌-◌, ◌<◌, ◌≤◌, ◌==◌, Bool, true, false, ◌&&◌, cond, if◌then◌else◌, List, [], ◌∷◌, ◌++◌, length, pos, Some, refl, sym, ap, ap₂, ◌∙◌, arith, append_assoc, true≢false}
-use Rattle.std.specs.List.{AllByRecursion, flat_map}
+use Rattle.std.proofs.Common.{◌≡◌, ℕ, zero, suc, ◌+◌, ◌-◌, ◌≤◌, ◌==◌, Bool, true, false, ◌&&◌, cond, if◌then◌else◌, List, [], ◌∷◌, ◌++◌, length, pos, Some, refl, sym, ap, ap₂, ◌∙◌, arith}
+use Rattle.std.specs.List.{AllByRecursion}
 use Rattle.std.proofs.lemmas.Bool.{eqb-true, ne_eqb}
-use Rattle.std.proofs.lemmas.List.{append-nil, length-append}
+use Rattle.std.proofs.lemmas.List.{length-append}
 use Rattle.chip_ledger.specs.declared.numbers.TheConstants.{MOST_CHIPS}
 use Rattle.canonical_play.specs.CanonScript.{plain_move}
 use Rattle.play_event.specs.Chips.{chips_left}
@@ -21,9 +21,9 @@ use Rattle.ohh_rounds.specs.Actions.{raise_by}
 use Rattle.ohh_rounds.specs.Setting.{PlainSetting}
 use Rattle.ohh_rounds.specs.Steps.{kept_number}
 use Rattle.ohh_format.specs.Again.{is_told, move_again, move_on, moves_again, numbered_from, raise_again, raise_by_dialect}
-use Rattle.ohh_format.proofs.Deeds.{Deed, Bets, Calls, Checks, Deals, Folds, Mucks, Posts, Raises, Shows, act_deed, call_deed, move_deed, move_deeds, raise_deed}
+use Rattle.ohh_format.proofs.Deeds.{Deed, Bets, Calls, Checks, Folds, Raises, act_deed, call_deed, move_deed, move_deeds, raise_deed}
 use Rattle.ohh_format.proofs.EventsAgain.{IsNoDeal, IsNoFold, IsNoPost, at_number, event_of, numbered_both, numbered_deeds}
-use Rattle.ohh_format.proofs.ToldDeeds.{IsGoodMove, moves_among, others_among}
+use Rattle.ohh_format.proofs.ToldDeeds.{IsGoodMove}
 
 -- a move whose seat is known, to chips that may be stated; a call goes no further than the price
 pub record CanBeWritten (setting : PlainSetting) (move : TracedMove) : Type 0 where

@@ -1,5 +1,5 @@
 -- The notes of a hand that were written read as the kept notes.
-use Rattle.std.proofs.Common.{◌≡◌, ℕ, zero, suc, ◌+◌, ◌-◌, ◌<◌, ◌≤◌, ◌==◌, ◌^◌, Bool, true, false, ◌&&◌, ◌||◌, nat_le, cond, bytes_eq, codes, decimal, List, [], ◌∷◌, length, map, take, get_or, Option, Some, None, IfSome, option_map, option_and_then, unwrap_or, is_some, Result, Ok, refl, sym, ap, ap₂, subst, ◌∙◌, arith, true≢false}
+use Rattle.std.proofs.Common.{◌≡◌, ℕ, zero, suc, ◌+◌, ◌-◌, ◌<◌, ◌≤◌, ◌==◌, Bool, true, false, ◌||◌, cond, bytes_eq, codes, decimal, List, [], ◌∷◌, length, map, take, get_or, Option, Some, None, IfSome, option_map, option_and_then, unwrap_or, is_some, Result, Ok, refl, sym, ap, ap₂, subst, ◌∙◌, arith, true≢false}
 use Rattle.std.specs.List.{range_with_len}
 use Rattle.std.proofs.lemmas.Bool.{eq-eqb, eqb-true, le-leb, ne_eqb}
 use Rattle.std.proofs.lemmas.Fmt.{length-decimal-le}
@@ -10,9 +10,9 @@ use Rattle.std.proofs.lemmas.Slice.Eq.{bytes_eq-Decides}
 use Rattle.serde_json.specs.Data.{Data, string}
 use Rattle.chip_ledger.specs.Seat.{seats_of}
 use Rattle.chip_ledger.specs.declared.rows.SeatRow.{SeatRow}
-use Rattle.first_fault.specs.Reading.{◌>>=◌, read_if}
+use Rattle.first_fault.specs.Reading.{read_if}
 use Rattle.first_fault.specs.declared.limits.TheConstants.{MOST_HANDS, MOST_TEXT_BYTES}
-use Rattle.hand_records.specs.AllowedNotes.{AreAllowed, AreSeatNumbers, IsDayOf, IsName, IsNoteText, IsSeatCount, IsTime, IsWithin, default_name}
+use Rattle.hand_records.specs.AllowedNotes.{AreAllowed, IsDayOf, IsName, IsNoteText, IsSeatCount, IsTime, IsWithin, default_name}
 use Rattle.hand_records.specs.declared.notes.Clock.{Clock}
 use Rattle.hand_records.specs.declared.notes.Notes.{Notes}
 use Rattle.ohh_members.specs.declared.fault.Fault.{Fault}
@@ -22,15 +22,15 @@ use Rattle.ohh_members.specs.Players.{PlainPlayer}
 use Rattle.ohh_members.specs.Values.{field, number_said, text_said}
 use Rattle.ohh_facts.specs.declared.moment.Moment as read
 use Rattle.ohh_facts.specs.Moments as moments
-use Rattle.ohh_facts.specs.Notes.{PlainLabels, PlainNotes, label_said, labels_said, names_from, note_said, noted, notes_of, notes_said, or_none, seat_count_said, text_note_said, unless_usual}
+use Rattle.ohh_facts.specs.Notes.{PlainNotes, label_said, labels_said, names_from, note_said, noted, notes_said, or_none, seat_count_said, text_note_said, unless_usual}
 use Rattle.ohh_line.specs.declared.moment.Moment.{Moment}
-use Rattle.ohh_line.specs.Moment.{moment_in, moment_of, moment_said, moment_text}
-use Rattle.ohh_line.specs.Seating.{goes_round, name_written, number_among, numbers_spelled}
+use Rattle.ohh_line.specs.Moment.{moment_of, moment_said, moment_text}
+use Rattle.ohh_line.specs.Seating.{number_among, numbers_spelled}
 use Rattle.ohh_line.specs.Tree.{whole}
 use Rattle.ohh_format.specs.Again.{kept_label, notes_again}
 use Rattle.ohh_format.proofs.Circle.{taken_at}
 use Rattle.ohh_format.proofs.MomentAgain.{IsGood, moment_again, moment_read}
-use Rattle.ohh_format.proofs.SeatingAgain.{player_of, players_from}
+use Rattle.ohh_format.proofs.SeatingAgain.{players_from}
 
 -- ---- texts
 

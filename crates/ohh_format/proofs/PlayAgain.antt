@@ -1,7 +1,6 @@
 -- The rounds of a hand that was written fit, one after the other.
-use Rattle.std.proofs.Common.{◌≡◌, ◌≢◌, ℕ, zero, suc, ◌+◌, ◌<◌, ◌≤◌, ◌==◌, Bool, true, false, ◌&&◌, nat_lt, cond, if◌then◌else◌, List, [], ◌∷◌, ◌++◌, length, map, count_by, pos, Option, Some, None, refl, sym, ap, ap₂, subst, ◌∙◌, arith, append_assoc, true≢false}
+use Rattle.std.proofs.Common.{◌≡◌, ℕ, zero, suc, ◌+◌, ◌≤◌, Bool, true, false, if◌then◌else◌, List, [], ◌∷◌, ◌++◌, length, count_by, pos, Option, Some, None, refl, sym, ap, ap₂, subst, ◌∙◌, arith, true≢false}
 use Rattle.std.specs.List.{AllByRecursion, flat_map, list_any, range_with_len}
-use Rattle.std.proofs.lemmas.List.{append-nil, length-append}
 use Rattle.list_laws.proofs.Counting.{count_by-push}
 use Rattle.list_laws.proofs.Finding.{list_any-push}
 use Rattle.card_set.specs.Known.{is_unknown}
@@ -26,13 +25,13 @@ use Rattle.ohh_rounds.specs.Steps.{PlainStep, has_folded, is_action, is_fold_of,
 use Rattle.ohh_rounds.specs.Streets.{deals_board, street_after}
 use Rattle.ohh_rounds.specs.declared.street.Street.{Street}
 use Rattle.ohh_rounds.specs.declared.street.Street.TheVariants as streets
-use Rattle.ohh_format.proofs.DeedRounds.{DeedRound, FitRounds, board_deeds, deed_round, deeds_on, first_deeds, last_street, later_rounds, rounds_of, showdown_deeds, steps_after}
+use Rattle.ohh_format.proofs.DeedRounds.{DeedRound, FitRounds, board_deeds, deeds_on, first_deeds, last_street, later_rounds, rounds_of, showdown_deeds, steps_after}
 use Rattle.ohh_format.proofs.Deeds.{Deed, Bets, Calls, Checks, Deals, Folds, Mucks, Posts, Raises, Shows, deal_deeds, post_deeds, showing_deeds, showing_deed}
 use Rattle.ohh_format.proofs.EventsAgain.{IsNoDeal, IsNoFold, IsPost, NoDeal, deeds_in, folded_both, no_deals, no_folds}
 use Rattle.ohh_format.proofs.MovesAgain.{CanBeWritten, HasNotFolded, IsElsewhere, moves_few, moves_good, moves_no_folds}
 use Rattle.ohh_format.proofs.RoundsAgain.{board_step, street_of, with_board}
 use Rattle.ohh_format.proofs.StepsAgain.{AllTold, steps_of}
-use Rattle.ohh_format.proofs.ToldDeeds.{HasRoom, IsGoodMove, IsGoodPost, IsGoodShow, actions_of_steps, counts_both, deals_told, moves_among, moves_of_steps, moves_told, others_among, others_of_steps, posts_told, shows_told, told_both}
+use Rattle.ohh_format.proofs.ToldDeeds.{IsGoodMove, IsGoodPost, IsGoodShow, actions_of_steps, counts_both, deals_told, moves_among, moves_of_steps, moves_told, others_among, others_of_steps, posts_told, shows_told, told_both}
 
 -- the play of a hand can be written and read
 pub record CanBePlayed (setting : PlainSetting) (trace : Trace) : Type 0 where

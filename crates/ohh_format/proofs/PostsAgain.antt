@@ -1,8 +1,8 @@
 -- The posts that are written of a setup meet their conditions, and give its antes and blinds again.
-use Rattle.std.proofs.Common.{◌≡◌, ℕ, zero, suc, ◌+◌, ◌-◌, ◌<◌, ◌≤◌, ◌==◌, Bool, true, false, not, ◌&&◌, ◌||◌, nat_le, nat_lt, cond, min, if◌then◌else◌, List, [], ◌∷◌, ◌++◌, length, map, find, Option, Some, None, option_map, is_some, Ok, refl, sym, ap, subst, ◌∙◌, arith, append_assoc, true≢false}
-use Rattle.std.specs.List.{flat_map, list_all, list_any, range_with_len}
+use Rattle.std.proofs.Common.{◌≡◌, ℕ, zero, suc, ◌+◌, ◌-◌, ◌<◌, ◌≤◌, ◌==◌, Bool, true, false, not, ◌&&◌, ◌||◌, nat_lt, cond, min, if◌then◌else◌, List, [], ◌∷◌, ◌++◌, length, map, Option, Some, None, is_some, Ok, refl, sym, ap, ◌∙◌, arith, true≢false}
+use Rattle.std.specs.List.{list_all, list_any, range_with_len}
 use Rattle.std.specs.Option.{option_map_or, option_or}
-use Rattle.std.proofs.lemmas.Bool.{and_parts, eq-eqb, eqb-true, le-leb, le-ltb, lt-leb, lt-ltb, ltb-false, ltb-true, ne_eqb}
+use Rattle.std.proofs.lemmas.Bool.{and_parts, eq-eqb, eqb-true, le-ltb, lt-leb, lt-ltb, ltb-false, ltb-true, ne_eqb}
 use Rattle.std.proofs.lemmas.Bool.Decides.{nat_tests}
 use Rattle.std.proofs.lemmas.List.{length-append}
 use Rattle.list_laws.proofs.Finding.{any_agree}
@@ -22,11 +22,11 @@ use Rattle.ohh_posts.specs.declared.post.PostKind.TheVariants as kinds
 use Rattle.ohh_posts.specs.Conditions as conditions_of
 use Rattle.ohh_posts.specs.Conditions.{all_post_antes, at_first, breaks, first_breaking, has_blinds, holds, posts_checked}
 use Rattle.ohh_posts.specs.Posts.{PlainPost, ante_of, first_ante, first_straddle, has_big_blind, has_small_blind, is_ante, is_big_blind, is_small_blind, is_straddle}
-use Rattle.ohh_posts.specs.Stakes.{PlainStakes, are_dead, held_ante, named_blind, stakes_said}
+use Rattle.ohh_posts.specs.Stakes.{are_dead, held_ante, named_blind, stakes_said}
 use Rattle.ohh_posts.specs.Table as tables
 use Rattle.ohh_posts.specs.Table.{PlainTable, amounts_in, seat_count, stack_of}
 use Rattle.ohh_posts.proofs.SeatBySeat.{row_listed}
-use Rattle.ohh_format.proofs.PutsAgain.{Put, first_both, first_is, first_put, has_both, has_is, has_no, has_put, is_of, no_kind, of_seat, or_nothing, other_put, post_at, posts_at, posts_both, put_of, puts_of}
+use Rattle.ohh_format.proofs.PutsAgain.{Put, first_both, first_is, first_put, has_both, has_is, has_no, has_put, no_kind, of_seat, or_nothing, other_put, post_at, posts_at, posts_both, puts_of}
 
 -- a seat has an ante, and a straddle
 abbrev pub posts_ante : Setup → ℕ → Bool

@@ -1,7 +1,6 @@
 -- The pots of a hand that were written state the pots, the rakes and the wins of the trace.
-use Rattle.std.proofs.Common.{◌≡◌, ℕ, zero, suc, ◌+◌, ◌-◌, ◌<◌, ◌≤◌, ◌==◌, Bool, true, false, cond, nat_le, nat_lt, ◌&&◌, List, [], ◌∷◌, ◌++◌, length, map, filter, sum_by, get_or, slice_get, take, drop, Option, Some, None, unwrap_or, option_map, ℤ, pos, Result, Ok, refl, sym, ap, ap₂, ◌∙◌, arith, append_assoc, inl, inr}
+use Rattle.std.proofs.Common.{◌≡◌, ℕ, zero, suc, ◌+◌, ◌<◌, ◌≤◌, ◌==◌, Bool, true, false, cond, nat_lt, List, [], ◌∷◌, ◌++◌, length, map, filter, sum_by, get_or, take, drop, Option, Some, None, ℤ, pos, Result, Ok, refl, sym, ap, ap₂, ◌∙◌, arith, append_assoc, inl, inr}
 use Rattle.std.specs.List.{flat_map, range_with_len}
-use Rattle.std.specs.Option.{option_map_or}
 use Rattle.std.proofs.lemmas.Bool.{cases_lt, le-leb, le-ltb, lt-leb, lt-ltb, ltb-false, ltb-true, ne_eqb}
 use Rattle.std.proofs.lemmas.Bool.Decides.{nat_tests}
 use Rattle.std.proofs.lemmas.List.{append-nil, drop_more, length-map, length-take-le}
@@ -9,24 +8,22 @@ use Rattle.std.proofs.lemmas.List.Elements.{filter-append}
 use Rattle.std.proofs.lemmas.List.FromFn.{length-range_with_len}
 use Rattle.std.proofs.lemmas.List.Sums.{sum_by-append, sum_by-cons}
 use Rattle.serde_json.specs.Data.{Data}
-use Rattle.serde_json.specs.View.{items_of}
 use Rattle.list_laws.proofs.NumbersOfRange.{map_agree}
 use Rattle.chip_ledger.specs.Fillers.{no_amounts}
-use Rattle.chip_ledger.specs.PotRow.{pots_in, shares_in}
+use Rattle.chip_ledger.specs.PotRow.{pots_in}
 use Rattle.chip_ledger.specs.RakeRow.{rake_of}
 use Rattle.chip_ledger.specs.Seat.{seats_of}
 use Rattle.chip_ledger.specs.SeatRow.{amount_of}
 use Rattle.chip_ledger.specs.declared.pots.Pot.{Pot}
 use Rattle.chip_ledger.specs.declared.rows.SeatRow.{SeatRow}
 use Rattle.chip_ledger.specs.declared.rows.TheConstants.{MOST_AMOUNT}
-use Rattle.first_fault.specs.Reading.{◌>>=◌, read_if}
 use Rattle.hand_canon.specs.Agreement.{pot_total_of, win_of}
 use Rattle.hand_records.specs.declared.trace.Trace.{Trace}
 use Rattle.ohh_members.specs.declared.fault.Fault.{Fault}
 use Rattle.ohh_members.specs.declared.fault.Path.TheVariants as paths
-use Rattle.ohh_members.specs.Values.{added_from, field, list_said, listed, needed, number_said, object_said}
+use Rattle.ohh_members.specs.Values.{added_from, field, list_said, needed, number_said, object_said}
 use Rattle.ohh_facts.specs.PotSums.{PlainPot, all_of, rake_at, rakes_said}
-use Rattle.ohh_facts.specs.Pots.{PlainPaid, PlainPots, amount_said, listed_paid, no_pots, none_paid, paid_of, pot_added, pots_said, rake_said, summed, wins_said}
+use Rattle.ohh_facts.specs.Pots.{PlainPaid, PlainPots, amount_said, listed_paid, no_pots, none_paid, pot_added, pots_said, rake_said, summed, wins_said}
 use Rattle.ohh_facts.specs.Won.{PlainWin, won_by}
 use Rattle.ohh_line.specs.Tree.{list, pot_tree, pot_trees, share_at, win_tree}
 use Rattle.ohh_line.specs.Tree as tree

@@ -1,29 +1,24 @@
 -- Rounds that were written read as the steps of their actions, with the board dealt before them.
-use Rattle.std.proofs.Common.{◌≡◌, ℕ, zero, suc, ◌+◌, ◌<◌, ◌≤◌, ◌==◌, Bool, true, false, not, ◌&&◌, nat_le, cond, List, [], ◌∷◌, ◌++◌, length, map, count_by, Option, Some, None, Result, Ok, refl, sym, ap, ap₂, ◌∙◌, arith, append_assoc, true≢false}
+use Rattle.std.proofs.Common.{◌≡◌, ℕ, suc, ◌+◌, ◌<◌, ◌≤◌, Bool, true, false, List, [], ◌∷◌, ◌++◌, length, map, count_by, Option, Some, Ok, refl, ap, arith, true≢false}
 use Rattle.std.specs.List.{list_any}
-use Rattle.std.proofs.lemmas.Bool.{le-leb, lt-leb, ne_eqb}
-use Rattle.std.proofs.lemmas.List.{append-nil, length-append, length-map}
-use Rattle.serde_json.specs.Data.{Data}
+use Rattle.std.proofs.lemmas.Bool.{lt-leb, ne_eqb}
 use Rattle.list_laws.proofs.Counting.{count_by-push}
 use Rattle.card_set.specs.Known.{is_unknown, known_cards}
-use Rattle.card_set.specs.declared.card.Card.{Card}
 use Rattle.card_set.specs.declared.card.Slot.{Slot}
 use Rattle.card_set.specs.declared.card.Slot.TheVariants as slots
 use Rattle.canonical_play.specs.declared.limits.TheConstants.{MOST_OTHER_EVENTS}
-use Rattle.first_fault.specs.Reading.{◌>>=◌}
 use Rattle.play_event.specs.Said as said
-use Rattle.ohh_members.specs.declared.fault.Fault.{Fault}
 use Rattle.ohh_members.specs.declared.fault.RoundMember.TheVariants as members
-use Rattle.ohh_members.specs.Values.{cards_said, field, list_said, listed, needed, object_said, text_said}
+use Rattle.ohh_members.specs.Values.{list_said, needed, object_said, text_said}
 use Rattle.ohh_line.specs.declared.action.Street as written_streets
 use Rattle.ohh_line.specs.declared.action.Street.TheVariants as written
-use Rattle.ohh_line.specs.Rounds.{PlainRound, round}
-use Rattle.ohh_line.specs.Tree.{action_trees, cards_tree, list, round_tree, round_trees, street_text}
+use Rattle.ohh_line.specs.Rounds.{round}
+use Rattle.ohh_line.specs.Tree.{action_trees, round_tree, street_text}
 use Rattle.ohh_posts.specs.Table.{seat_count}
 use Rattle.ohh_rounds.specs.declared.street.Street.{Street}
 use Rattle.ohh_rounds.specs.declared.street.Street.TheVariants as streets
 use Rattle.ohh_rounds.specs.Actions.{event_counted}
-use Rattle.ohh_rounds.specs.Rounds.{SoFar, action_added, actions_added, added_from, at_round, board_dealt, board_said, no_cards, opening_said, round_said, street_said}
+use Rattle.ohh_rounds.specs.Rounds.{at_round, board_dealt, board_said, no_cards, opening_said, round_said, street_said}
 use Rattle.ohh_rounds.specs.Setting.{PlainSetting}
 use Rattle.ohh_rounds.specs.Steps.{PlainStep, Happened, is_action, others_in}
 use Rattle.ohh_rounds.specs.Streets.{deals_board, street_after}

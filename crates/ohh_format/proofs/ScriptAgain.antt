@@ -1,6 +1,6 @@
 -- The script that is read of the rounds of a hand is its canonical script in the words of the format, and its posts are those of
 -- the setup.
-use Rattle.std.proofs.Common.{◌≡◌, ℕ, zero, suc, ◌+◌, ◌-◌, ◌<◌, ◌≤◌, ◌==◌, Bool, true, false, ◌&&◌, nat_lt, cond, if◌then◌else◌, List, [], ◌∷◌, ◌++◌, length, map, count_by, pos, Option, Some, None, refl, sym, ap, ap₂, subst, ◌∙◌, arith, append_assoc, true≢false}
+use Rattle.std.proofs.Common.{◌≡◌, ℕ, zero, suc, ◌+◌, ◌-◌, ◌≤◌, Bool, true, false, cond, if◌then◌else◌, List, [], ◌∷◌, ◌++◌, length, map, Some, None, refl, sym, ap, ap₂, subst, ◌∙◌, arith, append_assoc}
 use Rattle.std.specs.List.{AllByRecursion, flat_map, range_with_len}
 use Rattle.std.proofs.lemmas.List.{append-nil, length-append, length-map}
 use Rattle.card_set.specs.Known.{known_cards}
@@ -12,7 +12,7 @@ use Rattle.canonical_play.specs.CanonScript.{board_said, deal_said, deals_said, 
 use Rattle.hand_records.specs.TraceRows.{core_said}
 use Rattle.hand_records.specs.declared.trace.Trace.{Trace}
 use Rattle.list_laws.proofs.NumbersOfRange.{flat_none}
-use Rattle.play_event.specs.Chips.{blind_posted, posted}
+use Rattle.play_event.specs.Chips.{blind_posted}
 use Rattle.play_event.specs.Said as said
 use Rattle.play_event.specs.Said.{Numbered, Said}
 use Rattle.play_event.specs.Seats.{all_seats}
@@ -26,12 +26,12 @@ use Rattle.ohh_posts.specs.Posts.{PlainPost}
 use Rattle.ohh_posts.specs.declared.post.PostKind.TheVariants as kinds
 use Rattle.ohh_rounds.specs.Play.{events_in, hole_deal, posts_in, script_said}
 use Rattle.ohh_rounds.specs.Setting.{PlainSetting}
-use Rattle.ohh_rounds.specs.Steps.{PlainStep, is_move_deed, moves_in}
-use Rattle.ohh_format.specs.Again.{is_told, moves_again, numbered_from, script_again, street_again}
+use Rattle.ohh_rounds.specs.Steps.{PlainStep}
+use Rattle.ohh_format.specs.Again.{moves_again, numbered_from, script_again, street_again}
 use Rattle.ohh_format.proofs.DeedRounds.{DeedRound, board_deeds, deeds_on, first_deeds, later_rounds, rounds_of, showdown_deeds}
-use Rattle.ohh_format.proofs.Deeds.{Deed, Bets, Calls, Checks, Deals, Folds, Mucks, Posts, Raises, Shows, action_of, ante_deed, blind_deed, deal_deed, deal_deeds, post_deeds, posts_are, showing_deed, showing_deeds, straddle_deed}
-use Rattle.ohh_format.proofs.EventsAgain.{IsNoDeal, IsNoPost, IsPost, NoDeal, at_number, board_events, board_steps, deeds_in, event_of, events_of_rounds, holes_again, no_deal_board, no_deal_both, no_deals, no_posts, numbered_both, numbered_deeds, posts_both, posts_of_steps, puts_among, round_events, round_events_both, round_steps, steps_behind}
-use Rattle.ohh_format.proofs.MovesAgain.{moves_count, moves_events, moves_no_deals, moves_no_posts, no_moves, numbered_behind, told_both, told_in}
+use Rattle.ohh_format.proofs.Deeds.{Deed, Bets, Calls, Checks, Deals, Folds, Mucks, Posts, Raises, Shows, action_of, ante_deed, blind_deed, deal_deeds, post_deeds, posts_are, showing_deed, showing_deeds, straddle_deed}
+use Rattle.ohh_format.proofs.EventsAgain.{IsNoDeal, IsNoPost, IsPost, NoDeal, at_number, board_steps, deeds_in, events_of_rounds, holes_again, no_deal_board, no_deal_both, no_deals, no_posts, numbered_both, numbered_deeds, posts_both, posts_of_steps, puts_among, round_events, round_events_both, round_steps, steps_behind}
+use Rattle.ohh_format.proofs.MovesAgain.{moves_count, moves_events, moves_no_deals, moves_no_posts, no_moves, numbered_behind, told_in}
 use Rattle.ohh_format.proofs.PlayAgain.{CanBePlayed, all_posts, all_weaker, post_no_deal, steps}
 use Rattle.ohh_format.proofs.PostsAgain.{antes_put, posts_ante, posts_straddle, puts, straddles_put}
 use Rattle.ohh_format.proofs.PutsAgain.{Put, posts_at}

@@ -1,7 +1,6 @@
 -- The players of a hand that was written sit in the order of their seats in the hand, whatever their numbers at the table are.
-use Rattle.std.proofs.Common.{◌≡◌, ◌≢◌, ℕ, zero, suc, ◌+◌, ◌-◌, ◌<◌, ◌≤◌, ◌==◌, Bool, true, false, not, ◌&&◌, ◌||◌, nat_le, nat_lt, cond, if◌then◌else◌, decimal, List, [], ◌∷◌, ◌++◌, length, map, filter, find, fold, get_or, Option, Some, None, IfSome, unwrap_or, option_map, ℤ, pos, Result, Ok, inl, inr, refl, sym, ap, ap₂, subst, ◌∙◌, arith, append_assoc, true≢false}
-use Rattle.std.specs.List.{list_any, range_with_len}
-use Rattle.std.specs.Ordering.{int_eq}
+use Rattle.std.proofs.Common.{◌≡◌, ◌≢◌, ℕ, zero, suc, ◌+◌, ◌-◌, ◌<◌, ◌≤◌, ◌==◌, Bool, true, false, ◌||◌, nat_lt, cond, if◌then◌else◌, decimal, List, [], ◌∷◌, ◌++◌, length, map, fold, get_or, Option, Some, None, IfSome, unwrap_or, pos, Ok, inl, inr, refl, sym, ap, subst, ◌∙◌, arith, true≢false}
+use Rattle.std.specs.List.{range_with_len}
 use Rattle.std.proofs.lemmas.Bool.{cases_lt, eq-eqb, eqb-true, le-leb, le-ltb, lt-ltb, ltb-true, ne_eqb}
 use Rattle.std.proofs.lemmas.Bool.Decides.{nat_tests}
 use Rattle.std.proofs.lemmas.Fmt.{length-decimal-le}
@@ -15,18 +14,16 @@ use Rattle.chip_ledger.specs.declared.rows.SeatRow.{SeatRow}
 use Rattle.chip_ledger.specs.Seat.{seats_of}
 use Rattle.chip_ledger.specs.SeatRow.{amount_of}
 use Rattle.first_fault.specs.declared.limits.TheConstants.{MOST_TEXT_BYTES}
-use Rattle.first_fault.specs.Reading.{◌>>=◌, read_if}
 use Rattle.hand_records.specs.AllowedNotes.{IsName, default_name}
 use Rattle.hand_records.specs.declared.notes.Notes.{Notes}
-use Rattle.ohh_members.specs.declared.fault.PlayerMember.TheVariants as members
 use Rattle.ohh_members.specs.declared.fault.Path.TheVariants as paths
-use Rattle.ohh_members.specs.Players.{PlainPlayer, above, button_said, has_id, has_seat, id_said, lower, lowest, name_said, next_player, player_added, player_at, player_said, players_said, round_from, seat_said, seated, seated_said, short_text_said, stack_said}
-use Rattle.ohh_members.specs.Values.{added_from, field, integer_said, list_said, listed, needed, number_said, object_said, or_wrong, text_said}
+use Rattle.ohh_members.specs.Players.{PlainPlayer, above, button_said, has_id, has_seat, id_said, lower, lowest, next_player, player_added, player_at, player_said, players_said, round_from, seat_said, seated, seated_said, short_text_said, stack_said}
+use Rattle.ohh_members.specs.Values.{added_from, field, integer_said, list_said, listed, needed, number_said, object_said, text_said}
 use Rattle.ohh_line.specs.Seating.{name_written, number_among}
 use Rattle.ohh_line.specs.Tree.{player_tree, players, whole}
 use Rattle.ohh_format.proofs.CardLists.{listed_again}
 use Rattle.ohh_format.proofs.SameNumbers.{other_number, same_number}
-use Rattle.ohh_format.proofs.Circle.{IsCircle, after, after_top, next_higher, one_seat, top_is}
+use Rattle.ohh_format.proofs.Circle.{IsCircle, after_top, next_higher, one_seat, top_is}
 
 module _ (count : ℕ) (stacks : SeatRow) (notes : Notes) (numbers : Option (List ℕ)) where
   abbrev number : ℕ → ℕ

@@ -1,20 +1,19 @@
 -- The moves of a sound play can be written.
-use Rattle.std.proofs.Common.{◌≡◌, ℕ, ◌-◌, ◌≤◌, Bool, true, false, not, ◌&&◌, ◌||◌, ◌==◌, cond, List, [], ◌∷◌, ◌++◌, filter, pos, Some, refl, sym, ap, ◌∙◌, arith, true≢false}
+use Rattle.std.proofs.Common.{◌≡◌, ℕ, ◌≤◌, Bool, true, false, not, ◌&&◌, ◌||◌, ◌==◌, cond, List, [], ◌∷◌, pos, Some, refl, sym, ap, ◌∙◌, arith, true≢false}
 use Rattle.std.specs.List.{AllByRecursion, list_any}
 use Rattle.std.proofs.Math.Nat.{min-le_left}
 use Rattle.list_laws.proofs.Entries.{all_push}
 use Rattle.canon_ranges.proofs.MoveRanges.{IsMoveInRange}
-use Rattle.play_event.specs.Amounts.{call_target}
-use Rattle.play_event.specs.Chips.{all_in, street_chips}
+use Rattle.play_event.specs.Chips.{all_in}
 use Rattle.play_event.specs.MoveReasons.{actor_of}
 use Rattle.play_event.specs.Openers.{TheSeat}
-use Rattle.play_event.specs.Past.{Act, BroughtIn, Called, Folded, Move, Moved, Raised, Resolved, is_bring_in, is_fold, is_raise, moves_on}
+use Rattle.play_event.specs.Past.{Act, Called, Folded, Move, Moved, Resolved, is_bring_in, is_fold, is_raise, moves_on}
 use Rattle.play_event.specs.Places.{Place}
 use Rattle.play_event.specs.Price.{price}
 use Rattle.play_event.specs.Said.{Said}
 use Rattle.play_event.specs.Scripts.{resolved_by}
 use Rattle.play_event.specs.Seats.{is_live}
-use Rattle.play_event.specs.Trace.{TracedMove, traced_move, traced_moves}
+use Rattle.play_event.specs.Trace.{traced_move, traced_moves}
 use Rattle.play_event.specs.declared.setup.Rules.{Rules}
 use Rattle.play_event.specs.declared.setup.Setup.{Setup}
 use Rattle.play_laws.proofs.MoveKinds.{IsMoveSaid, bring_said, call_said, fold_said, raise_said}

@@ -1,17 +1,16 @@
 -- Sound plays that the format spells read back when they were written.
-use Rattle.std.proofs.Common.{◌≡◌, ℕ, zero, suc, ◌+◌, ◌-◌, ◌≤◌, ◌<◌, Bool, true, false, not, ◌&&◌, ◌||◌, ◌==◌, nat_lt, cond, if◌then◌else◌, sum_by, count_by, List, [], ◌∷◌, ◌++◌, length, map, filter, reverse, take, pos, Option, Some, None, is_some, Ok, refl, sym, ap, subst, ◌∙◌, arith, true≢false}
+use Rattle.std.proofs.Common.{◌≡◌, ℕ, zero, suc, ◌+◌, ◌-◌, ◌≤◌, Bool, true, false, ◌&&◌, ◌==◌, nat_lt, if◌then◌else◌, sum_by, List, [], ◌∷◌, ◌++◌, length, filter, reverse, take, pos, Option, Some, None, is_some, Ok, refl, sym, ap, subst, ◌∙◌, arith, true≢false}
 use Rattle.std.specs.List.{AllByRecursion, flat_map, list_any, range_with_len}
 use Rattle.std.proofs.lemmas.Bool.{and_parts}
-use Rattle.std.proofs.lemmas.List.{length-map, length-reverse}
 use Rattle.std.proofs.lemmas.List.Sums.{sum_by-cons}
 use Rattle.canon_laws.proofs.MoveCounts.{move_count, tidy_within}
 use Rattle.canon_laws.proofs.TidyTraces.{as_many}
 use Rattle.canon_ranges.proofs.MoveRanges.{moves_in_range}
 use Rattle.card_set.specs.Known.{is_unknown}
-use Rattle.canonical_play.specs.CanonScript.{dealt_slots, held_slots, is_dealt_to, plain_moves}
+use Rattle.canonical_play.specs.CanonScript.{dealt_slots, held_slots, is_dealt_to}
 use Rattle.canonical_play.specs.PlayedScript.{IsPlayed, is_move}
 use Rattle.canonical_play.specs.Tidy.{IsTidy}
-use Rattle.canonical_play.specs.TraceCore.{TraceCore, core_after, core_of}
+use Rattle.canonical_play.specs.TraceCore.{TraceCore, core_of}
 use Rattle.canonical_play.specs.declared.limits.TheConstants.{MOST_MOVES}
 use Rattle.chip_ledger.specs.LiveRow.{flag_of}
 use Rattle.chip_ledger.specs.SeatRow.{amount_of}
@@ -30,17 +29,17 @@ use Rattle.list_laws.proofs.Any.{list_any-filter, list_any-map}
 use Rattle.list_laws.proofs.Finding.{none_stronger}
 use Rattle.list_laws.proofs.Reversed.{count_reversed}
 use Rattle.play_event.proofs.ChipLaws.{puts_within}
-use Rattle.play_event.specs.Chips.{blind_posted, posted}
+use Rattle.play_event.specs.Chips.{blind_posted}
 use Rattle.play_event.specs.Due.{is_unfinished, turn}
 use Rattle.play_event.specs.Games.{board_cards_on, game_of}
 use Rattle.play_event.specs.Laws.{AreLegal}
-use Rattle.play_event.specs.Past.{Past, moves_of, moves_on}
+use Rattle.play_event.specs.Past.{Past, moves_of}
 use Rattle.play_event.specs.Places.{is_same_owner}
 use Rattle.play_event.specs.Said.{Said}
 use Rattle.play_event.specs.Scripts.{past_after, past_at_end, past_of}
 use Rattle.play_event.specs.Seats.{all_seats}
 use Rattle.play_event.specs.Table.{places_of}
-use Rattle.play_event.specs.Trace.{TracedPlace, traced_moves, traced_places}
+use Rattle.play_event.specs.Trace.{TracedPlace, traced_places}
 use Rattle.play_event.specs.ValidSetup.{IsValid}
 use Rattle.play_event.specs.declared.setup.Rules.{Rules}
 use Rattle.play_event.specs.declared.setup.Setup.{Setup}
@@ -51,7 +50,7 @@ use Rattle.ohh_members.specs.declared.dialect.Dialect.{Dialect}
 use Rattle.ohh_line.specs.Actions.{big_blind_seat, small_blind_seat}
 use Rattle.ohh_line.specs.Games.{is_spelled_game}
 use Rattle.ohh_line.specs.Lines.{Spells}
-use Rattle.ohh_line.specs.Spelled.{first_refusal, first_unspelled, has_closed, has_spelled_antes, has_spelled_blinds, has_spelled_sizes, kept_facts, or_behind, refusal_from, refused_at, trace_facts, unspelled}
+use Rattle.ohh_line.specs.Spelled.{first_refusal, first_unspelled, has_spelled_antes, has_spelled_blinds, has_spelled_sizes, kept_facts, or_behind, refusal_from, refused_at, trace_facts, unspelled}
 use Rattle.ohh_posts.proofs.Stacks.{seats_in}
 use Rattle.ohh_posts.specs.declared.post.PostKind.TheVariants as kinds
 use Rattle.ohh_reading.specs.Reading.{reading}
@@ -70,7 +69,7 @@ use Rattle.ohh_format.proofs.SoundPots.{has_pots}
 use Rattle.ohh_format.proofs.SoundShows.{mucked_live, showdown_is}
 use Rattle.ohh_format.proofs.StreetsPlayed.{HasStreet, came_before, first_holes, has_street, is_passed}
 use Rattle.ohh_format.proofs.ToldDeeds.{IsGoodPost}
-use Rattle.ohh_format.proofs.WinsAgain.{ids_written, seat_again}
+use Rattle.ohh_format.proofs.WinsAgain.{seat_again}
 
 -- ---- the facts that are spelled
 

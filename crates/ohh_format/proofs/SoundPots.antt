@@ -1,22 +1,19 @@
 -- The pots of a sound play can be stated.
-use Rattle.std.proofs.Common.{◌≡◌, ℕ, zero, suc, ◌+◌, ◌-◌, ◌*◌, ◌<◌, ◌≤◌, List, [], ◌∷◌, length, map, sum, sum_by, take, drop, get_or, slice_get, Option, Some, None, inl, inr, refl, sym, ap, subst, ◌∙◌, arith}
+use Rattle.std.proofs.Common.{◌≡◌, ℕ, zero, suc, ◌+◌, ◌-◌, ◌*◌, ◌<◌, ◌≤◌, List, [], ◌∷◌, length, map, sum_by, take, drop, get_or, slice_get, Option, Some, inl, inr, refl, sym, ap, subst, ◌∙◌, arith}
 use Rattle.std.specs.List.{range_with_len}
 use Rattle.std.specs.Option.{option_map_or}
 use Rattle.std.proofs.lemmas.Bool.{cases_lt}
 use Rattle.std.proofs.lemmas.List.{length-map, length-take-le}
 use Rattle.std.proofs.lemmas.List.Sums.{sum-map, sum_by-cons}
-use Rattle.list_laws.proofs.Ranges.{range_more}
 use Rattle.list_laws.proofs.NumbersOfRange.{one_of_sum}
 use Rattle.chip_ledger.specs.Fillers.{no_amounts}
 use Rattle.chip_ledger.specs.PotRow.{plain, plain_pots, plain_shares, pots_in, shared_in, shares_in}
 use Rattle.chip_ledger.specs.Pots.{PlainPot}
 use Rattle.chip_ledger.specs.RakeRow.{rake_of}
 use Rattle.chip_ledger.specs.Rakes.{chips_in, nets_from, nets_of}
-use Rattle.chip_ledger.specs.Seat.{seats_of}
 use Rattle.chip_ledger.specs.SeatRow.{amount_of, total_of}
 use Rattle.chip_ledger.specs.declared.numbers.TheConstants.{MOST_CHIPS}
 use Rattle.chip_ledger.specs.declared.pots.Pot.{Pot}
-use Rattle.chip_ledger.specs.declared.pots.PotRow.{PotRow}
 use Rattle.chip_ledger.specs.declared.rakes.RakeRow.{RakeRow}
 use Rattle.chip_ledger.specs.declared.rows.SeatRow.{SeatRow}
 use Rattle.chip_ledger.specs.declared.rows.TheConstants.{MOST_AMOUNT}
@@ -25,7 +22,7 @@ use Rattle.hand_canon.specs.LegalHand.{IsShareable, showdown_in}
 use Rattle.hand_canon.specs.WholeTrace.{IsTraceOf}
 use Rattle.hand_records.specs.declared.trace.Trace.{Trace}
 use Rattle.play_event.specs.Chips.{chips_put}
-use Rattle.play_event.specs.Past.{Move, Past, moves_of}
+use Rattle.play_event.specs.Past.{Past, moves_of}
 use Rattle.play_event.specs.Price.{all_chips_put}
 use Rattle.play_event.specs.Seats.{all_seats}
 use Rattle.play_event.specs.ValidSetup.{IsValid}

@@ -1,13 +1,12 @@
 -- The showdown of a sound play is that of its shown and mucked seats.
-use Rattle.std.proofs.Common.{◌≡◌, ℕ, ◌+◌, ◌<◌, ◌≤◌, Bool, true, false, not, ◌&&◌, ◌==◌, nat_le, if◌then◌else◌, List, [], ◌∷◌, ◌++◌, map, filter, refl, sym, ap, ap₂, subst, ◌∙◌, arith, true≢false}
-use Rattle.std.specs.List.{flat_map, list_any, range_with_len}
-use Rattle.std.proofs.lemmas.Bool.{and_parts}
+use Rattle.std.proofs.Common.{◌≡◌, ℕ, ◌≤◌, Bool, true, false, not, ◌&&◌, ◌==◌, if◌then◌else◌, List, [], ◌∷◌, map, filter, refl, sym, ap, ap₂, ◌∙◌, arith, true≢false}
+use Rattle.std.specs.List.{flat_map, list_any}
 use Rattle.list_laws.proofs.FlatMaps.{kept_flat}
 use Rattle.list_laws.proofs.NumbersOfRange.{flat_none, flat_same, is_in}
 use Rattle.card_set.specs.Known.{known_cards}
 use Rattle.canon_laws.proofs.SameCore.{plain_again}
 use Rattle.canonical_play.specs.CanonScript.{held_slots, plain_moves, showdown_said, showing_said}
-use Rattle.canonical_play.specs.TraceCore.{TraceCore, core_of}
+use Rattle.canonical_play.specs.TraceCore.{TraceCore}
 use Rattle.chip_ledger.specs.LiveRow.{flag_of, flagged}
 use Rattle.chip_ledger.specs.declared.rows.LiveRow.{LiveRow}
 use Rattle.hand_canon.specs.WholeTrace.{IsTraceOf}
@@ -16,9 +15,9 @@ use Rattle.hand_records.specs.declared.trace.Trace.{Trace}
 use Rattle.play_event.specs.Past.{Move, Past, moves_of}
 use Rattle.play_event.specs.Said as said
 use Rattle.play_event.specs.Said.{Said}
-use Rattle.play_event.specs.Seats.{all_seats, is_live, live_count}
+use Rattle.play_event.specs.Seats.{all_seats, is_live}
 use Rattle.play_event.specs.Showing.{has_mucked}
-use Rattle.play_event.specs.Trace.{TracedMove, TracedPlace, has_unknown_card, is_contested, is_mucked, is_shown, traced_moves}
+use Rattle.play_event.specs.Trace.{has_unknown_card, is_contested, is_mucked, is_shown}
 use Rattle.play_event.specs.declared.setup.Setup.{Setup}
 use Rattle.showdown_split.proofs.Flagged.{is_flagged-flag}
 use Rattle.ohh_format.proofs.ScriptAgain.{showing_events}

@@ -1,8 +1,8 @@
 -- Actions that were written read as the steps of what was done.
-use Rattle.std.proofs.Common.{◌≡◌, ℕ, zero, suc, ◌+◌, ◌<◌, ◌≤◌, ◌==◌, Bool, true, false, not, ◌&&◌, nat_le, nat_lt, cond, min, List, [], ◌∷◌, ◌++◌, length, map, count_by, pos, Option, Some, None, Result, Ok, Err, refl, sym, ap, ap₂, subst, ◌∙◌, arith, append_assoc}
+use Rattle.std.proofs.Common.{◌≡◌, ℕ, suc, ◌+◌, ◌<◌, ◌≤◌, true, false, nat_lt, cond, List, [], ◌∷◌, ◌++◌, length, map, count_by, pos, Some, Result, Ok, Err, refl, sym, ap, ap₂, ◌∙◌, arith, append_assoc}
 use Rattle.std.specs.List.{list_any}
 use Rattle.std.proofs.lemmas.Bool.{eq-eqb, le-leb, lt-leb, lt-ltb}
-use Rattle.std.proofs.lemmas.List.{append-nil, length-append, length-map}
+use Rattle.std.proofs.lemmas.List.{append-nil, length-map}
 use Rattle.serde_json.specs.Data.{Data, string}
 use Rattle.list_laws.proofs.Counting.{count_by-push}
 use Rattle.card_set.specs.Known.{is_unknown, known_cards}
@@ -20,20 +20,20 @@ use Rattle.ohh_members.specs.declared.dialect.Dialect.{Dialect}
 use Rattle.ohh_members.specs.declared.fault.ActionMember.TheVariants as members
 use Rattle.ohh_members.specs.declared.fault.Fault.{Fault}
 use Rattle.ohh_members.specs.declared.fault.Path.{Path}
-use Rattle.ohh_members.specs.Values.{few_said, field, integer_said, needed, number_said, object_said, or_wrong, player_said, seat_of, text_said}
-use Rattle.ohh_line.specs.Actions.{PlainAction, alone, with_cards, with_chips}
-use Rattle.ohh_line.specs.Tree.{action_tree, action_trees, cards_tree}
+use Rattle.ohh_members.specs.Values.{integer_said, needed, number_said, object_said, player_said, seat_of, text_said}
+use Rattle.ohh_line.specs.Actions.{PlainAction}
+use Rattle.ohh_line.specs.Tree.{action_tree, action_trees}
 use Rattle.ohh_posts.specs.declared.post.ActionPlace.{ActionPlace}
 use Rattle.ohh_posts.specs.declared.post.PostKind.{PostKind}
 use Rattle.ohh_posts.specs.declared.post.PostKind.TheVariants as kinds
 use Rattle.ohh_posts.specs.Table.{seat_count}
-use Rattle.ohh_rounds.specs.Actions.{at_action, called, chips_said, dealt_cards, deed_counted, deed_said, event_counted, listed_cards, members_said, posted, raise_by, raised, seat_said, shown, step_said, word_said}
+use Rattle.ohh_rounds.specs.Actions.{at_action, called, chips_said, dealt_cards, deed_said, event_counted, listed_cards, members_said, posted, raise_by, raised, seat_said, shown, step_said, word_said}
 use Rattle.ohh_rounds.specs.Rounds.{action_added, added_from}
 use Rattle.ohh_rounds.specs.Setting.{PlainSetting}
-use Rattle.ohh_rounds.specs.Steps.{PlainDeed, PlainStep, Posted, Dealt, Happened, Passed, dealt_to, has_folded, is_action, kept_number, moves_in, next_number, others_in}
+use Rattle.ohh_rounds.specs.Steps.{PlainDeed, PlainStep, Posted, Dealt, Happened, dealt_to, has_folded, is_action, kept_number, moves_in, next_number, others_in}
 use Rattle.ohh_rounds.specs.Words.{word_named}
 use Rattle.ohh_format.proofs.CardLists.{card_texts, cards_again, few_again, slots_again}
-use Rattle.ohh_format.proofs.Deeds.{Deed, Bets, Calls, Checks, Deals, Folds, Mucks, Posts, Raises, Shows, action_of, post_word}
+use Rattle.ohh_format.proofs.Deeds.{Deed, Bets, Calls, Checks, Deals, Folds, Mucks, Posts, Raises, Shows, action_of}
 
 -- what a step tells of what was done, at its place
 abbrev pub told : Dialect → ActionPlace → Deed → PlainDeed

@@ -1,6 +1,6 @@
 -- What a legal hand that is played to its end has of each street: where the hand came to the street, all its cards; and else
 -- no cards and no moves.
-use Rattle.std.proofs.Common.{◌≡◌, ℕ, ◌+◌, ◌≤◌, Bool, true, false, cond, nat_lt, nat_le, if◌then◌else◌, List, [], ◌∷◌, length, Option, Some, None, refl, sym, ap, ◌∙◌, arith, ltb-false}
+use Rattle.std.proofs.Common.{◌≡◌, ℕ, ◌+◌, ◌≤◌, Bool, true, false, cond, nat_lt, nat_le, List, [], ◌∷◌, length, Option, Some, None, refl, sym, ap, ◌∙◌, arith, ltb-false}
 use Rattle.std.specs.List.{list_any}
 use Rattle.std.proofs.lemmas.Bool.{both_ways, false_from_ne_true, le-ltb, lt-leb, leb-false}
 use Rattle.std.proofs.lemmas.List.{length-map}
@@ -15,9 +15,9 @@ use Rattle.play_event.specs.declared.setup.Rules.{Rules}
 use Rattle.play_event.specs.Due.{is_unfinished, turn}
 use Rattle.play_event.specs.Games.{board_cards_on, hole_cards_on, street_count}
 use Rattle.play_event.specs.Laws.{AreLegal}
-use Rattle.play_event.specs.Past.{Move, Past, Resolved, moves_before, moves_of, moves_on}
+use Rattle.play_event.specs.Past.{Move, moves_before, moves_of, moves_on}
 use Rattle.play_event.specs.Said.{Said}
-use Rattle.play_event.specs.Scripts.{past_of, with_event}
+use Rattle.play_event.specs.Scripts.{past_of}
 use Rattle.play_event.specs.Seats.{all_seats, is_live, live_count}
 use Rattle.play_event.specs.Streets.{has_draw}
 use Rattle.play_event.specs.Table.{places_of}
@@ -25,11 +25,9 @@ use Rattle.play_event.specs.Trace.{traced_places}
 use Rattle.list_laws.proofs.Counting.{counts_fewer}
 use Rattle.play_laws.proofs.DoneKept.{live_before}
 use Rattle.play_laws.proofs.DonePasts.{legal_done}
-use Rattle.play_laws.proofs.DueAtEvents.{turn_reaches}
-use Rattle.play_laws.proofs.LegalEvents.{Stepped, stepped, deals, boards, mucks, shows, discards, moves}
 use Rattle.play_laws.proofs.LegalPlaces.{group_count, legal_past}
-use Rattle.play_laws.proofs.PlaceGroups.{group_of, group_slots}
-use Rattle.play_laws.proofs.PlayedStreets.{IsDone, board_count, board_group, hole_group, reached_done}
+use Rattle.play_laws.proofs.PlaceGroups.{group_of}
+use Rattle.play_laws.proofs.PlayedStreets.{board_count, board_group, hole_group, reached_done}
 use Rattle.play_laws.specs.PastLaws.{is_played_on}
 
 -- a hand does not come to a street with one live seat

@@ -1,9 +1,9 @@
 -- What was done, chunk by chunk, can be told: posts first, then deals, then moves, and shows after them.
-use Rattle.std.proofs.Common.{◌≡◌, ◌≢◌, ℕ, zero, suc, ◌+◌, ◌<◌, ◌≤◌, ◌==◌, Bool, true, false, not, ◌&&◌, ◌||◌, nat_lt, cond, List, [], ◌∷◌, ◌++◌, length, map, count_by, pos, Option, Some, None, refl, sym, ap, ap₂, subst, ◌∙◌, arith, append_assoc, true≢false}
+use Rattle.std.proofs.Common.{◌≡◌, ℕ, zero, suc, ◌+◌, ◌<◌, ◌≤◌, Bool, true, false, nat_lt, cond, List, [], ◌∷◌, ◌++◌, length, count_by, pos, Some, refl, sym, ap, ap₂, subst, ◌∙◌, arith, append_assoc}
 use Rattle.std.specs.List.{AllByRecursion, flat_map, list_any, range_with_len}
 use Rattle.std.proofs.lemmas.Bool.{lt-ltb, ne_eqb}
 use Rattle.std.proofs.lemmas.Grind.{flat_map-append}
-use Rattle.std.proofs.lemmas.List.{append-nil, length-append}
+use Rattle.std.proofs.lemmas.List.{append-nil}
 use Rattle.list_laws.proofs.Finding.{list_any-push}
 use Rattle.list_laws.proofs.Counting.{count_by-cons, count_by-push}
 use Rattle.card_set.specs.Known.{is_unknown}
@@ -16,9 +16,9 @@ use Rattle.ohh_members.specs.Values.{seat_of}
 use Rattle.ohh_posts.specs.Table.{seat_count}
 use Rattle.ohh_posts.specs.declared.post.ActionPlace.{ActionPlace}
 use Rattle.ohh_rounds.specs.Setting.{PlainSetting}
-use Rattle.ohh_rounds.specs.Steps.{PlainDeed, PlainStep, dealt_in, dealt_to, has_folded, is_action, is_fold_of, is_move_deed, is_other_deed, kept_number, moves_in, others_in}
+use Rattle.ohh_rounds.specs.Steps.{PlainStep, dealt_in, dealt_to, has_folded, is_action, is_fold_of, is_move_deed, is_other_deed, kept_number, moves_in, others_in}
 use Rattle.ohh_format.proofs.Deeds.{Deed, Bets, Calls, Checks, Deals, Folds, Mucks, Posts, Raises, Shows}
-use Rattle.ohh_format.proofs.StepsAgain.{AllTold, CanBeTold, HasChips, HasDeal, HasMove, HasMuck, HasOther, HasPost, HasShow, step_of, steps_of, told}
+use Rattle.ohh_format.proofs.StepsAgain.{AllTold, HasMove, step_of, steps_of, told}
 
 -- ---- what deeds count as
 

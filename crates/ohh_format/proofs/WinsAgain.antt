@@ -1,28 +1,20 @@
 -- What seats win of a pot that was written is what the pot states of them.
-use Rattle.std.proofs.Common.{◌≡◌, ℕ, zero, suc, ◌+◌, ◌-◌, ◌<◌, ◌≤◌, ◌≢◌, Bool, true, false, cond, ◌==◌, nat_le, nat_lt, ◌&&◌, ℤ, pos, List, [], ◌∷◌, ◌++◌, length, map, filter, sum_by, slice_index_or, Option, Some, None, Result, Ok, Err, refl, sym, ap, ◌∙◌, arith, subst, append_assoc}
+use Rattle.std.proofs.Common.{◌≡◌, ℕ, zero, suc, ◌+◌, ◌<◌, ◌≤◌, Bool, true, false, cond, ◌==◌, nat_lt, ℤ, pos, List, [], ◌∷◌, ◌++◌, map, filter, sum_by, Some, Ok, refl, sym, ap, ◌∙◌, arith, subst, append_assoc}
 use Rattle.std.specs.List.{flat_map, range_with_len}
-use Rattle.std.specs.Ordering.{int_eq}
 use Rattle.std.proofs.lemmas.Bool.{le-leb}
 use Rattle.std.proofs.lemmas.Bool.Decides.{nat_tests}
 use Rattle.std.proofs.lemmas.List.{append-nil}
 use Rattle.std.proofs.lemmas.List.Elements.{filter-append}
-use Rattle.std.proofs.lemmas.List.Sums.{sum_by-append, sum_by-cons}
 use Rattle.serde_json.specs.Data.{Data}
-use Rattle.serde_json.specs.View.{items_of}
-use Rattle.chip_ledger.specs.declared.pots.Pot.{Pot}
 use Rattle.chip_ledger.specs.declared.rows.SeatRow.{SeatRow}
 use Rattle.chip_ledger.specs.declared.rows.TheConstants.{MOST_AMOUNT}
-use Rattle.chip_ledger.specs.RakeRow.{rake_of}
 use Rattle.chip_ledger.specs.Seat.{seats_of}
 use Rattle.chip_ledger.specs.SeatRow.{amount_of}
-use Rattle.hand_records.specs.declared.trace.Trace.{Trace}
-use Rattle.first_fault.specs.Reading.{◌>>=◌}
-use Rattle.ohh_members.specs.Values.{added_from, listed, list_said, needed, number_said, integer_said, object_said, player_said, seat_from, seat_of}
-use Rattle.ohh_facts.specs.Pots.{amount_said, pot_added, rake_said, summed, win_added, win_said, wins_said}
-use Rattle.ohh_facts.specs.PotSums.{PlainPot, all_of}
+use Rattle.ohh_members.specs.Values.{added_from, needed, number_said, integer_said, object_said, player_said, seat_from, seat_of}
+use Rattle.ohh_facts.specs.Pots.{summed, win_added, win_said}
 use Rattle.ohh_facts.specs.Won.{PlainWin, won_by}
 use Rattle.ohh_format.proofs.SameNumbers.{other_number, same_number}
-use Rattle.ohh_line.specs.Tree.{list, pot_tree, pot_trees, share_at, win_object, win_tree, wins_of}
+use Rattle.ohh_line.specs.Tree.{win_object, win_tree}
 
 -- the ids that are written: 1, 2 and so on
 abbrev pub ids_written : ℕ → List ℤ
