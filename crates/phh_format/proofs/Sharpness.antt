@@ -1,11 +1,20 @@
 -- A play that the format does not spell is that of no hand that bytes say: each such hand is under the rules of hand histories,
 -- where no raise of a legal hand is closed.
-use Rattle.std.proofs.Common.{◌≡◌, ℕ, ◌+◌, ◌-◌, nat_lt, Bool, true, false, if◌then◌else◌, List, [], ◌∷◌, ◌++◌, map, Option, Some, None, Result, Ok, Err, IfOk, refl, sym, ap, subst, ◌∙◌}
+use Rattle.std.proofs.Common.{◌≡◌, ℕ, ◌+◌, ◌-◌, nat_lt, Bool, true, false, if◌then◌else◌, List, [], ◌∷◌, ◌++◌, map, Option, Some, None, Result, Ok, Err, IfOk, length, refl, sym, ap, subst, ◌∙◌}
 use Rattle.std.specs.List.{AllByRecursion, list_any}
-use Rattle.toml.specs.Data.{Members}
+use Rattle.toml.specs.Data.{Data, Members}
+use Rattle.chip_ledger.specs.declared.rows.TheConstants.{MOST_AMOUNT}
+use Rattle.phh_fields.specs.declared.fault.Key.TheVariants as keys
+use Rattle.phh_fields.specs.Fields.{at_key, field, list_said, needed}
+use Rattle.phh_fields.specs.NoteFields.{PlainNotes, notes_said}
+use Rattle.phh_fields.specs.Rows.{row_said}
+use Rattle.phh_fields.specs.SetupFields.{PlainSetup, setup_said}
+use Rattle.phh_reading.specs.Events.{counts_after, events_said}
+use Rattle.phh_reading.specs.declared.events.Counts.{Counts}
+use Rattle.play_event.specs.Said.{Numbered}
 use Rattle.list_laws.proofs.Any.{list_any-map}
 use Rattle.list_laws.proofs.Tests.{false_true}
-use Rattle.first_fault.specs.Reading.{◌>>=◌, thread_from}
+use Rattle.first_fault.specs.Reading.{◌>>=◌, read_if, thread_from}
 use Rattle.play_event.specs.HistoryRules.{history_rules}
 use Rattle.play_event.specs.Played.{move_said}
 use Rattle.hand_records.specs.SoundRecord.{script_said}
@@ -16,7 +25,7 @@ use Rattle.hand_records.specs.declared.writing.Unspelled.{Unspelled}
 use Rattle.hand_records.specs.declared.writing.Unspelled.TheVariants as facts
 use Rattle.hand_canon.specs.Judged.{IsTraceOfLegal}
 use Rattle.canon_ranges.proofs.SuitedRules.{suits_own}
-use Rattle.phh_reading.specs.Hand.{PlainHand, hand_said, plain}
+use Rattle.phh_reading.specs.Hand.{PlainHand, finish_stated, hand_said, plain, rakes_at}
 use Rattle.phh_reading.specs.Reading.{Wrong, at_variant, document_of, document_said, hands_of, hands_said, in_hand, numbered_hand, reading, records_said, spelled_fault, those_said}
 use Rattle.phh_reading.specs.declared.fault.HandFault.{HandFault}
 use Rattle.phh_fields.specs.declared.fault.Fault.{Fault}
@@ -39,23 +48,58 @@ IsRuled hand = hand.rules ≡ history_rules
 abbrev AreRuled : {S : Type 0} → List PlainHand × S → Type 0
 AreRuled found = AllByRecursion IsRuled found.0
 
-hand_ruled : (file_moves place : ℕ) (members : Members) → IfOk (hand_said file_moves place members) (λ found. IsRuled found.0)
-unfolding hand_said
-hand_ruled file_moves place members =
-    bound _ _ _ (λ setup. bound _ _ _ (λ actions. bound _ _ _ (λ events. bound _ _ _ (λ finish. bound _ _ _ (λ rakes. bound _ _ _ (λ notes. refl))))))
+module _ (file_moves place : ℕ) (members : Members) where
+  -- what is read behind each field, in order
+  abbrev after_notes : PlainSetup → List Numbered × Counts → Option (List ℕ) → List ℕ → PlainNotes → Result (PlainHand × ℕ) Fault
+  after_notes setup events finish rakes notes =
+      Ok (record { setup = setup; rakes = rakes; rules = history_rules; script = events.0; stated = finish_stated finish; notes = notes }, events.1.file_moves)
+
+  abbrev after_rakes : PlainSetup → List Numbered × Counts → Option (List ℕ) → List ℕ → Result (PlainHand × ℕ) Fault
+  after_rakes setup events finish rakes = notes_said place (length setup.stacks) members >>= after_notes setup events finish rakes
+
+  abbrev after_finish : PlainSetup → List Numbered × Counts → Option (List ℕ) → Result (PlainHand × ℕ) Fault
+  after_finish setup events finish = rakes_at members >>= after_rakes setup events finish
+
+  abbrev finish_read : PlainSetup → Result (Option (List ℕ)) Fault
+  finish_read setup = read_if (row_said (length setup.stacks) MOST_AMOUNT keys.FinishingStacks) (field keys.FinishingStacks members)
+
+  abbrev after_events : PlainSetup → List Numbered × Counts → Result (PlainHand × ℕ) Fault
+  after_events setup events = finish_read setup >>= after_finish setup events
+
+  abbrev after_actions : PlainSetup → List Data → Result (PlainHand × ℕ) Fault
+  after_actions setup actions = events_said (length setup.stacks) (counts_after file_moves) actions >>= after_events setup
+
+  abbrev actions_read : Result (List Data) Fault
+  actions_read = needed keys.Actions members >>= list_said (at_key keys.Actions)
+
+  abbrev after_setup : PlainSetup → Result (PlainHand × ℕ) Fault
+  after_setup setup = actions_read >>= after_actions setup
+
+  abbrev IsFound : PlainHand × ℕ → Type 0
+  IsFound found = IsRuled found.0
+
+  hand_ruled : IfOk (hand_said file_moves place members) IsFound
+  unfolding hand_said
+  hand_ruled =
+      bound IsFound (setup_said members) after_setup (λ setup.
+      bound IsFound actions_read (after_actions setup) (λ actions.
+      bound IsFound (events_said (length setup.stacks) (counts_after file_moves) actions) (after_events setup) (λ events.
+      bound IsFound (finish_read setup) (after_finish setup events) (λ finish.
+      bound IsFound (rakes_at members) (after_rakes setup events finish) (λ rakes.
+      bound IsFound (notes_said place (length setup.stacks) members) (after_notes setup events finish rakes) (λ notes. refl))))))
 
 one_ruled : (number : ℕ) (read : Result (PlainHand × ℕ) Fault) → IfOk read (λ found. IsRuled found.0) → IfOk (in_hand number read >>= λ found. Ok (found.0 ∷ [], found.1)) AreRuled
 one_ruled number (Ok found) is = (is, tt)
 one_ruled number (Err fault) is = tt
 
-by_limit : {here : Result (List PlainHand × ℕ) HandFault} (number : ℕ) (what : What) (late : Bool) → IfOk here AreRuled → IfOk (if late then at_variant number what else here) AreRuled
-by_limit number what true is = tt
-by_limit number what false is = is
+by_limit : (here : Result (List PlainHand × ℕ) HandFault) (number : ℕ) (what : What) (late : Bool) → IfOk here AreRuled → IfOk (if late then at_variant number what else here) AreRuled
+by_limit here number what true is = tt
+by_limit here number what false is = is
 
 numbered_ruled : (file_moves number : ℕ) (members : Members) → IfOk (numbered_hand file_moves number members) AreRuled
 unfolding numbered_hand
 numbered_ruled file_moves number members =
-    by_limit number (whats.TooMany quantities.Hands) (nat_lt MOST_HANDS number) (one_ruled number (hand_said file_moves (number - 1) members) (hand_ruled file_moves (number - 1) members))
+    by_limit (in_hand number (hand_said file_moves (number - 1) members) >>= λ found. Ok (found.0 ∷ [], found.1)) number (whats.TooMany quantities.Hands) (nat_lt MOST_HANDS number) (one_ruled number (hand_said file_moves (number - 1) members) (hand_ruled file_moves (number - 1) members))
 
 both_ruled : (some more : List PlainHand) → AllByRecursion IsRuled some → AllByRecursion IsRuled more → AllByRecursion IsRuled (some ++ more)
 both_ruled [] more each others = others
@@ -65,14 +109,17 @@ then_ruled : (found : List PlainHand × ℕ) (others : Result (List PlainHand ×
 then_ruled found (Ok rest) is all = both_ruled found.0 rest.0 is all
 then_ruled found (Err fault) is all = tt
 
+-- hands behind the first one, from the moves of the file behind it
+rest_ruled : (rest : ℕ → Result (List PlainHand × ℕ) HandFault) (first : Result (List PlainHand × ℕ) HandFault) → IfOk first AreRuled → ((file_moves : ℕ) → IfOk (rest file_moves) AreRuled)
+    → IfOk (first >>= λ found. rest found.1 >>= λ others. Ok (found.0 ++ others.0, others.1)) AreRuled
+rest_ruled rest (Ok found) is all = then_ruled found (rest found.1) is (all found.1)
+rest_ruled rest (Err fault) is all = tt
+
 threaded : (file_moves number : ℕ) (hands : List Members) → IfOk (thread_from numbered_hand file_moves number hands) AreRuled
 unfolding thread_from
 threaded file_moves number [] = tt
-threaded file_moves number (members ∷ rest) = by_first (numbered_hand file_moves number members) (numbered_ruled file_moves number members)
-  where
-    by_first : (first : Result (List PlainHand × ℕ) HandFault) → IfOk first AreRuled → IfOk (first >>= λ found. thread_from numbered_hand found.1 (number + 1) rest >>= λ others. Ok (found.0 ++ others.0, others.1)) AreRuled
-    by_first (Ok found) is = then_ruled found (thread_from numbered_hand found.1 (number + 1) rest) is (threaded found.1 (number + 1) rest)
-    by_first (Err fault) is = tt
+threaded file_moves number (members ∷ rest) =
+    rest_ruled (λ moves. thread_from numbered_hand moves (number + 1) rest) (numbered_hand file_moves number members) (numbered_ruled file_moves number members) (λ moves. threaded moves (number + 1) rest)
 
 records_ruled : (hands : List Members) → IfOk (records_said hands) (AllByRecursion IsRuled)
 records_ruled hands = by_hands (hands_said hands) (threaded 0 1 hands)
