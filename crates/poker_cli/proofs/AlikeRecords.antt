@@ -6,7 +6,8 @@ use Rattle.play_event.specs.declared.setup.Setup.{Setup}
 use Rattle.play_event.specs.Said.{Numbered, numbered}
 use Rattle.phh_reading.specs.Hand.{plain}
 use Rattle.phh_reading.proofs.SamePlay.{same_name, same_rules, same_script, same_setup, same_stated}
-use Rattle.referee.proofs.OneOutcome.{AllTheSame, SayTheSame, turned}
+use Rattle.convert_core.specs.SameRecords.{SayTheSame}
+use Rattle.convert_core.proofs.OneOutcome.{AllTheSame, turned}
 
 -- two records say the same of their play, and name the players of its seats alike
 pub record AreAlike (a b : Record) : Type 0 where

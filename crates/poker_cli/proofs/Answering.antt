@@ -18,9 +18,9 @@ use Rattle.hand_records.specs.SoundRecord.{IsSoundRecord}
 use Rattle.ohh_members.specs.declared.dialect.Dialect.{Dialect}
 use Rattle.ohh_reading.specs.Reading as ohh
 use Rattle.phh_reading.specs.Reading.{IsHistory, Wrong, reading}
-use Rattle.referee.specs.Judged.{ArePlaysOf, IsPlaysFaultOf}
-use Rattle.referee.specs.declared.fault.PlaysFault.{PlaysFault}
-use Rattle.referee.specs.declared.fault.PlaysFault.TheVariants as plays_faults
+use Rattle.convert_core.specs.Judged.{ArePlaysOf, IsPlaysFaultOf}
+use Rattle.convert_core.specs.declared.fault.PlaysFault.{PlaysFault}
+use Rattle.convert_core.specs.declared.fault.PlaysFault.TheVariants as plays_faults
 use Rattle.poker_cli.specs.Answer.{Answer, Files, GivesGame, GivesNoGame, IsAnswer, IsAnswerIn, IsAnswerTo, IsToldOf, done, most_input, notation_of, task_of, reader_of, to_excess, to_fault, to_first_game}
 use Rattle.poker_cli.specs.Answer as answers
 use Rattle.poker_cli.specs.Inputs.{InHistory, InLog, InTree}

@@ -11,9 +11,9 @@ use Rattle.printed_hands.specs.Check.{check_end, check_line, each_hand}
 use Rattle.printed_hands.specs.Steps.{replay_lines}
 use Rattle.printed_hands.proofs.Hands.{one_hand_more}
 use Rattle.hand_canon.specs.Judged.{IsJudged}
-use Rattle.referee.specs.Judged.{IsFaultAt, IsPlaysFaultOf}
-use Rattle.referee.specs.declared.fault.PlaysFault.{PlaysFault}
-use Rattle.referee.proofs.Plays.{first_refused, hands_of, judged_sound, one_more}
+use Rattle.convert_core.specs.Judged.{IsFaultAt, IsPlaysFaultOf}
+use Rattle.convert_core.specs.declared.fault.PlaysFault.{PlaysFault}
+use Rattle.convert_core.proofs.JudgedPlays.{first_refused, hands_of, judged_sound, one_more}
 use Rattle.poker_cli.specs.Printing.{AreLinesOf, IsPrinted}
 
 -- a text has the lines of the plays of the first records, so many of them, and these are left

@@ -20,9 +20,10 @@ use Rattle.printed_hands.specs.Check.{check_end, check_line, each_hand}
 use Rattle.printed_hands.specs.Steps.{replay_lines}
 use Rattle.printed_report.specs.Report.{Hand, Seated, hand_of, report_on, seated_in}
 use Rattle.hand_canon.specs.Judged.{IsJudged}
-use Rattle.referee.specs.Judged.{ArePlaysOf}
-use Rattle.referee.proofs.OneOutcome.{AllTraced, SayTheSame, no_plays, same_refused, same_traces}
-use Rattle.referee.proofs.Plays.{hands_of}
+use Rattle.convert_core.specs.Judged.{ArePlaysOf}
+use Rattle.convert_core.specs.SameRecords.{SayTheSame}
+use Rattle.convert_core.proofs.OneOutcome.{AllTraced, no_plays, same_refused, same_traces}
+use Rattle.convert_core.proofs.JudgedPlays.{hands_of}
 use Rattle.poker_cli.specs.Answer.{Answer, Files, GivesGame, GivesNoGame, IsAnswer, IsAnswerIn, IsAnswerTo, done, most_input, notation_of, reader_of, task_of, text_of, to_fault, to_first_game, to_plays, to_refusal}
 use Rattle.poker_cli.specs.Answer as answers
 use Rattle.poker_cli.specs.Inputs.{Fault, HaveFault, InHistory, InLog, InTree, SayRecords}

@@ -17,10 +17,10 @@ use Rattle.ohh_members.specs.declared.dialect.Dialect.TheVariants as dialects
 use Rattle.printed_hands.specs.Check.{check_said}
 use Rattle.printed_hands.specs.Replay.{replay_said}
 use Rattle.printed_report.specs.Report.{report_said}
-use Rattle.referee.specs.Judged.{ArePlaysOf, IsFirstRefused}
-use Rattle.referee.specs.declared.fault.PlaysFault.{PlaysFault}
-use Rattle.referee.specs.declared.fault.PlaysFault.TheVariants as plays_faults
-use Rattle.referee.specs.declared.fault.Refusal.{Refusal}
+use Rattle.convert_core.specs.Judged.{ArePlaysOf, IsFirstRefused}
+use Rattle.convert_core.specs.declared.fault.PlaysFault.{PlaysFault}
+use Rattle.convert_core.specs.declared.fault.PlaysFault.TheVariants as plays_faults
+use Rattle.convert_core.specs.declared.fault.Refusal.{Refusal}
 use Rattle.poker_cli.specs.Faults.{wrong_line, wrong_status}
 use Rattle.poker_cli.specs.Inputs.{Fault, HaveFault, InHistory, InLog, InTree, SayRecords}
 use Rattle.poker_cli.specs.Lines.{refused_line}

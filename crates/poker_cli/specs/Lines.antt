@@ -6,8 +6,8 @@ use Rattle.hand_canon.specs.declared.agreement.Which.{Which}
 use Rattle.hand_canon.specs.declared.agreement.Which.TheVariants as whiches
 use Rattle.play_event.specs.declared.reason.Illegal.{Illegal}
 use Rattle.play_event.specs.declared.reason.Illegal.TheVariants as reasons
-use Rattle.referee.specs.declared.fault.Refusal.{Refusal}
-use Rattle.referee.specs.declared.fault.Refusal.TheVariants as refusals
+use Rattle.convert_core.specs.declared.fault.Refusal.{Refusal}
+use Rattle.convert_core.specs.declared.fault.Refusal.TheVariants as refusals
 use Rattle.replay_core.specs.declared.fault.ReplayFault.{ReplayFault}
 use Rattle.replay_core.specs.declared.fault.ReplayFault.TheVariants as faults
 

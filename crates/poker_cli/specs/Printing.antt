@@ -5,7 +5,7 @@ use Rattle.hand_records.specs.declared.record.Record.{Record}
 use Rattle.hand_records.specs.declared.trace.Play.{Play}
 use Rattle.printed_hands.specs.Check.{check_line, each_hand}
 use Rattle.printed_hands.specs.Steps.{replay_lines}
-use Rattle.referee.specs.Judged.{ArePlaysOf}
+use Rattle.convert_core.specs.Judged.{ArePlaysOf}
 use Rattle.poker_cli.specs.Answer.{text_of}
 use Rattle.poker_cli.specs.declared.printing.Lines.{Lines}
 use Rattle.poker_cli.specs.declared.printing.Lines.TheVariants as kinds

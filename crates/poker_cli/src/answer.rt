@@ -20,9 +20,9 @@ use acpc_game::{Game, write_game};
 use acpc_line::game_of;
 use card_set::Memory;
 use command_words::Command;
+use convert_core::{PlaysFault, plays_of};
 use hand_records::{Play, Records};
 use ohh_members::Dialect;
-use referee::{PlaysFault, plays_of};
 use std::alloc::Global;
 
 /// An answer: its status, what goes to the output, and the line that is told beside it.

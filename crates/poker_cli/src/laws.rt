@@ -12,7 +12,7 @@ ghost use Rattle.poker_cli.specs.declared.status.Status.{Status};
 ghost use Rattle.poker_cli.specs.declared.task.Reader.{Reader};
 ghost use Rattle.poker_cli.specs.declared.task.Reader.TheVariants as readers;
 ghost use Rattle.poker_cli.specs.declared.task.Task.{Task};
-ghost use Rattle.referee.specs.Judged.{ArePlaysOf};
+ghost use Rattle.convert_core.specs.Judged.{ArePlaysOf};
 
 /// The bytes of an input have one answer to a task, as they are read. The function does nothing: its contract is a law.
 pub fn law_of_one_answer()

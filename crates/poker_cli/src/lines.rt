@@ -3,9 +3,9 @@ ghost use Rattle.std.specs.Prelude.{◌≡◌, IfOk, string_bytes};
 ghost use Rattle.poker_cli.specs.Lines as definition;
 
 use card_set::Memory;
+use convert_core::Refusal;
 use hand_canon::{FactDiffers, Which};
 use play_event::Illegal;
-use referee::Refusal;
 use replay_core::ReplayFault;
 use std::alloc::Global;
 

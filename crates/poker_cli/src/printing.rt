@@ -6,15 +6,15 @@ ghost use Rattle.first_fault.specs.declared.limits.TheConstants.{MOST_HANDS};
 ghost use Rattle.hand_records.specs.declared.record.Record.{Record};
 ghost use Rattle.printed_hands.specs.Check.{check_end};
 ghost use Rattle.printed_report.specs.Report.{report_said};
-ghost use Rattle.referee.specs.Judged.{IsPlaysFaultOf};
+ghost use Rattle.convert_core.specs.Judged.{IsPlaysFaultOf};
 ghost use Rattle.poker_cli.specs.Printing.{IsPrinted, AreLinesOf, lines_said};
 
 use card_set::Memory;
 use command_words::Command;
+use convert_core::{PlaysFault, play_of, plays_of};
 use hand_records::{Play, Records};
 use printed_hands::{push_check_end, push_check_line, push_replay_lines};
 use printed_report::report_text;
-use referee::{PlaysFault, play_of, plays_of};
 use std::alloc::Global;
 
 /// Which lines are printed of each hand by itself.

@@ -1,0 +1,66 @@
+-- The laws that a notation keeps, of the Poker Hand History format.
+use Rattle.std.proofs.Common.{◌≡◌, ℕ, ◌+◌, List, [], ◌∷◌, Option, Some, None, Ok, refl, ◌∙◌}
+use Rattle.std.specs.List.{AllByRecursion}
+use Rattle.hand_canon.specs.Sound.{IsSound}
+use Rattle.hand_records.specs.declared.record.Record.{Record}
+use Rattle.hand_records.specs.declared.trace.Play.{Play}
+use Rattle.hand_records.specs.declared.writing.Unspelled.{Unspelled}
+use Rattle.hand_records.specs.declared.writing.WriteRefusal.{WriteRefusal}
+use Rattle.play_event.specs.HistoryRules.{history_rules}
+use Rattle.phh_format.specs.Again.{hands_again}
+use Rattle.phh_format.specs.ReadBack as history
+use Rattle.phh_format.specs.ReadBack.{KeepsNotes}
+use Rattle.phh_format.proofs.ReadBack.{read_back}
+use Rattle.phh_format.proofs.SoundPlays.{sound_again}
+use Rattle.phh_reading.specs.Reading.{IsHistory, reading}
+use Rattle.phh_table.specs.Spelled as facts
+use Rattle.convert_core.specs.Histories.{HaveFault, Say, Spell}
+use Rattle.convert_core.specs.ReadBack.{AreAgain, ReadBack}
+use Rattle.convert_core.specs.Records.{AreFew, AreOfFile, IsUnder}
+use Rattle.convert_core.specs.Spelled.{first_refusal, refusal_from, refused_at}
+use Rattle.convert_core.specs.declared.format_fault.FormatFault.{FormatFault}
+use Rattle.convert_core.specs.declared.format_fault.FormatFault.TheVariants as formats
+
+-- what bytes say is what a reader gives of a file
+each_under : (records : List Record) → AllByRecursion IsHistory records → AllByRecursion (IsUnder history_rules) records
+each_under [] each = tt
+each_under (hand ∷ hands) each = (record { sound = each.0.sound; rules_are = each.0.rules }, each_under hands each.1)
+
+pub reads_file : (bytes : List ℕ) (hands : List Record) → Say bytes hands → AreOfFile history_rules hands
+reads_file bytes hands say = record { each = each_under hands say.each; few = say.few; few_moves = say.few_moves }
+
+-- what is read has no fault
+pub no_fault : (bytes : List ℕ) (hands : List Record) (fault : FormatFault) → Say bytes hands → HaveFault bytes fault → ⊥
+no_fault bytes hands (formats.Phh fault) say have = (let said = say.reads in let had = have.reads in cc)
+
+-- the first refusal of the format is that of its facts
+same_at : (number : ℕ) (fact : Option Unspelled) (behind other : Option WriteRefusal) → behind ≡ other → facts.refused_at number fact behind ≡ refused_at number fact other
+same_at number (Some fact) behind other same = refl
+same_at number None behind other same = same
+
+pub same_refusal : (number : ℕ) (plays : List Play) → facts.refusal_from number plays ≡ refusal_from facts.unspelled number plays
+same_refusal number [] = refl
+same_refusal number (play ∷ plays) =
+    same_at number (facts.unspelled play) (facts.refusal_from (number + 1) plays) (refusal_from facts.unspelled (number + 1) plays) (same_refusal (number + 1) plays)
+
+-- hands that are read of plays again
+again_too : (place : ℕ) (plays : List Play) (hands : List Record) → history.AreAgain KeepsNotes place plays hands → AreAgain KeepsNotes place plays hands
+unfolding AreAgain history.AreAgain
+again_too place [] [] are = tt
+again_too place [] (hand ∷ hands) are = are
+again_too place (play ∷ plays) [] are = are
+again_too place (play ∷ plays) (hand ∷ hands) are =
+    (record { judged = are.0.judged; same_setup = are.0.same_setup; notes = are.0.notes }, again_too (place + 1) plays hands are.1)
+
+-- what is written reads back
+pub reads_back : (plays : List Play) (bytes : List ℕ) → AreFew plays → AllByRecursion IsSound plays → first_refusal facts.unspelled plays ≡ None → Spell plays bytes
+    → ReadBack (Say bytes) (HaveFault bytes) KeepsNotes plays
+reads_back plays bytes few sound spelled spell =
+    let read : reading bytes ≡ Ok (hands_again 0 plays) = sound_again plays bytes few.few sound few.few_moves spell.document in
+    record {
+      no_fault = λ fault have. none fault read have;
+      again = λ hands say. again_too 0 plays hands (read_back plays bytes few.few sound few.few_moves (same_refusal 1 plays ∙ spelled) spell.document hands say.reads);
+    }
+  where
+    none : (fault : FormatFault) → reading bytes ≡ Ok (hands_again 0 plays) → HaveFault bytes fault → ⊥
+    none (formats.Phh fault) read have = (let had = have.reads in cc)

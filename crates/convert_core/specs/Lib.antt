@@ -1,0 +1,11 @@
+-- What records come to, what a notation is, and what a conversion comes to.
+pub mod Judged
+pub mod Faults
+pub mod Spelled
+pub mod Records
+pub mod ReadBack
+pub mod SameRecords
+pub mod Conversion
+pub mod Histories
+pub mod HistoryAlike
+pub mod HistoryLaws

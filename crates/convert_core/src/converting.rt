@@ -1,0 +1,70 @@
+//! Bytes of one notation come to their plays, and to bytes of another notation, by what the notations promise alone.
+ghost use Rattle.std.specs.Prelude.{IfErr, IfOk};
+ghost use Rattle.std.specs.List.{AllByRecursion};
+ghost use Rattle.hand_canon.specs.Sound.{IsSound};
+ghost use Rattle.convert_core.specs.Conversion.{IsConversion, IsPlaysRefusal, ReadAsPlays};
+ghost use Rattle.convert_core.specs.ReadBack.{ReadBack};
+ghost use Rattle.convert_core.specs.Records.{AreFew};
+
+use crate::convert_fault::ConvertFault;
+use crate::fault::PlaysFault;
+use crate::judging::plays_of;
+use crate::notation::Notation;
+use hand_records::{Keep, Play, WriteRefusal};
+use std::alloc::Global;
+
+/// The plays that bytes read as: each record with the trace that its script comes to.
+///
+/// # Errors
+///
+/// The first fault of the bytes; or else the first refused hand, with what is wrong with it first; or want of memory.
+pub fn plays<N: Notation>(alloc: Global, from: &N, bytes: &[u8]) -> Result<Vec<Play>, ConvertFault>
+    ensures plays { IfOk result (λ plays. ReadAsPlays (N.Say from.now bytes.now) plays.items) }
+    ensures sound { IfOk result (λ plays. AllByRecursion IsSound plays.items) }
+    ensures few { IfOk result (λ plays. AreFew plays.items) }
+    ensures refused { IfErr result (IsPlaysRefusal (N.Say from.now bytes.now)
+        (N.HaveFault from.now bytes.now)) }
+{
+    let records = match from.read(alloc, bytes) {
+        Ok(records) => records,
+        Err(fault) => {
+            if fault.is_memory() {
+                return Err(ConvertFault::Memory);
+            }
+            return Err(ConvertFault::Format(fault));
+        }
+    };
+    match plays_of(alloc, records) {
+        Ok(plays) => Ok(plays),
+        Err(PlaysFault::Refused { hand, why }) => Err(ConvertFault::Refused { hand, why }),
+        Err(PlaysFault::Memory) => Err(ConvertFault::Memory),
+    }
+}
+
+/// The bytes of the plays in another notation, if each fact to be kept has a spelling there. They read back as hands with the
+/// same traces and the kept notes.
+///
+/// # Errors
+///
+/// The first fault of the bytes; or else the first refused hand, with what is wrong with it first; or else the first hand with a
+/// fact to be kept that the target does not spell, and the first such fact; or want of memory.
+pub fn convert<N: Notation, M: Notation>(
+    alloc: Global,
+    from: &N,
+    to: &M,
+    keep: Keep,
+    bytes: &[u8],
+) -> Result<Vec<u8>, ConvertFault>
+    ensures { IsConversion (N.Say from.now bytes.now) (N.HaveFault from.now bytes.now)
+        (M.unspelled to.now keep) (M.Spell to.now)
+        (λ plays output. ReadBack (M.Say to.now output) (M.HaveFault to.now output)
+        (M.KeepsNotes to.now) plays)
+        (λ output. output.items) result }
+{
+    let plays = plays(alloc, from, bytes)?;
+    match to.write(alloc, &plays, keep) {
+        Ok(output) => Ok(output),
+        Err(WriteRefusal::Unspelled { hand, fact }) => Err(ConvertFault::Unspelled { hand, fact }),
+        Err(WriteRefusal::Memory) => Err(ConvertFault::Memory),
+    }
+}

@@ -1,0 +1,23 @@
+//! Why bytes do not read, in the words of their notation.
+ghost use Rattle.std.specs.Prelude.{◌≡◌};
+ghost use Rattle.convert_core.specs.Faults.{wants_memory};
+
+use phh_format::PhhFault;
+
+/// The first fault of bytes in their notation.
+#[derive(Debug, Drop)]
+pub enum FormatFault {
+    Phh(PhhFault),
+}
+
+impl FormatFault {
+    /// Whether memory was wanting, so that nothing is known of the bytes.
+    pub fn is_memory(&self) -> bool
+        ensures { result ≡ wants_memory self.now }
+    {
+        match self {
+            FormatFault::Phh(PhhFault::Memory) => true,
+            _ => false,
+        }
+    }
+}

@@ -1,0 +1,21 @@
+//! Hands are judged and converted: bytes of any notation come to their plays, or the first hand that is refused is named, and why;
+//! and plays come to bytes of any other notation, or the first fact that has no spelling is named.
+#![tactic(auto)]
+
+mod convert_fault;
+mod converting;
+mod fault;
+mod format_fault;
+mod judging;
+mod laws;
+mod notation;
+mod phh;
+
+pub use convert_fault::ConvertFault;
+pub use converting::{convert, plays};
+pub use fault::{PlaysFault, Refusal};
+pub use format_fault::FormatFault;
+pub use judging::{play_of, plays_of};
+pub use laws::{law_of_legal_conversions, law_of_one_conversion, law_of_one_outcome};
+pub use notation::Notation;
+pub use phh::Phh;

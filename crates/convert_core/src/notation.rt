@@ -1,0 +1,98 @@
+//! What a notation is: it reads bytes as records, tells which facts of a play it does not spell, and writes plays as bytes that
+//! read back as these plays.
+ghost use Rattle.std.specs.Prelude.{◌≡◌, ◌⊎◌, ◌≤◌, ℕ, true, List, length, sum_by, Option, None, Some, IfErr, IfOk, OnOk};
+ghost use Rattle.std.specs.List.{AllByRecursion};
+ghost use Rattle.first_fault.specs.declared.limits.TheConstants.{MOST_HANDS};
+ghost use Rattle.hand_canon.specs.Sound.{IsSound};
+ghost use Rattle.hand_records.specs.declared.notes.Notes.{Notes};
+ghost use Rattle.hand_records.specs.declared.record.Record.{Record};
+ghost use Rattle.hand_records.specs.declared.trace.Play.{Play as AnyPlay};
+ghost use Rattle.hand_records.specs.declared.writing.Keep.{Keep as AnyKeep};
+ghost use Rattle.hand_records.specs.declared.writing.Unspelled.{Unspelled as Fact};
+ghost use Rattle.hand_records.specs.declared.writing.WriteRefusal.TheVariants as refusals;
+ghost use Rattle.play_event.specs.declared.setup.Rules.{Rules as AnyRules};
+ghost use Rattle.convert_core.specs.Faults.{wants_memory};
+ghost use Rattle.convert_core.specs.ReadBack.{ReadBack};
+ghost use Rattle.convert_core.specs.Records.{AreFew, AreOfFile};
+ghost use Rattle.convert_core.specs.SameRecords.{AllAlike, ArePlayedAlike};
+ghost use Rattle.convert_core.specs.Spelled.{first_refusal};
+ghost use Rattle.convert_core.specs.declared.format_fault.FormatFault.{FormatFault as AnyFault};
+
+use crate::format_fault::FormatFault;
+use hand_records::{Keep, Play, Records, Unspelled, WriteRefusal};
+use play_event::Rules;
+use std::alloc::Global;
+
+/// A notation of hands.
+pub trait Notation {
+    /// The rules under which its hands are played.
+    ghost rules_of: { Self → AnyRules };
+
+    /// Bytes say these records.
+    ghost Say: { Self → List ℕ → List Record → Type 0 };
+
+    /// Bytes do not read, and this is their first fault.
+    ghost HaveFault: { Self → List ℕ → AnyFault → Type 0 };
+
+    /// The first fact of a play, among those to be kept, that has no spelling.
+    ghost unspelled: { Self → AnyKeep → AnyPlay → Option Fact };
+
+    /// Bytes are the spelling of plays.
+    ghost Spell: { Self → List AnyPlay → List ℕ → Type 0 };
+
+    /// What is read again of notes, at a place of the file, from 0, and for so many seats.
+    ghost KeepsNotes: { Self → ℕ → ℕ → Notes → Notes → Type 0 };
+
+    fn rules(&self) -> Rules
+        ensures { result ≡ rules_of self.now };
+
+    /// The records that bytes say, one for each hand in the order of reading.
+    ///
+    /// # Errors
+    ///
+    /// The first fault of the bytes; or want of memory, in the words of the notation.
+    fn read(&self, alloc: Global, bytes: &[u8]) -> Result<Records, FormatFault>
+        ensures say { IfOk result (Say self.now bytes.now) }
+        ensures fault { IfErr result (λ fault.
+            (wants_memory fault ≡ true) ⊎ HaveFault self.now bytes.now fault) };
+
+    fn spells(&self, play: &Play, keep: Keep) -> Option<Unspelled>
+        ensures { result ≡ unspelled self.now keep play.now };
+
+    /// The spelling of sound plays, if each fact to be kept has one.
+    ///
+    /// # Errors
+    ///
+    /// The first play with a fact that has none, and the first such fact; or want of memory.
+    fn write(&self, alloc: Global, plays: &[Play], keep: Keep) -> Result<Vec<u8>, WriteRefusal>
+        requires few { length plays.now ≤ MOST_HANDS }
+        requires sound { AllByRecursion IsSound plays.now }
+        ensures spell { IfOk result (λ bytes. Spell self.now plays.now bytes.items) }
+        ensures spelled { OnOk result (first_refusal (unspelled self.now keep) plays.now ≡ None) }
+        ensures refused { IfErr result (λ refusal. (refusal ≡ refusals.Memory)
+            ⊎ (first_refusal (unspelled self.now keep) plays.now ≡ Some refusal)) };
+
+    /// What bytes say is sound, under the rules of the notation, and no more than a file may have.
+    ghost reads_file: { (notation : Self) (bytes : List ℕ) (hands : List Record)
+        → Say notation bytes hands → AreOfFile (rules_of notation) hands };
+
+    /// Bytes that say records have no fault.
+    ghost no_fault: { (notation : Self) (bytes : List ℕ) (hands : List Record) (fault : AnyFault)
+        → Say notation bytes hands → HaveFault notation bytes fault → ⊥ };
+
+    /// Bytes say one list of records, as far as records can be told apart.
+    ghost one_reading: { (notation : Self) (bytes : List ℕ) (hands others : List Record)
+        → Say notation bytes hands → Say notation bytes others → AllAlike hands others };
+
+    /// Plays that cannot be told apart have one first fact without a spelling.
+    ghost one_fact: { (notation : Self) (keep : AnyKeep) (play other : AnyPlay)
+        → ArePlayedAlike play other
+        → unspelled notation keep play ≡ unspelled notation keep other };
+
+    /// The spelling of sound plays, each of which has one, reads back as these plays: legal under the rules of the notation, with
+    /// the whole traces, stated facts that agree, and the kept notes.
+    ghost reads_back: { (notation : Self) (keep : AnyKeep) (plays : List AnyPlay) (bytes : List ℕ)
+        → AreFew plays → AllByRecursion IsSound plays
+        → first_refusal (unspelled notation keep) plays ≡ None → Spell notation plays bytes
+        → ReadBack (Say notation bytes) (HaveFault notation bytes) (KeepsNotes notation) plays };
+}

@@ -1,0 +1,93 @@
+//! Hand histories in the Poker Hand History format.
+ghost use Rattle.std.specs.Prelude.{◌≡◌, ◌⊎◌, ◌≤◌, true, length, None, Some, IfErr, IfOk, OnOk};
+ghost use Rattle.std.specs.List.{AllByRecursion};
+ghost use Rattle.first_fault.specs.declared.limits.TheConstants.{MOST_HANDS};
+ghost use Rattle.hand_canon.specs.Sound.{IsSound};
+ghost use Rattle.hand_records.specs.declared.writing.WriteRefusal.TheVariants as refusals;
+ghost use Rattle.phh_format.specs.ReadBack.{KeepsNotes as KeepsAll};
+ghost use Rattle.phh_table.specs.Spelled as facts;
+ghost use Rattle.play_event.specs.HistoryRules.{history_rules as rules_of_histories};
+ghost use Rattle.convert_core.specs.Faults.{wants_memory};
+ghost use Rattle.convert_core.specs.Histories as histories;
+ghost use Rattle.convert_core.specs.HistoryAlike as alike;
+ghost use Rattle.convert_core.specs.HistoryLaws as laws;
+ghost use Rattle.convert_core.specs.Spelled.{first_refusal};
+
+use crate::format_fault::FormatFault;
+use crate::notation::Notation;
+use hand_records::{Keep, Play, Records, Unspelled, WriteRefusal};
+use play_event::{Reopen, Rules};
+use std::alloc::Global;
+
+/// The Poker Hand History format.
+#[derive(Clone, Copy, Debug, PartialEq, Eq)]
+pub struct Phh;
+
+// The records that bytes say.
+fn read_history(alloc: Global, bytes: &[u8]) -> Result<Records, FormatFault>
+    ensures say { IfOk result (histories.Say bytes.now) }
+    ensures fault { IfErr result (λ fault.
+        (wants_memory fault ≡ true) ⊎ histories.HaveFault bytes.now fault) }
+{
+    match phh_format::read(alloc, bytes) {
+        Ok(records) => Ok(records),
+        Err(fault) => Err(FormatFault::Phh(fault)),
+    }
+}
+
+// The spelling of plays.
+fn write_history(alloc: Global, plays: &[Play], keep: Keep) -> Result<Vec<u8>, WriteRefusal>
+    requires few { length plays.now ≤ MOST_HANDS }
+    requires sound { AllByRecursion IsSound plays.now }
+    ensures spell { IfOk result (λ bytes. histories.Spell plays.now bytes.items) }
+    ensures spelled { OnOk result (first_refusal facts.unspelled plays.now ≡ None) }
+    ensures refused { IfErr result (λ refusal. (refusal ≡ refusals.Memory)
+        ⊎ (first_refusal facts.unspelled plays.now ≡ Some refusal)) }
+{
+    phh_format::write(alloc, plays, keep)
+}
+
+impl Notation for Phh {
+    ghost rules_of = { λ _. rules_of_histories };
+
+    ghost Say = { λ _ bytes records. histories.Say bytes records };
+
+    ghost HaveFault = { λ _ bytes fault. histories.HaveFault bytes fault };
+
+    ghost unspelled = { λ _ _ play. facts.unspelled play };
+
+    ghost Spell = { λ _ plays bytes. histories.Spell plays bytes };
+
+    ghost KeepsNotes = { λ _ place seats notes again. KeepsAll place seats notes again };
+
+    ghost reads_file = { λ _ bytes hands say. laws.reads_file bytes hands say };
+
+    ghost no_fault = { λ _ bytes hands fault say have. laws.no_fault bytes hands fault say have };
+
+    ghost one_reading = { λ _ bytes hands others say too. alike.one_reading bytes hands others say too };
+
+    ghost one_fact = { λ _ _ play other same. alike.same_fact play other same };
+
+    ghost reads_back = { λ _ _ plays bytes few sound spelled spell.
+        laws.reads_back plays bytes few sound spelled spell };
+
+    fn rules(&self) -> Rules {
+        Rules {
+            reopen: Reopen::Full,
+            free_fold: true,
+            caps: None,
+        }
+    }
+
+    fn read(&self, alloc: Global, bytes: &[u8]) -> Result<Records, FormatFault> {
+        read_history(alloc, bytes)
+    }
+
+    fn spells(&self, play: &Play, keep: Keep) -> Option<Unspelled> {
+        phh_format::spells(play, keep)
+    }
+
+    fn write(&self, alloc: Global, plays: &[Play], keep: Keep) -> Result<Vec<u8>, WriteRefusal> {
+        write_history(alloc, plays, keep)
+    }
+}
