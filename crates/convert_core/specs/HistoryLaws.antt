@@ -32,6 +32,7 @@ reads_file bytes hands say = record { each = each_under hands say.each; few = sa
 -- what is read has no fault
 pub no_fault : (bytes : List ℕ) (hands : List Record) (fault : FormatFault) → Say bytes hands → HaveFault bytes fault → ⊥
 no_fault bytes hands (formats.Phh fault) say have = (let said = say.reads in let had = have.reads in cc)
+no_fault bytes hands (formats.Acpc fault) say have = have
 
 -- the first refusal of the format is that of its facts
 same_at : (number : ℕ) (fact : Option Unspelled) (behind other : Option WriteRefusal) → behind ≡ other → facts.refused_at number fact behind ≡ refused_at number fact other
@@ -64,3 +65,4 @@ reads_back plays bytes few sound spelled spell =
   where
     none : (fault : FormatFault) → reading bytes ≡ Ok (hands_again 0 plays) → HaveFault bytes fault → ⊥
     none (formats.Phh fault) read have = (let had = have.reads in cc)
+    none (formats.Acpc fault) read have = have

@@ -9,3 +9,6 @@ pub mod Conversion
 pub mod Histories
 pub mod HistoryAlike
 pub mod HistoryLaws
+pub mod Logs
+pub mod LogAlike
+pub mod LogLaws

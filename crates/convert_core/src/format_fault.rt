@@ -2,12 +2,14 @@
 ghost use Rattle.std.specs.Prelude.{◌≡◌};
 ghost use Rattle.convert_core.specs.Faults.{wants_memory};
 
+use acpc_format::AcpcFault;
 use phh_format::PhhFault;
 
 /// The first fault of bytes in their notation.
 #[derive(Debug, Drop)]
 pub enum FormatFault {
     Phh(PhhFault),
+    Acpc(AcpcFault),
 }
 
 impl FormatFault {
@@ -17,6 +19,7 @@ impl FormatFault {
     {
         match self {
             FormatFault::Phh(PhhFault::Memory) => true,
+            FormatFault::Acpc(AcpcFault::Memory) => true,
             _ => false,
         }
     }

@@ -2,6 +2,7 @@
 //! and plays come to bytes of any other notation, or the first fact that has no spelling is named.
 #![tactic(auto)]
 
+mod acpc;
 mod convert_fault;
 mod converting;
 mod fault;
@@ -11,6 +12,7 @@ mod laws;
 mod notation;
 mod phh;
 
+pub use acpc::Acpc;
 pub use convert_fault::ConvertFault;
 pub use converting::{convert, plays};
 pub use fault::{PlaysFault, Refusal};

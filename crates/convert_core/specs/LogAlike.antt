@@ -1,0 +1,251 @@
+-- Bytes of a log under a game say one list of records, as far as records can be told apart.
+use Rattle.std.proofs.Common.{◌≡◌, ℕ, suc, ◌+◌, ◌-◌, ◌<◌, ◌≤◌, ◌||◌, Bool, true, false, ℤ, pos, List, [], ◌∷◌, map, length, take, get_or, slice_index, slice_index_or, Option, Some, None, is_some, option_map, Ok, refl, sym, subst, ap, ap₂, ◌∙◌, inl, inr, arith}
+use Rattle.std.specs.List.{AllByRecursion, list_any}
+use Rattle.std.specs.Option.{option_map_or}
+use Rattle.std.proofs.Props.{props}
+use Rattle.std.proofs.lemmas.Bool.{cases_lt}
+use Rattle.std.proofs.lemmas.List.{ext_get_or, get_or-take, length-take-le}
+use Rattle.chip_ledger.specs.declared.rakes.RakeRow.{RakeRow}
+use Rattle.chip_ledger.specs.declared.rows.SeatRow.{SeatRow}
+use Rattle.chip_ledger.proofs.Same.{seat_row_same_by_seats}
+use Rattle.play_event.specs.declared.code.Code.{Code}
+use Rattle.play_event.specs.declared.setup.Setup.{Setup}
+use Rattle.play_event.specs.Said.{Numbered, numbered}
+use Rattle.hand_records.specs.declared.notes.Notes.{Notes}
+use Rattle.hand_records.specs.declared.record.NetRow.{NetRow}
+use Rattle.hand_records.specs.declared.record.Record.{Record}
+use Rattle.hand_records.specs.declared.record.Stated.{Stated}
+use Rattle.hand_records.specs.declared.trace.Play.{Play}
+use Rattle.hand_records.specs.declared.trace.Trace.{Trace}
+use Rattle.hand_records.specs.declared.writing.Keep.{Keep}
+use Rattle.hand_records.specs.declared.writing.Keep.TheVariants as keeps
+use Rattle.hand_records.specs.declared.writing.Unspelled.{Unspelled}
+use Rattle.acpc_game.specs.declared.game.Game.{Game}
+use Rattle.acpc_line.specs.NoteFacts.{is_unspelled_hand, is_unspelled_name, text_conditions, time_conditions}
+use Rattle.acpc_line.specs.PlayFacts.{play_conditions}
+use Rattle.acpc_line.specs.SetupFacts.{setup_conditions}
+use Rattle.acpc_line.specs.Spelled.{first_where, or_else, unspelled, unspelled_note}
+use Rattle.acpc_reading.specs.Logs.{HandSaid}
+use Rattle.acpc_reading.specs.RecordView.{IsOfGame, IsSetupOf, StatesValues, record_said}
+use Rattle.acpc_reading.specs.Views.{nets_in}
+use Rattle.phh_reading.specs.Hand.{plain}
+use Rattle.phh_reading.proofs.SamePlay.{same_script, same_setup}
+use Rattle.convert_core.specs.Logs.{Say}
+use Rattle.convert_core.specs.SameRecords.{AllAlike, AreAlike, ArePlayedAlike, NoteTheSame, number_at}
+
+-- scripts and rakes with the same parts are one, as in the hands of histories
+one_script : (a b : Record) → map numbered a.script ≡ map numbered b.script → a.script ≡ b.script
+one_script a b same =
+    same_script a (record a { script = b.script }) (ap (λ (events : List Numbered). record (plain a) { script = events }) same)
+
+one_rakes : (a : Record) (row : RakeRow) → a.setup.rakes.rakes ≡ row.rakes → a.setup.rakes ≡ row
+one_rakes a row same =
+    ap (λ (setup : Setup). setup.rakes)
+    (same_setup a (record a { setup = record a.setup { rakes = row } }) (ap (λ (rakes : List ℕ). record (plain a) { rakes = rakes }) same))
+
+-- the setups of a game
+setup_from : Code → SeatRow → SeatRow → Bool → SeatRow → ℕ → ℕ → ℕ → ℕ → RakeRow → Setup
+setup_from code stacks antes dead_antes blinds bring_in small_bet big_bet min_bet rakes =
+    record {
+      code = code;
+      stacks = stacks;
+      antes = antes;
+      dead_antes = dead_antes;
+      blinds = blinds;
+      bring_in = bring_in;
+      small_bet = small_bet;
+      big_bet = big_bet;
+      min_bet = min_bet;
+      rakes = rakes;
+    }
+
+setup_parts : (s : Setup) → s ≡ setup_from s.code s.stacks s.antes s.dead_antes s.blinds s.bring_in s.small_bet s.big_bet s.min_bet s.rakes
+unfolding setup_from
+setup_parts s = refl
+
+one_setup : (game : Game) (a b : Record) → IsSetupOf game a.setup → IsSetupOf game b.setup → a.setup ≡ b.setup
+one_setup game a b is it =
+    let antes : a.setup.antes ≡ b.setup.antes =
+    seat_row_same_by_seats a.setup.antes b.setup.antes (is.ante_seats ∙ sym it.ante_seats) (λ n first last. is.antes n ∙ sym (it.antes n)) in
+    let none : (k : ℕ) → slice_index a.setup.rakes.rakes k ≡ slice_index b.setup.rakes.rakes k = λ k.
+    let P : ℕ → Type 0 = λ i. slice_index a.setup.rakes.rakes i ≡ slice_index b.setup.rakes.rakes i in
+    subst P (omega arith) (is.rakes (k + 1) ∙ sym (it.rakes (k + 1))) in
+    let rakes : a.setup.rakes ≡ b.setup.rakes =
+    one_rakes a b.setup.rakes
+    (ext_get_or 0 a.setup.rakes.rakes b.setup.rakes.rakes (a.setup.rakes.full ∙ sym b.setup.rakes.full) (λ k inside. none k)) in
+    cc (
+      setup_parts a.setup,
+      setup_parts b.setup,
+      is.code ∙ sym it.code,
+      is.stacks ∙ sym it.stacks,
+      antes,
+      is.dead_antes ∙ sym it.dead_antes,
+      is.blinds ∙ sym it.blinds,
+      is.bring_in ∙ sym it.bring_in,
+      is.small_bet ∙ sym it.small_bet,
+      is.big_bet ∙ sym it.big_bet,
+      is.min_bet ∙ sym it.min_bet,
+      rakes,
+    )
+
+-- rows of nets with the same nets are one row
+record KeptNets (seats : ℕ) (nets : List ℤ) : Type 0 where
+  greatest : seats ≤ 10
+  full : length nets ≡ 10
+  filler : (k : ℕ) → seats ≤ k → slice_index_or nets k (pos 0) ≡ pos 0
+
+KeptNets-prop : (seats : ℕ) (nets : List ℤ) → IsProp (KeptNets seats nets)
+KeptNets-prop seats nets = hlevel props
+
+net_row : (seats : ℕ) (nets : List ℤ) → KeptNets seats nets → NetRow
+net_row seats nets kept = record { seats = seats; nets = nets; greatest = kept.greatest; full = kept.full; filler = kept.filler }
+
+kept_nets : (a : NetRow) → KeptNets a.seats a.nets
+kept_nets a = record { greatest = a.greatest; full = a.full; filler = a.filler }
+
+net_row_same : (a b : NetRow) → a.seats ≡ b.seats → a.nets ≡ b.nets → a ≡ b
+unfolding net_row kept_nets
+net_row_same a b seats same =
+    let P : ℕ → List ℤ → Type 0 = λ n nets. (kept : KeptNets n nets) → a ≡ net_row n nets kept in
+    let here : P a.seats a.nets = λ kept. ap (net_row a.seats a.nets) (KeptNets-prop a.seats a.nets (kept_nets a) kept) in
+    subst (λ nets. P b.seats nets) same (subst (λ n. P n a.nets) seats here) (kept_nets b)
+
+nets_same : (a b : NetRow) → nets_in a ≡ nets_in b → a ≡ b
+nets_same a b same =
+    let seats : a.seats ≡ b.seats =
+    sym (length-take-le a.seats a.nets (omega (arith, a.greatest, a.full)))
+    ∙ ap length same
+    ∙ length-take-le b.seats b.nets (omega (arith, b.greatest, b.full)) in
+    net_row_same a b seats
+    (ext_get_or (pos 0) a.nets b.nets (a.full ∙ sym b.full)
+    (λ k _. elim (cases_lt k a.seats) [
+      | inl inside ↦
+          sym (get_or-take a.seats a.nets k (pos 0) inside)
+          ∙ ap (λ (nets : List ℤ). get_or nets k (pos 0)) same
+          ∙ get_or-take b.seats b.nets k (pos 0) (omega (arith, inside, seats))
+      | inr past ↦ a.filler k past ∙ sym (b.filler k (omega (arith, past, seats)))
+    ]))
+
+values_same : (x y : Option NetRow) → is_some x ≡ true → is_some y ≡ true → option_map_or nets_in x [] ≡ option_map_or nets_in y [] → x ≡ y
+values_same None y some other same = absurd (cc)
+values_same (Some a) None some other same = absurd (cc)
+values_same (Some a) (Some b) some other same = ap Some (nets_same a b same)
+
+stated_from : Option SeatRow → Option SeatRow → Option ℕ → Option NetRow → Stated
+stated_from finish wins pot_total values = record { finish = finish; wins = wins; pot_total = pot_total; values = values }
+
+stated_parts : (s : Stated) → s ≡ stated_from s.finish s.wins s.pot_total s.values
+unfolding stated_from
+stated_parts s = refl
+
+one_stated : (a b : Stated) → StatesValues a → StatesValues b → option_map_or nets_in a.values [] ≡ option_map_or nets_in b.values [] → a ≡ b
+one_stated a b is it same =
+    cc (
+      stated_parts a,
+      stated_parts b,
+      is.finish ∙ sym it.finish,
+      is.wins ∙ sym it.wins,
+      is.pot_total ∙ sym it.pot_total,
+      values_same a.values b.values is.values it.values same,
+    )
+
+module _ (game : Game) (a b : Record) (is : IsOfGame game a) (it : IsOfGame game b) (same : record_said a ≡ record_said b) where
+  setups : a.setup ≡ b.setup
+  setups = one_setup game a b is.setup it.setup
+
+  count : a.setup.stacks.seats ≡ b.setup.stacks.seats
+  count = ap (λ (s : Setup). s.stacks.seats) setups
+
+  names : (index : ℕ) → slice_index_or a.notes.names index None ≡ slice_index_or b.notes.names index None
+  names index = elim (cases_lt index a.setup.stacks.seats) [
+    | inl within ↦
+        sym (get_or-take a.setup.stacks.seats a.notes.names index None within)
+        ∙ ap (λ (hand : HandSaid). get_or hand.names index None) same
+        ∙ get_or-take b.setup.stacks.seats b.notes.names index None (omega (arith, within, count))
+    | inr late ↦ is.sound.notes.no_more_names index late ∙ sym (it.sound.notes.no_more_names index (omega (arith, late, count)))
+  ]
+
+  -- two hands of one game that are said alike
+  pub log_alike : AreAlike a b
+  log_alike =
+      record {
+        same = record {
+          setup = setups;
+          rules = is.rules ∙ sym it.rules;
+          script = one_script a b (ap (λ (hand : HandSaid). hand.events) same);
+          stated = one_stated a.stated b.stated is.stated it.stated (ap (λ (hand : HandSaid). hand.values) same);
+        };
+        notes = record {
+          names = names;
+          seats = λ index. ap (number_at index) (is.notes.seats ∙ sym it.notes.seats);
+          seat_count = is.notes.seat_count ∙ sym it.notes.seat_count;
+          hand = ap (λ (hand : HandSaid). hand.hand) same;
+          table = is.notes.table ∙ sym it.notes.table;
+          venue = is.notes.venue ∙ sym it.notes.venue;
+          currency = is.notes.currency ∙ sym it.notes.currency;
+          year = is.notes.year ∙ sym it.notes.year;
+          month = is.notes.month ∙ sym it.notes.month;
+          day = is.notes.day ∙ sym it.notes.day;
+          time = is.notes.time ∙ sym it.notes.time;
+          zone = is.notes.zone ∙ sym it.notes.zone;
+        };
+      }
+
+all_alike : (game : Game) (records others : List Record) → AllByRecursion (IsOfGame game) records → AllByRecursion (IsOfGame game) others
+    → map record_said records ≡ map record_said others → AllAlike records others
+unfolding AllAlike
+all_alike game [] [] all each same = tt
+all_alike game [] (b ∷ others) all each same = absurd (cc)
+all_alike game (a ∷ rest) [] all each same = absurd (cc)
+all_alike game (a ∷ rest) (b ∷ others) all each same =
+    (log_alike game a b all.0 each.0 (cc), all_alike game rest others all.1 each.1 (cc))
+
+-- bytes say one list of records
+pub one_reading : (game : Game) (bytes : List ℕ) (records others : List Record) → Say game bytes records → Say game bytes others → AllAlike records others
+one_reading game bytes records others say too =
+    let same : Ok (map record_said records) ≡ Ok (map record_said others) = sym say.reads ∙ too.reads in
+    all_alike game records others say.each too.each (cc)
+
+-- a test that passes where nothing is said passes on lists alike where their items are alike
+names_alike : (p : Option (List ℕ) → Bool) → p None ≡ false → (xs ys : List (Option (List ℕ))) → ((index : ℕ) → slice_index_or xs index None ≡ slice_index_or ys index None) → list_any p xs ≡ list_any p ys
+names_alike p none [] [] same = refl
+names_alike p none [] (y ∷ ys) same =
+    let first : None ≡ y = same 0 in
+    cc (ap p first, none, names_alike p none [] ys (λ index. same (suc index)))
+names_alike p none (x ∷ xs) [] same =
+    let first : x ≡ None = same 0 in
+    cc (ap p first, none, names_alike p none xs [] (λ index. same (suc index)))
+names_alike p none (x ∷ xs) (y ∷ ys) same = ap₂ (λ first rest. p first || rest) (same 0) (names_alike p none xs ys (λ index. same (suc index)))
+
+numbers_alike : (x y : Option (List ℕ)) → ((index : ℕ) → number_at index x ≡ number_at index y) → is_some x ≡ is_some y
+numbers_alike None None same = refl
+numbers_alike None (Some b) same = absurd (let first = same 0 in cc)
+numbers_alike (Some a) None same = absurd (let first = same 0 in cc)
+numbers_alike (Some a) (Some b) same = refl
+
+texts_alike : (a b : Notes) → NoteTheSame a b → text_conditions a ≡ text_conditions b
+texts_alike a b same =
+    cc (
+      names_alike is_unspelled_name refl a.names b.names same.names,
+      numbers_alike a.seats b.seats same.seats,
+      same.seat_count,
+      same.hand,
+      same.table,
+      same.venue,
+      same.currency,
+    )
+
+times_alike : (a b : Notes) → NoteTheSame a b → time_conditions a ≡ time_conditions b
+times_alike a b same = cc (same.zone, same.year, same.month, same.day, same.time)
+
+notes_alike : (keep : Keep) (a b : Notes) → NoteTheSame a b → unspelled_note keep a ≡ unspelled_note keep b
+unfolding unspelled_note
+notes_alike keeps.All a b same = ap₂ (λ texts times. or_else (first_where texts) (first_where times)) (texts_alike a b same) (times_alike a b same)
+notes_alike keeps.Spelled a b same = refl
+
+-- which fact of a play has no spelling is told by its trace and its notes
+pub same_fact : (game : Game) (keep : Keep) (play other : Play) → ArePlayedAlike play other → unspelled game keep play ≡ unspelled game keep other
+unfolding unspelled
+same_fact game keep play other alike =
+    ap₂ (λ (trace : Trace) (note : Option Unspelled). or_else (first_where (setup_conditions game trace.setup)) (or_else (first_where (play_conditions game trace)) note))
+    alike.trace (notes_alike keep play.hand.notes other.hand.notes alike.hand.notes)

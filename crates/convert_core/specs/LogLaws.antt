@@ -1,0 +1,105 @@
+-- The laws that a notation keeps, of the logs of the competition under a game.
+use Rattle.std.proofs.Common.{◌≡◌, ℕ, ◌+◌, ◌≤◌, List, [], ◌∷◌, map, length, reverse, sum_by, Option, Some, None, Ok, Err, refl, sym, ap, subst, ◌∙◌, arith}
+use Rattle.std.specs.List.{AllByRecursion}
+use Rattle.std.proofs.lemmas.List.Sums.{sum_by-cons}
+use Rattle.acpc_format.specs.Again.{hands_again, moves_written}
+use Rattle.acpc_format.specs.ReadBack as log
+use Rattle.acpc_format.specs.ReadBack.{KeepsNotes}
+use Rattle.acpc_format.proofs.HandsAgain.{read_back}
+use Rattle.acpc_format.proofs.SoundReads.{sound_again}
+use Rattle.acpc_game.specs.declared.game.Game.{Game}
+use Rattle.acpc_line.specs.Line.{log_text}
+use Rattle.acpc_line.specs.Spelled as facts
+use Rattle.acpc_line.specs.Texts.{HasTexts}
+use Rattle.acpc_reading.specs.Logs.{reading}
+use Rattle.acpc_reading.specs.RecordView.{IsOfGame, rules_of}
+use Rattle.canonical_play.specs.TraceCore.{TraceCore}
+use Rattle.canon_laws.proofs.MoveCounts.{move_count}
+use Rattle.canon_laws.proofs.TidyTraces.{as_many}
+use Rattle.list_laws.proofs.Reversed.{count_reversed}
+use Rattle.canonical_play.specs.PlayedScript.{is_move}
+use Rattle.play_event.specs.Past.{moves_of}
+use Rattle.play_event.specs.Scripts.{past_at_end}
+use Rattle.first_fault.specs.declared.limits.TheConstants.{MOST_FILE_MOVES}
+use Rattle.hand_canon.specs.Sound.{IsSound}
+use Rattle.hand_records.specs.SoundRecord.{script_said}
+use Rattle.hand_records.specs.declared.record.Record.{Record}
+use Rattle.hand_records.specs.declared.trace.Play.{Play}
+use Rattle.hand_records.specs.declared.writing.Keep.{Keep}
+use Rattle.hand_records.specs.declared.writing.Unspelled.{Unspelled}
+use Rattle.hand_records.specs.declared.writing.WriteRefusal.{WriteRefusal}
+use Rattle.convert_core.specs.Logs.{HaveFault, Say, Spell}
+use Rattle.convert_core.specs.ReadBack.{AreAgain, ReadBack}
+use Rattle.convert_core.specs.Records.{AreFew, AreOfFile, IsUnder, moves_played}
+use Rattle.convert_core.specs.Spelled.{first_refusal, refusal_from, refused_at}
+use Rattle.convert_core.specs.declared.format_fault.FormatFault.{FormatFault}
+use Rattle.convert_core.specs.declared.format_fault.FormatFault.TheVariants as formats
+
+-- what bytes say is what a reader gives of a file
+each_under : (game : Game) (records : List Record) → AllByRecursion (IsOfGame game) records → AllByRecursion (IsUnder (rules_of game)) records
+each_under game [] each = tt
+each_under game (hand ∷ hands) each = (record { sound = each.0.sound; rules_are = each.0.rules }, each_under game hands each.1)
+
+pub reads_file : (game : Game) (bytes : List ℕ) (hands : List Record) → Say game bytes hands → AreOfFile (rules_of game) hands
+reads_file game bytes hands say = record { each = each_under game hands say.each; few = say.few; few_moves = say.few_moves }
+
+-- what is read has no fault
+pub no_fault : (game : Game) (bytes : List ℕ) (hands : List Record) (fault : FormatFault) → Say game bytes hands → HaveFault game bytes fault → ⊥
+no_fault game bytes hands (formats.Phh fault) say have = have
+no_fault game bytes hands (formats.Acpc fault) say have = (let said = say.reads in let had = have.reads in cc)
+
+-- the first refusal of the logs of a game is that of their facts
+same_at : (number : ℕ) (fact : Option Unspelled) (behind other : Option WriteRefusal) → behind ≡ other → facts.refused_at number fact behind ≡ refused_at number fact other
+same_at number (Some fact) behind other same = refl
+same_at number None behind other same = same
+
+pub same_refusal : (game : Game) (keep : Keep) (number : ℕ) (plays : List Play) → facts.refusal_from game keep number plays ≡ refusal_from (facts.unspelled game keep) number plays
+same_refusal game keep number [] = refl
+same_refusal game keep number (play ∷ plays) =
+    same_at number (facts.unspelled game keep play) (facts.refusal_from game keep (number + 1) plays) (refusal_from (facts.unspelled game keep) (number + 1) plays) (same_refusal game keep (number + 1) plays)
+
+-- the moves that are written are those that were played
+same_count : (play : Play) → IsSound play → moves_written play ≡ moves_played play
+same_count play sound =
+    let setup = play.hand.setup in
+    let script = script_said play.hand in
+    ap (λ (core : TraceCore). length core.moves) sound.trace.core
+    ∙ as_many setup (moves_of (past_at_end setup script))
+    ∙ move_count setup (reverse script)
+    ∙ count_reversed is_move script
+
+all_counted : (plays : List Play) → AllByRecursion IsSound plays → sum_by moves_written plays ≡ sum_by moves_played plays
+all_counted [] each = refl
+all_counted (play ∷ rest) each =
+    omega (arith, sum_by-cons moves_written play rest, sum_by-cons moves_played play rest, same_count play each.0, all_counted rest each.1)
+
+-- hands that are read of plays again
+again_too : (place : ℕ) (plays : List Play) (hands : List Record) → log.AreAgain KeepsNotes place plays hands → AreAgain KeepsNotes place plays hands
+unfolding AreAgain log.AreAgain
+again_too place [] [] are = tt
+again_too place [] (hand ∷ hands) are = are
+again_too place (play ∷ plays) [] are = are
+again_too place (play ∷ plays) (hand ∷ hands) are =
+    (record { judged = are.0.judged; same_setup = are.0.same_setup; notes = are.0.notes }, again_too (place + 1) plays hands are.1)
+
+-- what is written reads back
+none_had : (game : Game) (lines : List ℕ) (plays : List Play) (fault : FormatFault) → reading game lines ≡ Ok (hands_again game.no_limit 0 plays) → HaveFault game lines fault → ⊥
+none_had game lines plays (formats.Phh fault) read have = have
+none_had game lines plays (formats.Acpc fault) read have = (let had = have.reads in cc)
+
+lines_back : (game : Game) (keep : Keep) (plays : List Play) → AreFew plays → AllByRecursion IsSound plays → AllByRecursion HasTexts plays → first_refusal (facts.unspelled game keep) plays ≡ None
+    → ReadBack (Say game (log_text game.no_limit plays)) (HaveFault game (log_text game.no_limit plays)) KeepsNotes plays
+lines_back game keep plays few sound texts spelled =
+    let none = same_refusal game keep 1 plays ∙ spelled in
+    let moves : sum_by moves_written plays ≤ MOST_FILE_MOVES = omega (arith, few.few_moves, all_counted plays sound) in
+    let read : reading game (log_text game.no_limit plays) ≡ Ok (hands_again game.no_limit 0 plays) = sound_again game keep plays few.few sound texts none moves in
+    record {
+      no_fault = λ fault have. none_had game (log_text game.no_limit plays) plays fault read have;
+      again = λ hands say. again_too 0 plays hands (read_back game keep plays few.few sound texts none moves hands say.each say.reads);
+    }
+
+pub reads_back : (game : Game) (keep : Keep) (plays : List Play) (bytes : List ℕ) → AreFew plays → AllByRecursion IsSound plays → first_refusal (facts.unspelled game keep) plays ≡ None → Spell game plays bytes
+    → ReadBack (Say game bytes) (HaveFault game bytes) KeepsNotes plays
+reads_back game keep plays bytes few sound spelled spell =
+    subst (λ (written : List ℕ). ReadBack (Say game written) (HaveFault game written) KeepsNotes plays) (sym spell.lines)
+    (lines_back game keep plays few sound spell.texts spelled)

@@ -1,0 +1,104 @@
+//! Logs of the competition, under a game.
+ghost use Rattle.std.specs.Prelude.{◌≡◌, ◌⊎◌, ◌≤◌, true, length, None, Some, IfErr, IfOk, OnOk};
+ghost use Rattle.std.specs.List.{AllByRecursion};
+ghost use Rattle.acpc_format.specs.ReadBack.{KeepsNotes as KeepsNames};
+ghost use Rattle.acpc_line.specs.Spelled as facts;
+ghost use Rattle.acpc_reading.specs.RecordView.{rules_of as rules_of_game};
+ghost use Rattle.first_fault.specs.declared.limits.TheConstants.{MOST_HANDS};
+ghost use Rattle.hand_canon.specs.Sound.{IsSound};
+ghost use Rattle.hand_records.specs.declared.writing.WriteRefusal.TheVariants as refusals;
+ghost use Rattle.convert_core.specs.Faults.{wants_memory};
+ghost use Rattle.convert_core.specs.LogAlike as alike;
+ghost use Rattle.convert_core.specs.LogLaws as laws;
+ghost use Rattle.convert_core.specs.Logs as logs;
+ghost use Rattle.convert_core.specs.Spelled.{first_refusal};
+
+use crate::format_fault::FormatFault;
+use crate::notation::Notation;
+use acpc_format::Game;
+use hand_records::{Keep, Play, Records, Unspelled, WriteRefusal};
+use play_event::{Reopen, Rules};
+use std::alloc::Global;
+
+/// The logs of the Annual Computer Poker Competition under a game.
+#[derive(Clone, Copy, Debug, PartialEq, Eq)]
+pub struct Acpc {
+    pub game: Game,
+}
+
+// The records that bytes say under a game.
+fn read_log(alloc: Global, game: &Game, bytes: &[u8]) -> Result<Records, FormatFault>
+    ensures say { IfOk result (logs.Say game.now bytes.now) }
+    ensures fault { IfErr result (λ fault.
+        (wants_memory fault ≡ true) ⊎ logs.HaveFault game.now bytes.now fault) }
+{
+    match acpc_format::read(alloc, game, bytes) {
+        Ok(records) => Ok(records),
+        Err(fault) => Err(FormatFault::Acpc(fault)),
+    }
+}
+
+// The spelling of plays.
+fn write_log(
+    alloc: Global,
+    game: &Game,
+    plays: &[Play],
+    keep: Keep,
+) -> Result<Vec<u8>, WriteRefusal>
+    requires few { length plays.now ≤ MOST_HANDS }
+    requires sound { AllByRecursion IsSound plays.now }
+    ensures spell { IfOk result (λ bytes. logs.Spell game.now plays.now bytes.items) }
+    ensures spelled { OnOk result (first_refusal (facts.unspelled game.now keep) plays.now ≡ None) }
+    ensures refused { IfErr result (λ refusal. (refusal ≡ refusals.Memory)
+        ⊎ (first_refusal (facts.unspelled game.now keep) plays.now ≡ Some refusal)) }
+{
+    acpc_format::write(alloc, game, plays, keep)
+}
+
+impl Notation for Acpc {
+    ghost rules_of = { λ log. rules_of_game log.game };
+
+    ghost Say = { λ log bytes records. logs.Say log.game bytes records };
+
+    ghost HaveFault = { λ log bytes fault. logs.HaveFault log.game bytes fault };
+
+    ghost unspelled = { λ log keep play. facts.unspelled log.game keep play };
+
+    ghost Spell = { λ log plays bytes. logs.Spell log.game plays bytes };
+
+    ghost KeepsNotes = { λ _ place seats notes again. KeepsNames place seats notes again };
+
+    ghost reads_file = { λ log bytes hands say. laws.reads_file log.game bytes hands say };
+
+    ghost no_fault = { λ log bytes hands fault say have.
+        laws.no_fault log.game bytes hands fault say have };
+
+    ghost one_reading = { λ log bytes hands others say too.
+        alike.one_reading log.game bytes hands others say too };
+
+    ghost one_fact = { λ log keep play other same.
+        alike.same_fact log.game keep play other same };
+
+    ghost reads_back = { λ log keep plays bytes few sound spelled spell.
+        laws.reads_back log.game keep plays bytes few sound spelled spell };
+
+    fn rules(&self) -> Rules {
+        Rules {
+            reopen: Reopen::Always,
+            free_fold: false,
+            caps: self.game.caps,
+        }
+    }
+
+    fn read(&self, alloc: Global, bytes: &[u8]) -> Result<Records, FormatFault> {
+        read_log(alloc, &self.game, bytes)
+    }
+
+    fn spells(&self, play: &Play, keep: Keep) -> Option<Unspelled> {
+        acpc_format::spells(&self.game, play, keep)
+    }
+
+    fn write(&self, alloc: Global, plays: &[Play], keep: Keep) -> Result<Vec<u8>, WriteRefusal> {
+        write_log(alloc, &self.game, plays, keep)
+    }
+}
