@@ -1,5 +1,5 @@
 -- Bytes of a log under a game say one list of records, as far as records can be told apart.
-use Rattle.std.proofs.Common.{◌≡◌, ℕ, suc, ◌+◌, ◌-◌, ◌<◌, ◌≤◌, ◌||◌, Bool, true, false, ℤ, pos, List, [], ◌∷◌, map, length, take, get_or, slice_index, slice_index_or, Option, Some, None, is_some, option_map, Ok, refl, sym, subst, ap, ap₂, ◌∙◌, inl, inr, arith}
+use Rattle.std.proofs.Common.{◌≡◌, ℕ, suc, ◌+◌, ◌-◌, ◌≤◌, ◌||◌, Bool, true, false, ℤ, pos, List, [], ◌∷◌, map, length, get_or, slice_index, slice_index_or, Option, Some, None, is_some, Ok, refl, sym, subst, ap, ap₂, ◌∙◌, inl, inr, arith}
 use Rattle.std.specs.List.{AllByRecursion, list_any}
 use Rattle.std.specs.Option.{option_map_or}
 use Rattle.std.proofs.Props.{props}
@@ -21,7 +21,7 @@ use Rattle.hand_records.specs.declared.writing.Keep.{Keep}
 use Rattle.hand_records.specs.declared.writing.Keep.TheVariants as keeps
 use Rattle.hand_records.specs.declared.writing.Unspelled.{Unspelled}
 use Rattle.acpc_game.specs.declared.game.Game.{Game}
-use Rattle.acpc_line.specs.NoteFacts.{is_unspelled_hand, is_unspelled_name, text_conditions, time_conditions}
+use Rattle.acpc_line.specs.NoteFacts.{is_unspelled_name, text_conditions, time_conditions}
 use Rattle.acpc_line.specs.PlayFacts.{play_conditions}
 use Rattle.acpc_line.specs.SetupFacts.{setup_conditions}
 use Rattle.acpc_line.specs.Spelled.{first_where, or_else, unspelled, unspelled_note}
