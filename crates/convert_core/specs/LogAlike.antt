@@ -1,5 +1,5 @@
 -- Bytes of a log under a game say one list of records, as far as records can be told apart.
-use Rattle.std.proofs.Common.{◌≡◌, ℕ, suc, ◌+◌, ◌-◌, ◌≤◌, ◌||◌, Bool, true, false, ℤ, pos, List, [], ◌∷◌, map, length, get_or, slice_index, slice_index_or, Option, Some, None, is_some, Ok, refl, sym, subst, ap, ap₂, ◌∙◌, inl, inr, arith}
+use Rattle.std.proofs.Common.{◌≡◌, ℕ, suc, ◌+◌, ◌≤◌, ◌||◌, Bool, true, false, ℤ, pos, List, [], ◌∷◌, map, length, get_or, slice_index, slice_index_or, Option, Some, None, is_some, Ok, refl, sym, subst, ap, ap₂, ◌∙◌, inl, inr, arith}
 use Rattle.std.specs.List.{AllByRecursion, list_any}
 use Rattle.std.specs.Option.{option_map_or}
 use Rattle.std.proofs.Props.{props}
