@@ -1,61 +1,73 @@
--- Rows of values by name, one at the end more.
-use Rattle.std.proofs.Common.{◌≡◌, Bool, true, false, if◌then◌else◌, List, [], ◌∷◌, ◌++◌, Option, Some, None, option_map, refl, ap}
-use Rattle.std.specs.Prelude.{slice_get, option_and_then, find}
+-- Rows by name, one at the end more.
+use Rattle.std.proofs.Common.{◌≡◌, Bool, true, false, if◌then◌else◌, List, [], ◌∷◌, ◌++◌, Option, Some, None, refl, ap, subst, ◌∙◌}
+use Rattle.std.specs.Prelude.{find}
+use Rattle.std.specs.Bool.{Decides}
 use Rattle.std.specs.Str.{bytes_eq}
-use Rattle.clap.specs.Walk.{Row, Text, all_of, at_row, first_of}
+use Rattle.std.proofs.lemmas.Slice.Eq.{bytes_eq-Decides}
+use Rattle.clap.specs.Walk.{Row, Text, at_row}
 
--- a name has this one value, or none
-abbrev pub Holds : Text → List Row → Option Text → Type 0
-Holds name rows value = all_of name rows ≡ option_map (λ (text : Text). text ∷ []) value
+-- the first row of a name
+abbrev pub row_named : Text → List Row → Option Row
+row_named name rows = find (λ row. bytes_eq row.id name) rows
 
-first-found : (row : Option Row) (value : Option Text) → option_map (λ (found : Row). found.values) row ≡ option_map (λ (text : Text). text ∷ []) value
-    → option_and_then (λ (found : Row). slice_get found.values 0) row ≡ value
-first-found None None e = refl
-first-found None (Some value) e = cc
-first-found (Some row) None e = cc
-first-found (Some row) (Some value) e = rw (some-values row.values (value ∷ []) e) refl
-  where
-    some-values : (xs ys : List Text) → Some xs ≡ Some ys → xs ≡ ys
-    some-values xs ys e = cc
-
-pub first_of-holds : (name : Text) (rows : List Row) (value : Option Text) → Holds name rows value → first_of name rows ≡ value
-first_of-holds name rows value e = first-found (find (λ row. bytes_eq row.id name) rows) value e
-
-abbrev values_found : Option Row → Option (List Text)
-values_found = option_map (λ (found : Row). found.values)
-
-end-step : (b : Bool) (row : Row) (rows rest missing changed : List Row) (found : Option Row) → values_found (if b then Some row else found) ≡ None
-    → (values_found found ≡ None → rest ≡ rows ++ missing) → (if b then changed else row ∷ rest) ≡ row ∷ (rows ++ missing)
+end-step : (b : Bool) (row : Row) (rows rest missing changed : List Row) (found : Option Row) → (if b then Some row else found) ≡ None
+    → (found ≡ None → rest ≡ rows ++ missing) → (if b then changed else row ∷ rest) ≡ row ∷ (rows ++ missing)
 end-step true row rows rest missing changed found e more = cc
 end-step false row rows rest missing changed found e more = ap (λ (others : List Row). row ∷ others) (more e)
 
 -- where no row has the name, the new row comes last
-pub at_row-end : (name : Text) (change : Row → List Row) (missing rows : List Row) → all_of name rows ≡ None
+pub at_row-end : (name : Text) (change : Row → List Row) (missing rows : List Row) → row_named name rows ≡ None
     → at_row name change missing rows ≡ rows ++ missing
 at_row-end name change missing [] e = refl
 at_row-end name change missing (row ∷ rows) e =
-    end-step (bytes_eq row.id name) row rows (at_row name change missing rows) missing (change row ++ rows) (find (λ row. bytes_eq row.id name) rows) e
+    end-step (bytes_eq row.id name) row rows (at_row name change missing rows) missing (change row ++ rows) (row_named name rows) e
     (at_row-end name change missing rows)
 
-later-step : (b : Bool) (row : Row) (found after : Option Row) → values_found after ≡ values_found found
-    → values_found (if b then Some row else after) ≡ values_found (if b then Some row else found)
-later-step true row found after e = refl
-later-step false row found after e = e
+other-step : (b : Bool) (row : Row) (found after : Option Row) → after ≡ found → (if b then Some row else after) ≡ (if b then Some row else found)
+other-step true row found after e = refl
+other-step false row found after e = e
 
--- a row of another name at the end changes nothing of a name's values
-pub all_of-other : (name : Text) (rows : List Row) (last : Row) → bytes_eq last.id name ≡ false → all_of name (rows ++ last ∷ []) ≡ all_of name rows
-all_of-other name [] last e = rw e refl
-all_of-other name (row ∷ rows) last e = later-step (bytes_eq row.id name) row (find (λ row. bytes_eq row.id name) rows)
-    (find (λ row. bytes_eq row.id name) (rows ++ last ∷ [])) (all_of-other name rows last e)
+-- a row of another name at the end changes nothing of a name
+row_named-other : (name : Text) (rows : List Row) (last : Row) → bytes_eq last.id name ≡ false
+    → row_named name (rows ++ last ∷ []) ≡ row_named name rows
+row_named-other name [] last e = rw e refl
+row_named-other name (row ∷ rows) last e =
+    other-step (bytes_eq row.id name) row (row_named name rows) (row_named name (rows ++ last ∷ [])) (row_named-other name rows last e)
 
-new-step : (b : Bool) (row : Row) (found after : Option Row) (values : List Text) → values_found (if b then Some row else found) ≡ None
-    → (values_found found ≡ None → values_found after ≡ Some values) → values_found (if b then Some row else after) ≡ Some values
-new-step true row found after values e more = cc
-new-step false row found after values e more = more e
+new-step : (b : Bool) (row last : Row) (found after : Option Row) → (if b then Some row else found) ≡ None
+    → (found ≡ None → after ≡ Some last) → (if b then Some row else after) ≡ Some last
+new-step true row last found after e more = cc
+new-step false row last found after e more = more e
 
--- a name without values has those of a row of this name at the end
-pub all_of-end : (name : Text) (rows : List Row) (last : Row) → bytes_eq last.id name ≡ true → all_of name rows ≡ None
-    → all_of name (rows ++ last ∷ []) ≡ Some last.values
-all_of-end name [] last is e = rw is refl
-all_of-end name (row ∷ rows) last is e = new-step (bytes_eq row.id name) row (find (λ row. bytes_eq row.id name) rows)
-    (find (λ row. bytes_eq row.id name) (rows ++ last ∷ [])) last.values e (all_of-end name rows last is)
+-- a name without a row has a row of this name at the end
+row_named-end : (name : Text) (rows : List Row) (last : Row) → bytes_eq last.id name ≡ true → row_named name rows ≡ None
+    → row_named name (rows ++ last ∷ []) ≡ Some last
+row_named-end name [] last is e = rw is refl
+row_named-end name (row ∷ rows) last is e = new-step (bytes_eq row.id name) row last (row_named name rows)
+    (row_named name (rows ++ last ∷ [])) e (row_named-end name rows last is)
+
+-- names, each with its row if it has one
+abbrev pub Named : Type 0
+Named = List (Text × Option Row)
+
+-- rows hold what is named
+abbrev pub Hold : Named → List Row → Type 0
+Hold [] rows = Unit {0}
+Hold (named ∷ others) rows = (row_named named.0 rows ≡ named.1) × Hold others rows
+
+-- one more row under its name
+abbrev pub given : Row → Named → Named
+given row [] = []
+given row (named ∷ others) = (named.0, if bytes_eq row.id named.0 then Some row else named.1) ∷ given row others
+
+-- rows with a row of a new name at the end hold it besides
+pub hold_given : (named : Named) (rows : List Row) (row : Row) → row_named row.id rows ≡ None → Hold named rows
+    → Hold (given row named) (rows ++ row ∷ [])
+hold_given [] rows row none held = _
+hold_given (named ∷ others) rows row none held =
+    (go (bytes_eq row.id named.0) (bytes_eq-Decides row.id named.0) refl, hold_given others rows row none held.1)
+  where
+    go : (b : Bool) → Decides b (row.id ≡ named.0) → bytes_eq row.id named.0 ≡ b
+        → row_named named.0 (rows ++ row ∷ []) ≡ (if b then Some row else named.1)
+    go true d is = row_named-end named.0 rows row is (subst (λ (name : Text). row_named name rows ≡ None) (d.0 refl) none)
+    go false d is = row_named-other named.0 rows row is ∙ held.0

@@ -1,96 +1,151 @@
 -- The parser of command lines finds the first word as the command, and each option's value under its name.
-use Rattle.std.proofs.Common.{◌≡◌, ◌&&◌, not, Bool, true, false, if◌then◌else◌, List, [], ◌∷◌, ◌++◌, codes, Option, Some, None, is_some, option_map, refl, ap, sym, subst, ◌∙◌}
-use Rattle.std.specs.Prelude.{fold, option_and_then}
+use Rattle.std.proofs.Common.{◌≡◌, ◌&&◌, ◌||◌, not, Bool, true, false, if◌then◌else◌, List, [], ◌∷◌, ◌++◌, codes, Option, Some, None, is_some, option_map, refl, ap, sym, subst, ◌∙◌}
+use Rattle.std.specs.Prelude.{fold, option_and_then, slice_get}
 use Rattle.std.specs.Bool.{Decides}
 use Rattle.std.specs.Str.{bytes_eq}
 use Rattle.std.proofs.lemmas.Slice.Eq.{bytes_eq-Decides}
 use Rattle.std.proofs.lemmas.List.{append-nil}
 use Rattle.clap.specs.Lexer.{long_of, strip_byte}
-use Rattle.clap.specs.Walk.{Row, Rule, Text, Walk, action_of, all_of, first_of, more_values, reading_by, used, walk_from, walked, nothing_held, with_default, has_row}
-use Rattle.clap.specs.declared.builder.action.ArgAction.TheVariants.{Set}
-use Rattle.clap.specs.declared.parser.matches.ValueSource.TheVariants.{CommandLine}
-use Rattle.clap.specs.Simple.{App, built, filled, matches_of, new_app, new_rule, with_index, with_rule}
+use Rattle.clap.specs.Walk.{Row, Rule, Text, Walk, action_of, first_of, has_row, more_values, nothing_held, one_of, reading_by, row_text, used, walk_from, walked, with_default}
+use Rattle.clap.specs.declared.builder.action.ArgAction.TheVariants.{Set, SetTrue}
+use Rattle.clap.specs.declared.parser.matches.ValueSource.{ValueSource}
+use Rattle.clap.specs.declared.parser.matches.ValueSource.TheVariants.{CommandLine, DefaultValue}
+use Rattle.clap.specs.Simple.{App, built, filled, help_rule, is_simple, matches_of, new_app, new_rule, with_index, with_rule}
 use Rattle.clap.proofs.OnLiterals.{clap_on_literals}
-use Rattle.command_words.specs.Words.{Options, has_value, no_options, options_said, with_option, with_word}
-use Rattle.command_words.proofs.Finds.{Holds, all_of-end, all_of-other, at_row-end, first_of-holds}
-use Rattle.command_words.proofs.Walking.{IsBetween, IsOption, apart, first, joined}
+use Rattle.command_words.specs.Requests.{flag_text}
+use Rattle.command_words.specs.Words.{Options, is_flag, no_options, options_said, stands_alone, with_flag, with_option, with_word}
+use Rattle.command_words.proofs.Finds.{Hold, Named, at_row-end, given, hold_given, row_named}
+use Rattle.command_words.proofs.Walking.{IsBetween, IsFlag, IsOption, alone, apart, first, joined}
 
--- the parser: a word for the command, and the options
-abbrev pub command_rule : Rule
-command_rule = new_rule (codes "command")
+-- the parser: a word for the command, the options, and the flag
+abbrev pub option_rule : Text → Rule
+option_rule name = record (new_rule name) { long = Some name }
 
-abbrev pub from_rule : Rule
-from_rule = record (new_rule (codes "from")) { long = Some (codes "from") }
+abbrev pub flag_rule : Rule
+flag_rule = record (option_rule (codes "drop-notes")) { action = Some SetTrue }
 
-abbrev pub game_rule : Rule
-game_rule = record (new_rule (codes "game")) { long = Some (codes "game") }
+abbrev pub without_own_name : App
+without_own_name = let named = new_app (codes "handref") in record named { top = record named.top { no_binary_name = true } }
 
 abbrev pub handref : App
-handref =
-    let named = new_app (codes "handref") in
-    with_rule (with_rule (with_rule (record named { top = record named.top { no_binary_name = true } }) command_rule) from_rule) game_rule
+handref = fold with_rule without_own_name
+    (new_rule (codes "command") ∷ option_rule (codes "from") ∷ option_rule (codes "to") ∷ option_rule (codes "game") ∷ option_rule (codes "seed")
+    ∷ option_rule (codes "hands") ∷ flag_rule ∷ [])
+
+-- the rows that it finds in words
+unfoldable pub rows_found : List Text → List Row
+rows_found words = matches_of handref words
+
+pub handref_is_simple : is_simple handref ≡ true
+unfolding clap_on_literals
+handref_is_simple = refl
 
 -- its arguments, as they are built
 abbrev arguments : List Rule
 arguments = (built handref).top.rules
 
 abbrev command : Rule
-command = with_index 1 (filled command_rule)
+command = with_index 1 (filled (new_rule (codes "command")))
 
-from_stands : IsOption arguments (codes "from") (filled from_rule)
-unfolding clap_on_literals
-from_stands = record { by_name = refl; by_id = refl; takes = refl; most = refl; own = refl }
+abbrev option : Text → Rule
+option name = filled (option_rule name)
 
-game_stands : IsOption arguments (codes "game") (filled game_rule)
-unfolding clap_on_literals
-game_stands = record { by_name = refl; by_id = refl; takes = refl; most = refl; own = refl }
+abbrev flag : Rule
+flag = filled flag_rule
+
+-- a row with one value
+abbrev row_of : Rule → ValueSource → Text → Row
+row_of argument source value = record { id = argument.id; values = value ∷ []; count = None; source = Some source; reading = reading_by argument }
+
+abbrev given_row : Rule → Text → Row
+given_row argument value = row_of argument CommandLine value
+
+-- the rows of a command's word and of its options
+abbrev option_row : Text → Option Text → Text × Option Row
+option_row name value = (name, option_map (given_row (option name)) value)
+
+abbrev flag_row : Bool → Option Row
+flag_row true = Some (given_row flag (codes "true"))
+flag_row false = None
+
+abbrev values : Text → Options → Named
+values first options =
+    (codes "command", Some (given_row command first)) ∷ option_row (codes "from") options.from ∷ option_row (codes "to") options.to
+    ∷ option_row (codes "game") options.game ∷ option_row (codes "seed") options.seed ∷ option_row (codes "hands") options.hands ∷ []
+
+abbrev named : Text → Options → Named
+named first options = (codes "drop-notes", flag_row options.drops_notes) ∷ values first options
+
+-- A walk that stands between options, with the rows of a command's word and of some options.
+record IsAt (walk : Walk) (first : Text) (options : Options) : Type 0 where
+  rows : List Row
+  between : IsBetween arguments walk rows
+  held : Hold (named first options) rows
 
 -- a value that is set where the name had none comes last
-abbrev row_of : Rule → Text → Row
-row_of argument value = record { id = argument.id; values = value ∷ []; count = None; source = Some CommandLine; reading = reading_by argument }
-
-set_last : (argument : Rule) (value : Text) (rows : List Row) → action_of argument ≡ Set → all_of argument.id rows ≡ None
-    → used argument (value ∷ []) rows ≡ rows ++ row_of argument value ∷ []
+set_last : (argument : Rule) (value : Text) (rows : List Row) → action_of argument ≡ Set → row_named argument.id rows ≡ None
+    → used argument (value ∷ []) rows ≡ rows ++ given_row argument value ∷ []
 set_last argument value rows action none =
     let without = at_row-end argument.id (λ _. []) [] rows none ∙ append-nil rows in
-    rw (action, without) (at_row-end argument.id (more_values CommandLine (value ∷ [])) (row_of argument value ∷ []) rows none)
+    rw (action, without) (at_row-end argument.id (more_values CommandLine (value ∷ [])) (given_row argument value ∷ []) rows none)
 
--- Rows with the values of a command's word and of its options.
-record IsRead (rows : List Row) (first : Text) (options : Options) : Type 0 where
-  word : Holds (codes "command") rows (Some first)
-  from : Holds (codes "from") rows options.from
-  game : Holds (codes "game") rows options.game
+-- An option that stands besides others: its name had no row.
+record IsGiven (options : Options) (name value : Text) (more : Options) : Type 0 where
+  argument : Rule
+  stands : IsOption arguments name argument
+  sets : action_of argument ≡ Set
+  empty : (first : Text) (rows : List Row) → Hold (named first options) rows → row_named argument.id rows ≡ None
+  same : (first : Text) → given (given_row argument value) (named first options) ≡ named first more
 
-from_read : (rows : List Row) (word value : Text) (options : Options) → IsRead rows word options → options.from ≡ None
-    → IsRead (used (filled from_rule) (value ∷ []) rows) word (record options { from = Some value })
+from_given : (options : Options) (value : Text) → options.from ≡ None → IsGiven options (codes "from") value (record options { from = Some value })
 unfolding clap_on_literals
-from_read rows word value options read none =
-    let last = row_of (filled from_rule) value in
-    let empty : all_of (codes "from") rows ≡ None = read.from ∙ ap (option_map (λ (text : Text). text ∷ [])) none in
-    rw (set_last (filled from_rule) value rows refl empty)
-    (record {
-      word = all_of-other (codes "command") rows last refl ∙ read.word;
-      from = all_of-end (codes "from") rows last refl empty;
-      game = all_of-other (codes "game") rows last refl ∙ read.game;
-    })
+from_given options value none = record {
+  argument = option (codes "from");
+  stands = record { by_name = refl; by_id = refl; takes = refl; most = refl; own = refl };
+  sets = refl;
+  empty = λ first rows held. held.1.1.0 ∙ ap (option_map (given_row (option (codes "from")))) none;
+  same = λ first. refl;
+}
 
-game_read : (rows : List Row) (word value : Text) (options : Options) → IsRead rows word options → options.game ≡ None
-    → IsRead (used (filled game_rule) (value ∷ []) rows) word (record options { game = Some value })
+to_given : (options : Options) (value : Text) → options.to ≡ None → IsGiven options (codes "to") value (record options { to = Some value })
 unfolding clap_on_literals
-game_read rows word value options read none =
-    let last = row_of (filled game_rule) value in
-    let empty : all_of (codes "game") rows ≡ None = read.game ∙ ap (option_map (λ (text : Text). text ∷ [])) none in
-    rw (set_last (filled game_rule) value rows refl empty)
-    (record {
-      word = all_of-other (codes "command") rows last refl ∙ read.word;
-      from = all_of-other (codes "from") rows last refl ∙ read.from;
-      game = all_of-end (codes "game") rows last refl empty;
-    })
+to_given options value none = record {
+  argument = option (codes "to");
+  stands = record { by_name = refl; by_id = refl; takes = refl; most = refl; own = refl };
+  sets = refl;
+  empty = λ first rows held. held.1.1.1.0 ∙ ap (option_map (given_row (option (codes "to")))) none;
+  same = λ first. refl;
+}
 
--- which option it is that stands besides others
-data IsGiven (options : Options) (name value : Text) (more : Options) : Type 0 where
-  from : name ≡ codes "from" → options.from ≡ None → record options { from = Some value } ≡ more → IsGiven options name value more
-  game : name ≡ codes "game" → options.game ≡ None → record options { game = Some value } ≡ more → IsGiven options name value more
+game_given : (options : Options) (value : Text) → options.game ≡ None → IsGiven options (codes "game") value (record options { game = Some value })
+unfolding clap_on_literals
+game_given options value none = record {
+  argument = option (codes "game");
+  stands = record { by_name = refl; by_id = refl; takes = refl; most = refl; own = refl };
+  sets = refl;
+  empty = λ first rows held. held.1.1.1.1.0 ∙ ap (option_map (given_row (option (codes "game")))) none;
+  same = λ first. refl;
+}
+
+seed_given : (options : Options) (value : Text) → options.seed ≡ None → IsGiven options (codes "seed") value (record options { seed = Some value })
+unfolding clap_on_literals
+seed_given options value none = record {
+  argument = option (codes "seed");
+  stands = record { by_name = refl; by_id = refl; takes = refl; most = refl; own = refl };
+  sets = refl;
+  empty = λ first rows held. held.1.1.1.1.1.0 ∙ ap (option_map (given_row (option (codes "seed")))) none;
+  same = λ first. refl;
+}
+
+hands_given : (options : Options) (value : Text) → options.hands ≡ None → IsGiven options (codes "hands") value (record options { hands = Some value })
+unfolding clap_on_literals
+hands_given options value none = record {
+  argument = option (codes "hands");
+  stands = record { by_name = refl; by_id = refl; takes = refl; most = refl; own = refl };
+  sets = refl;
+  empty = λ first rows held. held.1.1.1.1.1.1.0 ∙ ap (option_map (given_row (option (codes "hands")))) none;
+  same = λ first. refl;
+}
 
 is_none : {A : Type 0} (x : Option A) → not (is_some x) ≡ true → x ≡ None
 is_none None e = refl
@@ -99,76 +154,98 @@ is_none (Some x) e = cc
 some-same : {A : Type 0} {x y : A} → Some x ≡ Some y → x ≡ y
 some-same e = cc
 
-given-step : (options more : Options) (name value : Text) (hyphen is_from no_from is_game no_game : Bool)
-    → Decides is_from (name ≡ codes "from") → (no_from ≡ true → options.from ≡ None)
-    → Decides is_game (name ≡ codes "game") → (no_game ≡ true → options.game ≡ None)
-    → (if hyphen then None else if is_from && no_from then Some (record options { from = Some value })
-    else if is_game && no_game then Some (record options { game = Some value }) else None) ≡ Some more
-    → (hyphen ≡ false) × IsGiven options name value more
-given-step options more name value true is_from no_from is_game no_game df nf dg ng e = cc
-given-step options more name value false true true is_game no_game df nf dg ng e = (refl, from (df.0 refl) (nf refl) (some-same e))
-given-step options more name value false true false true true df nf dg ng e = (refl, game (dg.0 refl) (ng refl) (some-same e))
-given-step options more name value false true false true false df nf dg ng e = cc
-given-step options more name value false true false false no_game df nf dg ng e = cc
-given-step options more name value false false no_from true true df nf dg ng e = (refl, game (dg.0 refl) (ng refl) (some-same e))
-given-step options more name value false false no_from true false df nf dg ng e = cc
-given-step options more name value false false no_from false no_game df nf dg ng e = cc
+-- an option is this one, or one of the others
+either : (options more taken : Options) (name own value : Text) (kept : Option Text) (others : Option Options) (is free : Bool)
+    → Decides is (name ≡ own) → (free ≡ true → kept ≡ None) → (kept ≡ None → IsGiven options own value taken)
+    → (others ≡ Some more → IsGiven options name value more) → (if is && free then Some taken else others) ≡ Some more
+    → IsGiven options name value more
+either options more taken name own value kept others true true decides none here there e =
+    subst (λ (o : Options). IsGiven options name value o) (some-same e)
+    (subst (λ (n : Text). IsGiven options n value taken) (sym (decides.0 refl)) (here (none refl)))
+either options more taken name own value kept others true false decides none here there e = there e
+either options more taken name own value kept others false free decides none here there e = there e
 
-plain : {A : Type 0} (x : Option A) → is_some x ≡ false → x ≡ None
-plain None e = refl
-plain (Some x) e = cc
+-- no value begins with a hyphen
+past_hyphen : {A : Type 0} (x : Option A) {B : Type 0} (others : Option B) (more : B) → (if is_some x then None else others) ≡ Some more
+    → (x ≡ None) × (others ≡ Some more)
+past_hyphen None others more e = (refl, e)
+past_hyphen (Some x) others more e = cc
 
-given : (options more : Options) (name value : Text) → with_option options name value ≡ Some more
+is_given : (options more : Options) (name value : Text) → with_option options name value ≡ Some more
     → (strip_byte 45 value ≡ None) × IsGiven options name value more
-given options more name value e =
-    let step = given-step options more name value (is_some (strip_byte 45 value)) (bytes_eq name (codes "from")) (not (is_some options.from))
-    (bytes_eq name (codes "game")) (not (is_some options.game)) (bytes_eq-Decides name (codes "from")) (is_none options.from)
-    (bytes_eq-Decides name (codes "game")) (is_none options.game) e in
-    (plain (strip_byte 45 value) step.0, step.1)
-
--- A walk that stands between options, with the values of a command's word and of some options.
-record IsAt (walk : Walk) (first : Text) (options : Options) : Type 0 where
-  rows : List Row
-  between : IsBetween arguments walk rows
-  read : IsRead rows first options
+is_given options more name value e =
+    let past = past_hyphen (strip_byte 45 value) _ more e in (
+      past.0,
+      by (codes "from") options.from _ _ (from_given options value)
+          (by (codes "to") options.to _ _ (to_given options value)
+          (by (codes "game") options.game _ _ (game_given options value)
+          (by (codes "seed") options.seed _ _ (seed_given options value)
+          (by (codes "hands") options.hands _ _ (hands_given options value) (λ none. cc)))))
+          past.1,
+    )
+  where
+    by : (own : Text) (kept : Option Text) (taken : Options) (others : Option Options) → (kept ≡ None → IsGiven options own value taken)
+        → (others ≡ Some more → IsGiven options name value more)
+        → (if bytes_eq name own && not (is_some kept) then Some taken else others) ≡ Some more → IsGiven options name value more
+    by own kept taken others here there =
+        either options more taken name own value kept others (bytes_eq name own) (not (is_some kept)) (bytes_eq-Decides name own) (is_none kept) here there
 
 -- a walk over words
 abbrev over : Walk → List Text → Walk
 over walk words = fold (walked arguments []) walk words
 
+-- the option is held besides
+held_more : (first name value : Text) (options more : Options) (rows : List Row) → (is : IsGiven options name value more)
+    → Hold (named first options) rows → Hold (named first more) (used is.argument (value ∷ []) rows)
+held_more first name value options more rows is held =
+    let none = is.empty first rows held in
+    rw (set_last is.argument value rows is.sets none)
+    (subst (λ (all : Named). Hold all (rows ++ given_row is.argument value ∷ [])) (is.same first)
+    (hold_given (named first options) rows (given_row is.argument value) none held))
+
 one_joined : (walk : Walk) (first word name value : Text) (options more : Options) → IsAt walk first options
     → long_of word ≡ Some (name, Some value) → IsGiven options name value more → IsAt (over walk (word ∷ [])) first more
-one_joined walk first word name value options more at is (from named none same) =
-    subst (λ (o : Options). IsAt (over walk (word ∷ [])) first o) same (record {
-      rows = used (filled from_rule) (value ∷ []) at.rows;
-      between = joined arguments walk at.rows word name value (filled from_rule) at.between
-          (subst (λ (n : Text). IsOption arguments n (filled from_rule)) (sym named) from_stands) is;
-      read = from_read at.rows first value options at.read none;
-    })
-one_joined walk first word name value options more at is (game named none same) =
-    subst (λ (o : Options). IsAt (over walk (word ∷ [])) first o) same (record {
-      rows = used (filled game_rule) (value ∷ []) at.rows;
-      between = joined arguments walk at.rows word name value (filled game_rule) at.between
-          (subst (λ (n : Text). IsOption arguments n (filled game_rule)) (sym named) game_stands) is;
-      read = game_read at.rows first value options at.read none;
-    })
+one_joined walk first word name value options more at is new = record {
+  rows = used new.argument (value ∷ []) at.rows;
+  between = joined arguments walk at.rows word name value new.argument at.between new.stands is;
+  held = held_more first name value options more at.rows new at.held;
+}
 
 one_apart : (walk : Walk) (first word name value : Text) (options more : Options) → IsAt walk first options
     → long_of word ≡ Some (name, None) → strip_byte 45 value ≡ None → IsGiven options name value more
     → IsAt (over walk (word ∷ value ∷ [])) first more
-one_apart walk first word name value options more at is plain (from named none same) =
-    subst (λ (o : Options). IsAt (over walk (word ∷ value ∷ [])) first o) same (record {
-      rows = used (filled from_rule) (value ∷ []) at.rows;
-      between = apart arguments walk at.rows word name value (filled from_rule) at.between
-          (subst (λ (n : Text). IsOption arguments n (filled from_rule)) (sym named) from_stands) is plain;
-      read = from_read at.rows first value options at.read none;
-    })
-one_apart walk first word name value options more at is plain (game named none same) =
-    subst (λ (o : Options). IsAt (over walk (word ∷ value ∷ [])) first o) same (record {
-      rows = used (filled game_rule) (value ∷ []) at.rows;
-      between = apart arguments walk at.rows word name value (filled game_rule) at.between
-          (subst (λ (n : Text). IsOption arguments n (filled game_rule)) (sym named) game_stands) is plain;
-      read = game_read at.rows first value options at.read none;
+one_apart walk first word name value options more at is plain new = record {
+  rows = used new.argument (value ∷ []) at.rows;
+  between = apart arguments walk at.rows word name value new.argument at.between new.stands is plain;
+  held = held_more first name value options more at.rows new at.held;
+}
+
+flag_stands : IsFlag arguments (codes "drop-notes") flag
+unfolding clap_on_literals
+flag_stands = record { by_name = refl; takes = refl }
+
+-- the flag, where it did not stand, is held besides
+flag_given : (first : Text) (options : Options) (rows : List Row) → options.drops_notes ≡ false → Hold (named first options) rows
+    → Hold (named first (record options { drops_notes = true })) (used flag [] rows)
+unfolding clap_on_literals
+flag_given first options rows off held =
+    let none : row_named (codes "drop-notes") rows ≡ None = held.0 ∙ ap flag_row off in
+    let row = given_row flag (codes "true") in
+    let without = at_row-end (codes "drop-notes") (λ _. []) [] rows none ∙ append-nil rows in
+    rw (without, at_row-end (codes "drop-notes") (more_values CommandLine (codes "true" ∷ [])) (row ∷ []) rows none)
+    (hold_given (named first options) rows row none held)
+
+one_flag : (walk : Walk) (first word : Text) (options more : Options) → IsAt walk first options
+    → long_of word ≡ Some (codes "drop-notes", None) → with_flag options ≡ Some more → IsAt (over walk (word ∷ [])) first more
+one_flag walk first word options more at is e = go options.drops_notes refl e
+  where
+    go : (b : Bool) → options.drops_notes ≡ b → (if b then None else Some (record options { drops_notes = true })) ≡ Some more
+        → IsAt (over walk (word ∷ [])) first more
+    go true on e = cc
+    go false off e = subst (λ (o : Options). IsAt (over walk (word ∷ [])) first o) (some-same e) (record {
+      rows = used flag [] at.rows;
+      between = alone arguments walk at.rows word (codes "drop-notes") flag at.between flag_stands is;
+      held = flag_given first options at.rows off at.held;
     })
 
 -- what holds at the end of a walk over some words, from wherever it starts with these options
@@ -176,12 +253,21 @@ abbrev Reaches : List Text → Text → Options → Type 0
 Reaches words first more = (walk : Walk) (options : Options) → IsAt walk first options → options_said options words ≡ Some more
     → IsAt (over walk words) first more
 
+-- the name of the flag, in the word
+at_flag : (word name : Text) → long_of word ≡ Some (name, None) → name ≡ codes "drop-notes" → long_of word ≡ Some (codes "drop-notes", None)
+at_flag word name is same = is ∙ ap (λ (text : Text). Some (text, None)) same
+
 last : (walk : Walk) (first word : Text) (options more : Options) (found : Option (Text × Option Text)) → IsAt walk first options
     → long_of word ≡ found → with_word options found None ≡ Some more → IsAt (over walk (word ∷ [])) first more
 last walk first word options more None at is e = cc
-last walk first word options more (Some (name, None)) at is e = cc
 last walk first word options more (Some (name, Some value)) at is e =
-    one_joined walk first word name value options more at is (given options more name value e).1
+    one_joined walk first word name value options more at is (is_given options more name value e).1
+last walk first word options more (Some (name, None)) at is e = go (is_flag name) (bytes_eq-Decides name (codes "drop-notes")) e
+  where
+    go : (b : Bool) → Decides b (name ≡ codes "drop-notes") → (if b then with_flag options else None) ≡ Some more
+        → IsAt (over walk (word ∷ [])) first more
+    go true decides e = one_flag walk first word options more at (at_flag word name is (decides.0 refl)) e
+    go false decides e = cc
 
 -- where an option was taken, the others follow
 followed : {A : Type 0} (x : Option A) {B : Type 0} (f : A → Option B) (more : B) → option_and_then f x ≡ Some more
@@ -191,17 +277,29 @@ followed (Some some) f more e = (some, (refl, e))
 
 next : (walk : Walk) (first word value : Text) (words : List Text) (options more : Options) (found : Option (Text × Option Text))
     → Reaches (value ∷ words) first more → Reaches words first more → IsAt walk first options → long_of word ≡ found
-    → option_and_then (λ some. if has_value found then options_said some (value ∷ words) else options_said some words)
+    → option_and_then (λ some. if stands_alone found then options_said some (value ∷ words) else options_said some words)
     (with_word options found (Some value)) ≡ Some more
     → IsAt (over walk (word ∷ value ∷ words)) first more
-next walk first word value words options more None joined_on apart_on at is e = cc
-next walk first word value words options more (Some (name, Some own)) joined_on apart_on at is e =
+next walk first word value words options more None behind_one behind_two at is e = cc
+next walk first word value words options more (Some (name, Some own)) behind_one behind_two at is e =
     let step = followed (with_option options name own) (λ some. options_said some (value ∷ words)) more e in
-    joined_on (over walk (word ∷ [])) step.0 (one_joined walk first word name own options step.0 at is (given options step.0 name own step.1.0).1) step.1.1
-next walk first word value words options more (Some (name, None)) joined_on apart_on at is e =
-    let step = followed (with_option options name value) (λ some. options_said some words) more e in
-    let found = given options step.0 name value step.1.0 in
-    apart_on (over walk (word ∷ value ∷ [])) step.0 (one_apart walk first word name value options step.0 at is found.0 found.1) step.1.1
+    let new = is_given options step.0 name own step.1.0 in
+    behind_one (over walk (word ∷ [])) step.0 (one_joined walk first word name own options step.0 at is new.1) step.1.1
+next walk first word value words options more (Some (name, None)) behind_one behind_two at is e =
+    go (is_flag name) (bytes_eq-Decides name (codes "drop-notes")) e
+  where
+    go : (b : Bool) → Decides b (name ≡ codes "drop-notes")
+        → option_and_then (λ some. if b then options_said some (value ∷ words) else options_said some words)
+        (if b then with_flag options else with_option options name value) ≡ Some more
+        → IsAt (over walk (word ∷ value ∷ words)) first more
+    go true decides e =
+        let step = followed (with_flag options) (λ some. options_said some (value ∷ words)) more e in
+        behind_one (over walk (word ∷ [])) step.0
+        (one_flag walk first word options step.0 at (at_flag word name is (decides.0 refl)) step.1.0) step.1.1
+    go false decides e =
+        let step = followed (with_option options name value) (λ some. options_said some words) more e in
+        let new = is_given options step.0 name value step.1.0 in
+        behind_two (over walk (word ∷ value ∷ [])) step.0 (one_apart walk first word name value options step.0 at is new.0 new.1) step.1.1
 
 reaches : (words : List Text) (first : Text) (more : Options) → Reaches words first more
 unfolding options_said
@@ -217,7 +315,7 @@ begins word plain = record {
   rows = used command (word ∷ []) [];
   between = first arguments (walk_from nothing_held) [] word command (record { idle = refl; reading = refl; here = refl; rows = refl })
       refl plain refl refl refl refl refl;
-  read = record { word = refl; from = refl; game = refl };
+  held = (refl, (refl, (refl, (refl, (refl, (refl, (refl, _)))))));
 }
 
 -- an argument without defaults adds no row
@@ -229,30 +327,99 @@ abbrev HaveNoDefaults : List Rule → Type 0
 HaveNoDefaults [] = Unit {0}
 HaveNoDefaults (argument ∷ rules) = (argument.defaults ≡ []) × HaveNoDefaults rules
 
+no_default : (argument : Rule) (rows : List Row) → argument.defaults ≡ [] → with_default rows argument ≡ rows
+no_default argument rows none = rw none (without_default (has_row argument.id rows) rows)
+
 no_defaults : (rules : List Rule) (rows : List Row) → HaveNoDefaults rules → fold with_default rows rules ≡ rows
 no_defaults [] rows none = refl
 no_defaults (argument ∷ rules) rows none =
-    let same : with_default rows argument ≡ rows = rw none.0 (without_default (has_row argument.id rows) rows) in
-    ap (λ (some : List Row). fold with_default some rules) same ∙ no_defaults rules rows none.1
+    ap (λ (some : List Row). fold with_default some rules) (no_default argument rows none.0) ∙ no_defaults rules rows none.1
 
-have_no_defaults : HaveNoDefaults arguments
+-- among others without defaults, one argument's default alone is added
+one_default : (before after : List Rule) (argument : Rule) (rows : List Row) → HaveNoDefaults before → HaveNoDefaults after
+    → fold with_default rows (before ++ argument ∷ after) ≡ with_default rows argument
+one_default [] after argument rows none_before none_after = no_defaults after (with_default rows argument) none_after
+one_default (other ∷ before) after argument rows none_before none_after =
+    ap (λ (some : List Row). fold with_default some (before ++ argument ∷ after)) (no_default other rows none_before.0)
+    ∙ one_default before after argument rows none_before.1 none_after
+
+-- a name has a row where its first row is found, and only there
+has_row-named : (name : Text) (rows : List Row) → has_row name rows ≡ is_some (row_named name rows)
+has_row-named name [] = refl
+has_row-named name (row ∷ rows) = go (bytes_eq row.id name) (has_row-named name rows)
+  where
+    go : (b : Bool) → has_row name rows ≡ is_some (row_named name rows)
+        → (b || has_row name rows) ≡ is_some (if b then Some row else row_named name rows)
+    go true e = refl
+    go false e = e
+
+-- the flag's row at the end: its default where it did not stand
+abbrev last_flag_row : Bool → Row
+last_flag_row true = given_row flag (codes "true")
+last_flag_row false = row_of flag DefaultValue (codes "false")
+
+flag_settled : (first : Text) (options : Options) (rows : List Row) → Hold (named first options) rows
+    → Hold ((codes "drop-notes", Some (last_flag_row options.drops_notes)) ∷ values first options) (with_default rows flag)
 unfolding clap_on_literals
-have_no_defaults = (refl, (refl, (refl, (refl, _))))
+flag_settled first options rows held = go options.drops_notes held
+  where
+    go : (b : Bool) → Hold ((codes "drop-notes", flag_row b) ∷ values first options) rows
+        → Hold ((codes "drop-notes", Some (last_flag_row b)) ∷ values first options) (with_default rows flag)
+    go true held =
+        let some : has_row (codes "drop-notes") rows ≡ true = has_row-named (codes "drop-notes") rows ∙ ap is_some held.0 in
+        rw some held
+    go false held =
+        let none : has_row (codes "drop-notes") rows ≡ false = has_row-named (codes "drop-notes") rows ∙ ap is_some held.0 in
+        let row = last_flag_row false in
+        rw (none, at_row-end (codes "drop-notes") (more_values DefaultValue (codes "false" ∷ [])) (row ∷ []) rows held.0)
+        (hold_given ((codes "drop-notes", None) ∷ values first options) rows row held.0 held)
 
 -- what the parser finds in a first word that begins with no hyphen, and in options behind it
 pub record IsFound (first : Text) (options : Options) (rows : List Row) : Type 0 where
   pub command : first_of (codes "command") rows ≡ Some first
   pub from : first_of (codes "from") rows ≡ options.from
+  pub to : first_of (codes "to") rows ≡ options.to
   pub game : first_of (codes "game") rows ≡ options.game
+  pub seed : first_of (codes "seed") rows ≡ options.seed
+  pub hands : first_of (codes "hands") rows ≡ options.hands
+  pub flag : one_of (codes "drop-notes") rows ≡ Some (flag_text options.drops_notes)
+
+value_of_row : (argument : Rule) (value : Option Text) → option_and_then (λ (row : Row). slice_get row.values 0) (option_map (given_row argument) value) ≡ value
+value_of_row argument None = refl
+value_of_row argument (Some value) = refl
+
+value_of_option : (name : Text) (rows : List Row) (value : Option Text) → row_named name rows ≡ option_map (given_row (option name)) value
+    → first_of name rows ≡ value
+value_of_option name rows value held = ap (option_and_then (λ (row : Row). slice_get row.values 0)) held ∙ value_of_row (option name) value
+
+text_of_flag : (b : Bool) → option_and_then row_text (Some (last_flag_row b)) ≡ Some (flag_text b)
+unfolding clap_on_literals
+text_of_flag true = refl
+text_of_flag false = refl
+
+found_in : (first : Text) (options : Options) (rows : List Row)
+    → Hold ((codes "drop-notes", Some (last_flag_row options.drops_notes)) ∷ values first options) rows → IsFound first options rows
+found_in first options rows held = record {
+  command = ap (option_and_then (λ (row : Row). slice_get row.values 0)) held.1.0;
+  from = value_of_option (codes "from") rows options.from held.1.1.0;
+  to = value_of_option (codes "to") rows options.to held.1.1.1.0;
+  game = value_of_option (codes "game") rows options.game held.1.1.1.1.0;
+  seed = value_of_option (codes "seed") rows options.seed held.1.1.1.1.1.0;
+  hands = value_of_option (codes "hands") rows options.hands held.1.1.1.1.1.1.0;
+  flag = ap (option_and_then row_text) held.0 ∙ text_of_flag options.drops_notes;
+}
+
+one_has_a_default : (rows : List Row) → fold with_default rows arguments ≡ with_default rows flag
+unfolding clap_on_literals
+one_has_a_default rows = one_default
+    (command ∷ option (codes "from") ∷ option (codes "to") ∷ option (codes "game") ∷ option (codes "seed") ∷ option (codes "hands") ∷ [])
+    (filled help_rule ∷ []) flag rows (refl, (refl, (refl, (refl, (refl, (refl, _)))))) (refl, _)
 
 pub finds : (word : Text) (words : List Text) (options : Options) → strip_byte 45 word ≡ None → options_said no_options words ≡ Some options
-    → IsFound word options (matches_of handref (word ∷ words))
-unfolding clap_on_literals
+    → IsFound word options (rows_found (word ∷ words))
+unfolding rows_found
 finds word words options plain said =
     let at = reaches words word options (over (walk_from nothing_held) (word ∷ [])) no_options (begins word plain) said in
-    let rows : matches_of handref (word ∷ words) ≡ at.rows = no_defaults arguments _ have_no_defaults ∙ at.between.rows in
-    rw rows (record {
-      command = first_of-holds (codes "command") at.rows (Some word) at.read.word;
-      from = first_of-holds (codes "from") at.rows options.from at.read.from;
-      game = first_of-holds (codes "game") at.rows options.game at.read.game;
-    })
+    let rows : rows_found (word ∷ words) ≡ with_default at.rows flag =
+    ap (λ (some : List Row). fold with_default some arguments) at.between.rows ∙ one_has_a_default at.rows in
+    rw rows (found_in word options (with_default at.rows flag) (flag_settled word options at.rows at.held))

@@ -1,4 +1,4 @@
--- The parser's walk over an option, whose value stands in its word or behind it, and over a first word.
+-- The parser's walk over an option, whose value stands in its word or behind it, over a flag, and over a first word.
 use Rattle.std.proofs.Common.{◌≡◌, Bool, true, false, List, [], ◌∷◌, Option, Some, None, refl, ap, subst}
 use Rattle.std.specs.Bool.{Decides}
 use Rattle.std.specs.Str.{bytes_eq}
@@ -20,6 +20,11 @@ pub record IsOption (rules : List Rule) (name : Text) (argument : Rule) : Type 0
   pub takes : takes_values argument ≡ true
   pub most : most_values argument ≡ 1
   pub own : bytes_eq argument.id argument.id ≡ true
+
+-- An argument takes no value, and is found by its long name.
+pub record IsFlag (rules : List Rule) (name : Text) (argument : Rule) : Type 0 where
+  pub by_name : arg_by_long rules name ≡ Some argument
+  pub takes : takes_values argument ≡ false
 
 -- a word of an option is not the two hyphens alone
 not_alone : (word : Text) (name : Text) (value : Option Text) → long_of word ≡ Some (name, value) → bytes_eq word (45 ∷ 45 ∷ []) ≡ false
@@ -49,6 +54,14 @@ pub joined : (rules : List Rule) (walk : Walk) (rows : List Row) (word name valu
 unfolding walked
 joined rules walk rows word name value argument between option is =
     rw (between.here, between.idle, between.reading, not_alone word name (Some value) is, is, option.by_name, option.takes, between.rows)
+    (record { idle = refl; reading = refl; here = refl; rows = refl })
+
+-- the rows where a flag is settled
+pub alone : (rules : List Rule) (walk : Walk) (rows : List Row) (word name : Text) (argument : Rule) → IsBetween rules walk rows
+    → IsFlag rules name argument → long_of word ≡ Some (name, None) → IsBetween rules (walked rules [] walk word) (used argument [] rows)
+unfolding walked
+alone rules walk rows word name argument between flag is =
+    rw (between.here, between.idle, between.reading, not_alone word name None is, is, flag.by_name, flag.takes, between.rows)
     (record { idle = refl; reading = refl; here = refl; rows = refl })
 
 -- it is no option either

@@ -1,18 +1,26 @@
 -- What the code's requests and options say.
-use Rattle.std.specs.Prelude.{◌≡◌, ℕ, List, Some, codes, drop, option_map, slice_get}
+use Rattle.std.specs.Prelude.{◌≡◌, ◌≤◌, ⊤, ℕ, Bool, true, false, List, Some, codes, drop, option_map, slice_get}
 use Rattle.clap.specs.Words.{first_value}
+use Rattle.clap.specs.Matches.{one_text}
 use Rattle.clap.specs.declared.parser.matches.Found.{Found}
 use Rattle.command_words.specs.Words as words
 use Rattle.command_words.specs.Words.{no_options, options_said}
+use Rattle.command_words.specs.declared.notation.Notation.{Notation}
+use Rattle.command_words.specs.declared.notation.Notation.TheVariants as notations
 use Rattle.command_words.specs.declared.options.Options.{Options}
-use Rattle.command_words.specs.declared.request.Notation.{Notation}
-use Rattle.command_words.specs.declared.request.Notation.TheVariants as notations
 use Rattle.command_words.specs.declared.request.Request.{Request}
 use Rattle.command_words.specs.declared.request.Request.TheVariants as requests
 
 -- the values of options, as texts
 abbrev pub options_in : Options → words.Options
-options_in options = record { from = option_map (λ text. text.now) options.from; game = option_map (λ text. text.now) options.game }
+options_in options = record {
+  from = option_map (λ text. text.now) options.from;
+  to = option_map (λ text. text.now) options.to;
+  game = option_map (λ text. text.now) options.game;
+  seed = option_map (λ text. text.now) options.seed;
+  hands = option_map (λ text. text.now) options.hands;
+  drops_notes = options.drops_notes;
+}
 
 -- a notation, with the name of its game's file
 abbrev pub notation_in : Notation → words.Notation
@@ -21,13 +29,29 @@ notation_in notations.Ohh = words.Ohh
 notation_in notations.OhhTo = words.OhhTo
 notation_in (notations.Acpc game) = words.Acpc game.now
 
--- a request, with its notation
+-- a request, with its notations and numbers
 abbrev pub request_in : Request → words.Request
 request_in (requests.Show command notation) = words.Show command (notation_in notation)
 request_in (requests.Game notation) = words.Game (notation_in notation)
+request_in (requests.Convert from to keep) = words.Convert (notation_in from) (notation_in to) keep
 
--- What a parser of command lines found is what words say: the word of the command, and the values of the options.
+-- the text of a flag
+abbrev pub flag_text : Bool → List ℕ
+flag_text true = codes "true"
+flag_text false = codes "false"
+
+-- A parser of command lines found these options.
+pub record AreFound (found : Found) (options : words.Options) : Type 0 where
+  pub from : first_value found (codes "from") ≡ options.from
+  pub to : first_value found (codes "to") ≡ options.to
+  pub game : first_value found (codes "game") ≡ options.game
+  pub seed : first_value found (codes "seed") ≡ options.seed
+  pub hands : first_value found (codes "hands") ≡ options.hands
+  pub flag : one_text found (codes "drop-notes") ≡ Some (flag_text options.drops_notes)
+
+-- What a parser of command lines found is what words say: the word of the command, and the options.
 pub record IsSaidBy (said : List (List ℕ)) (found : Found) : Type 0 where
   pub command : first_value found (codes "command") ≡ slice_get said 0
-  pub from : option_map (λ (options : words.Options). options.from) (options_said no_options (drop 1 said)) ≡ Some (first_value found (codes "from"))
-  pub game : option_map (λ (options : words.Options). options.game) (options_said no_options (drop 1 said)) ≡ Some (first_value found (codes "game"))
+  pub options : words.Options
+  pub given : options_said no_options (drop 1 said) ≡ Some options
+  pub values : AreFound found options

@@ -1,94 +1,168 @@
 -- Which words say what is asked for: the word of a command, and behind it its options, each once and in any order.
-use Rattle.std.specs.Prelude.{ℕ, ◌&&◌, not, Bool, false, if◌then◌else◌, List, [], ◌∷◌, codes, Option, Some, None, is_some, option_and_then}
-use Rattle.std.specs.Str.{bytes_eq}
+use Rattle.std.specs.Prelude.{ℕ, ◌&&◌, ◌||◌, not, Bool, true, false, if◌then◌else◌, List, [], ◌∷◌, codes, Option, Some, None, is_some, length, nat_le, option_and_then, option_map}
+use Rattle.std.specs.Str.{all_ascii_digits, bytes_eq}
+use Rattle.std.specs.Str.Parse.{digits_value}
 use Rattle.command_words.specs.declared.command.Command.{Command}
 use Rattle.command_words.specs.declared.command.Command.TheVariants as commands
+use Rattle.command_words.specs.declared.request.Keep.{Keep}
+use Rattle.command_words.specs.declared.request.Keep.TheVariants as keeps
 use Rattle.clap.specs.Lexer.{long_of, strip_byte}
 
 -- a notation of hands: the Poker Hand History format, Open Hand History in its two dialects, and the competition's logs; a
--- log is read under the game of a file, which has this name
+-- log is read and written under the game of a file, which has this name
 pub data Notation : Type 0 where
   Phh : Notation
   Ohh : Notation
   OhhTo : Notation
   Acpc : (game : List ℕ) → Notation
 
--- what is asked for: what a command prints of hands in a notation, or the game file of the first of them
+-- what is asked for: what a command prints of hands in a notation, the game file of the first of them, hands of one notation
+-- written in another with so many of their notes
 pub data Request : Type 0 where
   Show : Command → Notation → Request
   Game : Notation → Request
+  Convert : (from to : Notation) → Keep → Request
 
 -- the values of the options that are given
 pub record Options : Type 0 where
   -- the notation of the input
   pub from : Option (List ℕ)
+  -- the notation of the output
+  pub to : Option (List ℕ)
   -- the name of the game's file
   pub game : Option (List ℕ)
+  -- the number that hands are made from
+  pub seed : Option (List ℕ)
+  -- how many hands are made
+  pub hands : Option (List ℕ)
+  -- the flag by which notes without a spelling are dropped
+  pub drops_notes : Bool
 
+-- none of them is given
 abbrev pub no_options : Options
-no_options = record { from = None; game = None }
+no_options = record { from = None; to = None; game = None; seed = None; hands = None; drops_notes = false }
 
 -- the options with one more of this name and value; each stands once, and no value begins with a hyphen
 abbrev pub with_option : Options → List ℕ → List ℕ → Option Options
 with_option options name value =
     if is_some (strip_byte 45 value) then None
     else if bytes_eq name (codes "from") && not (is_some options.from) then Some (record options { from = Some value })
+    else if bytes_eq name (codes "to") && not (is_some options.to) then Some (record options { to = Some value })
     else if bytes_eq name (codes "game") && not (is_some options.game) then Some (record options { game = Some value })
+    else if bytes_eq name (codes "seed") && not (is_some options.seed) then Some (record options { seed = Some value })
+    else if bytes_eq name (codes "hands") && not (is_some options.hands) then Some (record options { hands = Some value })
     else None
+
+-- the options with the flag, which stands once
+abbrev pub with_flag : Options → Option Options
+with_flag options = if options.drops_notes then None else Some (record options { drops_notes = true })
+
+-- the flag has no value
+abbrev pub is_flag : List ℕ → Bool
+is_flag name = bytes_eq name (codes "drop-notes")
+
+-- what a name gives whose value may stand behind it
+abbrev pub with_value : Options → List ℕ → Option (List ℕ) → Option Options
+with_value options name None = None
+with_value options name (Some value) = with_option options name value
 
 -- what a word gives as an option, with the value that stands in it, or else with this value
 abbrev pub with_word : Options → Option (List ℕ × Option (List ℕ)) → Option (List ℕ) → Option Options
 with_word options None behind = None
 with_word options (Some (name, Some value)) behind = with_option options name value
-with_word options (Some (name, None)) None = None
-with_word options (Some (name, None)) (Some value) = with_option options name value
+with_word options (Some (name, None)) behind = if is_flag name then with_flag options else with_value options name behind
 
--- a word has a value of its own
-abbrev pub has_value : Option (List ℕ × Option (List ℕ)) → Bool
-has_value None = false
-has_value (Some (name, value)) = is_some value
+-- a word is an option without the word behind it
+abbrev pub stands_alone : Option (List ℕ × Option (List ℕ)) → Bool
+stands_alone None = false
+stands_alone (Some (name, value)) = is_some value || is_flag name
 
--- The options with those of these words. An option is the word --name=value, or the word --name and its value behind it.
+-- The options with those of these words. An option is the word --name=value, or the word --name and its value behind it, or
+-- the flag.
 unfoldable pub options_said : Options → List (List ℕ) → Option Options
 options_said options [] = Some options
 options_said options (word ∷ []) = with_word options (long_of word) None
 options_said options (word ∷ value ∷ words) = option_and_then
-    (λ more. if has_value (long_of word) then options_said more (value ∷ words) else options_said more words)
+    (λ more. if stands_alone (long_of word) then options_said more (value ∷ words) else options_said more words)
     (with_word options (long_of word) (Some value))
 
--- the notation that the options name; a game is given where the notation is that of logs, and only there
+-- the notation of a name; logs are read and written under the game that is given
 abbrev pub notation_of_name : List ℕ → Option (List ℕ) → Option Notation
-notation_of_name name None =
+notation_of_name name game =
     if bytes_eq name (codes "phh") then Some Phh
     else if bytes_eq name (codes "ohh") then Some Ohh
     else if bytes_eq name (codes "ohh-to") then Some OhhTo
+    else if bytes_eq name (codes "acpc") then option_map Acpc game
     else None
-notation_of_name name (Some []) = None
-notation_of_name name (Some (first ∷ others)) = if bytes_eq name (codes "acpc") then Some (Acpc (first ∷ others)) else None
 
+-- the notation that is named, if one is
 abbrev pub notation_named : Option (List ℕ) → Option (List ℕ) → Option Notation
 notation_named None game = None
 notation_named (Some name) game = notation_of_name name game
 
--- what the word of a command asks for of hands in a notation; a game file is made of hands that have none
+-- the notation is that of logs
+abbrev pub is_logs : Notation → Bool
+is_logs (Acpc game) = true
+is_logs notation = false
+
+-- a game is given exactly where there are logs, and its name is not empty
+abbrev pub is_game_right : (logs : Bool) → (game : Option (List ℕ)) → Bool
+is_game_right logs None = not logs
+is_game_right logs (Some []) = false
+is_game_right logs (Some (first ∷ others)) = logs
+
+-- an option of what is read is given
+-- an option of what is written is given
+abbrev pub has_output : Options → Bool
+has_output options = is_some options.to || options.drops_notes
+
+-- an option of hands that are made is given
+abbrev pub has_number : Options → Bool
+has_number options = is_some options.seed || is_some options.hands
+
+-- the notation, where the game is given that it needs and no other
+abbrev pub under_game : Option (List ℕ) → Notation → Option Notation
+under_game game notation = if is_game_right (is_logs notation) game then Some notation else None
+
+-- the notation of the hands of a command that prints of them: it has the options of what is read alone
+abbrev pub input_said : Options → Option Notation
+input_said options =
+    if has_output options || has_number options then None
+    else option_and_then (under_game options.game) (notation_named options.from options.game)
+
+-- a game file is made of hands that have none
 abbrev pub game_asked : Notation → Option Request
 game_asked (Acpc game) = None
 game_asked notation = Some (Game notation)
 
-abbrev pub request_by : List ℕ → Notation → Option Request
-request_by word notation =
-    if bytes_eq word (codes "check") then Some (Show commands.Check notation)
-    else if bytes_eq word (codes "replay") then Some (Show commands.Replay notation)
-    else if bytes_eq word (codes "report") then Some (Show commands.Report notation)
-    else if bytes_eq word (codes "game") then game_asked notation
-    else None
+-- which notes are kept: those that have a spelling, where the flag stands
+abbrev pub keep_said : Bool → Keep
+keep_said drops_notes = if drops_notes then keeps.Spelled else keeps.All
 
--- what a command's word asks for with its options
-abbrev pub request_of : List ℕ → Option Options → Option Request
-request_of word None = None
-request_of word (Some options) = option_and_then (request_by word) (notation_named options.from options.game)
+-- hands of one notation are written in another, in logs under the game that is given
+abbrev pub conversion : Options → Option Notation → Option Notation → Option Request
+conversion options None to = None
+conversion options (Some from) None = None
+conversion options (Some from) (Some to) =
+    if is_game_right (is_logs from || is_logs to) options.game then Some (Convert from to (keep_said options.drops_notes)) else None
+
+-- what `convert` asks for: it has no option of hands that are made
+abbrev pub conversion_said : Options → Option Request
+conversion_said options =
+    if has_number options then None
+    else conversion options (notation_named options.from options.game) (notation_named options.to options.game)
+
+-- what the word of a command asks for with these options
+abbrev pub request_by : List ℕ → Options → Option Request
+request_by word options =
+    if bytes_eq word (codes "check") then option_map (Show commands.Check) (input_said options)
+    else if bytes_eq word (codes "replay") then option_map (Show commands.Replay) (input_said options)
+    else if bytes_eq word (codes "report") then option_map (Show commands.Report) (input_said options)
+    else if bytes_eq word (codes "game") then option_and_then game_asked (input_said options)
+    else if bytes_eq word (codes "convert") then conversion_said options
+    else None
 
 -- what words ask for, if they ask for something
 abbrev pub request_said : List (List ℕ) → Option Request
 request_said [] = None
-request_said (word ∷ words) = request_of word (options_said no_options words)
+request_said (word ∷ words) = option_and_then (request_by word) (options_said no_options words)

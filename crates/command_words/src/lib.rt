@@ -2,10 +2,12 @@
 #![tactic(auto)]
 
 mod command;
+mod notation;
 mod options;
 mod reading;
 mod request;
 
 pub use command::Command;
+pub use notation::Notation;
 pub use reading::read_words;
-pub use request::{Notation, Request};
+pub use request::{Keep, Request};

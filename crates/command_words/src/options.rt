@@ -2,31 +2,47 @@
 ghost use Rattle.std.specs.Prelude.{◌≡◌, option_map, map, string_bytes, not, is_some};
 ghost use Rattle.clap.specs.Lexer.{long_of, name_and_value, strip_byte};
 ghost use Rattle.command_words.specs.Requests.{options_in};
-ghost use Rattle.command_words.specs.Words.{no_options, options_said, with_option as with_option_said};
+ghost use Rattle.command_words.specs.Words.{no_options, options_said, with_flag as with_flag_said, with_option as with_option_said};
 
 /// The values of the options that are given.
 #[derive(Clone, Copy, Debug, PartialEq, Eq)]
 pub struct Options<'a> {
     /// The notation of the input.
     pub from: Option<&'a str>,
+    /// The notation of the output.
+    pub to: Option<&'a str>,
     /// The name of the game's file.
     pub game: Option<&'a str>,
+    /// The number that hands are made from.
+    pub seed: Option<&'a str>,
+    /// How many hands are made.
+    pub hands: Option<&'a str>,
+    /// Whether notes without a spelling are dropped.
+    pub drops_notes: bool,
 }
 
 /// The options that the words say, or `None` where one of them is none, or stands twice.
-#[tactic(auto, using(crate::proofs::Steps::behind_joined, crate::proofs::Steps::behind_apart), unfolding(crate::specs::Words::options_said))]
+#[tactic(auto, unfolding(crate::specs::Words::options_said))]
 pub fn read_options(words: &[String]) -> Option<Options<'_>>
     ensures { option_map options_in result ≡ options_said no_options (map string_bytes words.now) }
 {
     let mut options = Options {
         from: None,
+        to: None,
         game: None,
+        seed: None,
+        hands: None,
+        drops_notes: false,
     };
     let mut rest = words;
     while let Some((word, behind)) = rest.split_first() {
         match long_word(word.as_str())? {
             (name, Some(value)) => {
                 options = with_option(options, name, value)?;
+                rest = behind;
+            }
+            ("drop-notes", None) => {
+                options = with_flag(options)?;
                 rest = behind;
             }
             (name, None) => {
@@ -53,12 +69,37 @@ fn with_option<'a>(options: Options<'a>, name: &str, value: &'a str) -> Option<O
             from: value,
             ..options
         }),
+        "to" if options.to.is_none() => Some(Options {
+            to: value,
+            ..options
+        }),
         "game" if options.game.is_none() => Some(Options {
             game: value,
             ..options
         }),
+        "seed" if options.seed.is_none() => Some(Options {
+            seed: value,
+            ..options
+        }),
+        "hands" if options.hands.is_none() => Some(Options {
+            hands: value,
+            ..options
+        }),
         _ => None,
     }
+}
+
+// The options with the flag.
+fn with_flag<'a>(options: Options<'a>) -> Option<Options<'a>>
+    ensures { option_map options_in result ≡ with_flag_said (options_in options.entry) }
+{
+    if options.drops_notes {
+        return None;
+    }
+    Some(Options {
+        drops_notes: true,
+        ..options
+    })
 }
 
 // The name and the value of `--name` or `--name=value`.

@@ -1,13 +1,14 @@
 //! The words of a command are read by a parser of command lines.
-ghost use Rattle.std.specs.Prelude.{◌≡◌, map, option_map, string_bytes, IfOk, Ok, None, is_some, true};
-ghost use Rattle.clap.specs.Words.{found_of};
-ghost use Rattle.command_words.specs.Requests.{IsSaidBy, request_in};
-ghost use Rattle.command_words.specs.Words.{request_said};
+ghost use Rattle.std.specs.Prelude.{◌≡◌, map, option_map, string_bytes, IfOk, Ok, None, Some, is_some, true, false};
+ghost use Rattle.clap.specs.Simple.{new_rule};
+ghost use Rattle.clap.specs.Words.{found_of, rule_of};
+ghost use Rattle.command_words.specs.Requests.{AreFound, IsSaidBy, options_in, request_in};
+ghost use Rattle.command_words.specs.Words.{Options as OptionsSaid, request_said};
 
 use crate::options::{Options, read_options};
 use crate::request::{Request, request_of};
 use card_set::Memory;
-use clap::{Arg, ArgMatches};
+use clap::{Arg, ArgAction, ArgMatches};
 use std::alloc::Global;
 
 /// What the words ask for, or `None` where they ask for nothing. Only where they ask for something is
@@ -24,11 +25,7 @@ pub fn read_words<'a>(alloc: Global, words: &'a [String]) -> Result<Option<Reque
     let Some(word) = matches.get_str("command") else {
         return Ok(None);
     };
-    let options = Options {
-        from: matches.get_str("from"),
-        game: matches.get_str("game"),
-    };
-    Ok(request_of(word, options))
+    Ok(request_of(word, options_found(&matches)))
 }
 
 // What the words ask for, told without memory.
@@ -41,21 +38,47 @@ fn request_in_words(words: &[String]) -> Option<Request<'_>>
     request_of(word.as_str(), options)
 }
 
+// The options that the parser found.
+fn options_found<'a>(matches: &ArgMatches<'a>) -> Options<'a>
+    ensures { (options : OptionsSaid) → AreFound (found_of matches.now) options
+        → options_in result ≡ options }
+{
+    Options {
+        from: matches.get_str("from"),
+        to: matches.get_str("to"),
+        game: matches.get_str("game"),
+        seed: matches.get_str("seed"),
+        hands: matches.get_str("hands"),
+        drops_notes: matches.get_flag("drop-notes"),
+    }
+}
+
 // The words of a command, by the names of what they are. They are refused only for want of memory.
 fn parsed<'a>(alloc: Global, words: &'a [String]) -> Result<ArgMatches<'a>, Memory>
     requires { is_some (request_said (map string_bytes words.now)) ≡ true }
     ensures { IfOk result (λ matches. IsSaidBy (map string_bytes words.now) (found_of matches)) }
 {
     let command = Arg::new(alloc, "command");
-    let from = Arg::new(alloc, "from").long("from");
-    let game = Arg::new(alloc, "game").long("game");
+    let flag = option(alloc, "drop-notes").action(ArgAction::SetTrue);
     let handref = clap::Command::new(alloc, "handref")
         .no_binary_name(true)
         .arg(command)?
-        .arg(from)?
-        .arg(game)?;
+        .arg(option(alloc, "from"))?
+        .arg(option(alloc, "to"))?
+        .arg(option(alloc, "game"))?
+        .arg(option(alloc, "seed"))?
+        .arg(option(alloc, "hands"))?
+        .arg(flag)?;
     match handref.try_get_matches_from(words) {
         Ok(matches) => Ok(matches),
         Err(_) => Err(Memory),
     }
+}
+
+// An option of this name.
+fn option<'a>(alloc: Global, name: &'a str) -> Arg<'a>
+    ensures rule { rule_of result ≡ record (new_rule name.now) { long = Some name.now } }
+    ensures local { result.global ≡ false }
+{
+    Arg::new(alloc, name).long(name)
 }

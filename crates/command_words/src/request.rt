@@ -1,22 +1,19 @@
 //! A command's word and its options ask for something, or for nothing.
-ghost use Rattle.std.specs.Prelude.{◌≡◌, option_map, string_bytes};
+ghost use Rattle.std.specs.Prelude.{◌≡◌, option_map};
 ghost use Rattle.command_words.specs.Requests.{notation_in, options_in, request_in};
-ghost use Rattle.command_words.specs.Words.{game_asked, notation_named, notation_of_name, request_by as request_by_said, request_of as request_of_said};
+ghost use Rattle.command_words.specs.Words.{conversion_said, game_asked, has_number as has_number_said, has_output as has_output_said, input_said, keep_said, request_by};
 
 use crate::command::Command;
+use crate::notation::{Notation, is_game_right, notation_named};
 use crate::options::Options;
 
-/// A notation of hands.
+/// Which notes of a hand are kept.
 #[derive(Clone, Copy, Debug, PartialEq, Eq)]
-pub enum Notation<'a> {
-    /// The Poker Hand History format.
-    Phh,
-    /// Open Hand History, where a raise states the chips that it adds.
-    Ohh,
-    /// Open Hand History, where a raise states what it goes to.
-    OhhTo,
-    /// The logs of the Annual Computer Poker Competition, under the game of the file with this name.
-    Acpc { game: &'a str },
+pub enum Keep {
+    /// All of them.
+    All,
+    /// Those that have a spelling.
+    Spelled,
 }
 
 /// What the program is asked for.
@@ -26,48 +23,89 @@ pub enum Request<'a> {
     Show(Command, Notation<'a>),
     /// The game file that fits the first of hands in a notation, which is not that of logs.
     Game(Notation<'a>),
+    /// Hands of one notation in another, under the same game where both are logs.
+    Convert {
+        from: Notation<'a>,
+        to: Notation<'a>,
+        keep: Keep,
+    },
 }
 
 /// What a command's word asks for with these options, or `None` where that is no command.
 pub fn request_of<'a>(word: &str, options: Options<'a>) -> Option<Request<'a>>
-    ensures { option_map request_in result ≡ request_of_said word.now (Some (options_in options.entry)) }
+    ensures { option_map request_in result ≡ request_by word.now (options_in options.entry) }
 {
-    let notation = notation_named(options)?;
-    request_by(word, notation)
-}
-
-// The notation that the options name.
-fn notation_named(options: Options<'_>) -> Option<Notation<'_>>
-    ensures { option_map notation_in result
-        ≡ notation_named (options_in options.entry).from (options_in options.entry).game }
-{
-    let name = options.from?;
-    match options.game {
-        None => match name {
-            "phh" => Some(Notation::Phh),
-            "ohh" => Some(Notation::Ohh),
-            "ohh-to" => Some(Notation::OhhTo),
-            _ => None,
-        },
-        Some(game) => {
-            if name != "acpc" || game.is_empty() {
-                return None;
-            }
-            Some(Notation::Acpc { game })
-        }
-    }
-}
-
-// What a command's word asks for of hands in this notation.
-fn request_by<'a>(word: &str, notation: Notation<'a>) -> Option<Request<'a>>
-    ensures { option_map request_in result ≡ request_by_said word.now (notation_in notation.entry) }
-{
-    match (word, notation) {
-        ("check", _) => Some(Request::Show(Command::Check, notation)),
-        ("replay", _) => Some(Request::Show(Command::Replay, notation)),
-        ("report", _) => Some(Request::Show(Command::Report, notation)),
-        ("game", Notation::Acpc { .. }) => None,
-        ("game", _) => Some(Request::Game(notation)),
+    match word {
+        "check" => Some(Request::Show(Command::Check, input_of(options)?)),
+        "replay" => Some(Request::Show(Command::Replay, input_of(options)?)),
+        "report" => Some(Request::Show(Command::Report, input_of(options)?)),
+        "game" => game_file(input_of(options)?),
+        "convert" => conversion(options),
         _ => None,
     }
+}
+
+// The notation of the hands of a command that prints of them.
+fn input_of<'a>(options: Options<'a>) -> Option<Notation<'a>>
+    ensures { option_map notation_in result ≡ input_said (options_in options.entry) }
+{
+    if has_output(options) || has_number(options) {
+        return None;
+    }
+    let notation = notation_named(options.from, options.game)?;
+    if !is_game_right(notation.is_logs(), options.game) {
+        return None;
+    }
+    Some(notation)
+}
+
+// A game file is made of hands that have none.
+fn game_file<'a>(notation: Notation<'a>) -> Option<Request<'a>>
+    ensures { option_map request_in result ≡ game_asked (notation_in notation.entry) }
+{
+    if notation.is_logs() {
+        return None;
+    }
+    Some(Request::Game(notation))
+}
+
+// Hands of one notation are written in another.
+fn conversion<'a>(options: Options<'a>) -> Option<Request<'a>>
+    ensures { option_map request_in result ≡ conversion_said (options_in options.entry) }
+{
+    if has_number(options) {
+        return None;
+    }
+    let from = notation_named(options.from, options.game)?;
+    let to = notation_named(options.to, options.game)?;
+    if !is_game_right(from.is_logs() || to.is_logs(), options.game) {
+        return None;
+    }
+    let keep = keep_of(options.drops_notes);
+    Some(Request::Convert { from, to, keep })
+}
+
+// Which notes are kept, as the flag stands.
+fn keep_of(drops_notes: bool) -> Keep
+    ensures { result ≡ keep_said drops_notes }
+{
+    if drops_notes {
+        Keep::Spelled
+    } else {
+        Keep::All
+    }
+}
+
+// Whether an option of what is written is given.
+fn has_output(options: Options<'_>) -> bool
+    ensures { result ≡ has_output_said (options_in options.entry) }
+{
+    options.to.is_some() || options.drops_notes
+}
+
+// Whether an option of hands that are made is given.
+fn has_number(options: Options<'_>) -> bool
+    ensures { result ≡ has_number_said (options_in options.entry) }
+{
+    options.seed.is_some() || options.hands.is_some()
 }

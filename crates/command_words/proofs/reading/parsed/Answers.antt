@@ -1,16 +1,22 @@
 -- The parser is the one whose finds are known, and so are the words.
-use Rattle.std.proofs.Common.{rules, ap, ap₂, refl, sym, ◌≡◌, ◌∙◌, codes, true, is_some, map, string_bytes, List, [], ◌∷◌, Some, drop, option_map, slice_get}
+use Rattle.std.proofs.Common.{ap, ap₂, refl, sym, ◌≡◌, ◌∙◌, codes, true, is_some, map, string_bytes, List, [], ◌∷◌, Some, drop, slice_get}
 use Rattle.clap.specs.Simple.{app_of_fields}
-use Rattle.clap.specs.Words.{App, Text, app_of, first_of, found_of, is_simple, matches_of, new_app, rule_of, rows_of, with_rule}
-use Rattle.clap.proofs.WalkLemmas.{first_value-rows}
+use Rattle.clap.specs.Words.{App, Row, Text, app_of, first_of, found_of, is_simple, matches_of, new_rule, one_of, Rule, rule_of, rows_of, with_rule}
+use Rattle.clap.specs.declared.builder.action.ArgAction.TheVariants.{SetTrue}
+use Rattle.clap.specs.declared.builder.arg.Arg.{Arg}
+use Rattle.clap.proofs.WalkLemmas.{first_value-rows, one_text-rows}
 use Rattle.command_words.specs.Words.{Options, no_options, options_said, request_said}
 use Rattle.command_words.proofs.Asked.{is_asked}
-use Rattle.command_words.proofs.Parses.{IsFound, command_rule, finds, from_rule, game_rule, handref}
+use Rattle.command_words.proofs.Parses.{IsFound, finds, flag_rule, handref, handref_is_simple, rows_found, without_own_name}
 use Rattle.command_words.proofs.reading.parsed.Goals as goal
 
 -- a parser that is given all words, and none of them is its own name
-abbrev without_own_name : App → App
-without_own_name app = record app { top = record app.top { no_binary_name = true } }
+abbrev all_words : App → App
+all_words app = record app { top = record app.top { no_binary_name = true } }
+
+-- an argument that is a flag
+abbrev set_true : Rule → Rule
+set_true argument = record argument { action = Some SetTrue }
 
 -- what the parser finds in the words of a request
 record IsFoundIn (words : List Text) : Type 0 where
@@ -18,7 +24,7 @@ record IsFoundIn (words : List Text) : Type 0 where
   options : Options
   first : slice_get words 0 ≡ Some word
   said : options_said no_options (drop 1 words) ≡ Some options
-  found : IsFound word options (matches_of handref words)
+  found : IsFound word options (rows_found words)
 
 found_in : (words : List Text) → is_some (request_said words) ≡ true → IsFoundIn words
 found_in [] some = cc
@@ -32,25 +38,41 @@ found_in (word ∷ words) some =
       found = finds word words asked.options asked.plain asked.said;
     }
 
+-- the rows of that parser are those
+known : (app : App) (words : List Text) (rows : List Row) → app ≡ handref → (is_simple app ≡ true → rows ≡ matches_of app words) → rows ≡ rows_found words
+unfolding rows_found
+known app words rows same found = found (ap is_simple same ∙ handref_is_simple) ∙ ap (λ (some : App). matches_of some words) same
+
 pub returns-in-Ok : goal.returns-in-Ok
 returns-in-Ok c =
-    let command_is : rule_of c.new-command.result ≡ command_rule = search rules in
-    let from_is : rule_of c.long-from.result ≡ from_rule = search rules in
-    let game_is : rule_of c.long-game.result ≡ game_rule = search rules in
-    let named_is : app_of c.no_binary_name.result ≡ without_own_name (new_app (codes "handref")) =
-    ap app_of_fields c.no_binary_name.ensures ∙ ap without_own_name c.new-3.ensures.app in
-    let two : app_of c.in_ok-arg-2.field-0 ≡ with_rule (with_rule (without_own_name (new_app (codes "handref"))) command_rule) from_rule =
-    c.in_ok-arg-2.ensures.shape (search rules)
-    ∙ ap₂ with_rule (c.in_ok-arg.ensures.shape (search rules) ∙ ap₂ with_rule named_is command_is) from_is in
-    let handref_is : app_of c.in_ok-handref.handref ≡ handref = c.in_ok-handref.ensures.shape (search rules) ∙ ap₂ with_rule two game_is in
+    let command_is : rule_of c.new-command.result ≡ new_rule (codes "command") = c.new-command.ensures.rule in
+    let flag_is : rule_of c.action-flag.result ≡ flag_rule = ap rule_of c.action-flag.ensures ∙ ap set_true c.option.ensures.rule in
+    let named_is : app_of c.no_binary_name.result ≡ without_own_name =
+    ap app_of_fields c.no_binary_name.ensures ∙ ap all_words c.new.ensures.app in
+    let one = c.in_ok-arg.ensures.shape c.new-command.ensures.optional.1 ∙ ap₂ with_rule named_is command_is in
+    let two = c.in_ok-arg-2.ensures.shape c.option-2.ensures.local ∙ ap₂ with_rule one c.option-2.ensures.rule in
+    let three = c.in_ok-arg-3.ensures.shape c.option-3.ensures.local ∙ ap₂ with_rule two c.option-3.ensures.rule in
+    let four = c.in_ok-arg-4.ensures.shape c.option-4.ensures.local ∙ ap₂ with_rule three c.option-4.ensures.rule in
+    let five = c.in_ok-arg-5.ensures.shape c.option-5.ensures.local ∙ ap₂ with_rule four c.option-5.ensures.rule in
+    let six = c.in_ok-arg-6.ensures.shape c.option-6.ensures.local ∙ ap₂ with_rule five c.option-6.ensures.rule in
+    let handref_is : app_of c.in_ok-handref.handref ≡ handref = c.in_ok-handref.ensures.shape (ap (λ (argument : Arg). argument.global) c.action-flag.ensures ∙ c.option.ensures.local)
+    ∙ ap₂ with_rule six flag_is in
     let words : List Text = map string_bytes c.args.words.now in
     let found = found_of c.in-Ok.matches in
-    let rows : rows_of found ≡ matches_of handref words =
-    (c.in-Ok.ensures.matches (ap is_simple handref_is)).0 ∙ ap (λ (app : App). matches_of app words) handref_is in
+    let rows : rows_of found ≡ rows_found words =
+    known (app_of c.in_ok-handref.handref) words (rows_of found) handref_is (λ simple. (c.in-Ok.ensures.matches simple).0) in
     let of_words = found_in words c.requires in
     let value = λ (name : Text). first_value-rows found name ∙ ap (first_of name) rows in
     record {
       command = value (codes "command") ∙ of_words.found.command ∙ sym of_words.first;
-      from = ap (option_map (λ (options : Options). options.from)) of_words.said ∙ sym (ap Some (value (codes "from") ∙ of_words.found.from));
-      game = ap (option_map (λ (options : Options). options.game)) of_words.said ∙ sym (ap Some (value (codes "game") ∙ of_words.found.game));
+      options = of_words.options;
+      given = of_words.said;
+      values = record {
+        from = value (codes "from") ∙ of_words.found.from;
+        to = value (codes "to") ∙ of_words.found.to;
+        game = value (codes "game") ∙ of_words.found.game;
+        seed = value (codes "seed") ∙ of_words.found.seed;
+        hands = value (codes "hands") ∙ of_words.found.hands;
+        flag = one_text-rows found (codes "drop-notes") ∙ ap (one_of (codes "drop-notes")) rows ∙ of_words.found.flag;
+      };
     }

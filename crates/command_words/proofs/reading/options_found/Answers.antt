@@ -1,0 +1,21 @@
+-- The getters give what was found.
+use Rattle.std.proofs.Common.{◌≡◌, ◌∙◌, Bool, true, false, codes, Some, refl}
+use Rattle.clap.specs.Words.{found_of}
+use Rattle.clap.specs.Matches.{one_text}
+use Rattle.command_words.specs.Requests.{flag_text}
+use Rattle.command_words.proofs.reading.options_found.Goals as goal
+
+pub returns : goal.returns
+returns c options found =
+    rw (
+      c.get_str.ensures ∙ found.from,
+      c.get_str-2.ensures ∙ found.to,
+      c.get_str-3.ensures ∙ found.game,
+      c.get_str-4.ensures ∙ found.seed,
+      c.get_str-5.ensures ∙ found.hands,
+      flag options.drops_notes found.flag,
+    ) refl
+  where
+    flag : (b : Bool) → one_text (found_of c.args.matches.now) (codes "drop-notes") ≡ Some (flag_text b) → c.get_flag.result ≡ b
+    flag true e = c.get_flag.ensures.value e
+    flag false e = c.get_flag.ensures.other e
