@@ -1,5 +1,5 @@
--- Records of one game that are read alike from logs say the same of their plays, and a file says one game.
-use Rattle.std.proofs.Common.{◌≡◌, ℕ, ◌+◌, ◌-◌, ◌<◌, ◌≤◌, Bool, true, false, ℤ, pos, List, [], ◌∷◌, map, length, get_or, slice_index, slice_index_or, Option, Some, None, is_some, refl, sym, subst, ap, ◌∙◌, inl, inr, arith}
+-- Records of one game that are read alike from logs say the same of their plays and have the same notes, and a file says one game.
+use Rattle.std.proofs.Common.{◌≡◌, ℕ, ◌+◌, ◌-◌, ◌≤◌, Bool, true, false, ℤ, pos, List, [], ◌∷◌, map, length, take, get_or, slice_index, slice_index_or, Option, Some, None, is_some, refl, sym, subst, ap, ◌∙◌, inl, inr, arith}
 use Rattle.std.specs.List.{AllByRecursion}
 use Rattle.std.specs.Option.{option_map_or}
 use Rattle.std.proofs.Props.{props}
@@ -11,6 +11,7 @@ use Rattle.chip_ledger.specs.Greatest.{greatest}
 use Rattle.chip_ledger.proofs.Same.{seat_row_same_by_seats}
 use Rattle.play_event.specs.declared.code.Code.{Code}
 use Rattle.play_event.specs.declared.setup.Setup.{Setup}
+use Rattle.hand_records.specs.declared.notes.Notes.{Notes}
 use Rattle.hand_records.specs.declared.record.NetRow.{NetRow}
 use Rattle.hand_records.specs.declared.record.Record.{Record}
 use Rattle.hand_records.specs.declared.record.Stated.{Stated}
@@ -19,9 +20,10 @@ use Rattle.acpc_game.specs.GameFile.{GameSaid, has_short_stack, is_reversed}
 use Rattle.acpc_game.specs.GameView.{game_in}
 use Rattle.acpc_game.specs.Games.{amounts_in, are_chips, has_fitting_sizes}
 use Rattle.acpc_reading.specs.Logs.{HandSaid}
-use Rattle.acpc_reading.specs.RecordView.{IsOfGame, IsSetupOf, StatesValues, record_said}
+use Rattle.acpc_reading.specs.RecordView.{IsOfGame, IsSetupOf, NotesNames, StatesValues, record_said}
 use Rattle.acpc_reading.specs.Views.{nets_in}
-use Rattle.poker_cli.proofs.AlikeRecords.{AllAlike, AreAlike, one_rakes, one_script}
+use Rattle.phh_fields.specs.NoteFields.{PlainNotes, plain_notes}
+use Rattle.poker_cli.proofs.AlikeRecords.{AllAlike, AreAlike, one_rakes, one_script, sound_alike}
 
 -- the setups of a game
 setup_from : Code → SeatRow → SeatRow → Bool → SeatRow → ℕ → ℕ → ℕ → ℕ → RakeRow → Setup
@@ -129,13 +131,38 @@ one_stated a b is it same =
       values_same a.values b.values is.values it.values same,
     )
 
-one_name : (a b : Record) → a.setup ≡ b.setup → record_said a ≡ record_said b → (index : ℕ) → index < a.setup.stacks.seats
-    → slice_index_or a.notes.names index None ≡ slice_index_or b.notes.names index None
-one_name a b setup same index within =
-    let count : a.setup.stacks.seats ≡ b.setup.stacks.seats = ap (λ (s : Setup). s.stacks.seats) setup in
-    sym (get_or-take a.setup.stacks.seats a.notes.names index None within)
-    ∙ ap (λ (hand : HandSaid). get_or hand.names index None) same
-    ∙ get_or-take b.setup.stacks.seats b.notes.names index None (omega (arith, within, count))
+-- notes that name players and a hand alone are one where these are
+notes_from : List (Option (List ℕ)) → Option (List ℕ) → PlainNotes
+notes_from names hand =
+    record {
+      seating = record { names = names; seats = None; seat_count = None };
+      labels = record { hand = hand; table = None; venue = None; currency = None };
+      day = record { year = None; month = None; day = None };
+      time = None;
+      zone = None;
+    }
+
+named_notes : (count : ℕ) (notes : Notes) → NotesNames notes → plain_notes count notes ≡ notes_from (take count notes.names) notes.hand
+unfolding notes_from
+named_notes count notes is =
+    let seats = is.seats in
+    let seat_count = is.seat_count in
+    let table = is.table in
+    let venue = is.venue in
+    let currency = is.currency in
+    let year = is.year in
+    let month = is.month in
+    let day = is.day in
+    let time = is.time in
+    let zone = is.zone in
+    cc (seats, seat_count, table, venue, currency, year, month, day, time, zone)
+
+one_notes : (a b : Record) → NotesNames a.notes → NotesNames b.notes → record_said a ≡ record_said b
+    → plain_notes a.setup.stacks.seats a.notes ≡ plain_notes b.setup.stacks.seats b.notes
+one_notes a b is it same =
+    named_notes a.setup.stacks.seats a.notes is
+    ∙ ap (λ (hand : HandSaid). notes_from hand.names hand.hand) same
+    ∙ sym (named_notes b.setup.stacks.seats b.notes it)
 
 -- two hands of one game that are said alike
 said_alike : (game : Game) (a b : Record) → IsOfGame game a → IsOfGame game b → record_said a ≡ record_said b → AreAlike a b
@@ -148,7 +175,7 @@ said_alike game a b is it same =
         script = one_script a b (ap (λ (hand : HandSaid). hand.events) same);
         stated = one_stated a.stated b.stated is.stated it.stated (ap (λ (hand : HandSaid). hand.values) same);
       };
-      names = one_name a b setup same;
+      notes = sound_alike a b setup is.sound it.sound (one_notes a b is.notes it.notes same);
     }
 
 pub logs_alike : (game : Game) (records others : List Record) → AllByRecursion (IsOfGame game) records → AllByRecursion (IsOfGame game) others

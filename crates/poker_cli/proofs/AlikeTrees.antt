@@ -1,15 +1,20 @@
--- Records that are read alike from Open Hand History say the same of their plays, and name their players alike.
-use Rattle.std.proofs.Common.{◌≡◌, ℕ, ◌<◌, List, [], ◌∷◌, map, length, get_or, slice_index_or, Option, None, option_map, sym, ap, ◌∙◌, arith}
-use Rattle.std.proofs.lemmas.List.{get_or-take, length-take-le}
+-- Records that are read alike from Open Hand History say the same of their plays, and have the same notes.
+use Rattle.std.proofs.Common.{◌≡◌, ℕ, List, [], ◌∷◌, map, length, Option, option_map, sym, ap, ◌∙◌, arith}
+use Rattle.std.specs.List.{AllByRecursion}
+use Rattle.std.proofs.lemmas.List.{length-take-le}
 use Rattle.chip_ledger.specs.declared.rows.SeatRow.{SeatRow}
 use Rattle.hand_records.specs.declared.record.Record.{Record}
 use Rattle.hand_records.specs.declared.record.Stated.{Stated}
+use Rattle.hand_records.specs.SoundRecord.{IsSoundRecord}
+use Rattle.ohh_facts.specs.Notes.{PlainNotes}
 use Rattle.ohh_members.specs.Front.{amounts_in}
 use Rattle.ohh_reading.specs.Hand.{PlainHand, plain}
+use Rattle.ohh_reading.specs.Reading.{IsHistory}
 use Rattle.phh_fields.specs.NoteFields.{plain_notes}
+use Rattle.phh_fields.specs.NoteFields as histories_notes
 use Rattle.phh_reading.specs.Hand as histories
 use Rattle.phh_reading.proofs.SamePlay.{same_setup, same_stated}
-use Rattle.poker_cli.proofs.AlikeRecords.{AllAlike, AreAlike, one_script}
+use Rattle.poker_cli.proofs.AlikeRecords.{AllAlike, AreAlike, one_script, sound_alike}
 
 -- the hand of a history that is that of a record, but for the setup and the count of names
 with_setup : Record → ℕ → PlainHand → histories.PlainHand
@@ -65,17 +70,25 @@ one_stated a b same =
     ∙ ap (λ number. stated_from b.stated.finish b.stated.wins (record a.stated { pot_total = number })) total
     ∙ ap (λ nets. stated_from b.stated.finish b.stated.wins (record b.stated { values = nets })) values
 
-one_name : (a b : Record) → plain a ≡ plain b → (index : ℕ) → index < a.setup.stacks.seats
-    → slice_index_or a.notes.names index None ≡ slice_index_or b.notes.names index None
-one_name a b same index within =
-    let count : a.setup.stacks.seats ≡ b.setup.stacks.seats = one_count a b same in
-    sym (get_or-take a.setup.stacks.seats a.notes.names index None within)
-    ∙ ap (λ (hand : PlainHand). get_or hand.notes.names index None) same
-    ∙ get_or-take b.setup.stacks.seats b.notes.names index None (omega (arith, within, count))
+-- the notes as those of histories
+notes_from : PlainNotes → histories_notes.PlainNotes
+notes_from notes =
+    record {
+      seating = record { names = notes.names; seats = notes.seats; seat_count = notes.seat_count };
+      labels = record { hand = notes.hand; table = notes.table; venue = notes.venue; currency = notes.currency };
+      day = record { year = notes.year; month = notes.month; day = notes.day };
+      time = notes.time;
+      zone = notes.zone;
+    }
+
+one_notes : (a b : Record) → plain a ≡ plain b
+    → histories_notes.plain_notes a.setup.stacks.seats a.notes ≡ histories_notes.plain_notes b.setup.stacks.seats b.notes
+unfolding notes_from
+one_notes a b same = ap (λ (hand : PlainHand). notes_from hand.notes) same
 
 -- records with the same plain hands are alike
-plain_alike : (a b : Record) → plain a ≡ plain b → AreAlike a b
-plain_alike a b same =
+plain_alike : (a b : Record) → IsSoundRecord a → IsSoundRecord b → plain a ≡ plain b → AreAlike a b
+plain_alike a b is it same =
     record {
       same = record {
         setup = one_setup a b same;
@@ -83,12 +96,14 @@ plain_alike a b same =
         script = one_script a b (ap (λ (hand : PlainHand). hand.script) same);
         stated = one_stated a b same;
       };
-      names = one_name a b same;
+      notes = sound_alike a b (one_setup a b same) is it (one_notes a b same);
     }
 
-pub trees_alike : (records others : List Record) → map plain records ≡ map plain others → AllAlike records others
+pub trees_alike : (records others : List Record) → AllByRecursion IsHistory records → AllByRecursion IsHistory others
+    → map plain records ≡ map plain others → AllAlike records others
 unfolding AllAlike
-trees_alike [] [] same = tt
-trees_alike [] (b ∷ others) same = absurd (cc)
-trees_alike (a ∷ rest) [] same = absurd (cc)
-trees_alike (a ∷ rest) (b ∷ others) same = (plain_alike a b (cc), trees_alike rest others (cc))
+trees_alike [] [] all each same = tt
+trees_alike [] (b ∷ others) all each same = absurd (cc)
+trees_alike (a ∷ rest) [] all each same = absurd (cc)
+trees_alike (a ∷ rest) (b ∷ others) all each same =
+    (plain_alike a b all.0.sound each.0.sound (cc), trees_alike rest others all.1 each.1 (cc))

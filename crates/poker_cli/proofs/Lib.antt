@@ -4,4 +4,6 @@ mod HandByHand
 mod AlikeRecords
 mod AlikeTrees
 mod AlikeLogs
+mod AlikeNotes
+mod AlikeOutputs
 mod OneAnswer

@@ -1,16 +1,21 @@
 -- An input has one answer, and none is refused whose hands are all legal.
-use Rattle.std.proofs.Common.{◌≡◌, ◌⊎◌, ℕ, ◌+◌, ◌-◌, ◌<◌, ◌≤◌, zero, suc, All, List, [], ◌∷◌, ◌++◌, length, map, Option, Some, Ok, refl, sym, subst, ap, ap₂, ◌∙◌, inl, inr, arith}
+use Rattle.std.proofs.Common.{◌≡◌, ◌⊎◌, ℕ, ◌+◌, ◌-◌, ◌<◌, ◌≤◌, suc, All, List, [], ◌∷◌, ◌++◌, length, map, Option, Some, None, Ok, refl, sym, subst, ap, ap₂, ◌∙◌, inl, inr, arith}
 use Rattle.std.specs.List.{range_with_len}
+use Rattle.toml.specs.Parse.{parse_document}
 use Rattle.std.specs.Option.{unwrap_or}
 use Rattle.std.proofs.lemmas.List.Elements.{All-head, All-tail}
 use Rattle.std.proofs.lemmas.Option.{same_Some}
 use Rattle.acpc_game.specs.declared.game.Game.{Game as AnyGame}
 use Rattle.acpc_game.specs.GameFile.{game_said}
 use Rattle.acpc_game.specs.GameView.{game_in}
-use Rattle.command_words.specs.Words.{Acpc, Game, Notation, Ohh, OhhTo, Phh, Request, Show}
+use Rattle.command_words.specs.Words.{Convert, Game, Notation, Request, Show}
 use Rattle.command_words.specs.declared.command.Command.{Command}
 use Rattle.command_words.specs.declared.command.Command.TheVariants as commands
+use Rattle.command_words.specs.declared.request.Keep.{Keep as KeepAsked}
 use Rattle.hand_records.specs.declared.record.Record.{Record}
+use Rattle.hand_records.specs.declared.writing.Keep.{Keep}
+use Rattle.hand_records.specs.declared.writing.Unspelled.{Unspelled}
+use Rattle.hand_records.specs.declared.writing.WriteRefusal.TheVariants as refusals
 use Rattle.hand_records.specs.declared.trace.Play.{Play}
 use Rattle.hand_records.specs.declared.trace.Trace.{Trace}
 use Rattle.hand_records.specs.AllowedNotes.{default_name}
@@ -24,9 +29,12 @@ use Rattle.convert_core.specs.Judged.{ArePlaysOf}
 use Rattle.convert_core.specs.SameRecords.{SayTheSame}
 use Rattle.convert_core.proofs.OneOutcome.{AllTraced, no_plays, same_refused, same_traces}
 use Rattle.convert_core.proofs.JudgedPlays.{hands_of}
-use Rattle.poker_cli.specs.Answer.{Answer, Files, GivesGame, GivesNoGame, IsAnswer, IsAnswerIn, IsAnswerTo, done, most_input, notation_of, reader_of, task_of, text_of, to_fault, to_first_game, to_plays, to_refusal}
+use Rattle.poker_cli.specs.Answer.{Answer, Files, GivesGame, GivesNoGame, IsAnswer, IsAnswerIn, IsAnswerTo, IsConversion, IsMadeOf, IsWay, done, most_input, text_of, to_excess, to_fault, to_first_game, to_refusal, to_unspelled}
 use Rattle.poker_cli.specs.Answer as answers
 use Rattle.poker_cli.specs.Inputs.{Fault, HaveFault, InHistory, InLog, InTree, SayRecords}
+use Rattle.poker_cli.specs.OneAnswer.{AreOneAnswer}
+use Rattle.poker_cli.specs.Outputs.{SpellPlays, first_refusal_in}
+use Rattle.poker_cli.specs.Ways.{game_name, kept, way, way_of}
 use Rattle.poker_cli.specs.Run.{Ends, IsGameMissing, RefusesNothing, Sinks}
 use Rattle.poker_cli.specs.declared.status.Status.{Status}
 use Rattle.poker_cli.specs.declared.status.Status.TheVariants as statuses
@@ -34,7 +42,10 @@ use Rattle.poker_cli.specs.declared.task.Reader.{Reader}
 use Rattle.poker_cli.specs.declared.task.Reader.TheVariants as readers
 use Rattle.poker_cli.specs.declared.task.Task.{Task}
 use Rattle.poker_cli.specs.declared.task.Task.TheVariants as tasks
-use Rattle.poker_cli.proofs.AlikeRecords.{AllAlike, AreAlike, all_the_same, all_turned, histories_alike}
+use Rattle.poker_cli.specs.declared.task.Way.{Way}
+use Rattle.poker_cli.proofs.AlikeNotes.{same_range}
+use Rattle.poker_cli.proofs.AlikeOutputs.{PlaysAlike, document_same, lines_same, log_same, plays_alike, refusal_same}
+use Rattle.poker_cli.proofs.AlikeRecords.{AllAlike, AreAlike, alike_name, all_the_same, all_turned, histories_alike}
 use Rattle.poker_cli.proofs.AlikeTrees.{trees_alike}
 use Rattle.poker_cli.proofs.AlikeLogs.{logs_alike, one_game}
 
@@ -65,18 +76,11 @@ same_replay_lines number p q traced same =
     ∙ ap (λ (script : List Event). replay_lines number (record { hand = record q.hand { script = script }; trace = q.trace })) same.script
 
 -- what a report takes of a hand
-same_range : {X : Type 0} (f g : ℕ → X) (first count : ℕ) → ((n : ℕ) → first ≤ n → n < first + count → f n ≡ g n)
-    → map f (range_with_len first count) ≡ map g (range_with_len first count)
-same_range f g first zero each = refl
-same_range f g first (suc count) each =
-    ap₂ (λ x xs. x ∷ xs) (each first (omega arith) (omega arith))
-    (same_range f g (first + 1) count (λ n least most. each n (omega (arith, least)) (omega (arith, most))))
-
 same_seated : (p q : Play) → p.trace ≡ q.trace → AreAlike p.hand q.hand
     → (seat : ℕ) → 1 ≤ seat → seat < 1 + p.hand.setup.stacks.seats → seated_in p seat ≡ seated_in q seat
 same_seated p q traced alike seat first last =
     ap₂ (λ (name : List ℕ) (trace : Trace). record (seated_in (record p { trace = trace }) seat) { name = name })
-    (ap (λ name. unwrap_or name (default_name seat)) (alike.names (seat - 1) (omega (arith, first, last)))) traced
+    (ap (λ name. unwrap_or name (default_name seat)) (alike_name p.hand.setup.stacks.seats p.hand.notes q.hand.notes alike.notes (seat - 1) (omega (arith, first, last)))) traced
 
 same_hand : (p q : Play) → p.trace ≡ q.trace → p.trace.setup ≡ p.hand.setup → AreAlike p.hand q.hand → hand_of p ≡ hand_of q
 same_hand p q traced own alike =
@@ -115,26 +119,75 @@ same_game [] (q ∷ qs) traced = absurd traced
 same_game (p ∷ ps) [] traced = absurd traced
 same_game (p ∷ ps) (q ∷ qs) traced = ap (λ (trace : Trace). to_first_game (record q { trace = trace } ∷ [])) traced.0.0
 
+-- the same answer is one
+one_itself : (task : Task) (answer other : Answer) → answer ≡ other → AreOneAnswer task answer other
+one_itself (tasks.Show command) answer other same = same
+one_itself tasks.GameFile answer other same = same
+one_itself (tasks.Convert (readers.Ohh dialect) keep) answer other same = same
+one_itself (tasks.Convert (readers.Acpc game) keep) answer other same = same
+one_itself (tasks.Convert readers.Phh keep) answer other same =
+    record {
+      status = ap (λ (a : Answer). a.status) same;
+      line = ap (λ (a : Answer). a.line) same;
+      document = ap (λ (a : Answer). parse_document a.output) same;
+    }
+
+-- the same plays are written as one output
+one_output : (to : Reader) (keep : Keep) (ps qs : List Play) (bytes others : List ℕ) → PlaysAlike ps qs
+    → SpellPlays to ps bytes → SpellPlays to qs others → AreOneAnswer (tasks.Convert to keep) (done bytes) (done others)
+one_output readers.Phh keep ps qs bytes others alike spell too =
+    record {
+      status = refl;
+      line = refl;
+      document = spell.document.table ∙ ap Some (document_same ps qs alike) ∙ sym too.document.table;
+    }
+one_output (readers.Ohh dialect) keep ps qs bytes others alike spell too = ap done (spell.lines ∙ lines_same dialect ps qs alike ∙ sym too.lines)
+one_output (readers.Acpc game) keep ps qs bytes others alike spell too = ap done (spell.lines ∙ log_same game.no_limit ps qs alike ∙ sym too.lines)
+
+refusals_same : (number count : ℕ) (fact other : Unspelled) → refusals.Unspelled number fact ≡ refusals.Unspelled count other
+    → to_unspelled number fact ≡ to_unspelled count other
+refusals_same number count fact other same = ap₂ to_unspelled (cc) (cc)
+
+one_conversion : (to : Reader) (keep : Keep) (ps qs : List Play) (answer other : Answer) → PlaysAlike ps qs
+    → IsConversion to keep ps answer → IsConversion to keep qs other → AreOneAnswer (tasks.Convert to keep) answer other
+one_conversion to keep ps qs _ _ alike (answers.NotSpelled number fact is) (answers.NotSpelled count more it) =
+    one_itself (tasks.Convert to keep) (to_unspelled number fact) (to_unspelled count more)
+    (refusals_same number count fact more
+    (same_Some (refusals.Unspelled number fact) (refusals.Unspelled count more) (sym is ∙ refusal_same to keep ps qs alike ∙ it)))
+one_conversion to keep ps qs _ _ alike (answers.NotSpelled number fact is) (answers.Spelled none bytes spell) =
+    let same = sym is ∙ refusal_same to keep ps qs alike ∙ none in absurd (cc (same))
+one_conversion to keep ps qs _ _ alike (answers.Spelled none bytes spell) (answers.NotSpelled number fact is) =
+    let same = sym is ∙ sym (refusal_same to keep ps qs alike) ∙ none in absurd (cc (same))
+one_conversion to keep ps qs _ _ alike (answers.Spelled none bytes spell) (answers.Spelled too others it) =
+    one_output to keep ps qs bytes others alike spell it
+
 -- what is made of hands
-same_plays : (task : Task) (ps qs : List Play) → All IsJudged ps → AllTraced ps qs → AllAlike (hands_of ps) (hands_of qs)
-    → to_plays task ps ≡ to_plays task qs
-same_plays (tasks.Show command) ps qs judged traced alike = ap done (same_text command ps qs judged traced alike)
-same_plays tasks.GameFile ps qs judged traced alike = same_game ps qs traced
+one_made : (task : Task) (ps qs : List Play) (answer other : Answer) → All IsJudged ps → AllTraced ps qs → AllAlike (hands_of ps) (hands_of qs)
+    → IsMadeOf task ps answer → IsMadeOf task qs other → AreOneAnswer task answer other
+one_made (tasks.Show command) ps qs answer other judged traced alike is it = is ∙ ap done (same_text command ps qs judged traced alike) ∙ sym it
+one_made tasks.GameFile ps qs answer other judged traced alike is it = is ∙ same_game ps qs traced ∙ sym it
+one_made (tasks.Convert to keep) ps qs answer other judged traced alike is it =
+    one_conversion to keep ps qs answer other (plays_alike ps qs judged traced alike) is it
+
+-- the hands of plays are alike where their records are
+alike_hands : (records others : List Record) (ps qs : List Play) → AllAlike records others → ArePlaysOf records ps → ArePlaysOf others qs
+    → AllAlike (hands_of ps) (hands_of qs)
+alike_hands records others ps qs alike are is =
+    subst (λ (hands : List Record). AllAlike hands (hands_of qs)) (sym are.same) (subst (AllAlike records) (sym is.same) alike)
 
 -- the answer to records that are alike
 same_answer : (task : Task) (records others : List Record) (answer other : Answer) → AllAlike records others
-    → IsAnswerTo task records answer → IsAnswerTo task others other → answer ≡ other
+    → IsAnswerTo task records answer → IsAnswerTo task others other → AreOneAnswer task answer other
 same_answer task records others _ _ alike (answers.Refused number why first) (answers.Refused count reason next) =
     let one = same_refused records others number count why reason (all_the_same records others alike) first next in
-    ap₂ to_refusal one.0 one.1
-same_answer task records others _ _ alike (answers.Refused number why first) (answers.Played plays are) =
+    one_itself task (to_refusal number why) (to_refusal count reason) (ap₂ to_refusal one.0 one.1)
+same_answer task records others _ _ alike (answers.Refused number why first) (answers.Played plays are answer is) =
     absurd (no_plays records others number why plays (all_the_same records others alike) first are)
-same_answer task records others _ _ alike (answers.Played plays are) (answers.Refused number why first) =
+same_answer task records others _ _ alike (answers.Played plays are answer is) (answers.Refused number why first) =
     absurd (no_plays others records number why plays (all_turned records others (all_the_same records others alike)) first are)
-same_answer task records others _ _ alike (answers.Played plays are) (answers.Played too is) =
-    let read : AllAlike (hands_of plays) (hands_of too) =
-    subst (λ (hands : List Record). AllAlike hands (hands_of too)) (sym are.same) (subst (AllAlike records) (sym is.same) alike) in
-    same_plays task plays too are.judged (same_traces records others plays too (all_the_same records others alike) are is) read
+same_answer task records others _ _ alike (answers.Played plays are answer made) (answers.Played too is other makes) =
+    one_made task plays too answer other are.judged (same_traces records others plays too (all_the_same records others alike) are is)
+    (alike_hands records others plays too alike are is) made makes
 
 -- bytes have one first fault
 one_fault : (reader : Reader) (bytes : List ℕ) (fault other : Fault) → HaveFault reader bytes fault → HaveFault reader bytes other → fault ≡ other
@@ -148,50 +201,94 @@ one_fault reader bytes fault other is it = absurd is
 
 -- bytes with a fault say no records
 no_records : (reader : Reader) (bytes : List ℕ) (fault : Fault) (records : List Record) → HaveFault reader bytes fault → SayRecords reader bytes records → ⊥
-no_records readers.Phh bytes (InHistory wrong) records is it = cc
-no_records (readers.Ohh dialect) bytes (InTree wrong) records is it = cc
+no_records readers.Phh bytes (InHistory wrong) records is it = let says = it.0 in cc
+no_records (readers.Ohh dialect) bytes (InTree wrong) records is it = let says = it.0 in cc
 no_records (readers.Acpc game) bytes (InLog wrong) records is it = let says = it.0 in cc
 no_records reader bytes fault records is it = is
 
 -- the records of bytes are alike
-ReadAlike : Reader → List ℕ → Type 0
-ReadAlike reader bytes = (records others : List Record) → SayRecords reader bytes records → SayRecords reader bytes others → AllAlike records others
+SayAlike : Reader → List ℕ → Type 0
+SayAlike reader bytes = (records others : List Record) → SayRecords reader bytes records → SayRecords reader bytes others → AllAlike records others
 
 -- so the bytes have one answer
-same_reading : (task : Task) (reader : Reader) (bytes : List ℕ) (answer other : Answer) → ReadAlike reader bytes
-    → IsAnswer task reader bytes answer → IsAnswer task reader bytes other → answer ≡ other
-unfolding ReadAlike
-same_reading task reader bytes _ _ alike (answers.TooLong many) (answers.TooLong too) = refl
+same_reading : (task : Task) (reader : Reader) (bytes : List ℕ) (answer other : Answer) → SayAlike reader bytes
+    → IsAnswer task reader bytes answer → IsAnswer task reader bytes other → AreOneAnswer task answer other
+unfolding SayAlike
+same_reading task reader bytes _ _ alike (answers.TooLong many) (answers.TooLong too) = one_itself task to_excess to_excess refl
 same_reading task reader bytes _ _ alike (answers.TooLong many) (answers.Unread few fault is) = absurd (omega (arith, many, few))
 same_reading task reader bytes _ _ alike (answers.TooLong many) (answers.Read few records is other to) = absurd (omega (arith, many, few))
 same_reading task reader bytes _ _ alike (answers.Unread few fault is) (answers.TooLong many) = absurd (omega (arith, many, few))
-same_reading task reader bytes _ _ alike (answers.Unread few fault is) (answers.Unread less found it) = ap to_fault (one_fault reader bytes fault found is it)
+same_reading task reader bytes _ _ alike (answers.Unread few fault is) (answers.Unread less found it) =
+    one_itself task (to_fault fault) (to_fault found) (ap to_fault (one_fault reader bytes fault found is it))
 same_reading task reader bytes _ _ alike (answers.Unread few fault is) (answers.Read less records it other to) = absurd (no_records reader bytes fault records is it)
 same_reading task reader bytes _ _ alike (answers.Read few records is answer to) (answers.TooLong many) = absurd (omega (arith, many, few))
 same_reading task reader bytes _ _ alike (answers.Read few records is answer to) (answers.Unread less fault it) = absurd (no_records reader bytes fault records it is)
 same_reading task reader bytes _ _ alike (answers.Read few records is answer to) (answers.Read less others it other from) =
     same_answer task records others answer other (alike records others is it) to from
 
-read_alike : (reader : Reader) (bytes : List ℕ) → ReadAlike reader bytes
-unfolding ReadAlike
-read_alike readers.Phh bytes records others is it = histories_alike records others (cc (is, it))
-read_alike (readers.Ohh dialect) bytes records others is it = trees_alike records others (cc (is, it))
+read_alike : (reader : Reader) (bytes : List ℕ) → SayAlike reader bytes
+unfolding SayAlike
+read_alike readers.Phh bytes records others is it =
+    let says = is.0 in
+    let too = it.0 in
+    histories_alike records others is.1 it.1 (cc (says, too))
+read_alike (readers.Ohh dialect) bytes records others is it =
+    let says = is.0 in
+    let too = it.0 in
+    trees_alike records others is.1 it.1 (cc (says, too))
 read_alike (readers.Acpc game) bytes records others is it =
     let says = is.0 in
     let too = it.0 in
     logs_alike game records others is.1 it.1 (cc (says, too))
 
 pub one_answer : (task : Task) (reader : Reader) (bytes : List ℕ) (answer other : Answer)
-    → IsAnswer task reader bytes answer → IsAnswer task reader bytes other → answer ≡ other
+    → IsAnswer task reader bytes answer → IsAnswer task reader bytes other → AreOneAnswer task answer other
 one_answer task reader bytes answer other is it = same_reading task reader bytes answer other (read_alike reader bytes) is it
 
--- an input whose hands are all legal and agree has the answer of their plays
-legal_status : (task : Task) (reader : Reader) (bytes : List ℕ) (records : List Record) (plays : List Play) (answer : Answer) → length bytes ≤ most_input
-    → SayRecords reader bytes records → ArePlaysOf records plays → IsAnswer task reader bytes answer
-    → answer.status ≡ (to_plays task plays).status
-legal_status task reader bytes records plays answer few is are to =
-    ap (λ (a : Answer). a.status)
-    (one_answer task reader bytes answer (to_plays task plays) to (answers.Read few records is (to_plays task plays) (answers.Played plays are)))
+-- what an input whose hands are all legal and agree is made of
+record IsMadeAlike (task : Task) (plays : List Play) (answer : Answer) : Type 0 where
+  others : List Play
+  traced : AllTraced plays others
+  alike : PlaysAlike plays others
+  made : IsMadeOf task others answer
+
+made_of : (task : Task) (records others : List Record) (plays : List Play) (answer : Answer) → AllAlike records others
+    → ArePlaysOf records plays → IsAnswerTo task others answer → IsMadeAlike task plays answer
+made_of task records others plays _ alike are (answers.Refused number why first) =
+    absurd (no_plays others records number why plays (all_turned records others (all_the_same records others alike)) first are)
+made_of task records others plays _ alike are (answers.Played too is answer makes) =
+    let traced = same_traces records others plays too (all_the_same records others alike) are is in
+    record {
+      others = too;
+      traced = traced;
+      alike = plays_alike plays too are.judged traced (alike_hands records others plays too alike are is);
+      made = makes;
+    }
+
+legal_made : (task : Task) (reader : Reader) (bytes : List ℕ) (records : List Record) (plays : List Play) (answer : Answer) → length bytes ≤ most_input
+    → SayRecords reader bytes records → ArePlaysOf records plays → IsAnswer task reader bytes answer → IsMadeAlike task plays answer
+unfolding SayAlike
+legal_made task reader bytes records plays _ few is are (answers.TooLong many) = absurd (omega (arith, many, few))
+legal_made task reader bytes records plays _ few is are (answers.Unread less fault it) = absurd (no_records reader bytes fault records it is)
+legal_made task reader bytes records plays _ few is are (answers.Read less others it answer to) =
+    made_of task records others plays answer (read_alike reader bytes records others is it) are to
+
+-- so its status is known
+shown_status : (command : Command) (plays : List Play) (answer : Answer) → IsMadeAlike (tasks.Show command) plays answer → answer.status ≡ statuses.Done
+shown_status command plays answer is = ap (λ (a : Answer). a.status) is.made
+
+game_status : (plays : List Play) (answer : Answer) → IsMadeAlike tasks.GameFile plays answer → answer.status ≡ (to_first_game plays).status
+game_status plays answer is = ap (λ (a : Answer). a.status) (is.made ∙ sym (same_game plays is.others is.traced))
+
+spelled_status : (to : Reader) (keep : Keep) (plays : List Play) (answer : Answer) → first_refusal_in to keep plays ≡ None
+    → IsConversion to keep plays answer → answer.status ≡ statuses.Done
+spelled_status to keep plays _ none (answers.NotSpelled number fact is) = absurd (cc (none, is))
+spelled_status to keep plays _ none (answers.Spelled spelled bytes spell) = refl
+
+converted_status : (to : Reader) (keep : Keep) (plays : List Play) (answer : Answer) → first_refusal_in to keep plays ≡ None
+    → IsMadeAlike (tasks.Convert to keep) plays answer → answer.status ≡ statuses.Done
+converted_status to keep plays answer none is =
+    spelled_status to keep is.others answer (sym (refusal_same to keep plays is.others is.alike) ∙ none) is.made
 
 -- a file gives one game, or none
 no_game : (file : Option (List ℕ)) (game : AnyGame) (answer : Answer) → GivesGame file game → GivesNoGame file answer → ⊥
@@ -211,31 +308,52 @@ games_same file game other gives too =
     let it = too.says in
     one_game game other (cc (says, it))
 
-in_log : (task : Task) (files : Files) (bytes name : List ℕ) (game : AnyGame) (answer : Answer) → GivesGame (files name) game
-    → IsAnswerIn task files bytes (Acpc name) answer → IsAnswer task (readers.Acpc game) bytes answer
-in_log task files bytes name game _ gives (answers.Hands _ reader reads answer is) = absurd (cc (reads))
-in_log task files bytes name game _ gives (answers.NoGame _ answer none) = absurd (no_game (files name) game answer gives none)
-in_log task files bytes name game _ gives (answers.Log _ other says answer is) =
-    subst (λ (g : AnyGame). IsAnswer task (readers.Acpc g) bytes answer) (games_same (files name) other game says gives) is
+-- a request is answered in one way
+some_name : (request : Request) (name other : List ℕ) → game_name request ≡ Some name → game_name request ≡ Some other → name ≡ other
+some_name request name other is it = same_Some name other (sym is ∙ it)
 
-in_hands : (task : Task) (files : Files) (bytes : List ℕ) (notation : Notation) (reader : Reader) (answer : Answer) → reader_of notation ≡ Some reader
-    → IsAnswerIn task files bytes notation answer → IsAnswer task reader bytes answer
-in_hands task files bytes _ reader _ reads (answers.Hands notation other same answer is) =
-    subst (λ (r : Reader). IsAnswer task r bytes answer) (same_Some other reader (sym same ∙ reads)) is
-in_hands task files bytes _ reader _ reads (answers.NoGame name answer none) = absurd (cc (reads))
-in_hands task files bytes _ reader _ reads (answers.Log name game gives answer is) = absurd (cc (reads))
+one_way : (files : Files) (request : Request) (way other : Way) → IsWay files request way → IsWay files request other → way ≡ other
+one_way files request way other (answers.Plain none found) (answers.Plain nothing finds) = same_Some way other (sym found ∙ finds)
+one_way files request way other (answers.Plain none found) (answers.Under name named game gives finds) = absurd (cc (none, named))
+one_way files request way other (answers.Under name named game gives found) (answers.Plain none finds) = absurd (cc (none, named))
+one_way files request way other (answers.Under name named game gives found) (answers.Under called calls played says finds) =
+    let same : name ≡ called = some_name request name called named calls in
+    let one : game ≡ played = games_same (files called) game played (subst (λ (n : List ℕ). GivesGame (files n) game) same gives) says in
+    same_Some way other (sym found ∙ ap (λ (g : AnyGame). way_of (Some g) request) one ∙ finds)
 
--- hands in a notation without games lack none
-no_missing : (notation : Notation) (reader : Reader) (files : Files) → reader_of notation ≡ Some reader → IsGameMissing notation files → ⊥
-no_missing Phh reader files reads missing = missing
-no_missing Ohh reader files reads missing = missing
-no_missing OhhTo reader files reads missing = missing
-no_missing (Acpc name) reader files reads missing = cc (reads)
+no_lack : (files : Files) (request : Request) (way : Way) (name : List ℕ) (answer : Answer) → IsWay files request way
+    → game_name request ≡ Some name → GivesNoGame (files name) answer → ⊥
+no_lack files request way name answer (answers.Plain none found) named lacks = cc (none, named)
+no_lack files request way name answer (answers.Under called calls game gives found) named lacks =
+    no_game (files name) game answer (subst (λ (n : List ℕ). GivesGame (files n) game) (some_name request called name calls named) gives) lacks
+
+in_way : (request : Request) (files : Files) (bytes : List ℕ) (way : Way) (answer : Answer) → IsWay files request way
+    → IsAnswerIn request files bytes answer → IsAnswer way.task way.reader bytes answer
+in_way request files bytes way answer is (answers.NoGame name named _ lacks) = absurd (no_lack files request way name answer is named lacks)
+in_way request files bytes way answer is (answers.OfInput other it _ to) =
+    subst (λ (w : Way). IsAnswer w.task w.reader bytes answer) (one_way files request other way it is) to
+
+-- a request that is answered in a way lacks no game
+there_is_none : (asked : Option (List ℕ)) (files : Files) → asked ≡ None → IsGameMissing asked files → ⊥
+there_is_none None files none missing = missing
+there_is_none (Some name) files none missing = cc (none)
+
+there_is_one : (asked : Option (List ℕ)) (files : Files) (name text : List ℕ) → asked ≡ Some name → files name ≡ Some text → IsGameMissing asked files → ⊥
+there_is_one None files name text named there missing = missing
+there_is_one (Some other) files name text named there missing =
+    let same = same_Some other name named in
+    let gone : files name ≡ None = subst (λ (n : List ℕ). files n ≡ None) same missing in
+    cc (there, gone)
+
+no_missing : (files : Files) (request : Request) (way : Way) → IsWay files request way → IsGameMissing (game_name request) files → ⊥
+no_missing files request way (answers.Plain none found) missing = there_is_none (game_name request) files none missing
+no_missing files request way (answers.Under name named game gives found) missing =
+    there_is_one (game_name request) files name gives.text named gives.there missing
 
 -- a run whose answers all have one status, and that lacks no game, ends with it, or a device failed, or memory ran out
 ends_so : (request : Request) (files : Files) (bytes : List ℕ) (out diag : Sinks) (status own : Status)
-    → ((answer : Answer) → IsAnswerIn (task_of request) files bytes (notation_of request) answer → answer.status ≡ own)
-    → (IsGameMissing (notation_of request) files → ⊥)
+    → ((answer : Answer) → IsAnswerIn request files bytes answer → answer.status ≡ own)
+    → (IsGameMissing (game_name request) files → ⊥)
     → Ends request files bytes out diag status → RefusesNothing status ⊎ (own ≡ status)
 ends_so request files bytes out diag statuses.Done own each there ends = inl tt
 ends_so request files bytes out diag statuses.ReadFault own each there ends = inl tt
@@ -255,33 +373,43 @@ done_so status (inl is) = is
 done_so status (inr same) = subst RefusesNothing same tt
 
 -- so a run on such an input refuses nothing
-pub legal_hands : (command : Command) (notation : Notation) (reader : Reader) (files : Files) (bytes : List ℕ) (records : List Record) (plays : List Play)
-    → (out diag : Sinks) (status : Status)
-    → reader_of notation ≡ Some reader → length bytes ≤ most_input → SayRecords reader bytes records → ArePlaysOf records plays
+pub legal_shown : (command : Command) (notation : Notation) (reader : Reader) (files : Files) (bytes : List ℕ) (records : List Record) (plays : List Play)
+    → (out diag : Sinks) (status : Status) → IsWay files (Show command notation) (way (tasks.Show command) reader)
+    → length bytes ≤ most_input → SayRecords reader bytes records → ArePlaysOf records plays
     → Ends (Show command notation) files bytes out diag status → RefusesNothing status
-legal_hands command notation reader files bytes records plays out diag status reads few is are ends =
+legal_shown command notation reader files bytes records plays out diag status found few is are ends =
+    let by = way (tasks.Show command) reader in
+    let request = Show command notation in
     done_so status
-    (ends_so (Show command notation) files bytes out diag status statuses.Done
-    (λ answer to. legal_status (tasks.Show command) reader bytes records plays answer few is are (in_hands (tasks.Show command) files bytes notation reader answer reads to))
-    (no_missing notation reader files reads) ends)
+    (ends_so request files bytes out diag status statuses.Done
+    (λ answer to. shown_status command plays answer
+    (legal_made (tasks.Show command) reader bytes records plays answer few is are (in_way request files bytes by answer found to)))
+    (no_missing files request by found) ends)
 
-pub legal_log : (command : Command) (name : List ℕ) (files : Files) (game : AnyGame) (bytes : List ℕ) (records : List Record) (plays : List Play)
-    → (out diag : Sinks) (status : Status)
-    → GivesGame (files name) game → length bytes ≤ most_input → SayRecords (readers.Acpc game) bytes records → ArePlaysOf records plays
-    → Ends (Show command (Acpc name)) files bytes out diag status → RefusesNothing status
-legal_log command name files game bytes records plays out diag status gives few is are ends =
-    let there = gives.there in
-    done_so status
-    (ends_so (Show command (Acpc name)) files bytes out diag status statuses.Done
-    (λ answer to. legal_status (tasks.Show command) (readers.Acpc game) bytes records plays answer few is are (in_log (tasks.Show command) files bytes name game answer gives to))
-    (λ missing. cc (missing, there)) ends)
-
--- and the game file of the first hand is that of its play
+-- the game file of the first hand is that of its play
 pub legal_game : (notation : Notation) (reader : Reader) (files : Files) (bytes : List ℕ) (records : List Record) (plays : List Play)
-    → (out diag : Sinks) (status : Status)
-    → reader_of notation ≡ Some reader → length bytes ≤ most_input → SayRecords reader bytes records → ArePlaysOf records plays
+    → (out diag : Sinks) (status : Status) → IsWay files (Game notation) (way tasks.GameFile reader)
+    → length bytes ≤ most_input → SayRecords reader bytes records → ArePlaysOf records plays
     → Ends (Game notation) files bytes out diag status → RefusesNothing status ⊎ ((to_first_game plays).status ≡ status)
-legal_game notation reader files bytes records plays out diag status reads few is are ends =
-    ends_so (Game notation) files bytes out diag status (to_first_game plays).status
-    (λ answer to. legal_status tasks.GameFile reader bytes records plays answer few is are (in_hands tasks.GameFile files bytes notation reader answer reads to))
-    (no_missing notation reader files reads) ends
+legal_game notation reader files bytes records plays out diag status found few is are ends =
+    let by = way tasks.GameFile reader in
+    let request = Game notation in
+    ends_so request files bytes out diag status (to_first_game plays).status
+    (λ answer to. game_status plays answer
+    (legal_made tasks.GameFile reader bytes records plays answer few is are (in_way request files bytes by answer found to)))
+    (no_missing files request by found) ends
+
+-- and hands whose facts are all spelled are converted
+pub legal_converted : (from to : Notation) (keep : KeepAsked) (reader target : Reader) (files : Files) (bytes : List ℕ) (records : List Record) (plays : List Play)
+    → (out diag : Sinks) (status : Status) → IsWay files (Convert from to keep) (way (tasks.Convert target (kept keep)) reader)
+    → length bytes ≤ most_input → SayRecords reader bytes records → ArePlaysOf records plays
+    → first_refusal_in target (kept keep) plays ≡ None
+    → Ends (Convert from to keep) files bytes out diag status → RefusesNothing status
+legal_converted from to keep reader target files bytes records plays out diag status found few is are none ends =
+    let by = way (tasks.Convert target (kept keep)) reader in
+    let request = Convert from to keep in
+    done_so status
+    (ends_so request files bytes out diag status statuses.Done
+    (λ answer given. converted_status target (kept keep) plays answer none
+    (legal_made (tasks.Convert target (kept keep)) reader bytes records plays answer few is are (in_way request files bytes by answer found given)))
+    (no_missing files request by found) ends)

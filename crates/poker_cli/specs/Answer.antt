@@ -6,14 +6,14 @@ use Rattle.acpc_game.specs.GameView.{game_in}
 use Rattle.acpc_game.specs.declared.game.Game.{Game}
 use Rattle.acpc_line.specs.GameOf.{game_of}
 use Rattle.acpc_text.specs.declared.fault.AcpcFault.{AcpcFault}
-use Rattle.command_words.specs.Words.{Notation, Request, Show}
-use Rattle.command_words.specs.Words as notations
+use Rattle.command_words.specs.Words.{Request}
 use Rattle.command_words.specs.declared.command.Command.{Command}
 use Rattle.command_words.specs.declared.command.Command.TheVariants as commands
 use Rattle.hand_records.specs.declared.record.Record.{Record}
 use Rattle.hand_records.specs.declared.trace.Play.{Play}
+use Rattle.hand_records.specs.declared.writing.Keep.{Keep}
 use Rattle.hand_records.specs.declared.writing.Unspelled.{Unspelled}
-use Rattle.ohh_members.specs.declared.dialect.Dialect.TheVariants as dialects
+use Rattle.hand_records.specs.declared.writing.WriteRefusal.TheVariants as refusals
 use Rattle.printed_hands.specs.Check.{check_said}
 use Rattle.printed_hands.specs.Replay.{replay_said}
 use Rattle.printed_report.specs.Report.{report_said}
@@ -25,14 +25,16 @@ use Rattle.poker_cli.specs.Faults.{wrong_line, wrong_status}
 use Rattle.poker_cli.specs.Inputs.{Fault, HaveFault, InHistory, InLog, InTree, SayRecords}
 use Rattle.poker_cli.specs.Lines.{refused_line}
 use Rattle.poker_cli.specs.LogFaults.{bad_game_line, log_line, log_status}
+use Rattle.poker_cli.specs.Outputs.{SpellPlays, first_refusal_in}
 use Rattle.poker_cli.specs.TreeFaults.{tree_line, tree_status}
 use Rattle.poker_cli.specs.Unspelled.{unspelled_line}
+use Rattle.poker_cli.specs.Ways.{game_name, way_of}
 use Rattle.poker_cli.specs.declared.status.Status.{Status}
 use Rattle.poker_cli.specs.declared.status.Status.TheVariants as statuses
 use Rattle.poker_cli.specs.declared.task.Reader.{Reader}
-use Rattle.poker_cli.specs.declared.task.Reader.TheVariants as readers
 use Rattle.poker_cli.specs.declared.task.Task.{Task}
 use Rattle.poker_cli.specs.declared.task.Task.TheVariants as tasks
+use Rattle.poker_cli.specs.declared.task.Way.{Way}
 
 -- the most bytes of an input
 abbrev pub most_input : ℕ
@@ -77,26 +79,39 @@ text_of commands.Report plays = report_said plays
 abbrev pub done : List ℕ → Answer
 done output = record { status = statuses.Done; output = output; line = [] }
 
+-- the answer where a fact of the hand with this number has no spelling
+abbrev pub to_unspelled : ℕ → Unspelled → Answer
+to_unspelled number fact = refusal statuses.Unspelled (unspelled_line number fact)
+
 -- the answer where the game file of the first hand is asked for: none without hands
 abbrev pub to_game : Result GameSaid Unspelled → Answer
 to_game (Ok game) = done (game_text game)
-to_game (Err fact) = refusal statuses.Unspelled (unspelled_line 1 fact)
+to_game (Err fact) = to_unspelled 1 fact
 
 abbrev pub to_first_game : List Play → Answer
 to_first_game [] = done []
 to_first_game (play ∷ plays) = to_game (game_of play.trace.setup)
 
+-- The answer where plays are to be written in a notation, with so many of their notes.
+pub data IsConversion (to : Reader) (keep : Keep) (plays : List Play) : Answer → Type 0 where
+  -- a fact that is to be kept has no spelling, and this is the first
+  NotSpelled : (number : ℕ) (fact : Unspelled) → first_refusal_in to keep plays ≡ Some (refusals.Unspelled number fact)
+      → IsConversion to keep plays (to_unspelled number fact)
+  -- all of them have one, and bytes spell the plays
+  Spelled : first_refusal_in to keep plays ≡ None → (bytes : List ℕ) → SpellPlays to plays bytes → IsConversion to keep plays (done bytes)
+
 -- the answer to an input whose hands are all legal and agree
-abbrev pub to_plays : Task → List Play → Answer
-to_plays (tasks.Show command) plays = done (text_of command plays)
-to_plays tasks.GameFile plays = to_first_game plays
+abbrev pub IsMadeOf : Task → List Play → Answer → Type 0
+IsMadeOf (tasks.Show command) plays answer = answer ≡ done (text_of command plays)
+IsMadeOf tasks.GameFile plays answer = answer ≡ to_first_game plays
+IsMadeOf (tasks.Convert to keep) plays answer = IsConversion to keep plays answer
 
 -- The answer to the records of an input, of which something is to be made.
 pub data IsAnswerTo (task : Task) (records : List Record) : Answer → Type 0 where
   -- a hand is refused, and this is the first
   Refused : (number : ℕ) (why : Refusal) → IsFirstRefused records number why → IsAnswerTo task records (to_refusal number why)
   -- all hands are legal, and agree with what is stated of them
-  Played : (plays : List Play) → ArePlaysOf records plays → IsAnswerTo task records (to_plays task plays)
+  Played : (plays : List Play) → ArePlaysOf records plays → (answer : Answer) → IsMadeOf task plays answer → IsAnswerTo task records answer
 
 -- The answer to the bytes of an input.
 pub data IsAnswer (task : Task) (reader : Reader) (bytes : List ℕ) : Answer → Type 0 where
@@ -130,31 +145,23 @@ pub record GivesGame (file : Option (List ℕ)) (game : Game) : Type 0 where
   pub short : length text ≤ most_input
   pub says : game_said text ≡ Ok (game_in game)
 
--- what is made of the hands that a request asks about
-abbrev pub task_of : Request → Task
-task_of (Show command notation) = tasks.Show command
-task_of (notations.Game notation) = tasks.GameFile
-
--- the notation of these hands
-abbrev pub notation_of : Request → Notation
-notation_of (Show command notation) = notation
-notation_of (notations.Game notation) = notation
-
--- how hands in a notation without games are read
-abbrev pub reader_of : Notation → Option Reader
-reader_of notations.Phh = Some readers.Phh
-reader_of notations.Ohh = Some (readers.Ohh dialects.Added)
-reader_of notations.OhhTo = Some (readers.Ohh dialects.To)
-reader_of (notations.Acpc name) = None
-
 -- The files of a shelf by their names.
 abbrev pub Files : Type 0
 Files = List ℕ → Option (List ℕ)
 
--- The answer to hands in a notation: to a log, by the file of its game.
-pub data IsAnswerIn (task : Task) (files : Files) (bytes : List ℕ) : Notation → Answer → Type 0 where
-  Hands : (notation : Notation) (reader : Reader) → reader_of notation ≡ Some reader
-      → (answer : Answer) → IsAnswer task reader bytes answer → IsAnswerIn task files bytes notation answer
-  NoGame : (name : List ℕ) (answer : Answer) → GivesNoGame (files name) answer → IsAnswerIn task files bytes (notations.Acpc name) answer
-  Log : (name : List ℕ) (game : Game) → GivesGame (files name) game
-      → (answer : Answer) → IsAnswer task (readers.Acpc game) bytes answer → IsAnswerIn task files bytes (notations.Acpc name) answer
+-- How a request is answered by the files of a shelf: so its hands are read, and this is made of them.
+pub data IsWay (files : Files) (request : Request) (way : Way) : Type 0 where
+  -- it asks for no game
+  Plain : game_name request ≡ None → way_of None request ≡ Some way → IsWay files request way
+  -- its hands are under the game that a file gives
+  Under : (name : List ℕ) → game_name request ≡ Some name → (game : Game) → GivesGame (files name) game
+      → way_of (Some game) request ≡ Some way → IsWay files request way
+
+-- The answer to a request, by the files of a shelf and the bytes of an input.
+pub data IsAnswerIn (request : Request) (files : Files) (bytes : List ℕ) : Answer → Type 0 where
+  -- the file of its game gives none
+  NoGame : (name : List ℕ) → game_name request ≡ Some name → (answer : Answer) → GivesNoGame (files name) answer
+      → IsAnswerIn request files bytes answer
+  -- the input is answered
+  OfInput : (way : Way) → IsWay files request way → (answer : Answer) → IsAnswer way.task way.reader bytes answer
+      → IsAnswerIn request files bytes answer

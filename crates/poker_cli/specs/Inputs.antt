@@ -12,10 +12,12 @@ use Rattle.phh_reading.specs.Reading as phh
 use Rattle.poker_cli.specs.declared.task.Reader.{Reader}
 use Rattle.poker_cli.specs.declared.task.Reader.TheVariants as readers
 
--- bytes say these records
+-- bytes say these records, each of them one of its notation
 abbrev pub SayRecords : Reader → List ℕ → List Record → Type 0
-SayRecords readers.Phh bytes records = phh.reading bytes ≡ Ok (map plain records)
-SayRecords (readers.Ohh dialect) bytes records = ohh.reading dialect bytes ≡ Ok (map hands.plain records)
+SayRecords readers.Phh bytes records =
+    (phh.reading bytes ≡ Ok (map plain records)) × AllByRecursion phh.IsHistory records
+SayRecords (readers.Ohh dialect) bytes records =
+    (ohh.reading dialect bytes ≡ Ok (map hands.plain records)) × AllByRecursion ohh.IsHistory records
 SayRecords (readers.Acpc game) bytes records =
     (logs.reading game bytes ≡ Ok (map record_said records)) × AllByRecursion (IsOfGame game) records
 

@@ -6,7 +6,10 @@ pub mod TreeFaults
 pub mod LogFaults
 pub mod Unspelled
 pub mod Inputs
+pub mod Outputs
+pub mod Ways
 pub mod Answer
+pub mod OneAnswer
 pub mod Printing
 pub mod Lacking
 pub mod Told

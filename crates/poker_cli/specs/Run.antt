@@ -1,13 +1,13 @@
 -- What a run of the program tells and leaves.
 use Rattle.std.specs.Prelude.{◌≡◌, ◌⊎◌, ℕ, List, [], codes, Option, Some, None, unwrap_or}
 use Rattle.std.specs.Io.KnownBytes.{Appends}
-use Rattle.command_words.specs.Words.{Notation, Request}
-use Rattle.command_words.specs.Words as notations
+use Rattle.command_words.specs.Words.{Request}
 use Rattle.host_io.specs.Faults.{Rose}
 use Rattle.host_io.specs.Bytes.{AppendsPart}
 use Rattle.poker_cli.specs.declared.status.Status.{Status}
 use Rattle.poker_cli.specs.declared.status.Status.TheVariants as statuses
-use Rattle.poker_cli.specs.Answer.{Answer, Files, GivesNoGame, IsAnswerIn, notation_of, task_of}
+use Rattle.poker_cli.specs.Answer.{Answer, Files, GivesNoGame, IsAnswerIn}
+use Rattle.poker_cli.specs.Ways.{game_name}
 
 -- the line where the words are no command
 abbrev pub usage_line : List ℕ
@@ -52,42 +52,41 @@ pub record Sinks : Type 0 where
   pub before : ℕ
   pub now : ℕ
 
--- the files that a request asks for, where the shelf tells them; a request without a game asks for none
-abbrev pub files_told : Notation → Option Files → Option Files
-files_told (notations.Acpc name) told = told
-files_told notation told = Some (λ (name : List ℕ). None)
+-- the files of a shelf, where it tells them and a file of this name is asked for; where none is, nothing is asked of it
+abbrev pub files_told : Option (List ℕ) → Option Files → Option Files
+files_told (Some name) told = told
+files_told None told = Some (λ (name : List ℕ). None)
 
--- a request asks for the file of a game
-abbrev pub AsksForGame : Notation → Type 0
-AsksForGame (notations.Acpc name) = Unit {0}
-AsksForGame notation = ⊥
+-- a file of a game is asked for
+abbrev pub AsksForGame : Option (List ℕ) → Type 0
+AsksForGame (Some name) = Unit {0}
+AsksForGame None = ⊥
 
--- a request asks for no file of a game
-abbrev pub AsksForNoGame : Notation → Type 0
-AsksForNoGame (notations.Acpc name) = ⊥
-AsksForNoGame notation = Unit {0}
+-- no file of a game is asked for
+abbrev pub AsksForNoGame : Option (List ℕ) → Type 0
+AsksForNoGame (Some name) = ⊥
+AsksForNoGame None = Unit {0}
 
 -- words ask for no file of a game
 abbrev pub AskForNoGame : Option Request → Type 0
 AskForNoGame None = Unit {0}
-AskForNoGame (Some request) = AsksForNoGame (notation_of request)
+AskForNoGame (Some request) = AsksForNoGame (game_name request)
 
--- the file of the game that a request asks for is not there
-abbrev pub IsGameMissing : Notation → Files → Type 0
-IsGameMissing (notations.Acpc name) files = files name ≡ None
-IsGameMissing notation files = ⊥
+-- the file of the game that is asked for is not there
+abbrev pub IsGameMissing : Option (List ℕ) → Files → Type 0
+IsGameMissing (Some name) files = files name ≡ None
+IsGameMissing None files = ⊥
 
--- the shelf tells that the file of the game that a request asks for is not there, or gives no game
-abbrev pub LacksGame : Notation → Option Files → Type 0
-LacksGame (notations.Acpc name) None = ⊥
-LacksGame (notations.Acpc name) (Some files) = (files name ≡ None) ⊎ ((answer : Answer) × GivesNoGame (files name) answer)
-LacksGame notation told = ⊥
+-- the shelf tells that the file of the game that is asked for is not there, or gives no game
+abbrev pub LacksGame : Option (List ℕ) → Option Files → Type 0
+LacksGame (Some name) (Some files) = (files name ≡ None) ⊎ ((answer : Answer) × GivesNoGame (files name) answer)
+LacksGame name told = ⊥
 
 -- A run that got to its answer: the answer to its files and its input, the status that follows from it, what was written of
 -- its output, and its line.
 pub record Answers (request : Request) (files : Files) (bytes : List ℕ) (out diag : Sinks) (status : Status) : Type 0 where
   pub answer : Answer
-  pub to_input : IsAnswerIn (task_of request) files bytes (notation_of request) answer
+  pub to_input : IsAnswerIn request files bytes answer
   pub ends : MayEnd answer status
   pub written : Writes out.held out.holds answer status
   pub line : TellsLine diag.before diag.now diag.held diag.holds (line_of answer status)
@@ -98,8 +97,8 @@ abbrev pub Ends : Request → Files → List ℕ → Sinks → Sinks → Status 
 Ends request files bytes out diag statuses.Usage = ⊥
 Ends request files bytes out diag statuses.ReadFault = Unit {0}
 Ends request files bytes out diag statuses.Memory = Unit {0}
-Ends request files bytes out diag statuses.ShelfFault = AsksForGame (notation_of request)
-Ends request files bytes out diag statuses.GameMissing = IsGameMissing (notation_of request) files
+Ends request files bytes out diag statuses.ShelfFault = AsksForGame (game_name request)
+Ends request files bytes out diag statuses.GameMissing = IsGameMissing (game_name request) files
 Ends request files bytes out diag status = Answers request files bytes out diag status
 
 -- a status after which nothing was written

@@ -1,10 +1,11 @@
 //! What the program answers to the bytes of its input.
 ghost use Rattle.std.specs.Prelude.{◌≡◌, ◌≤◌, All, length, IfOk, string_bytes};
+ghost use Rattle.std.specs.List.{AllByRecursion};
 ghost use Rattle.hand_canon.specs.Sound.{IsSound};
 ghost use Rattle.hand_records.specs.SoundRecord.{IsSoundRecord};
 ghost use Rattle.first_fault.specs.declared.limits.TheConstants.{MOST_HANDS};
 ghost use Rattle.poker_cli.specs.Answer as definition;
-ghost use Rattle.poker_cli.specs.Answer.{IsAnswer, IsAnswerTo, IsToldOf, most_input};
+ghost use Rattle.poker_cli.specs.Answer.{IsAnswer, IsAnswerTo, IsConversion, IsToldOf, most_input};
 ghost use Rattle.poker_cli.specs.Run.{IsOfInput};
 ghost use Rattle.poker_cli.specs.Told.{answer_told};
 
@@ -16,12 +17,13 @@ use crate::status::Status;
 use crate::task::{Reader, Task};
 use crate::tree_faults::answer_to_tree_fault;
 use crate::unspelled::unspelled_line;
+use crate::writing::write_in;
 use acpc_game::{Game, write_game};
 use acpc_line::game_of;
 use card_set::Memory;
 use command_words::Command;
 use convert_core::{PlaysFault, plays_of};
-use hand_records::{Play, Records};
+use hand_records::{Keep, Play, Records, Unspelled, WriteRefusal};
 use ohh_members::Dialect;
 use std::alloc::Global;
 
@@ -104,6 +106,7 @@ fn answer_to_records(alloc: Global, task: Task, records: Records) -> Result<Answ
     match task {
         Task::Show(command) => answer_with_text(alloc, command, records),
         Task::GameFile => answer_with_game(alloc, records),
+        Task::Convert { to, keep } => answer_with_conversion(alloc, &to, keep, records),
     }
 }
 
@@ -147,11 +150,57 @@ fn answer_with_first_game(alloc: Global, plays: &[Play]) -> Result<Answer, Memor
     };
     match game_of(play) {
         Ok(game) => Ok(done(alloc, write_game(alloc, &game)?)),
-        Err(fact) => {
-            let line = unspelled_line(alloc, 1, fact)?;
-            Ok(refusal(alloc, Status::Unspelled, line))
-        }
+        Err(fact) => answer_to_unspelled(alloc, 1, fact),
     }
+}
+
+// The answer with the hands of records in a notation.
+fn answer_with_conversion(
+    alloc: Global,
+    to: &Reader,
+    keep: Keep,
+    records: Records,
+) -> Result<Answer, Memory>
+    requires sound { All IsSoundRecord records }
+    requires few { length records ≤ MOST_HANDS }
+    ensures answer { IfOk result (λ answer.
+        IsAnswerTo (Task.Convert to.now keep) records (answer_told answer)) }
+    ensures own { IfOk result (λ answer. IsOfInput answer.status) }
+{
+    match plays_of(alloc, records) {
+        Ok(plays) => answer_with_plays(alloc, to, keep, &plays),
+        Err(fault) => answer_to_refused(alloc, &fault),
+    }
+}
+
+// The answer with plays in a notation.
+fn answer_with_plays(
+    alloc: Global,
+    to: &Reader,
+    keep: Keep,
+    plays: &[Play],
+) -> Result<Answer, Memory>
+    requires few { length plays.now ≤ MOST_HANDS }
+    requires sound { AllByRecursion IsSound plays.now }
+    ensures answer { IfOk result (λ answer.
+        IsConversion to.now keep plays.now (answer_told answer)) }
+    ensures own { IfOk result (λ answer. IsOfInput answer.status) }
+{
+    match write_in(alloc, to, plays, keep) {
+        Ok(output) => Ok(done(alloc, output)),
+        Err(WriteRefusal::Unspelled { hand, fact }) => answer_to_unspelled(alloc, hand, fact),
+        Err(WriteRefusal::Memory) => Err(Memory),
+    }
+}
+
+// The answer where a fact of the hand with this number has no spelling.
+fn answer_to_unspelled(alloc: Global, hand: u32, fact: Unspelled) -> Result<Answer, Memory>
+    ensures answer { IfOk result (λ answer.
+        answer_told answer ≡ definition.to_unspelled hand fact) }
+    ensures own { IfOk result (λ answer. answer.status ≡ Status.Unspelled) }
+{
+    let line = unspelled_line(alloc, hand, fact)?;
+    Ok(refusal(alloc, Status::Unspelled, line))
 }
 
 // The answer to records that have no plays.

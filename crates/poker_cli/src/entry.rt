@@ -1,21 +1,23 @@
 //! The top call: from the words and the input to the status, the output and the line.
-ghost use Rattle.std.specs.Prelude.{◌≡◌, ◌↔◌, map, None, Some, IfErr, IfOk, IfSome, IsErrOf, string_bytes};
-ghost use Rattle.command_words.specs.Requests.{notation_in, request_in};
-ghost use Rattle.command_words.specs.Words.{Acpc, request_said};
+ghost use Rattle.std.specs.Prelude.{◌≡◌, ◌↔◌, is_some, map, true, None, Some, IfErr, IfOk, IfSome, IsErrOf, string_bytes};
+ghost use Rattle.command_words.specs.Requests.{request_in};
+ghost use Rattle.command_words.specs.Words.{request_said};
 ghost use Rattle.host_io.specs.Faults.{Rose};
-ghost use Rattle.poker_cli.specs.Answer.{IsAnswer, IsAnswerIn, notation_of, task_of};
+ghost use Rattle.poker_cli.specs.Answer.{IsAnswer, IsAnswerIn};
 ghost use Rattle.poker_cli.specs.Lacking.{ComesFirst};
-ghost use Rattle.poker_cli.specs.Run.{AskForNoGame, AsksForGame, AsksForNoGame, Ends, IsGameMissing, IsOfInput, IsOwn, LacksGame, MayEnd, ReadsNothing, TellsLine, Writes, WritesNothing, files_told, fixed_line, line_of};
+ghost use Rattle.poker_cli.specs.Run.{AskForNoGame, AsksForGame, Ends, IsGameMissing, IsOfInput, IsOwn, LacksGame, MayEnd, ReadsNothing, TellsLine, Writes, WritesNothing, files_told, fixed_line, line_of};
 ghost use Rattle.poker_cli.specs.Told.{answer_told};
+ghost use Rattle.poker_cli.specs.Ways.{game_name as game_name_said, way_of as way_of_said};
 
 use crate::answer::{self, Answer, MOST_INPUT};
 use crate::games::{NoGame, answer_to_lack, fetch_game};
 use crate::status::Status;
-use crate::task::{Reader, Task};
+use crate::task::Way;
+use crate::ways::{game_name, way_of};
+use acpc_game::Game;
 use card_set::Memory;
-use command_words::{Notation, Request, read_words};
+use command_words::{Request, read_words};
 use host_io::{Failed, InFault, Shelf, Sink, Source, read_all, write_all};
-use ohh_members::Dialect;
 use std::alloc::Global;
 
 const USAGE: &[u8] = b"usage: handref check|replay|report|convert|game|load [options]\n";
@@ -38,7 +40,7 @@ pub fn run<S: Source, H: Shelf, K: Sink, D: Sink>(
     // to the input, or with a fault whose count rose in this call.
     ensures ends { IfSome (request_said (map string_bytes words.now)) (λ request.
         IfSome (S.left input.old) (λ bytes.
-        IfSome (files_told (notation_of request) (H.files shelf.old)) (λ files.
+        IfSome (files_told (game_name_said request) (H.files shelf.old)) (λ files.
         Ends request files bytes
         (record {
           held = K.held out.old;
@@ -63,7 +65,7 @@ pub fn run<S: Source, H: Shelf, K: Sink, D: Sink>(
         → shelf.new ≡ shelf.old }
     ensures unread { ReadsNothing result → input.new ≡ input.old }
     ensures without_game { IfSome (request_said (map string_bytes words.now)) (λ request.
-        LacksGame (notation_of request) (H.files shelf.old) → input.new ≡ input.old) }
+        LacksGame (game_name_said request) (H.files shelf.old) → input.new ≡ input.old) }
 
     // Nothing is written before all is done, and the line of a fault depends on no input.
     ensures nothing_written { WritesNothing result → out.new ≡ out.old }
@@ -95,7 +97,7 @@ fn run_request<S: Source, H: Shelf, K: Sink, D: Sink>(
 ) -> Status
     ensures answered { result ≡ Status.Usage → ⊥ }
     ensures ends { IfSome (S.left input.old) (λ bytes.
-        IfSome (files_told (notation_of (request_in request.entry)) (H.files shelf.old)) (λ files.
+        IfSome (files_told (game_name_said (request_in request.entry)) (H.files shelf.old)) (λ files.
         Ends (request_in request.entry) files bytes
         (record {
           held = K.held out.old;
@@ -116,7 +118,7 @@ fn run_request<S: Source, H: Shelf, K: Sink, D: Sink>(
         → Rose (H.faults shelf.old) (H.faults shelf.new) }
     ensures shelf { AskForNoGame (Some (request_in request.entry)) → shelf.new ≡ shelf.old }
     ensures unread { ReadsNothing result → input.new ≡ input.old }
-    ensures without_game { LacksGame (notation_of (request_in request.entry)) (H.files shelf.old)
+    ensures without_game { LacksGame (game_name_said (request_in request.entry)) (H.files shelf.old)
         → input.new ≡ input.old }
     ensures nothing_written { WritesNothing result → out.new ≡ out.old }
     ensures fixed_line { IfSome (fixed_line result) (TellsLine
@@ -152,78 +154,42 @@ fn reply<S: Source, H: Shelf>(
     shelf: &mut H,
 ) -> Result<Answer, NoAnswer>
     ensures answer { IfOk result (λ answer. IfSome (S.left input.old) (λ bytes.
-        IfSome (files_told (notation_of (request_in request.entry)) (H.files shelf.old)) (λ files.
-        IsAnswerIn (task_of (request_in request.entry)) files bytes
-        (notation_of (request_in request.entry)) (answer_told answer)))) }
+        IfSome (files_told (game_name_said (request_in request.entry)) (H.files shelf.old)) (λ files.
+        IsAnswerIn (request_in request.entry) files bytes (answer_told answer)))) }
     ensures own { IfOk result (λ answer. IsOwn answer.status) }
     ensures read_fault { IsErrOf result NoAnswer.ReadFault
         → Rose (S.faults input.old) (S.faults input.new) }
     ensures shelf_fault { IsErrOf result NoAnswer.ShelfFault
         → Rose (H.faults shelf.old) (H.faults shelf.new) }
     ensures asked { IsErrOf result NoAnswer.ShelfFault
-        → AsksForGame (notation_of (request_in request.entry)) }
+        → AsksForGame (game_name_said (request_in request.entry)) }
     ensures shelf { AskForNoGame (Some (request_in request.entry)) → shelf.new ≡ shelf.old }
     ensures unread { IfOk result (λ answer. ReadsNothing answer.status → input.new ≡ input.old) }
     ensures missing { IsErrOf result NoAnswer.GameMissing →
-        IfSome (files_told (notation_of (request_in request.entry)) (H.files shelf.old)) (λ files.
-        IsGameMissing (notation_of (request_in request.entry)) files) }
+        IfSome (files_told (game_name_said (request_in request.entry)) (H.files shelf.old)) (λ files.
+        IsGameMissing (game_name_said (request_in request.entry)) files) }
     ensures unasked { IfErr result (λ why. ComesFirst why → input.new ≡ input.old) }
-    ensures without_game { LacksGame (notation_of (request_in request.entry)) (H.files shelf.old)
+    ensures without_game { LacksGame (game_name_said (request_in request.entry)) (H.files shelf.old)
         → input.new ≡ input.old }
 {
-    match request {
-        Request::Show(command, notation) => {
-            reply_in(alloc, Task::Show(command), notation, input, shelf)
-        }
-        Request::Game(notation) => reply_in(alloc, Task::GameFile, notation, input, shelf),
+    match game_name(request) {
+        Some(name) => reply_under(alloc, name, request, input, shelf),
+        None => reply_with(alloc, None, request, input),
     }
 }
 
-// The answer to hands in a notation, by the file of their game and by all that the source has left.
-fn reply_in<S: Source, H: Shelf>(
-    alloc: Global,
-    task: Task,
-    notation: Notation<'_>,
-    input: &mut S,
-    shelf: &mut H,
-) -> Result<Answer, NoAnswer>
-    ensures answer { IfOk result (λ answer. IfSome (S.left input.old) (λ bytes.
-        IfSome (files_told (notation_in notation.entry) (H.files shelf.old)) (λ files.
-        IsAnswerIn task files bytes (notation_in notation.entry) (answer_told answer)))) }
-    ensures own { IfOk result (λ answer. IsOwn answer.status) }
-    ensures read_fault { IsErrOf result NoAnswer.ReadFault
-        → Rose (S.faults input.old) (S.faults input.new) }
-    ensures shelf_fault { IsErrOf result NoAnswer.ShelfFault
-        → Rose (H.faults shelf.old) (H.faults shelf.new) }
-    ensures asked { IsErrOf result NoAnswer.ShelfFault → AsksForGame (notation_in notation.entry) }
-    ensures shelf { AsksForNoGame (notation_in notation.entry) → shelf.new ≡ shelf.old }
-    ensures unread { IfOk result (λ answer. ReadsNothing answer.status → input.new ≡ input.old) }
-    ensures missing { IsErrOf result NoAnswer.GameMissing →
-        IfSome (files_told (notation_in notation.entry) (H.files shelf.old)) (λ files.
-        IsGameMissing (notation_in notation.entry) files) }
-    ensures unasked { IfErr result (λ why. ComesFirst why → input.new ≡ input.old) }
-    ensures without_game { LacksGame (notation_in notation.entry) (H.files shelf.old)
-        → input.new ≡ input.old }
-{
-    match notation {
-        Notation::Phh => reply_by(alloc, task, &Reader::Phh, input),
-        Notation::Ohh => reply_by(alloc, task, &Reader::Ohh(Dialect::Added), input),
-        Notation::OhhTo => reply_by(alloc, task, &Reader::Ohh(Dialect::To), input),
-        Notation::Acpc { game } => reply_under(alloc, task, game, input, shelf),
-    }
-}
-
-// The answer to a log, by the file of its game and by all that the source has left.
+// The answer to a request under the game that a file says, and to all that the source has left.
 fn reply_under<S: Source, H: Shelf>(
     alloc: Global,
-    task: Task,
     name: &str,
+    request: Request<'_>,
     input: &mut S,
     shelf: &mut H,
 ) -> Result<Answer, NoAnswer>
+    requires { game_name_said (request_in request) ≡ Some name.now }
     ensures answer { IfOk result (λ answer. IfSome (S.left input.old) (λ bytes.
         IfSome (H.files shelf.old) (λ files.
-        IsAnswerIn task files bytes (Acpc name.now) (answer_told answer)))) }
+        IsAnswerIn (request_in request.entry) files bytes (answer_told answer)))) }
     ensures own { IfOk result (λ answer. IsOwn answer.status) }
     ensures read_fault { IsErrOf result NoAnswer.ReadFault
         → Rose (S.faults input.old) (S.faults input.new) }
@@ -233,10 +199,10 @@ fn reply_under<S: Source, H: Shelf>(
     ensures missing { IsErrOf result NoAnswer.GameMissing →
         IfSome (H.files shelf.old) (λ files. files name.now ≡ None) }
     ensures unasked { IfErr result (λ why. ComesFirst why → input.new ≡ input.old) }
-    ensures without_game { LacksGame (Acpc name.now) (H.files shelf.old) → input.new ≡ input.old }
+    ensures without_game { LacksGame (Some name.now) (H.files shelf.old) → input.new ≡ input.old }
 {
     match fetch_game(alloc, shelf, name) {
-        Ok(game) => reply_by(alloc, task, &Reader::Acpc(game), input),
+        Ok(game) => reply_with(alloc, Some(game), request, input),
         Err(NoGame::Lacking(lack)) => match answer_to_lack(alloc, lack) {
             Ok(answer) => Ok(answer),
             Err(Memory) => Err(NoAnswer::Memory),
@@ -247,22 +213,39 @@ fn reply_under<S: Source, H: Shelf>(
     }
 }
 
-// The answer to all that the source has left, as it is read.
-fn reply_by<S: Source>(
+// The answer to a request under a game, where it needs one, and to all that the source has left.
+fn reply_with<S: Source>(
     alloc: Global,
-    task: Task,
-    reader: &Reader,
+    game: Option<Game>,
+    request: Request<'_>,
     input: &mut S,
 ) -> Result<Answer, NoAnswer>
+    requires { is_some (way_of_said game (request_in request)) ≡ true }
+    ensures answer { IfOk result (λ answer. IfSome (S.left input.old) (λ bytes.
+        IfSome (way_of_said game (request_in request.entry)) (λ way.
+        IsAnswer way.task way.reader bytes (answer_told answer)))) }
+    ensures of_input { IfOk result (λ answer. IsOfInput answer.status) }
+    ensures read_fault { IsErrOf result NoAnswer.ReadFault
+        → Rose (S.faults input.old) (S.faults input.new) }
+    ensures read_alone { IfErr result (λ why. ComesFirst why → ⊥) }
+{
+    let Some(way) = way_of(game, request) else {
+        unreachable!()
+    };
+    reply_by(alloc, &way, input)
+}
+
+// The answer to all that the source has left, as it is read and what is made of it.
+fn reply_by<S: Source>(alloc: Global, way: &Way, input: &mut S) -> Result<Answer, NoAnswer>
     ensures answer { IfOk result (λ answer. IfSome (S.left input.old)
-        (λ bytes. IsAnswer task reader.now bytes (answer_told answer))) }
+        (λ bytes. IsAnswer way.now.task way.now.reader bytes (answer_told answer))) }
     ensures of_input { IfOk result (λ answer. IsOfInput answer.status) }
     ensures read_fault { IsErrOf result NoAnswer.ReadFault
         → Rose (S.faults input.old) (S.faults input.new) }
     ensures read_alone { IfErr result (λ why. ComesFirst why → ⊥) }
 {
     match read_all(alloc, input, MOST_INPUT) {
-        Ok(bytes) => match answer::answer_to(alloc, task, reader, &bytes) {
+        Ok(bytes) => match answer::answer_to(alloc, way.task, &way.reader, &bytes) {
             Ok(answer) => Ok(answer),
             Err(Memory) => Err(NoAnswer::Memory),
         },

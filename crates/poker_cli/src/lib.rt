@@ -15,6 +15,8 @@ mod status;
 mod task;
 mod tree_faults;
 mod unspelled;
+mod ways;
+mod writing;
 
 pub use entry::run;
 pub use laws::{law_of_legal_inputs, law_of_one_answer};

@@ -1,6 +1,7 @@
 //! What is made of the hands of an input, and under what the input is read.
 use acpc_game::Game;
 use command_words::Command;
+use hand_records::Keep;
 use ohh_members::Dialect;
 
 /// What is made of hands.
@@ -10,9 +11,11 @@ pub enum Task {
     Show(Command),
     /// The game file of the first hand.
     GameFile,
+    /// The same hands in a notation, with so many of their notes.
+    Convert { to: Reader, keep: Keep },
 }
 
-/// How the bytes of an input are read.
+/// How the bytes of an input are read, and as what hands are written.
 #[derive(Clone, Copy, Debug, PartialEq, Eq)]
 pub enum Reader {
     /// As the Poker Hand History format.
@@ -21,4 +24,11 @@ pub enum Reader {
     Ohh(Dialect),
     /// As a log of the Annual Computer Poker Competition under this game.
     Acpc(Game),
+}
+
+/// How hands are read, and what is made of them.
+#[derive(Clone, Copy, Debug, PartialEq, Eq)]
+pub struct Way {
+    pub reader: Reader,
+    pub task: Task,
 }

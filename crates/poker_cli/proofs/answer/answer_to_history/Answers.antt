@@ -10,7 +10,7 @@ use Rattle.poker_cli.proofs.answer.answer_to_history.Goals as goal
 pub returns-in-Ok-clause-answer : goal.returns-in-Ok-clause-answer
 returns-in-Ok-clause-answer c =
     IfOk-weaker c.answer_to_records.result _ _
-    (λ answer is. answers.Read c.requires c.in-Ok.records c.in-Ok.ensures.reads (answer_told answer) is) c.answer_to_records.ensures.answer
+    (λ answer is. answers.Read c.requires c.in-Ok.records (c.in-Ok.ensures.reads, c.in-Ok.ensures.sound) (answer_told answer) is) c.answer_to_records.ensures.answer
 
 pub returns-in-Err-clause-answer : goal.returns-in-Err-clause-answer
 returns-in-Err-clause-answer c =

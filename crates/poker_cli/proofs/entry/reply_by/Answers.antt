@@ -6,5 +6,5 @@ use Rattle.poker_cli.proofs.entry.reply_by.Goals as goal
 
 pub returns-in-Ok-answer_to_excess-clause-answer : goal.returns-in-Ok-answer_to_excess-clause-answer
 returns-in-Ok-answer_to_excess-clause-answer g c =
-    answer_beyond c.args.task c.args.reader.now (g.S.Source.left c.args.input.now) (answer_told c.in-Ok-answer_to_excess.answer)
+    answer_beyond c.args.way.now.task c.args.way.now.reader (g.S.Source.left c.args.input.now) (answer_told c.in-Ok-answer_to_excess.answer)
     (c.read_all.ensures.too_long (c.in-Err-TooLong.is ∙ ap (λ fault. Err fault) c.in-Err-TooLong.field-0-is)) c.in-Ok-answer_to_excess.ensures.answer
