@@ -7,7 +7,7 @@ ghost use Rattle.poker_cli.specs.Answer.{IsAnswer, IsAnswerIn};
 ghost use Rattle.poker_cli.specs.Lacking.{ComesFirst};
 ghost use Rattle.poker_cli.specs.Run.{AskForNoGame, AsksForGame, Ends, IsGameMissing, IsOfInput, IsOwn, LacksGame, MayEnd, ReadsNothing, TellsLine, Writes, WritesNothing, files_told, fixed_line, line_of};
 ghost use Rattle.poker_cli.specs.Told.{answer_told};
-ghost use Rattle.poker_cli.specs.Ways.{game_name as game_name_said, way_of as way_of_said};
+ghost use Rattle.poker_cli.specs.Ways.{game_name as game_asked, way_of as way_of_said};
 
 use crate::answer::{self, Answer, MOST_INPUT};
 use crate::games::{NoGame, answer_to_lack, fetch_game};
@@ -40,7 +40,7 @@ pub fn run<S: Source, H: Shelf, K: Sink, D: Sink>(
     // to the input, or with a fault whose count rose in this call.
     ensures ends { IfSome (request_said (map string_bytes words.now)) (λ request.
         IfSome (S.left input.old) (λ bytes.
-        IfSome (files_told (game_name_said request) (H.files shelf.old)) (λ files.
+        IfSome (files_told (game_asked request) (H.files shelf.old)) (λ files.
         Ends request files bytes
         (record {
           held = K.held out.old;
@@ -65,7 +65,7 @@ pub fn run<S: Source, H: Shelf, K: Sink, D: Sink>(
         → shelf.new ≡ shelf.old }
     ensures unread { ReadsNothing result → input.new ≡ input.old }
     ensures without_game { IfSome (request_said (map string_bytes words.now)) (λ request.
-        LacksGame (game_name_said request) (H.files shelf.old) → input.new ≡ input.old) }
+        LacksGame (game_asked request) (H.files shelf.old) → input.new ≡ input.old) }
 
     // Nothing is written before all is done, and the line of a fault depends on no input.
     ensures nothing_written { WritesNothing result → out.new ≡ out.old }
@@ -97,7 +97,7 @@ fn run_request<S: Source, H: Shelf, K: Sink, D: Sink>(
 ) -> Status
     ensures answered { result ≡ Status.Usage → ⊥ }
     ensures ends { IfSome (S.left input.old) (λ bytes.
-        IfSome (files_told (game_name_said (request_in request.entry)) (H.files shelf.old)) (λ files.
+        IfSome (files_told (game_asked (request_in request.entry)) (H.files shelf.old)) (λ files.
         Ends (request_in request.entry) files bytes
         (record {
           held = K.held out.old;
@@ -118,7 +118,7 @@ fn run_request<S: Source, H: Shelf, K: Sink, D: Sink>(
         → Rose (H.faults shelf.old) (H.faults shelf.new) }
     ensures shelf { AskForNoGame (Some (request_in request.entry)) → shelf.new ≡ shelf.old }
     ensures unread { ReadsNothing result → input.new ≡ input.old }
-    ensures without_game { LacksGame (game_name_said (request_in request.entry)) (H.files shelf.old)
+    ensures without_game { LacksGame (game_asked (request_in request.entry)) (H.files shelf.old)
         → input.new ≡ input.old }
     ensures nothing_written { WritesNothing result → out.new ≡ out.old }
     ensures fixed_line { IfSome (fixed_line result) (TellsLine
@@ -154,7 +154,7 @@ fn reply<S: Source, H: Shelf>(
     shelf: &mut H,
 ) -> Result<Answer, NoAnswer>
     ensures answer { IfOk result (λ answer. IfSome (S.left input.old) (λ bytes.
-        IfSome (files_told (game_name_said (request_in request.entry)) (H.files shelf.old)) (λ files.
+        IfSome (files_told (game_asked (request_in request.entry)) (H.files shelf.old)) (λ files.
         IsAnswerIn (request_in request.entry) files bytes (answer_told answer)))) }
     ensures own { IfOk result (λ answer. IsOwn answer.status) }
     ensures read_fault { IsErrOf result NoAnswer.ReadFault
@@ -162,14 +162,14 @@ fn reply<S: Source, H: Shelf>(
     ensures shelf_fault { IsErrOf result NoAnswer.ShelfFault
         → Rose (H.faults shelf.old) (H.faults shelf.new) }
     ensures asked { IsErrOf result NoAnswer.ShelfFault
-        → AsksForGame (game_name_said (request_in request.entry)) }
+        → AsksForGame (game_asked (request_in request.entry)) }
     ensures shelf { AskForNoGame (Some (request_in request.entry)) → shelf.new ≡ shelf.old }
     ensures unread { IfOk result (λ answer. ReadsNothing answer.status → input.new ≡ input.old) }
     ensures missing { IsErrOf result NoAnswer.GameMissing →
-        IfSome (files_told (game_name_said (request_in request.entry)) (H.files shelf.old)) (λ files.
-        IsGameMissing (game_name_said (request_in request.entry)) files) }
+        IfSome (files_told (game_asked (request_in request.entry)) (H.files shelf.old)) (λ files.
+        IsGameMissing (game_asked (request_in request.entry)) files) }
     ensures unasked { IfErr result (λ why. ComesFirst why → input.new ≡ input.old) }
-    ensures without_game { LacksGame (game_name_said (request_in request.entry)) (H.files shelf.old)
+    ensures without_game { LacksGame (game_asked (request_in request.entry)) (H.files shelf.old)
         → input.new ≡ input.old }
 {
     match game_name(request) {
@@ -186,7 +186,7 @@ fn reply_under<S: Source, H: Shelf>(
     input: &mut S,
     shelf: &mut H,
 ) -> Result<Answer, NoAnswer>
-    requires { game_name_said (request_in request) ≡ Some name.now }
+    requires { game_asked (request_in request) ≡ Some name.now }
     ensures answer { IfOk result (λ answer. IfSome (S.left input.old) (λ bytes.
         IfSome (H.files shelf.old) (λ files.
         IsAnswerIn (request_in request.entry) files bytes (answer_told answer)))) }

@@ -11,7 +11,8 @@ use ohh_members::Dialect;
 
 /// The name of the file of the game that a request asks for.
 pub fn game_name<'a>(request: Request<'a>) -> Option<&'a str>
-    ensures { option_map (λ name. name.now) result ≡ definition.game_name (request_in request.entry) }
+    ensures { option_map (λ name. name.now) result
+        ≡ definition.game_name (request_in request.entry) }
 {
     match request {
         Request::Show(_, notation) => file_of(notation),
@@ -22,7 +23,8 @@ pub fn game_name<'a>(request: Request<'a>) -> Option<&'a str>
 
 // The name of the file of the game that a notation is under.
 fn file_of<'a>(notation: Notation<'a>) -> Option<&'a str>
-    ensures { option_map (λ name. name.now) result ≡ definition.file_of (notation_in notation.entry) }
+    ensures { option_map (λ name. name.now) result
+        ≡ definition.file_of (notation_in notation.entry) }
 {
     match notation {
         Notation::Acpc { game } => Some(game),
