@@ -57,7 +57,7 @@ greatest_few : (f : ℕ → ℕ) (most first many : ℕ) → ((number : ℕ) →
 greatest_few f most first zero each = omega arith
 greatest_few f most first (suc many) each = omega (arith, each first, greatest_few f most (first + 1) many each)
 
-no_stud : (code : Code) → is_spelled_game code ≡ true → is_stud code ≡ false
+pub no_stud : (code : Code) → is_spelled_game code ≡ true → is_stud code ≡ false
 no_stud games.FT is = refl
 no_stud games.NT is = refl
 no_stud games.PO is = refl

@@ -29,3 +29,10 @@ pub mod SoundMoves
 pub mod SoundPots
 pub mod SoundShows
 pub mod SoundPlays
+pub mod RaiseUp
+pub mod WordEvents
+pub mod WordScript
+pub mod WordPlays
+pub mod SameSetups
+pub mod StatedAgrees
+pub mod ReadBack

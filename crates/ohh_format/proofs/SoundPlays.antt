@@ -73,18 +73,18 @@ use Rattle.ohh_format.proofs.WinsAgain.{seat_again}
 
 -- ---- the facts that are spelled
 
-none_some : {A : Type 0} {P : Type 0} {x : A} → Some x ≡ None → P
+pub none_some : {A : Type 0} {P : Type 0} {x : A} → Some x ≡ None → P
 none_some e = absurd (true≢false (ap is_some e))
 
-first_none : (one behind : Option Unspelled) → or_behind one behind ≡ None → one ≡ None
+pub first_none : (one behind : Option Unspelled) → or_behind one behind ≡ None → one ≡ None
 first_none None behind none = refl
 first_none (Some fact) behind none = none_some none
 
-fact_holds : (holds : Bool) (fact : Unspelled) (rest : Option Unspelled) → (if holds then rest else Some fact) ≡ None → (holds ≡ true) × (rest ≡ None)
+pub fact_holds : (holds : Bool) (fact : Unspelled) (rest : Option Unspelled) → (if holds then rest else Some fact) ≡ None → (holds ≡ true) × (rest ≡ None)
 fact_holds true fact rest none = (refl, none)
 fact_holds false fact rest none = none_some none
 
-spelled_setup : (keep : Keep) (play : Play) → unspelled keep play ≡ None → IsSpelledSetup play.trace.setup
+pub spelled_setup : (keep : Keep) (play : Play) → unspelled keep play ≡ None → IsSpelledSetup play.trace.setup
 unfolding unspelled
 spelled_setup keep play none =
     let setup = play.trace.setup in
@@ -212,7 +212,7 @@ take_whole : (l : List Said) → take (length l) l ≡ l
 take_whole [] = refl
 take_whole (first ∷ rest) = ap (λ (l : List Said). first ∷ l) (take_whole rest)
 
-end_of : (setup : Setup) (script : List Said) → past_after setup script (length script) ≡ past_of setup (reverse script)
+pub end_of : (setup : Setup) (script : List Said) → past_after setup script (length script) ≡ past_of setup (reverse script)
 end_of setup script = ap (λ (l : List Said). past_of setup (reverse l)) (take_whole script)
 
 core_reads : (setup : Setup) (rules : Rules) (script : List Said) → IsValid setup → IsPlayed setup rules script → IsTidy (core_of setup (past_of setup (reverse script))) → IsFlopGame setup.code → Reads setup (core_of setup (past_of setup (reverse script)))
@@ -331,7 +331,7 @@ module _ (keep : Keep) (play : Play) (sound : IsSound play) (spelled : unspelled
         showdown = showdown_is setup past trace sound.trace;
       }
 
-none_refused : (number : ℕ) (found : Option Unspelled) (behind : Option WriteRefusal) → refused_at number found behind ≡ None → (found ≡ None) × (behind ≡ None)
+pub none_refused : (number : ℕ) (found : Option Unspelled) (behind : Option WriteRefusal) → refused_at number found behind ≡ None → (found ≡ None) × (behind ≡ None)
 none_refused number None behind none = (refl, none)
 none_refused number (Some fact) behind none = none_some none
 

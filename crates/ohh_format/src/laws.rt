@@ -1,15 +1,18 @@
 //! What was written of plays reads back, proved over the definitions.
-ghost use Rattle.std.specs.Prelude.{◌≡◌, ℕ, ◌≤◌, List, None, Ok, length, sum_by};
+ghost use Rattle.std.specs.Prelude.{◌≡◌, ℕ, ◌≤◌, List, None, Ok, length, map, sum_by};
 ghost use Rattle.std.specs.List.{AllByRecursion};
 ghost use Rattle.first_fault.specs.declared.limits.TheConstants.{MOST_FILE_MOVES, MOST_HANDS};
 ghost use Rattle.hand_canon.specs.Sound.{IsSound};
+ghost use Rattle.hand_records.specs.declared.record.Record.{Record};
 ghost use Rattle.hand_records.specs.declared.trace.Play.{Play};
 ghost use Rattle.hand_records.specs.declared.writing.Keep.{Keep};
 ghost use Rattle.ohh_members.specs.declared.dialect.Dialect.{Dialect};
 ghost use Rattle.ohh_line.specs.Lines.{Spells};
 ghost use Rattle.ohh_line.specs.Spelled.{first_refusal};
+ghost use Rattle.ohh_reading.specs.Hand.{plain};
 ghost use Rattle.ohh_reading.specs.Reading.{reading};
 ghost use Rattle.ohh_format.specs.Again.{hands_again, moves_played};
+ghost use Rattle.ohh_format.specs.ReadBack.{AreAgain, KeepsNotes};
 
 /// Bytes that spell sound plays in a dialect, no more of them and of their moves than a file may have, each of which the format
 /// spells, read in the same dialect as the hands of these plays: with their setups and rakes, their canonical scripts in the
@@ -20,4 +23,16 @@ pub fn law_of_reading_again()
         → length plays ≤ MOST_HANDS → AllByRecursion IsSound plays
         → first_refusal keep plays ≡ None → sum_by moves_played plays ≤ MOST_FILE_MOVES
         → Spells dialect plays bytes → reading dialect bytes ≡ Ok (hands_again dialect 0 plays) }
+{}
+
+/// What bytes say, read in a dialect, that spell sound plays in it, no more of them and of their moves than a file may have, each
+/// of which the format spells: as many hands, one by one, which are legal under the rules of hand histories, have the whole traces
+/// of the plays, state nothing that differs, and have the kept notes. The function does nothing: its contract is a law.
+pub fn law_of_reading_back()
+    ensures { (dialect : Dialect) (keep : Keep) (plays : List Play) (bytes : List ℕ)
+        → length plays ≤ MOST_HANDS → AllByRecursion IsSound plays
+        → first_refusal keep plays ≡ None → sum_by moves_played plays ≤ MOST_FILE_MOVES
+        → Spells dialect plays bytes
+        → (hands : List Record) → reading dialect bytes ≡ Ok (map plain hands)
+        → AreAgain KeepsNotes 0 plays hands }
 {}

@@ -1,0 +1,91 @@
+-- The wins and the total of the pots that are stated again are those of the trace, so nothing that is stated differs.
+use Rattle.std.proofs.Common.{◌≡◌, ℕ, zero, suc, ◌+◌, ◌-◌, ◌<◌, ◌≤◌, pos, false, not, List, [], ◌++◌, map, find, get_or, length, if◌then◌else◌, Option, Some, None, option_map, refl, sym, ap, ◌∙◌, arith}
+use Rattle.std.specs.List.{range_with_len}
+use Rattle.std.specs.Ordering.{int_eq}
+use Rattle.std.proofs.lemmas.Bool.Decides.{Decides-int_eq}
+use Rattle.std.proofs.lemmas.List.{get_or-take, length-map, length-take-le}
+use Rattle.std.proofs.lemmas.List.FromFn.{length-range_with_len}
+use Rattle.chip_ledger.specs.SeatRow.{amount_of}
+use Rattle.chip_ledger.specs.declared.rows.SeatRow.{SeatRow}
+use Rattle.play_event.specs.Seats.{all_seats}
+use Rattle.hand_records.specs.declared.record.NetRow.{NetRow}
+use Rattle.hand_records.specs.declared.record.Stated.{Stated}
+use Rattle.hand_records.specs.declared.trace.Trace.{Trace}
+use Rattle.hand_canon.specs.Agreement.{Comparison, finish_compared, first_difference, is_different, pot_total_of, pots_compared, row_compared, total_compared, value_compared, win_compared, win_of}
+use Rattle.ohh_members.specs.Front.{amounts_in}
+
+-- a number of a list that is made for each seat
+at_seat : (f : ℕ → ℕ) (first count k : ℕ) → k < count → get_or (map f (range_with_len first count)) k 0 ≡ f (first + k)
+at_seat f first zero k within = absurd (omega (arith, within))
+at_seat f first (suc count) zero within = ap f (omega arith)
+at_seat f first (suc count) (suc k) within = at_seat f (first + 1) count k (omega (arith, within)) ∙ ap f (omega arith)
+
+-- a number is itself
+same_number : (a b : ℕ) → a ≡ b → not (int_eq (pos a) (pos b)) ≡ false
+same_number a b same = ap not ((Decides-int_eq (pos a) (pos b)).1 (ap pos same))
+
+-- where no number differs nothing is found but behind
+none_differ : (compared : ℕ → Comparison) (first count : ℕ) (rest : List Comparison) → ((seat : ℕ) → first ≤ seat → seat < first + count → is_different (compared seat) ≡ false)
+    → find is_different (map compared (range_with_len first count) ++ rest) ≡ find is_different rest
+none_differ compared first zero rest same = refl
+none_differ compared first (suc count) rest same =
+    ap (λ b. if b then Some (compared first) else find is_different (map compared (range_with_len (first + 1) count) ++ rest)) (same first (omega arith) (omega arith))
+    ∙ none_differ compared (first + 1) count rest (λ seat from to. same seat (omega (arith, from)) (omega (arith, to)))
+
+-- the wins of a row
+module _ (trace : Trace) (row : SeatRow) (same : amounts_in row ≡ map (win_of trace) (all_seats trace.setup)) where
+  abbrev seats : ℕ
+  seats = trace.setup.stacks.seats
+
+  count : row.seats ≡ seats
+  count =
+      sym (length-take-le row.seats row.amounts (omega (arith, row.greatest, row.full)))
+      ∙ ap (λ (l : List ℕ). length l) same
+      ∙ length-map (all_seats trace.setup) (win_of trace)
+      ∙ length-range_with_len 1 seats
+
+  win_is : (seat : ℕ) → 1 ≤ seat → seat < 1 + seats → amount_of row seat ≡ win_of trace seat
+  win_is seat from to =
+      let within : seat - 1 < seats = omega (arith, from, to) in
+      let number : 1 + (seat - 1) ≡ seat = omega (arith, from) in
+      sym (get_or-take row.seats row.amounts (seat - 1) 0 (omega (arith, within, count)))
+      ∙ ap (λ (l : List ℕ). get_or l (seat - 1) 0) same
+      ∙ at_seat (win_of trace) 1 seats (seat - 1) within
+      ∙ ap (win_of trace) number
+
+  wins_agree : (rest : List Comparison) → find is_different (row_compared trace win_compared (Some row) ++ rest) ≡ find is_different rest
+  wins_agree rest = none_differ (win_compared trace row) 1 seats rest (λ seat from to. same_number (amount_of row seat) (win_of trace seat) (win_is seat from to))
+
+-- the total
+total_agrees : (trace : Trace) → find is_different (total_compared trace (Some (pot_total_of trace)) ++ []) ≡ None
+total_agrees trace =
+    ap (λ b. if b then Some (pots_compared trace (pot_total_of trace)) else None) (same_number (pot_total_of trace) (pot_total_of trace) refl)
+
+-- what is read of what is stated
+some_wins : (trace : Trace) (wins : Option SeatRow) (rest : List Comparison) → option_map amounts_in wins ≡ Some (map (win_of trace) (all_seats trace.setup))
+    → find is_different (row_compared trace win_compared wins ++ rest) ≡ find is_different rest
+some_wins trace None rest same = absurd (cc (same))
+some_wins trace (Some row) rest same =
+    let here : amounts_in row ≡ map (win_of trace) (all_seats trace.setup) = cc in
+    wins_agree trace row here rest
+
+no_finish : (finish : Option SeatRow) → option_map amounts_in finish ≡ None → finish ≡ None
+no_finish None none = refl
+no_finish (Some row) none = absurd (cc (none))
+
+-- what states the wins and the total of a trace, and no more
+pub record StatesWins (trace : Trace) (stated : Stated) : Type 0 where
+  pub finish : option_map amounts_in stated.finish ≡ None
+  pub wins : option_map amounts_in stated.wins ≡ Some (map (win_of trace) (all_seats trace.setup))
+  pub total : stated.pot_total ≡ Some (pot_total_of trace)
+  pub values : stated.values ≡ None
+
+-- so nothing that is stated differs
+pub stated_agrees : (trace : Trace) (stated : Stated) → StatesWins trace stated → first_difference trace stated ≡ None
+stated_agrees trace stated states =
+    let values = row_compared trace value_compared stated.values in
+    ap (λ finish. find is_different (row_compared trace finish_compared finish ++ (row_compared trace win_compared stated.wins ++ (total_compared trace stated.pot_total ++ values)))) (no_finish stated.finish states.finish)
+    ∙ some_wins trace stated.wins (total_compared trace stated.pot_total ++ values) states.wins
+    ∙ ap (λ total. find is_different (total_compared trace total ++ values)) states.total
+    ∙ ap (λ (v : Option NetRow). find is_different (total_compared trace (Some (pot_total_of trace)) ++ row_compared trace value_compared v)) states.values
+    ∙ total_agrees trace
