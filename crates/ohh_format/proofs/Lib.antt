@@ -36,3 +36,7 @@ pub mod WordPlays
 pub mod SameSetups
 pub mod StatedAgrees
 pub mod ReadBack
+pub mod ToldHands
+pub mod ToldPosts
+pub mod ToldSetups
+pub mod Sharpness

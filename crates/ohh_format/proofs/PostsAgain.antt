@@ -81,7 +81,7 @@ none_any : (p : ℕ → Bool) (first count : ℕ) → ((number : ℕ) → first 
 none_any p first zero none = refl
 none_any p first (suc count) none = rw (none first (omega arith) (omega arith)) (none_any p (first + 1) count (λ number from within. none number (omega (arith, from)) (omega (arith, within))))
 
-all_of : (p : ℕ → Bool) (first count : ℕ) → ((number : ℕ) → first ≤ number → number < first + count → p number ≡ true) → list_all p (range_with_len first count) ≡ true
+pub all_of : (p : ℕ → Bool) (first count : ℕ) → ((number : ℕ) → first ≤ number → number < first + count → p number ≡ true) → list_all p (range_with_len first count) ≡ true
 all_of p first zero each = refl
 all_of p first (suc count) each = rw (each first (omega arith) (omega arith)) (all_of p (first + 1) count (λ number from within. each number (omega (arith, from)) (omega (arith, within))))
 

@@ -15,7 +15,7 @@ use Rattle.hand_canon.specs.Agreement.{Comparison, finish_compared, first_differ
 use Rattle.ohh_members.specs.Front.{amounts_in}
 
 -- a number of a list that is made for each seat
-at_seat : (f : ℕ → ℕ) (first count k : ℕ) → k < count → get_or (map f (range_with_len first count)) k 0 ≡ f (first + k)
+pub at_seat : (f : ℕ → ℕ) (first count k : ℕ) → k < count → get_or (map f (range_with_len first count)) k 0 ≡ f (first + k)
 at_seat f first zero k within = absurd (omega (arith, within))
 at_seat f first (suc count) zero within = ap f (omega arith)
 at_seat f first (suc count) (suc k) within = at_seat f (first + 1) count k (omega (arith, within)) ∙ ap f (omega arith)

@@ -1,18 +1,20 @@
 //! What was written of plays reads back, proved over the definitions.
-ghost use Rattle.std.specs.Prelude.{◌≡◌, ℕ, ◌≤◌, List, None, Ok, length, map, sum_by};
+ghost use Rattle.std.specs.Prelude.{◌≡◌, ℕ, ◌≤◌, true, List, None, Ok, Some, length, map, sum_by};
 ghost use Rattle.std.specs.List.{AllByRecursion};
 ghost use Rattle.first_fault.specs.declared.limits.TheConstants.{MOST_FILE_MOVES, MOST_HANDS};
 ghost use Rattle.hand_canon.specs.Sound.{IsSound};
 ghost use Rattle.hand_records.specs.declared.record.Record.{Record};
 ghost use Rattle.hand_records.specs.declared.trace.Play.{Play};
 ghost use Rattle.hand_records.specs.declared.writing.Keep.{Keep};
+ghost use Rattle.hand_records.specs.declared.writing.Unspelled.{Unspelled};
 ghost use Rattle.ohh_members.specs.declared.dialect.Dialect.{Dialect};
 ghost use Rattle.ohh_line.specs.Lines.{Spells};
-ghost use Rattle.ohh_line.specs.Spelled.{first_refusal};
+ghost use Rattle.ohh_line.specs.Spelled.{first_refusal, unspelled};
 ghost use Rattle.ohh_reading.specs.Hand.{plain};
 ghost use Rattle.ohh_reading.specs.Reading.{reading};
 ghost use Rattle.ohh_format.specs.Again.{hands_again, moves_played};
 ghost use Rattle.ohh_format.specs.ReadBack.{AreAgain, KeepsNotes};
+ghost use Rattle.ohh_format.specs.Sharp.{IsOther, is_sharp};
 
 /// Bytes that spell sound plays in a dialect, no more of them and of their moves than a file may have, each of which the format
 /// spells, read in the same dialect as the hands of these plays: with their setups and rakes, their canonical scripts in the
@@ -35,4 +37,14 @@ pub fn law_of_reading_back()
         → Spells dialect plays bytes
         → (hands : List Record) → reading dialect bytes ≡ Ok (map plain hands)
         → AreAgain KeepsNotes 0 plays hands }
+{}
+
+/// Whatever bytes say records in a dialect, none of these is a legal hand with the trace of a play of which the format does not
+/// spell a fact, unless the fact is a note: a hand that is read may well have that trace. The function does nothing: its
+/// contract is a law.
+pub fn law_of_sharpness()
+    ensures { (dialect : Dialect) (keep : Keep) (play : Play) (fact : Unspelled)
+        → unspelled keep play ≡ Some fact → is_sharp fact ≡ true
+        → (bytes : List ℕ) (hands : List Record) → reading dialect bytes ≡ Ok (map plain hands)
+        → AllByRecursion (IsOther play) hands }
 {}
