@@ -27,9 +27,10 @@ pub fn law_of_reading_again()
         → Spells dialect plays bytes → reading dialect bytes ≡ Ok (hands_again dialect 0 plays) }
 {}
 
-/// What bytes say, read in a dialect, that spell sound plays in it, no more of them and of their moves than a file may have, each
-/// of which the format spells: as many hands, one by one, which are legal under the rules of hand histories, have the whole traces
-/// of the plays, state nothing that differs, and have the kept notes. The function does nothing: its contract is a law.
+/// What bytes say, read in a dialect, that spell sound plays in it, no more of them and of their moves than a file may have,
+/// each of which the format spells: as many hands, one by one, which are legal under the rules of hand histories, have the
+/// setups and the whole traces of the plays, state nothing that differs, and have the kept notes. The function does nothing:
+/// its contract is a law.
 pub fn law_of_reading_back()
     ensures { (dialect : Dialect) (keep : Keep) (plays : List Play) (bytes : List ℕ)
         → length plays ≤ MOST_HANDS → AllByRecursion IsSound plays
