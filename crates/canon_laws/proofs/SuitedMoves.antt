@@ -21,11 +21,11 @@ use Rattle.canon_laws.specs.OtherRules.{SuitsRules, is_free_fold}
 use Rattle.canon_laws.proofs.SameCore.{plain_again}
 
 -- the raises of the first four streets are within their caps
-abbrev AreWithin : Option (List ℕ) → List Move → Type 0
+abbrev pub AreWithin : Option (List ℕ) → List Move → Type 0
 AreWithin caps moves = IfSome caps (λ caps. (street : ℕ) → street ≤ 4 → raises_on moves street ≤ slice_index caps (street - 1))
 
 -- how many raises there are with one move more
-one_more : (move : Move) (older : List Move) (street : ℕ) (b : Bool) → (move.street == street) ≡ b → raises_on (move ∷ older) street ≡ cond (b && is_raise move.act) 1 0 + raises_on older street
+pub one_more : (move : Move) (older : List Move) (street : ℕ) (b : Bool) → (move.street == street) ≡ b → raises_on (move ∷ older) street ≡ cond (b && is_raise move.act) 1 0 + raises_on older street
 one_more move older street true here =
     ap (λ c. count_by (λ m. is_raise m.act) (if c then (move ∷ moves_on street older) else moves_on street older)) here
     ∙ count_by-cons (λ m. is_raise m.act) move (moves_on street older)

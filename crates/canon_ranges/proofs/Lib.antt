@@ -1,4 +1,4 @@
--- The moves, the cards and the counts of a canonical script.
+-- The moves, the cards and the counts of a canonical script, what a hand has of each street, and the script in other words.
 pub mod MoverSeats
 pub mod MoveRanges
 pub mod GameSizes
@@ -7,3 +7,7 @@ pub mod EventRanges
 pub mod OtherCounts
 pub mod SameMoves
 pub mod SuitedRules
+pub mod StreetsPlayed
+pub mod RaiseUp
+pub mod OtherWords
+pub mod SameEvents

@@ -37,7 +37,8 @@ pub record IsMoveInRange (setup : Setup) (move : Move) : Type 0 where
   pub seat : IsSeatOf setup.stacks.seats move.seat
   pub to : move.to ≤ MOST_CHIPS
 
-added_less : (street seat : ℕ) (moves : List Move) → chips_added seat (moves_on street moves) ≤ chips_added seat moves
+-- a seat adds no more on a street than in the hand
+pub added_less : (street seat : ℕ) (moves : List Move) → chips_added seat (moves_on street moves) ≤ chips_added seat moves
 added_less street seat [] = omega arith
 added_less street seat (move ∷ before) = by_street (move.street == street) (added_less street seat before)
   where
@@ -45,7 +46,8 @@ added_less street seat (move ∷ before) = by_street (move.street == street) (ad
     by_street true less = omega (arith, less)
     by_street false less = omega (arith, less)
 
-brought_less : (setup : Setup) (street seat : ℕ) → brought setup street seat ≤ posted setup seat
+-- and brings no more to a street than it posted
+pub brought_less : (setup : Setup) (street seat : ℕ) → brought setup street seat ≤ posted setup seat
 brought_less setup street seat = by_first (street == 1)
   where
     by_first : (first : Bool) → (if first then blind_posted setup seat else 0) ≤ posted setup seat

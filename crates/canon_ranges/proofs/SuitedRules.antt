@@ -1,18 +1,17 @@
 -- The moves of a legal script suit the rules under which it is legal: where full raises alone reopen the betting no raise is
 -- closed, where folds are not free each fold pays for something, and the raises of each street are within its cap.
-use Rattle.std.proofs.Common.{◌≡◌, ℕ, ◌+◌, ◌-◌, ◌≤◌, Bool, true, false, ◌&&◌, ◌||◌, ◌==◌, not, nat_le, nat_lt, cond, if◌then◌else◌, Option, Some, None, IfSome, List, [], ◌∷◌, ◌++◌, count_by, reverse, slice_index, inl, inr, refl, sym, ap, subst, ◌∙◌, arith}
+use Rattle.std.proofs.Common.{◌≡◌, ℕ, ◌+◌, ◌-◌, ◌≤◌, Bool, true, false, ◌&&◌, ◌||◌, ◌==◌, not, nat_le, nat_lt, cond, Option, Some, None, List, [], ◌∷◌, reverse, slice_index, inl, inr, refl, sym, ap, subst, ◌∙◌, arith}
 use Rattle.std.specs.List.{list_any}
-use Rattle.std.proofs.lemmas.Bool.{and_parts, eq-eqb, eqb-true, false_from_ne_true, leb-true, ltb-false, ltb-true, not-false, or_cases, lt-ltb}
-use Rattle.list_laws.proofs.Counting.{count_by-cons}
+use Rattle.std.proofs.lemmas.Bool.{and_parts, eq-eqb, eqb-true, false_from_ne_true, leb-true, ltb-false, ltb-true, not-false, or_cases}
 use Rattle.list_laws.proofs.Finding.{list_any-push}
 use Rattle.list_laws.proofs.Tests.{false_true}
 use Rattle.play_event.proofs.TargetLaws.{greatest_is_legal}
 use Rattle.play_event.specs.Amounts.{raise_target}
 use Rattle.play_event.specs.Chips.{all_in, street_chips}
-use Rattle.play_event.specs.Laws.{AreLegal, NoneHold}
+use Rattle.play_event.specs.Laws.{NoneHold}
 use Rattle.play_event.specs.MoveReasons.{actor_of}
 use Rattle.play_event.specs.Openers.{TheSeat}
-use Rattle.play_event.specs.Past.{Act, Folded, Called, Raised, BroughtIn, Move, Moved, Resolved, is_raise, moves_of, moves_on}
+use Rattle.play_event.specs.Past.{Folded, Move, Moved, Resolved, is_raise, moves_of}
 use Rattle.play_event.specs.Places.{Place}
 use Rattle.play_event.specs.Price.{price}
 use Rattle.play_event.specs.Raising.{has_able_opponent, is_closed, is_reopened, is_within_cap, raises_on}
@@ -26,7 +25,6 @@ use Rattle.play_event.specs.declared.setup.Reopen.{Reopen}
 use Rattle.play_event.specs.declared.setup.Reopen.TheVariants as reopens
 use Rattle.play_event.specs.declared.setup.Rules.{Rules}
 use Rattle.play_event.specs.declared.setup.Setup.{Setup}
-use Rattle.canonical_play.specs.CanonScript.{plain_moves}
 use Rattle.canonical_play.specs.PlayedScript.{IsPlayed}
 use Rattle.canonical_play.specs.TraceCore.{core_after}
 use Rattle.play_laws.proofs.FittingPasts.{legal_moves}
@@ -36,6 +34,7 @@ use Rattle.play_laws.proofs.NamedMoves.{move_reasons}
 use Rattle.play_laws.proofs.OtherRules.{AreSuited, IsSuited}
 use Rattle.canon_laws.specs.OtherRules.{SuitsRules, is_free_fold}
 use Rattle.canon_laws.proofs.SameCore.{plain_again}
+use Rattle.canon_laws.proofs.SuitedMoves.{AreWithin, one_more}
 
 -- a fold with something to call pays for it
 pays : (free : Bool) (the_price from : ℕ) → (not free && (the_price - from == 0)) ≡ false → free ≡ false → nat_le the_price from ≡ false
@@ -109,19 +108,7 @@ each_suits setup rules placed [] law = tt
 each_suits setup rules placed (move ∷ older) law =
     (suits_by setup rules older move.street move.seat law.0.event move law.0.due law.0.is_move law.0.none law.0.place, each_suits setup rules placed older law.1)
 
--- how many raises there are with one move more
-one_more : (move : Move) (older : List Move) (street : ℕ) (b : Bool) → (move.street == street) ≡ b → raises_on (move ∷ older) street ≡ cond (b && is_raise move.act) 1 0 + raises_on older street
-one_more move older street true here =
-    ap (λ c. count_by (λ m. is_raise m.act) (if c then (move ∷ moves_on street older) else moves_on street older)) here
-    ∙ count_by-cons (λ m. is_raise m.act) move (moves_on street older)
-one_more move older street false here =
-    let none : raises_on older street ≡ 0 + raises_on older street = omega arith in
-    ap (λ c. count_by (λ m. is_raise m.act) (if c then (move ∷ moves_on street older) else moves_on street older)) here ∙ none
-
--- the raises of the first four streets are within their caps
-abbrev AreWithin : Option (List ℕ) → List Move → Type 0
-AreWithin caps moves = IfSome caps (λ caps. (street : ℕ) → street ≤ 4 → raises_on moves street ≤ slice_index caps (street - 1))
-
+-- a raise within the cap leaves one below it
 room : (caps : List ℕ) (older : List Move) (street : ℕ) → street ≤ 4 → is_within_cap (Some caps) older street ≡ true → raises_on older street + 1 ≤ slice_index caps (street - 1)
 room caps older street first within = elim (or_cases (nat_lt 4 street) (nat_lt (raises_on older street) (slice_index caps (street - 1))) within) [
   | inl late ↦ absurd (omega (arith, first, ltb-true 4 street late))
