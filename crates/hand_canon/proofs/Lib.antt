@@ -1,4 +1,4 @@
--- The lemmas by which a canonical script is written.
+-- The lemmas by which a canonical script is written; and setups with the same parts.
 pub mod WrittenWords
 pub mod OneByOne
 pub mod Differences
@@ -6,3 +6,4 @@ pub mod MoveRows
 pub mod ShortScripts
 pub mod CanonParts
 pub mod StreetRows
+pub mod SameSetups

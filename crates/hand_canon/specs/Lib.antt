@@ -1,5 +1,5 @@
--- Legal hands, the shares of a whole trace, sound plays, and what stated facts are compared with. What a trace keeps but for its
--- shares, and its canonical script, are passed on.
+-- Legal hands, the shares of a whole trace, sound plays, what stated facts are compared with, and hands that are read again of
+-- plays. What a trace keeps but for its shares, and its canonical script, are passed on.
 pub use Rattle.canonical_play.specs.TraceCore
 pub use Rattle.canonical_play.specs.CanonScript
 pub use Rattle.canonical_play.specs.PlayedScript
@@ -9,6 +9,7 @@ pub mod WholeTrace
 pub mod Sound
 pub mod Agreement
 pub mod Judged
+pub mod ReadAgain
 pub mod Numbers
 pub mod Words
 pub mod RowTests

@@ -1,22 +1,20 @@
 -- Records that say the same plain hand say the same play.
-use Rattle.std.proofs.Common.{◌≡◌, ℕ, Bool, ◌+◌, ◌-◌, ◌<◌, ◌≤◌, List, [], ◌∷◌, map, length, take, get_or, slice_index_or, Option, Some, None, option_map, refl, sym, subst, ap, ap₂, ◌∙◌, arith}
-use Rattle.std.proofs.Props.{props}
-use Rattle.std.proofs.lemmas.List.{get_or-take, length-take-le}
+use Rattle.std.proofs.Common.{◌≡◌, ℕ, ◌-◌, ◌<◌, List, [], ◌∷◌, map, get_or, slice_index_or, Option, None, refl, sym, ap, ap₂, ◌∙◌, arith}
+use Rattle.std.proofs.lemmas.List.{get_or-take}
 use Rattle.card_set.proofs.RowLaws.{cards_same, slots_same}
 use Rattle.chip_ledger.specs.declared.numbers.Seat.{Seat}
-use Rattle.chip_ledger.specs.declared.rakes.RakeRow.{RakeRow}
 use Rattle.chip_ledger.specs.declared.rows.SeatRow.{SeatRow}
-use Rattle.chip_ledger.proofs.Same.{seat_row_same_by_seats, seat_same}
+use Rattle.chip_ledger.proofs.Same.{seat_same}
+use Rattle.hand_canon.proofs.SameSetups.{amounts_same, rakes_same, setups_same}
+use Rattle.list_laws.proofs.Options.{options_same}
 use Rattle.hand_records.specs.declared.record.NetRow.{NetRow}
 use Rattle.hand_records.specs.declared.record.Record.{Record}
 use Rattle.hand_records.specs.declared.record.Stated.{Stated}
-use Rattle.play_event.specs.declared.code.Code.{Code}
 use Rattle.play_event.specs.declared.event.Event.{Event}
 use Rattle.play_event.specs.declared.event.Kind.{Kind}
 use Rattle.play_event.specs.declared.event.Kind.TheVariants as kinds
 use Rattle.play_event.specs.declared.setup.Setup.{Setup}
 use Rattle.play_event.specs.Said.{Numbered, kind_said, numbered, seat_named}
-use Rattle.phh_fields.specs.declared.sizes.Sizes.{Sizes}
 use Rattle.phh_fields.specs.Rows.{amounts_in}
 use Rattle.phh_reading.specs.Hand.{PlainHand, plain}
 
@@ -27,13 +25,6 @@ lists_same f apart [] (y ∷ ys) same = absurd (cc)
 lists_same f apart (x ∷ xs) [] same = absurd (cc)
 lists_same f apart (x ∷ xs) (y ∷ ys) same =
     ap₂ (λ z zs. z ∷ zs) (apart x y (cc)) (lists_same f apart xs ys (cc))
-
--- and all optional values
-options_same : {A B : Type 0} (f : A → B) → ((a b : A) → f a ≡ f b → a ≡ b) → (x y : Option A) → option_map f x ≡ option_map f y → x ≡ y
-options_same f apart None None same = refl
-options_same f apart None (Some b) same = absurd (cc)
-options_same f apart (Some a) None same = absurd (cc)
-options_same f apart (Some a) (Some b) same = ap Some (apart a b (cc))
 
 actor_same : (a b : Option Seat) → seat_named a ≡ seat_named b → a ≡ b
 actor_same a b same = options_same (λ (seat : Seat). seat.number) seat_same a b same
@@ -55,69 +46,22 @@ event_same a b same =
     ap₂ (λ at kind. record { at = at; kind = kind }) (ap (λ (n : Numbered). n.0) same)
     (kind_same a.kind b.kind (ap (λ (n : Numbered). n.1) same))
 
--- rows with the same amounts are one row
-amounts_same : (a b : SeatRow) → amounts_in a ≡ amounts_in b → a ≡ b
-amounts_same a b same =
-    let seats : a.seats ≡ b.seats =
-    sym (length-take-le a.seats a.amounts (omega (arith, a.greatest, a.full)))
-    ∙ ap length same
-    ∙ length-take-le b.seats b.amounts (omega (arith, b.greatest, b.full)) in
-    seat_row_same_by_seats a b seats
-    (λ n first last.
-    sym (get_or-take a.seats a.amounts (n - 1) 0 (omega (arith, first, last)))
-    ∙ ap (λ (amounts : List ℕ). get_or amounts (n - 1) 0) same
-    ∙ get_or-take b.seats b.amounts (n - 1) 0 (omega (arith, first, last, seats)))
-
-record KeptRakes (rakes : List ℕ) : Type 0 where
-  full : length rakes ≡ 11
-
-KeptRakes-prop : (rakes : List ℕ) → IsProp (KeptRakes rakes)
-KeptRakes-prop rakes = hlevel props
-
-rake_row : (rakes : List ℕ) → KeptRakes rakes → RakeRow
-rake_row rakes kept = record { rakes = rakes; full = kept.full }
-
-rakes_same : (a b : RakeRow) → a.rakes ≡ b.rakes → a ≡ b
-unfolding rake_row
-rakes_same a b same =
-    let P : List ℕ → Type 0 = λ rakes. (kept : KeptRakes rakes) → a ≡ rake_row rakes kept in
-    let here : P a.rakes = λ kept. ap (rake_row a.rakes) (KeptRakes-prop a.rakes (record { full = a.full }) kept) in
-    subst P same here (record { full = b.full })
-
-sizes_of : Setup → Sizes
-sizes_of setup = record { bring_in = setup.bring_in; small_bet = setup.small_bet; big_bet = setup.big_bet; min_bet = setup.min_bet }
-
-setup_from : Code → SeatRow → SeatRow → Bool → SeatRow → Sizes → RakeRow → Setup
-setup_from code stacks antes dead_antes blinds sizes rakes =
-    record {
-      code = code;
-      stacks = stacks;
-      antes = antes;
-      dead_antes = dead_antes;
-      blinds = blinds;
-      bring_in = sizes.bring_in;
-      small_bet = sizes.small_bet;
-      big_bet = sizes.big_bet;
-      min_bet = sizes.min_bet;
-      rakes = rakes;
-    }
-
 pub same_setup : (a b : Record) → plain a ≡ plain b → a.setup ≡ b.setup
-unfolding setup_from sizes_of
 same_setup a b same =
     let s = a.setup in
     let t = b.setup in
-    let stacks = amounts_same s.stacks t.stacks (ap (λ (hand : PlainHand). hand.setup.stacks) same) in
-    let antes = amounts_same s.antes t.antes (ap (λ (hand : PlainHand). hand.setup.antes) same) in
-    let blinds = amounts_same s.blinds t.blinds (ap (λ (hand : PlainHand). hand.setup.blinds) same) in
-    let rakes = rakes_same s.rakes t.rakes (ap (λ (hand : PlainHand). hand.rakes) same) in
-    let first : s ≡ setup_from t.code t.stacks s.antes s.dead_antes s.blinds (sizes_of s) s.rakes =
-    ap₂ (λ code row. setup_from code row s.antes s.dead_antes s.blinds (sizes_of s) s.rakes) (ap (λ (hand : PlainHand). hand.setup.code) same) stacks in
-    let second : setup_from t.code t.stacks s.antes s.dead_antes s.blinds (sizes_of s) s.rakes ≡ setup_from t.code t.stacks t.antes t.dead_antes s.blinds (sizes_of s) s.rakes =
-    ap₂ (λ row dead. setup_from t.code t.stacks row dead s.blinds (sizes_of s) s.rakes) antes (ap (λ (hand : PlainHand). hand.setup.dead_antes) same) in
-    let third : setup_from t.code t.stacks t.antes t.dead_antes s.blinds (sizes_of s) s.rakes ≡ setup_from t.code t.stacks t.antes t.dead_antes t.blinds (sizes_of t) s.rakes =
-    ap₂ (λ row sizes. setup_from t.code t.stacks t.antes t.dead_antes row sizes s.rakes) blinds (ap (λ (hand : PlainHand). hand.setup.sizes) same) in
-    first ∙ second ∙ third ∙ ap (λ row. setup_from t.code t.stacks t.antes t.dead_antes t.blinds (sizes_of t) row) rakes
+    setups_same s t (record {
+      code = ap (λ (hand : PlainHand). hand.setup.code) same;
+      stacks = amounts_same s.stacks t.stacks (ap (λ (hand : PlainHand). hand.setup.stacks) same);
+      antes = amounts_same s.antes t.antes (ap (λ (hand : PlainHand). hand.setup.antes) same);
+      dead_antes = ap (λ (hand : PlainHand). hand.setup.dead_antes) same;
+      blinds = amounts_same s.blinds t.blinds (ap (λ (hand : PlainHand). hand.setup.blinds) same);
+      bring_in = ap (λ (hand : PlainHand). hand.setup.sizes.bring_in) same;
+      small_bet = ap (λ (hand : PlainHand). hand.setup.sizes.small_bet) same;
+      big_bet = ap (λ (hand : PlainHand). hand.setup.sizes.big_bet) same;
+      min_bet = ap (λ (hand : PlainHand). hand.setup.sizes.min_bet) same;
+      rakes = rakes_same s.rakes t.rakes (ap (λ (hand : PlainHand). hand.rakes) same);
+    })
 
 pub same_rules : (a b : Record) → plain a ≡ plain b → a.rules ≡ b.rules
 same_rules a b same = ap (λ (hand : PlainHand). hand.rules) same
