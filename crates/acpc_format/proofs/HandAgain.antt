@@ -47,7 +47,8 @@ use Rattle.acpc_text.specs.Faults.{kept}
 use Rattle.acpc_reading.specs.Logs.{HandSaid}
 use Rattle.acpc_reading.specs.RecordView.{IsOfGame, code_of, record_said, rules_of}
 use Rattle.acpc_format.specs.Again.{hand_again, numbered_from, script_again, street_again}
-use Rattle.acpc_format.specs.ReadBack.{IsAgain, KeepsNotes}
+use Rattle.hand_canon.specs.ReadAgain.{IsAgain}
+use Rattle.acpc_format.specs.ReadBack.{KeepsNotes}
 use Rattle.acpc_format.proofs.HiddenMucks.{mucks_hide}
 use Rattle.acpc_format.proofs.Holdem.{IsHoldem, holdem}
 use Rattle.acpc_format.proofs.LetterEvents.{letters_same}
@@ -61,15 +62,14 @@ use Rattle.acpc_format.proofs.WithoutShows.{MucksHide, streets_alone, whole_past
 
 -- ---- the script
 
--- hold'em has no bring-in, and a limit that is fixed or none
+-- hold'em has no bring-in, and in a limit game a fixed limit
 pub record HasNoUpCards (no_limit : Bool) (code : Code) : Type 0 where
   pub stud : is_stud code ≡ false
-  pub none : no_limit ≡ true → limit_of code ≡ limits.No
   pub fixed : no_limit ≡ false → limit_of code ≡ limits.Fixed
 
 pub no_up_cards : (no_limit : Bool) → HasNoUpCards no_limit (code_of no_limit)
-no_up_cards true = record { stud = refl; none = λ is. refl; fixed = λ is. absurd (true≢false is) }
-no_up_cards false = record { stud = refl; none = λ is. absurd (true≢false (sym is)); fixed = λ is. refl }
+no_up_cards true = record { stud = refl; fixed = λ is. absurd (true≢false is) }
+no_up_cards false = record { stud = refl; fixed = λ is. refl }
 
 -- the moves of a past by what its trace keeps
 moves_kept : (setup : Setup) (past later : Past) → core_of setup later ≡ core_of setup past → moves_of later ≡ moves_of past
@@ -111,7 +111,7 @@ letters_played game setup rules script trace valid played is kind has same hide 
     let moves : moves_of (past_of setup (reverse words)) ≡ list = moves_kept setup past (past_of setup (reverse words)) trace_of.same in
     let have = play_letters game trace setup rules (reverse script) has (ap (λ (core : TraceCore). core.moves) same) played.legal kind.stud kind.fixed in
     let letters = script_letters game.no_limit setup placed list is.no_draw (legal_falling setup rules (reverse script) played.legal) (none_first list (legal_since setup rules (reverse script) played.legal)) (before_fifth setup rules (reverse script) played.legal is.streets) in
-    let it = letters_same game.no_limit setup rules (reverse words) list (reverse again) valid kind.none letters trace_of.played.legal moves have in
+    let it = letters_same game.no_limit setup rules (reverse words) list (reverse again) valid letters trace_of.played.legal moves have in
     in_letters game.no_limit setup rules script words again trace_of it.past it.legal
 
 -- ---- the hand

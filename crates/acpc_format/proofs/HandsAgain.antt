@@ -14,7 +14,8 @@ use Rattle.acpc_reading.specs.Logs.{HandSaid, reading}
 use Rattle.acpc_reading.specs.RecordView.{IsOfGame, record_said}
 use Rattle.acpc_text.specs.declared.fault.AcpcFault.{AcpcFault}
 use Rattle.acpc_format.specs.Again.{hand_again, hands_again, moves_written}
-use Rattle.acpc_format.specs.ReadBack.{AreAgain, KeepsNotes}
+use Rattle.hand_canon.specs.ReadAgain.{AreAgain}
+use Rattle.acpc_format.specs.ReadBack.{KeepsNotes}
 use Rattle.acpc_format.proofs.HandAgain.{hand_is}
 use Rattle.acpc_format.proofs.SoundReads.{some_refused, sound_again}
 

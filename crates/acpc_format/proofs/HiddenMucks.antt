@@ -27,7 +27,7 @@ use Rattle.play_event.specs.Table.{places_of}
 use Rattle.play_event.specs.Trace.{TracedPlace, has_unknown_card, is_mucked, is_shown, traced_place, traced_places}
 use Rattle.play_event.specs.declared.setup.Rules.{Rules}
 use Rattle.play_event.specs.declared.setup.Setup.{Setup}
-use Rattle.acpc_line.specs.PlayFacts.{hides_card, is_open_muck}
+use Rattle.acpc_line.specs.PlayFacts.{has_unknown_hole_card, is_open_muck}
 use Rattle.acpc_format.proofs.WithoutShows.{MucksHide}
 
 -- without draws no card is discarded
@@ -68,7 +68,7 @@ unknown_of test placed = list_any-map is_unknown (λ (place : TracedPlace). plac
 
 -- a live seat with an unknown hole card holds it
 pub hidden_held : (setup : Setup) (rules : Rules) (events : List Said) (seat : ℕ) → AreLegal setup rules events → ((street : ℕ) → has_draw setup.code street ≡ false) → 1 ≤ seat → seat ≤ setup.stacks.seats
-    → is_live (moves_of (past_of setup events)) seat ≡ true → hides_card (traced_places setup (past_of setup events)) seat ≡ true → has_unknown_card setup (past_of setup events) seat ≡ true
+    → is_live (moves_of (past_of setup events)) seat ≡ true → has_unknown_hole_card (traced_places setup (past_of setup events)) seat ≡ true → has_unknown_card setup (past_of setup events) seat ≡ true
 hidden_held setup rules events seat legal undrawn low high live hides =
     let past = past_of setup events in
     let placed = places_of setup.code past in
@@ -90,6 +90,6 @@ mucks_hide setup rules events row legal undrawn same none seat low high mucked =
     let past = past_of setup events in
     let placed = traced_places setup past in
     let flag : flag_of row seat ≡ true = flag-from_flagged row seat (ap (list_any (λ other. other == seat)) same ∙ is_in (is_mucked setup past) 1 setup.stacks.seats seat low (omega (arith, high)) ∙ mucked) in
-    let shut : not (hides_card placed seat) ≡ false = sym (ap (λ b. b && not (hides_card placed seat)) flag) ∙ none_at (is_open_muck placed row) setup.stacks.seats seat low high none in
+    let shut : not (has_unknown_hole_card placed seat) ≡ false = sym (ap (λ b. b && not (has_unknown_hole_card placed seat)) flag) ∙ none_at (is_open_muck placed row) setup.stacks.seats seat low high none in
     let live = (and_parts (nat_le 2 (live_count setup (moves_of past))) (is_live (moves_of past) seat) (and_parts (nat_le 2 (live_count setup (moves_of past)) && is_live (moves_of past) seat) (not (is_shown setup past seat)) mucked).0).1 in
-    hidden_held setup rules events seat legal undrawn low high live (not-false (hides_card placed seat) shut)
+    hidden_held setup rules events seat legal undrawn low high live (not-false (has_unknown_hole_card placed seat) shut)

@@ -13,18 +13,18 @@ use Rattle.play_event.specs.Reasons.{why}
 use Rattle.play_event.specs.Said as said
 use Rattle.play_event.specs.Said.{Said}
 use Rattle.play_event.specs.Scripts.{past_of, with_event}
-use Rattle.play_event.specs.Streets.{limit_of}
 use Rattle.play_event.specs.ValidSetup.{IsValid}
 use Rattle.play_event.specs.declared.event.Spelled.{Spelled}
 use Rattle.play_event.specs.declared.event.Spelled.TheVariants as spelled
-use Rattle.play_event.specs.declared.limit.Limit.TheVariants as limits
 use Rattle.play_event.specs.declared.setup.Rules.{Rules}
 use Rattle.play_event.specs.declared.setup.Setup.{Setup}
 use Rattle.play_laws.proofs.MoveKinds.{call_said, fold_said, raise_said}
 use Rattle.play_laws.proofs.OneSpelling.{same_past, same_reason}
 use Rattle.acpc_line.specs.Betting.{hand_total}
 use Rattle.acpc_format.specs.Again.{move_again}
-use Rattle.acpc_format.proofs.RaiseTotals.{named_in_turn, raise_up, same_target}
+use Rattle.canon_ranges.proofs.RaiseUp.{named_in_turn, raise_up}
+use Rattle.canon_ranges.proofs.SameEvents.{AreSame, IsNewest, IsSame, newest, one_more, same_moves}
+use Rattle.acpc_format.proofs.RaiseTotals.{same_target}
 
 -- The events of a canonical script, the newest first, with its moves, and the same events in letters: an event that is no move stays,
 -- and a move has its letter, after the moves before it.
@@ -43,11 +43,6 @@ pub record HasLetter (no_limit : Bool) (setup : Setup) (older : List Move) (move
 abbrev pub HaveLetters : Bool → Setup → List Move → Type 0
 HaveLetters no_limit setup [] = Unit {0}
 HaveLetters no_limit setup (move ∷ older) = HasLetter no_limit setup older move × HaveLetters no_limit setup older
-
--- an event is legal, and takes place as another one does
-record IsSame (setup : Setup) (rules : Rules) (before : Past) (event word : Said) : Type 0 where
-  legal : why setup rules before word ≡ None
-  past : with_event setup word before ≡ with_event setup event before
 
 fold_same : (setup : Setup) (rules : Rules) (past : Past) (seat : ℕ) → why setup rules past (said.Fold (Some seat)) ≡ None → IsSame setup rules past (said.Fold (Some seat)) (said.Fold None)
 fold_same setup rules past seat legal =
@@ -74,95 +69,47 @@ raise_same setup rules past seat target amount goes legal =
       past = spelling_laws.same_past setup past seat amount turned ∙ ap (λ n. with_event setup (said.Raise (Some seat) (spelled.To n)) past) goes;
     }
 
--- an event that is no move leaves the moves
-same_moves : (setup : Setup) (past : Past) (event : Said) → is_move event ≡ false → moves_of (with_event setup event past) ≡ moves_of past
-unfolding with_event
-same_moves setup past (said.Hole seat cards) still = refl
-same_moves setup past (said.Board cards) still = refl
-same_moves setup past (said.Discard seat cards) still = refl
-same_moves setup past (said.Show seat cards) still = refl
-same_moves setup past (said.Muck seat) still = refl
-same_moves setup past (said.Fold named) still = absurd (true≢false still)
-same_moves setup past (said.Call named stated) still = absurd (true≢false still)
-same_moves setup past (said.Raise named amount) still = absurd (true≢false still)
-same_moves setup past (said.BringIn named) still = absurd (true≢false still)
-
--- what the newest of the moves tells of the past before it
-record IsNewest (setup : Setup) (past : Past) (move : Move) (older : List Move) : Type 0 where
-  moves : moves_of past ≡ older
-  street : move.street ≡ (turn setup past).0
-  from : move.from ≡ street_chips setup (moves_of past) (turn setup past).0 move.seat
-
-newest_by : (setup : Setup) (past : Past) (placed move : Move) (older : List Move) → placed ∷ moves_of past ≡ move ∷ older → placed.street ≡ (turn setup past).0 → placed.from ≡ street_chips setup (moves_of past) (turn setup past).0 placed.seat → IsNewest setup past move older
-newest_by setup past placed move older same street from =
-    let here : placed ≡ move = cc in
-    record {
-      moves = cc;
-      street = sym (ap (λ (m : Move). m.street) here) ∙ street;
-      from = sym (ap (λ (m : Move). m.from) here) ∙ from ∙ ap (λ (m : Move). street_chips setup (moves_of past) (turn setup past).0 m.seat) here;
-    }
-
-newest : (setup : Setup) (past : Past) (move : Move) (older : List Move) (act : Act) → moves_of (with_event setup (act_named act move.seat move.to) past) ≡ move ∷ older → IsNewest setup past move older
-unfolding with_event
-newest setup past move older Folded same = newest_by setup past _ move older same refl refl
-newest setup past move older Called same = newest_by setup past _ move older same refl refl
-newest setup past move older Raised same = newest_by setup past _ move older same refl refl
-newest setup past move older BroughtIn same = newest_by setup past _ move older same refl refl
-
--- words are legal, and leave the past of events
-pub record AreSame (setup : Setup) (rules : Rules) (events words : List Said) : Type 0 where
-  pub legal : AreLegal setup rules words
-  pub past : past_of setup words ≡ past_of setup events
-
--- one event more
-one_more : (setup : Setup) (rules : Rules) (events words : List Said) (event word : Said) → AreSame setup rules events words → IsSame setup rules (past_of setup events) event word → AreSame setup rules (event ∷ events) (word ∷ words)
-one_more setup rules events words event word same is =
-    record {
-      legal = (ap (λ (p : Past). why setup rules p word) same.past ∙ is.legal, same.legal);
-      past = ap (with_event setup word) same.past ∙ is.past;
-    }
-
 -- where a raise goes, as its letter says it
-raise_goes : (no_limit : Bool) (setup : Setup) (rules : Rules) (events : List Said) (move : Move) → IsValid setup → (no_limit ≡ true → limit_of setup.code ≡ limits.No) → AreLegal setup rules events
+raise_goes : (no_limit : Bool) (setup : Setup) (rules : Rules) (events : List Said) (move : Move) → IsValid setup → AreLegal setup rules events
     → why setup rules (past_of setup events) (said.Raise (Some move.seat) (spelled.To move.to)) ≡ None → HasLetter no_limit setup (moves_of (past_of setup events)) move → is_raise move.act ≡ true
     → move.street ≡ (turn setup (past_of setup events)).0 → move.from ≡ street_chips setup (moves_of (past_of setup events)) (turn setup (past_of setup events)).0 move.seat
     → raise_target setup (moves_of (past_of setup events)) (turn setup (past_of setup events)).0 move.seat (if no_limit then spelled.HandTotal (hand_total setup move (moves_of (past_of setup events))) else spelled.Unit) ≡ move.to
-raise_goes true setup rules events move valid limit before legal has raises street from =
+raise_goes true setup rules events move valid before legal has raises street from =
     same_target setup (moves_of (past_of setup events)) move (turn setup (past_of setup events)).0 from
-    (subst (λ n. n ≤ move.to) (sym from) (raise_up setup rules events move.seat move.to valid (limit refl) before legal))
-raise_goes false setup rules events move valid limit before legal has raises street from =
+    (subst (λ n. n ≤ move.to) (sym from) (raise_up setup rules events move.seat move.to valid before legal))
+raise_goes false setup rules events move valid before legal has raises street from =
     ap (λ s. unit_target setup (moves_of (past_of setup events)) s move.seat) (sym street) ∙ has.by_unit refl raises
 
 -- the letter of a move
-letter_more : (no_limit : Bool) (setup : Setup) (rules : Rules) (events words : List Said) (move : Move) → IsValid setup → (no_limit ≡ true → limit_of setup.code ≡ limits.No) → AreLegal setup rules events
+letter_more : (no_limit : Bool) (setup : Setup) (rules : Rules) (events words : List Said) (move : Move) → IsValid setup → AreLegal setup rules events
     → AreSame setup rules events words → HasLetter no_limit setup (moves_of (past_of setup events)) move → IsNewest setup (past_of setup events) move (moves_of (past_of setup events))
     → (act : Act) → move.act ≡ act → why setup rules (past_of setup events) (act_named act move.seat move.to) ≡ None
     → AreSame setup rules (act_named act move.seat move.to ∷ events) (move_again no_limit act (hand_total setup move (moves_of (past_of setup events))) ++ words)
-letter_more no_limit setup rules events words move valid limit before same has placed Folded is legal =
+letter_more no_limit setup rules events words move valid before same has placed Folded is legal =
     one_more setup rules events words (said.Fold (Some move.seat)) (said.Fold None) same (fold_same setup rules (past_of setup events) move.seat legal)
-letter_more no_limit setup rules events words move valid limit before same has placed Called is legal =
+letter_more no_limit setup rules events words move valid before same has placed Called is legal =
     one_more setup rules events words (said.Call (Some move.seat) None) (said.Call None None) same (call_same setup rules (past_of setup events) move.seat legal)
-letter_more no_limit setup rules events words move valid limit before same has placed Raised is legal =
+letter_more no_limit setup rules events words move valid before same has placed Raised is legal =
     let amount = if no_limit then spelled.HandTotal (hand_total setup move (moves_of (past_of setup events))) else spelled.Unit in
     one_more setup rules events words (said.Raise (Some move.seat) (spelled.To move.to)) (said.Raise None amount) same
     (raise_same setup rules (past_of setup events) move.seat move.to amount
-    (raise_goes no_limit setup rules events move valid limit before legal has (ap is_raise is) placed.street placed.from) legal)
-letter_more no_limit setup rules events words move valid limit before same has placed BroughtIn is legal =
+    (raise_goes no_limit setup rules events move valid before legal has (ap is_raise is) placed.street placed.from) legal)
+letter_more no_limit setup rules events words move valid before same has placed BroughtIn is legal =
     absurd (true≢false (sym (ap is_bring_in is) ∙ has.no_bring_in))
 
 -- events in letters are legal, and leave the past
-pub letters_same : (no_limit : Bool) (setup : Setup) (rules : Rules) (events : List Said) (moves : List Move) (words : List Said) → IsValid setup → (no_limit ≡ true → limit_of setup.code ≡ limits.No)
+pub letters_same : (no_limit : Bool) (setup : Setup) (rules : Rules) (events : List Said) (moves : List Move) (words : List Said) → IsValid setup
     → InLetters no_limit setup events moves words → AreLegal setup rules events → moves_of (past_of setup events) ≡ moves → HaveLetters no_limit setup moves → AreSame setup rules events words
-letters_same no_limit setup rules _ _ _ valid limit nothing legal same have = record { legal = tt; past = refl }
-letters_same no_limit setup rules _ _ _ valid limit (stays event events moves words still rest) legal same have =
+letters_same no_limit setup rules _ _ _ valid nothing legal same have = record { legal = tt; past = refl }
+letters_same no_limit setup rules _ _ _ valid (stays event events moves words still rest) legal same have =
     one_more setup rules events words event event
-    (letters_same no_limit setup rules events moves words valid limit rest legal.1 (sym (same_moves setup (past_of setup events) event still) ∙ same) have)
+    (letters_same no_limit setup rules events moves words valid rest legal.1 (sym (same_moves setup (past_of setup events) event still) ∙ same) have)
     (record { legal = legal.0; past = refl })
-letters_same no_limit setup rules _ _ _ valid limit (letter move events moves words rest) legal same have =
+letters_same no_limit setup rules _ _ _ valid (letter move events moves words rest) legal same have =
     let placed = newest setup (past_of setup events) move moves move.act same in
-    let older = letters_same no_limit setup rules events moves words valid limit rest legal.1 placed.moves have.1 in
+    let older = letters_same no_limit setup rules events moves words valid rest legal.1 placed.moves have.1 in
     let P : List Move → Type 0 = λ (list : List Move). AreSame setup rules (move_named move ∷ events) (move_again no_limit move.act (hand_total setup move list) ++ words) in
     subst P placed.moves
-    (letter_more no_limit setup rules events words move valid limit legal.1 older
+    (letter_more no_limit setup rules events words move valid legal.1 older
     (subst (λ (list : List Move). HasLetter no_limit setup list move) (sym placed.moves) have.0)
     (record { moves = refl; street = placed.street; from = placed.from }) move.act refl legal.0)

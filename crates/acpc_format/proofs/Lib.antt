@@ -12,7 +12,6 @@ pub mod LineAgain
 pub mod LogAgain
 pub mod Holdem
 pub mod SpelledFacts
-pub mod StreetsPlayed
 pub mod SoundReads
 pub mod OneSetup
 pub mod WithoutShows

@@ -52,7 +52,7 @@ use Rattle.hand_records.specs.declared.writing.Unspelled.{Unspelled}
 use Rattle.hand_records.specs.declared.writing.Unspelled.TheVariants as facts
 use Rattle.acpc_game.specs.declared.game.Game.{Game}
 use Rattle.acpc_line.specs.NoteFacts.{text_conditions, time_conditions}
-use Rattle.acpc_line.specs.PlayFacts.{hides_card, is_above_cap, is_above_caps, is_free_fold, is_off_unit, is_open_muck, is_part_known, is_raise_on, is_uneven, play_conditions}
+use Rattle.acpc_line.specs.PlayFacts.{has_unknown_hole_card, is_above_cap, is_above_caps, is_free_fold, is_off_unit, is_open_muck, is_part_known, is_raise_on, is_uneven, play_conditions}
 use Rattle.acpc_line.specs.SetupFacts.{is_code_of, setup_conditions}
 use Rattle.acpc_line.specs.Spelled.{first_where, or_else, unspelled, unspelled_note}
 use Rattle.acpc_reading.specs.Logs.{reading}
@@ -127,7 +127,7 @@ part_none : (no_limit : Bool) (setup : Setup) (rules : Rules) (events : List Sai
 part_none no_limit setup rules events seat is legal each low high =
     let placed = places_of setup.code (past_of setup events) in
     let test : Slot → Bool = λ slot. not (is_unknown slot) in
-    not_both (hides_card (traced_places setup (past_of setup events)) seat) (list_any test (dealt_slots (traced_places setup (past_of setup events)) (Some seat) 1)) (list_any (is_hidden_of seat) placed) (list_any (is_open_of seat) placed)
+    not_both (has_unknown_hole_card (traced_places setup (past_of setup events)) seat) (list_any test (dealt_slots (traced_places setup (past_of setup events)) (Some seat) 1)) (list_any (is_hidden_of seat) placed) (list_any (is_open_of seat) placed)
     (λ some. hole_own seat is_unknown placed (sym (hole_is setup events seat is_unknown is low high) ∙ some))
     (λ some. hole_own seat test placed (sym (hole_is setup events seat test is low high) ∙ some))
     (all_whole no_limit setup rules events seat is legal each)
@@ -148,7 +148,7 @@ muck_none no_limit setup rules events row seat is legal each same low high = by_
     past : Past
     past = past_of setup events
 
-    by_flag : (b : Bool) → flag_of row seat ≡ b → (b && not (hides_card (traced_places setup past) seat)) ≡ false
+    by_flag : (b : Bool) → flag_of row seat ≡ b → (b && not (has_unknown_hole_card (traced_places setup past) seat)) ≡ false
     by_flag false flag = refl
     by_flag true flag =
         let mucked : is_mucked setup past seat ≡ true = sym (is_in (is_mucked setup past) 1 setup.stacks.seats seat low (omega (arith, high))) ∙ sym (ap (list_any (λ other. other == seat)) same) ∙ flagged-from_flag row seat low flag in
@@ -158,7 +158,7 @@ muck_none no_limit setup rules events row seat is legal each same low high = by_
         let both = and_parts (is_held_by seat place) (is_unknown place.slot) it in
         let own = (and_parts (is_same_owner place.owner (Some seat)) (is_none place.gone_after) both.0).0 in
         and_from (is_in_group (Some seat) 1 place) (is_unknown place.slot) (and_from (is_same_owner place.owner (Some seat)) (place.street == 1) own (eq-eqb place.street 1 (on_first setup rules events seat place is legal among own))) both.1) unknown in
-        not_true (hides_card (traced_places setup past) seat) (hole_is setup events seat is_unknown is low high ∙ hole)
+        not_true (has_unknown_hole_card (traced_places setup past) seat) (hole_is setup events seat is_unknown is low high ∙ hole)
 
 -- ---- the facts that are left
 

@@ -1,11 +1,10 @@
 -- A sound play that the logs of its game spell reads back.
-use Rattle.std.proofs.Common.{◌≡◌, ℕ, zero, suc, ◌+◌, ◌-◌, ◌≤◌, Bool, true, false, ◌&&◌, ◌||◌, ◌==◌, cond, sum_by, List, [], ◌∷◌, length, map, filter, reverse, take, Option, Some, None, is_some, Ok, refl, sym, ap, subst, ◌∙◌, arith, true≢false, inl, inr}
-use Rattle.std.specs.List.{AllByRecursion, list_any}
-use Rattle.std.proofs.lemmas.Bool.{and_parts, cases_lt}
+use Rattle.std.proofs.Common.{◌≡◌, ℕ, zero, suc, ◌+◌, ◌-◌, ◌≤◌, Bool, true, false, ◌||◌, cond, sum_by, List, [], ◌∷◌, length, map, filter, reverse, take, Option, Some, None, is_some, Ok, refl, sym, ap, subst, ◌∙◌, arith, true≢false, inl, inr}
+use Rattle.std.specs.List.{AllByRecursion}
+use Rattle.std.proofs.lemmas.Bool.{cases_lt}
 use Rattle.std.proofs.lemmas.List.{length-map, length-reverse}
 use Rattle.canon_laws.proofs.MoveCounts.{tidy_within}
 use Rattle.canon_laws.proofs.SameCore.{plain_again}
-use Rattle.card_set.specs.Known.{is_unknown}
 use Rattle.canonical_play.specs.CanonScript.{dealt_slots, is_dealt_to, plain_move, plain_moves}
 use Rattle.canonical_play.specs.PlayedScript.{IsPlayed}
 use Rattle.canonical_play.specs.Tidy.{IsTidy}
@@ -13,16 +12,12 @@ use Rattle.canonical_play.specs.TraceCore.{TraceCore, core_of}
 use Rattle.chip_ledger.proofs.SeatLists.{none_at}
 use Rattle.chip_ledger.specs.SeatRow.{amount_of}
 use Rattle.chip_ledger.specs.declared.numbers.TheConstants.{MOST_CHIPS}
-use Rattle.list_laws.proofs.Any.{list_any-filter, list_any-map}
-use Rattle.list_laws.proofs.Finding.{none_stronger}
 use Rattle.play_event.proofs.ChipLaws.{puts_within}
 use Rattle.play_event.specs.declared.setup.Rules.{Rules}
 use Rattle.play_event.specs.declared.setup.Setup.{Setup}
-use Rattle.play_event.specs.Laws.{AreLegal}
 use Rattle.play_event.specs.Due.{is_unfinished, turn}
 use Rattle.play_event.specs.Games.{board_cards_on}
 use Rattle.play_event.specs.Past.{Past, moves_of, moves_on}
-use Rattle.play_event.specs.Places.{is_same_owner}
 use Rattle.play_event.specs.Said.{Said}
 use Rattle.play_event.specs.Scripts.{past_after, past_at_end, past_of}
 use Rattle.play_event.specs.Trace.{TracedPlace, traced_moves, traced_places}
@@ -49,7 +44,7 @@ use Rattle.acpc_format.proofs.LogAgain.{plays_again}
 use Rattle.acpc_format.proofs.EventsAgain.{no_slots}
 use Rattle.acpc_format.proofs.Holdem.{IsHoldem, holdem}
 use Rattle.acpc_format.proofs.SpelledFacts.{spelled}
-use Rattle.acpc_format.proofs.StreetsPlayed.{HasStreet, came_before, first_holes, has_street, is_passed}
+use Rattle.canon_ranges.proofs.StreetsPlayed.{HasStreet, board_known, came_before, first_holes, four_streets, is_passed, no_cards}
 
 -- cards of the board, and whether there are some
 board_there : (placed : List TracedPlace) (street : ℕ) → 1 ≤ length (dealt_slots placed None street) → has_board placed street ≡ true
@@ -68,39 +63,12 @@ board_missing street (place ∷ rest) none = by_place (is_dealt_to None street p
     by_place true none later = absurd (omega (arith, none))
     by_place false none later = later none
 
--- the cards of a tidy board are known
-board_known : (placed : List TracedPlace) (street : ℕ) → list_any (λ place. is_same_owner place.owner None && is_unknown place.slot) placed ≡ false → list_any is_unknown (dealt_slots placed None street) ≡ false
-board_known placed street known =
-    list_any-map is_unknown (λ (place : TracedPlace). place.slot) (filter (is_dealt_to None street) placed)
-    ∙ list_any-filter (λ (place : TracedPlace). is_unknown place.slot) (is_dealt_to None street) placed
-    ∙ none_stronger (λ (place : TracedPlace). is_dealt_to None street place && is_unknown place.slot) (λ (place : TracedPlace). is_same_owner place.owner None && is_unknown place.slot) weaker placed known
-  where
-    weaker : (place : TracedPlace) → (is_dealt_to None street place && is_unknown place.slot) ≡ true → (is_same_owner place.owner None && is_unknown place.slot) ≡ true
-    weaker place both =
-        let outer = and_parts (is_dealt_to None street place) (is_unknown place.slot) both in
-        let inner = and_parts (is_same_owner place.owner None) (place.street == street) outer.0 in
-        rw (inner.0, outer.1) refl
-
 -- what a hand with this core has
 record Reads (setup : Setup) (core : TraceCore) : Type 0 where
   two : (seat : ℕ) → 1 ≤ seat → seat ≤ setup.stacks.seats → length (dealt_slots core.places (Some seat) 1) ≡ 2
   no_more : (seat street : ℕ) → 1 ≤ seat → seat ≤ setup.stacks.seats → 2 ≤ street → street ≤ 4 → dealt_slots core.places (Some seat) street ≡ []
   boards : HasBoards core.places
   letters : HasLetters setup core.places (plain_moves core.moves)
-
-no_cards : {A : Type 0} (cards : List A) → length cards ≤ 0 → cards ≡ []
-no_cards [] none = refl
-no_cards (card ∷ cards) none = absurd (omega (arith, none))
-
--- the streets of hold'em
-streets_of_hand : (setup : Setup) (rules : Rules) (events : List Said) → AreLegal setup rules events → is_unfinished (turn setup (past_of setup events)).1 ≡ false → IsHoldem setup.code
-    → (street : ℕ) → 1 ≤ street → street ≤ 4 → HasStreet setup events street
-streets_of_hand setup rules events legal complete is zero low high = absurd (omega (arith, low))
-streets_of_hand setup rules events legal complete is (suc before) low high =
-    subst (HasStreet setup events) (next before) (has_street setup rules events before legal complete is.no_draw (omega (arith, high, is.streets)))
-  where
-    next : (n : ℕ) → n + 1 ≡ suc n
-    next n = omega arith
 
 chips_few : (setup : Setup) (seat : ℕ) → IsValid setup → amount_of setup.stacks seat ≤ MOST_CHIPS
 chips_few setup zero valid = (valid.stacks 1 (omega arith) (omega (arith, setup.stacks.least))).1
@@ -154,7 +122,7 @@ core_reads setup rules script valid played tidy is =
     let placed = traced_places setup past in
     let list = moves_of past in
     let complete : is_unfinished (turn setup past).1 ≡ false = sym (ap (λ (p : Past). is_unfinished (turn setup p).1) (end_of setup script)) ∙ played.complete in
-    let streets = streets_of_hand setup rules events played.legal complete is in
+    let streets = four_streets setup rules events played.legal complete is.no_draw is.streets in
     let plain : plain_moves (traced_moves setup list) ≡ list = plain_again setup list in
     let second = streets 2 (omega arith) (omega arith) in
     let third = streets 3 (omega arith) (omega arith) in

@@ -15,7 +15,8 @@ ghost use Rattle.acpc_line.specs.Texts.{HasTexts};
 ghost use Rattle.acpc_reading.specs.Logs.{reading};
 ghost use Rattle.acpc_reading.specs.RecordView.{IsOfGame, IsSetupOf, record_said};
 ghost use Rattle.acpc_format.specs.Again.{hands_again, moves_written};
-ghost use Rattle.acpc_format.specs.ReadBack.{AreAgain, KeepsNotes};
+ghost use Rattle.hand_canon.specs.ReadAgain.{AreAgain};
+ghost use Rattle.acpc_format.specs.ReadBack.{KeepsNotes};
 ghost use Rattle.acpc_format.specs.Sharp.{IsOther, is_sharp};
 
 /// The lines of sound plays that the logs of a game spell read as the hands of these plays: with their canonical scripts as

@@ -13,5 +13,5 @@ mod writing;
 
 pub use game::Game;
 pub use reading::read_game;
-pub use supported::greatest;
+pub use supported::{greatest, has_short_stack};
 pub use writing::write_game;

@@ -81,8 +81,8 @@ fn are_four(numbers: &[u64], four: [u64; 4]) -> bool
     }
 }
 
-// Whether some stack is 0, or below its blind.
-fn has_short_stack(stacks: &[u64], blinds: &[u64]) -> bool
+/// Whether some stack is 0, or below its blind.
+pub fn has_short_stack(stacks: &[u64], blinds: &[u64]) -> bool
     ensures { result ≡ has_short_stack_said stacks.now blinds.now }
 {
     match stacks {

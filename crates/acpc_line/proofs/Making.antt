@@ -12,7 +12,7 @@ use Rattle.play_event.specs.Streets.{limit_of}
 use Rattle.play_event.specs.ValidSetup.{IsSizeWhere, IsValid, is_fixed}
 use Rattle.acpc_game.specs.GameFile.{has_short_stack, is_reversed}
 use Rattle.acpc_game.specs.Games.{amounts_in, are_chips, has_fitting_sizes}
-use Rattle.acpc_line.specs.GameOf.{MakesGame, fits_size, no_limit_of}
+use Rattle.acpc_line.specs.GameOf.{MakesGame, is_sized_by_blind, no_limit_of}
 use Rattle.acpc_line.specs.SetupFacts.{greatest_blind}
 
 chips_of : (amounts : List ℕ) (count : ℕ) → ((k : ℕ) → k < count → slice_index amounts k ≤ MOST_CHIPS) → are_chips (take count amounts) ≡ true
@@ -65,7 +65,7 @@ sizes_fit codes.F2L3D no_limit small big least blind is has fits = absurd (cc (i
 sizes_fit codes.FB no_limit small big least blind is has fits = absurd (cc (is))
 
 pub makes_game : (no_limit : Bool) (setup : Setup) → IsValid setup → no_limit_of setup.code ≡ Some no_limit
-    → has_short_stack (amounts_in setup.stacks) (amounts_in setup.blinds) ≡ false → fits_size no_limit setup ≡ true → MakesGame no_limit setup
+    → has_short_stack (amounts_in setup.stacks) (amounts_in setup.blinds) ≡ false → is_sized_by_blind no_limit setup ≡ true → MakesGame no_limit setup
 makes_game no_limit setup valid is stacked fits = record {
   one_row = valid.same_blinds;
   few = chips_of setup.stacks.amounts setup.stacks.seats (λ k within. subst (λ (n : ℕ). n ≤ MOST_CHIPS) (at_index setup.stacks k) (valid.stacks (k + 1) (omega arith) (omega (arith, within))).1);

@@ -19,8 +19,8 @@ no_limit_of _ = None
 
 -- the sizes of bets fit the greatest blind: in no limit the least bet is that blind, and else the small bet is no more than it,
 -- where there is a blind
-abbrev pub fits_size : Bool → Setup → Bool
-fits_size no_limit setup =
+abbrev pub is_sized_by_blind : Bool → Setup → Bool
+is_sized_by_blind no_limit setup =
     if no_limit then setup.min_bet == greatest_blind setup
     else greatest_blind setup == 0 || nat_le setup.small_bet (greatest_blind setup)
 
@@ -39,7 +39,7 @@ game_with no_limit setup = record {
 abbrev pub game_by_limit : Setup → Bool → Result GameSaid Unspelled
 game_by_limit setup no_limit =
     if has_short_stack (amounts_in setup.stacks) (amounts_in setup.blinds) then Err facts.Stacks
-    else if not (fits_size no_limit setup) then Err facts.BetSizes
+    else if not (is_sized_by_blind no_limit setup) then Err facts.BetSizes
     else if list_any (nat_lt 0) (amounts_in setup.antes) then Err facts.Antes
     else Ok (game_with no_limit setup)
 

@@ -42,8 +42,8 @@ abbrev pub is_off_unit : Move → Bool
 is_off_unit move = is_raise (act_said move.act) && not (move.to == move.unit_to)
 
 -- a hole card of a seat is unknown
-abbrev pub hides_card : List TracedPlace → ℕ → Bool
-hides_card placed seat = list_any is_unknown (dealt_slots placed (Some seat) 1)
+abbrev pub has_unknown_hole_card : List TracedPlace → ℕ → Bool
+has_unknown_hole_card placed seat = list_any is_unknown (dealt_slots placed (Some seat) 1)
 
 -- a hole card of a seat is known
 abbrev pub has_known_card : List TracedPlace → ℕ → Bool
@@ -51,11 +51,11 @@ has_known_card placed seat = list_any (λ slot. not (is_unknown slot)) (dealt_sl
 
 -- a hole card of a seat is known and another is not
 abbrev pub is_part_known : List TracedPlace → ℕ → Bool
-is_part_known placed seat = hides_card placed seat && has_known_card placed seat
+is_part_known placed seat = has_unknown_hole_card placed seat && has_known_card placed seat
 
 -- a seat mucked, and its hole cards are known
 abbrev pub is_open_muck : List TracedPlace → LiveRow → ℕ → Bool
-is_open_muck placed mucked seat = flag_of mucked seat && not (hides_card placed seat)
+is_open_muck placed mucked seat = flag_of mucked seat && not (has_unknown_hole_card placed seat)
 
 -- of the seats that have a share of a pot, one has less than another
 abbrev pub is_uneven : SeatRow → Bool

@@ -2,14 +2,13 @@
 ghost use Rattle.std.specs.Prelude.{◌≡◌, ◌&&◌, ◌==◌, not, nat_lt, nat_le, Ok, Err, IfErr, IfOk, length};
 ghost use Rattle.acpc_game.specs.GameView.{game_in};
 ghost use Rattle.acpc_game.specs.Games.{amounts_in};
-ghost use Rattle.acpc_game.specs.GameFile.{has_short_stack as has_short_stack_said};
 ghost use Rattle.play_event.specs.ValidSetup.{IsValid};
-ghost use Rattle.acpc_line.specs.GameOf.{MakesGame, fits_size as fits_size_said, game_of as game_of_said, game_with, no_limit_of};
+ghost use Rattle.acpc_line.specs.GameOf.{MakesGame, game_of as game_of_said, game_with, is_sized_by_blind as is_sized_by_blind_said, no_limit_of};
 ghost use Rattle.acpc_line.specs.SetupFacts.{greatest_blind as greatest_blind_said, has_sizes_of, is_code_of, setup_conditions};
 ghost use Rattle.acpc_line.specs.Spelled.{first_where};
 
 use crate::amounts::{amounts_of, are_same, has_some};
-use acpc_game::{Game, greatest};
+use acpc_game::{Game, greatest, has_short_stack};
 use hand_records::{Play, Unspelled};
 use play_event::{Code, Setup};
 
@@ -69,24 +68,9 @@ pub fn find_other_setup(game: &Game, setup: &Setup) -> Option<Unspelled>
     None
 }
 
-// Whether some stack is 0, or below its blind.
-fn has_short_stack(stacks: &[u64], blinds: &[u64]) -> bool
-    ensures { result ≡ has_short_stack_said stacks.now blinds.now }
-{
-    match stacks {
-        [] => false,
-        [stack, stacks @ ..] => match blinds {
-            [] => false,
-            [blind, blinds @ ..] => {
-                *stack == 0 || *stack < *blind || has_short_stack(stacks, blinds)
-            }
-        },
-    }
-}
-
 // Whether the sizes of bets fit the greatest blind.
-fn fits_size(no_limit: bool, setup: &Setup) -> bool
-    ensures { result ≡ fits_size_said no_limit setup.now }
+fn is_sized_by_blind(no_limit: bool, setup: &Setup) -> bool
+    ensures { result ≡ is_sized_by_blind_said no_limit setup.now }
 {
     let blind = greatest_blind(setup);
     if no_limit {
@@ -124,7 +108,7 @@ pub fn game_of(play: &Play) -> Result<Game, Unspelled>
     if has_short_stack(amounts_of(&setup.stacks), amounts_of(&setup.blinds)) {
         return Err(Unspelled::Stacks);
     }
-    if !fits_size(no_limit, setup) {
+    if !is_sized_by_blind(no_limit, setup) {
         return Err(Unspelled::BetSizes);
     }
     if has_some(amounts_of(&setup.antes)) {

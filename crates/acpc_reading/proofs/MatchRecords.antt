@@ -1,7 +1,7 @@
 -- A record with the setup of a game, a script within the limits, values and allowed names is sound; records are counted.
 use Rattle.std.proofs.Common.{◌≡◌, ℕ, ◌+◌, ◌-◌, ◌<◌, ◌≤◌, List, [], ◌∷◌, ◌++◌, length, Some, None, IfSome, slice_index_or, ap, sym, subst, arith, length-append}
-use Rattle.std.specs.List.{AllByRecursion}
 use Rattle.std.proofs.lemmas.List.Sums.{sum_by_push}
+use Rattle.list_laws.proofs.Entries.{all_push}
 use Rattle.canonical_play.specs.PlayedScript.{IsWithinLimits}
 use Rattle.first_fault.specs.declared.limits.TheConstants.{MOST_FILE_MOVES, MOST_HANDS}
 use Rattle.hand_records.specs.declared.notes.Notes.{Notes}
@@ -54,10 +54,6 @@ sound_record game hand values setup within stated seats states alone each no_mor
       };
       notes = rw players (notes_allowed game.stacks.seats hand.notes alone each no_more number);
     }
-
-all_push : {X : Type 0} (P : X → Type 0) (xs : List X) (x : X) → AllByRecursion P xs → P x → AllByRecursion P (xs ++ x ∷ [])
-all_push P [] x all one = (one, tt)
-all_push P (y ∷ ys) x all one = (all.0, all_push P ys x all.1 one)
 
 -- one more hand of the file
 pub one_more_hand : (game : Game) (hands more : List Record) (hand : Record) (before after : ℕ) → more ≡ hands ++ hand ∷ [] → length hands < MOST_HANDS

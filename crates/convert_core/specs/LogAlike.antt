@@ -1,14 +1,11 @@
 -- Bytes of a log under a game say one list of records, as far as records can be told apart.
-use Rattle.std.proofs.Common.{◌≡◌, ℕ, suc, ◌+◌, ◌≤◌, ◌||◌, Bool, true, false, ℤ, pos, List, [], ◌∷◌, map, length, get_or, slice_index, slice_index_or, Option, Some, None, is_some, Ok, refl, sym, subst, ap, ap₂, ◌∙◌, inl, inr, arith}
+use Rattle.std.proofs.Common.{◌≡◌, ℕ, suc, ◌≤◌, ◌||◌, Bool, true, false, ℤ, pos, List, [], ◌∷◌, map, length, get_or, slice_index_or, Option, Some, None, is_some, Ok, refl, sym, subst, ap, ap₂, ◌∙◌, inl, inr, arith}
 use Rattle.std.specs.List.{AllByRecursion, list_any}
 use Rattle.std.specs.Option.{option_map_or}
 use Rattle.std.proofs.Props.{props}
 use Rattle.std.proofs.lemmas.Bool.{cases_lt}
 use Rattle.std.proofs.lemmas.List.{ext_get_or, get_or-take, length-take-le}
-use Rattle.chip_ledger.specs.declared.rakes.RakeRow.{RakeRow}
 use Rattle.chip_ledger.specs.declared.rows.SeatRow.{SeatRow}
-use Rattle.chip_ledger.proofs.Same.{seat_row_same_by_seats}
-use Rattle.play_event.specs.declared.code.Code.{Code}
 use Rattle.play_event.specs.declared.setup.Setup.{Setup}
 use Rattle.play_event.specs.Said.{Numbered, numbered}
 use Rattle.hand_records.specs.declared.notes.Notes.{Notes}
@@ -20,73 +17,24 @@ use Rattle.hand_records.specs.declared.trace.Trace.{Trace}
 use Rattle.hand_records.specs.declared.writing.Keep.{Keep}
 use Rattle.hand_records.specs.declared.writing.Keep.TheVariants as keeps
 use Rattle.hand_records.specs.declared.writing.Unspelled.{Unspelled}
+use Rattle.acpc_format.proofs.SetupsSame.{setups_same}
 use Rattle.acpc_game.specs.declared.game.Game.{Game}
 use Rattle.acpc_line.specs.NoteFacts.{is_unspelled_name, text_conditions, time_conditions}
 use Rattle.acpc_line.specs.PlayFacts.{play_conditions}
 use Rattle.acpc_line.specs.SetupFacts.{setup_conditions}
 use Rattle.acpc_line.specs.Spelled.{first_where, or_else, unspelled, unspelled_note}
 use Rattle.acpc_reading.specs.Logs.{HandSaid}
-use Rattle.acpc_reading.specs.RecordView.{IsOfGame, IsSetupOf, StatesValues, record_said}
+use Rattle.acpc_reading.specs.RecordView.{IsOfGame, StatesValues, record_said}
 use Rattle.acpc_reading.specs.Views.{nets_in}
 use Rattle.phh_reading.specs.Hand.{plain}
-use Rattle.phh_reading.proofs.SamePlay.{same_script, same_setup}
+use Rattle.phh_reading.proofs.SamePlay.{same_script}
 use Rattle.convert_core.specs.Logs.{Say}
 use Rattle.convert_core.specs.SameRecords.{AllAlike, AreAlike, ArePlayedAlike, NoteTheSame, number_at}
 
--- scripts and rakes with the same parts are one, as in the hands of histories
+-- scripts with the same parts are one, as in the hands of histories
 one_script : (a b : Record) → map numbered a.script ≡ map numbered b.script → a.script ≡ b.script
 one_script a b same =
     same_script a (record a { script = b.script }) (ap (λ (events : List Numbered). record (plain a) { script = events }) same)
-
-one_rakes : (a : Record) (row : RakeRow) → a.setup.rakes.rakes ≡ row.rakes → a.setup.rakes ≡ row
-one_rakes a row same =
-    ap (λ (setup : Setup). setup.rakes)
-    (same_setup a (record a { setup = record a.setup { rakes = row } }) (ap (λ (rakes : List ℕ). record (plain a) { rakes = rakes }) same))
-
--- the setups of a game
-setup_from : Code → SeatRow → SeatRow → Bool → SeatRow → ℕ → ℕ → ℕ → ℕ → RakeRow → Setup
-setup_from code stacks antes dead_antes blinds bring_in small_bet big_bet min_bet rakes =
-    record {
-      code = code;
-      stacks = stacks;
-      antes = antes;
-      dead_antes = dead_antes;
-      blinds = blinds;
-      bring_in = bring_in;
-      small_bet = small_bet;
-      big_bet = big_bet;
-      min_bet = min_bet;
-      rakes = rakes;
-    }
-
-setup_parts : (s : Setup) → s ≡ setup_from s.code s.stacks s.antes s.dead_antes s.blinds s.bring_in s.small_bet s.big_bet s.min_bet s.rakes
-unfolding setup_from
-setup_parts s = refl
-
-one_setup : (game : Game) (a b : Record) → IsSetupOf game a.setup → IsSetupOf game b.setup → a.setup ≡ b.setup
-one_setup game a b is it =
-    let antes : a.setup.antes ≡ b.setup.antes =
-    seat_row_same_by_seats a.setup.antes b.setup.antes (is.ante_seats ∙ sym it.ante_seats) (λ n first last. is.antes n ∙ sym (it.antes n)) in
-    let none : (k : ℕ) → slice_index a.setup.rakes.rakes k ≡ slice_index b.setup.rakes.rakes k = λ k.
-    let P : ℕ → Type 0 = λ i. slice_index a.setup.rakes.rakes i ≡ slice_index b.setup.rakes.rakes i in
-    subst P (omega arith) (is.rakes (k + 1) ∙ sym (it.rakes (k + 1))) in
-    let rakes : a.setup.rakes ≡ b.setup.rakes =
-    one_rakes a b.setup.rakes
-    (ext_get_or 0 a.setup.rakes.rakes b.setup.rakes.rakes (a.setup.rakes.full ∙ sym b.setup.rakes.full) (λ k inside. none k)) in
-    cc (
-      setup_parts a.setup,
-      setup_parts b.setup,
-      is.code ∙ sym it.code,
-      is.stacks ∙ sym it.stacks,
-      antes,
-      is.dead_antes ∙ sym it.dead_antes,
-      is.blinds ∙ sym it.blinds,
-      is.bring_in ∙ sym it.bring_in,
-      is.small_bet ∙ sym it.small_bet,
-      is.big_bet ∙ sym it.big_bet,
-      is.min_bet ∙ sym it.min_bet,
-      rakes,
-    )
 
 -- rows of nets with the same nets are one row
 record KeptNets (seats : ℕ) (nets : List ℤ) : Type 0 where
@@ -151,7 +99,7 @@ one_stated a b is it same =
 
 module _ (game : Game) (a b : Record) (is : IsOfGame game a) (it : IsOfGame game b) (same : record_said a ≡ record_said b) where
   setups : a.setup ≡ b.setup
-  setups = one_setup game a b is.setup it.setup
+  setups = setups_same game a.setup b.setup is.setup it.setup
 
   count : a.setup.stacks.seats ≡ b.setup.stacks.seats
   count = ap (λ (s : Setup). s.stacks.seats) setups

@@ -11,4 +11,4 @@ make_game-requires c =
     (ap (λ (stacks : List ℕ). has_short_stack stacks (amounts_in setup.blinds)) (sym c.amounts_of.ensures)
     ∙ ap (has_short_stack c.amounts_of.result.now) (sym c.amounts_of-2.ensures)
     ∙ sym c.has_short_stack.ensures ∙ c.if-has_short_stack.false)
-    (sym c.fits_size.ensures ∙ c.if-not-fits_size.false)
+    (sym c.is_sized_by_blind.ensures ∙ c.if-not-is_sized_by_blind.false)
