@@ -5,9 +5,9 @@ use Rattle.hand_records.specs.declared.notes.Notes.{Notes}
 use Rattle.hand_records.specs.AllowedNotes.{default_name}
 
 -- no number stands twice
-abbrev pub all_differ : List ℕ → Bool
-all_differ [] = true
-all_differ (number ∷ rest) = not (list_any (λ other. other == number) rest) && all_differ rest
+abbrev pub has_no_repeat : List ℕ → Bool
+has_no_repeat [] = true
+has_no_repeat (number ∷ rest) = not (list_any (λ other. other == number) rest) && has_no_repeat rest
 
 -- a step from a number to another goes down
 abbrev pub fall : ℕ → ℕ → ℕ
@@ -24,13 +24,13 @@ falls back [] = 0
 falls back (number ∷ rest) = fall number (first_or back rest) + falls back rest
 
 -- numbers go round the table once: they differ, and one step goes down
-abbrev pub goes_round : List ℕ → Bool
-goes_round numbers = all_differ numbers && (falls (slice_index numbers 0) numbers == 1)
+abbrev pub is_circular : List ℕ → Bool
+is_circular numbers = has_no_repeat numbers && (falls (slice_index numbers 0) numbers == 1)
 
 -- the numbers of so many seats, where they are said and go round
 abbrev pub numbers_spelled : ℕ → Option (List ℕ) → Option (List ℕ)
 numbers_spelled count None = None
-numbers_spelled count (Some numbers) = if goes_round (take count numbers) then Some numbers else None
+numbers_spelled count (Some numbers) = if is_circular (take count numbers) then Some numbers else None
 
 -- the number of a seat among these, or by default that of its place
 abbrev pub number_among : Option (List ℕ) → ℕ → ℕ

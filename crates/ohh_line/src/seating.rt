@@ -1,7 +1,7 @@
 //! Numbers of seats are written where they go round the table once.
 ghost use Rattle.std.specs.Prelude.{◌≡◌, ◌==◌, ◌≤◌, length};
 ghost use Rattle.std.specs.List.{list_any};
-ghost use Rattle.ohh_line.specs.Seating.{all_differ as all_differ_said, fall as fall_said, falls as falls_said, first_or as first_or_said, goes_round as goes_round_said, number_among as number_among_said, numbers_spelled as numbers_said};
+ghost use Rattle.ohh_line.specs.Seating.{fall as fall_said, falls as falls_said, first_or as first_or_said, has_no_repeat as has_no_repeat_said, is_circular as is_circular_said, number_among as number_among_said, numbers_spelled as numbers_said};
 
 /// The numbers of so many seats, where they are said and go round.
 pub fn numbers_spelled(count: u8, said: Option<[u8; 10]>) -> Option<[u8; 10]>
@@ -11,7 +11,7 @@ pub fn numbers_spelled(count: u8, said: Option<[u8; 10]>) -> Option<[u8; 10]>
 {
     match said {
         Some(numbers) => {
-            if goes_round(&numbers.as_slice()[..count as usize]) {
+            if is_circular(&numbers.as_slice()[..count as usize]) {
                 Some(numbers)
             } else {
                 None
@@ -34,20 +34,20 @@ pub fn number_among(numbers: Option<[u8; 10]>, seat: u8) -> u8
 }
 
 // Whether numbers differ, and one step goes down when one goes round them.
-fn goes_round(numbers: &[u8]) -> bool
+fn is_circular(numbers: &[u8]) -> bool
     requires some { 1 ≤ length numbers.now }
     requires few { length numbers.now ≤ 10 }
-    ensures { result ≡ goes_round_said numbers.now }
+    ensures { result ≡ is_circular_said numbers.now }
 {
-    if !all_differ(numbers) {
+    if !has_no_repeat(numbers) {
         return false;
     }
     falls(numbers[0], numbers) == 1
 }
 
 // Whether no number stands twice.
-fn all_differ(numbers: &[u8]) -> bool
-    ensures { result ≡ all_differ_said numbers.now }
+fn has_no_repeat(numbers: &[u8]) -> bool
+    ensures { result ≡ has_no_repeat_said numbers.now }
 {
     match numbers {
         [] => true,
@@ -55,7 +55,7 @@ fn all_differ(numbers: &[u8]) -> bool
             if has_number(rest, *number) {
                 return false;
             }
-            all_differ(rest)
+            has_no_repeat(rest)
         }
     }
 }

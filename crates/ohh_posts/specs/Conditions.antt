@@ -18,8 +18,8 @@ abbrev pub left_of : PlainTable → List PlainPost → ℕ → ℕ
 left_of table posts seat = stack_of table seat - ante_of posts seat
 
 -- every seat posts an ante
-abbrev pub all_post_antes : PlainTable → List PlainPost → Bool
-all_post_antes table posts = list_all (λ seat. is_some (first_ante seat posts)) (seats_of (seat_count table))
+abbrev pub has_all_antes : PlainTable → List PlainPost → Bool
+has_all_antes table posts = list_all (λ seat. is_some (first_ante seat posts)) (seats_of (seat_count table))
 
 -- the greatest ante of a seat
 abbrev pub greatest_ante : PlainTable → List PlainPost → ℕ
@@ -53,23 +53,23 @@ is_wrong_ante table before post =
 -- every player posts an ante, and the post is one that is not the lesser of the greatest ante and the stack
 abbrev pub is_uneven_ante : PlainTable → List PlainPost → PlainPost → Bool
 is_uneven_ante table posts post =
-    is_ante post.kind && (all_post_antes table posts && not (post.amount == min (greatest_ante table posts) (stack_of table post.seat)))
+    is_ante post.kind && (has_all_antes table posts && not (post.amount == min (greatest_ante table posts) (stack_of table post.seat)))
 
 -- a post breaks a condition, among all posts and after those before it
-unfoldable pub breaks : Condition → PlainTable → List PlainPost → List PlainPost → PlainPost → Bool
-breaks conditions.Early table posts before post = not post.early
-breaks conditions.OneOfEachBlind table posts before post = is_second_blind before post
-breaks conditions.BlindSeats table posts before post = is_misplaced_blind table post
-breaks conditions.BlindAmounts table posts before post = is_wrong_blind table posts post
-breaks conditions.Straddles table posts before post = is_wrong_straddle table posts before post
-breaks conditions.Antes table posts before post = is_wrong_ante table before post
-breaks conditions.EvenAntes table posts before post = is_uneven_ante table posts post
+unfoldable pub is_breaking : Condition → PlainTable → List PlainPost → List PlainPost → PlainPost → Bool
+is_breaking conditions.Early table posts before post = not post.early
+is_breaking conditions.OneOfEachBlind table posts before post = is_second_blind before post
+is_breaking conditions.BlindSeats table posts before post = is_misplaced_blind table post
+is_breaking conditions.BlindAmounts table posts before post = is_wrong_blind table posts post
+is_breaking conditions.Straddles table posts before post = is_wrong_straddle table posts before post
+is_breaking conditions.Antes table posts before post = is_wrong_ante table before post
+is_breaking conditions.EvenAntes table posts before post = is_uneven_ante table posts post
 
 -- where the first post of these stands that breaks a condition, among all posts and after those before it
 abbrev pub first_breaking : Condition → PlainTable → List PlainPost → List PlainPost → List PlainPost → Option ActionPlace
 first_breaking condition table posts before [] = None
 first_breaking condition table posts before (post ∷ rest) =
-    if breaks condition table posts before post then Some post.place else first_breaking condition table posts (before ++ post ∷ []) rest
+    if is_breaking condition table posts before post then Some post.place else first_breaking condition table posts (before ++ post ∷ []) rest
 
 -- no post breaks the condition, or the first that does is named
 abbrev pub at_first : Option ActionPlace → Result ⊤ PostFault
@@ -99,5 +99,5 @@ posts_checked table posts = do
 -- what is known of all posts is that of these
 pub record AreFacts (posts : List PlainPost) (facts : Facts) : Type 0 where
   pub firsts : AreFirst posts facts.firsts
-  pub all_post : facts.all_post ≡ all_post_antes (plain_table facts.table) posts
+  pub all_post : facts.all_post ≡ has_all_antes (plain_table facts.table) posts
   pub greatest : facts.greatest_ante ≡ greatest_ante (plain_table facts.table) posts

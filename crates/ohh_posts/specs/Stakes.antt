@@ -9,7 +9,7 @@ use Rattle.chip_ledger.specs.SeatRow.{amount_of}
 use Rattle.ohh_posts.specs.declared.stakes.Stakes.{Stakes}
 use Rattle.ohh_posts.specs.Table.{PlainTable, amounts_in, big_blind_seat, seat_count, small_blind_seat, stack_of}
 use Rattle.ohh_posts.specs.Posts.{PlainPost, ante_of, first_straddle}
-use Rattle.ohh_posts.specs.Conditions.{all_post_antes}
+use Rattle.ohh_posts.specs.Conditions.{has_all_antes}
 
 -- antes, whether they are dead, and blinds with straddles, p1's first
 pub record PlainStakes : Type 0 where
@@ -31,7 +31,7 @@ has_amount row = list_any (λ seat. nat_lt 0 (amount_of row seat)) (seats_of row
 
 -- some seats post an ante, and not all
 abbrev pub are_dead : PlainTable → List PlainPost → Bool
-are_dead table posts = list_any (λ seat. nat_lt 0 (held_ante table posts seat)) (seats_of (seat_count table)) && not (all_post_antes table posts)
+are_dead table posts = list_any (λ seat. nat_lt 0 (held_ante table posts seat)) (seats_of (seat_count table)) && not (has_all_antes table posts)
 
 -- the blind of a seat as it is named: one of the two blinds, or a straddle, or 0
 abbrev pub named_blind : PlainTable → List PlainPost → ℕ → ℕ

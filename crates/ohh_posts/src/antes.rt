@@ -1,6 +1,6 @@
 //! The antes of all seats, as the first posts say them.
 ghost use Rattle.std.specs.Prelude.{◌≡◌, List, min};
-ghost use Rattle.ohh_posts.specs.Conditions.{all_post_antes, greatest_ante};
+ghost use Rattle.ohh_posts.specs.Conditions.{greatest_ante, has_all_antes};
 ghost use Rattle.ohh_posts.specs.Posts.{AreFirst, PlainPost, ante_of};
 ghost use Rattle.ohh_posts.specs.Table.{plain_table};
 
@@ -22,7 +22,7 @@ pub fn ante_or_zero(firsts: &FirstPosts, seat: Seat) -> u64
 /// Whether each of the first so many seats posts an ante.
 pub fn all_post(table: &Table, firsts: &FirstPosts) -> bool
     ensures { (posts : List PlainPost) → AreFirst posts firsts.now
-        → result ≡ all_post_antes (plain_table table.now) posts }
+        → result ≡ has_all_antes (plain_table table.now) posts }
 {
     for index in 0..table.stacks.seats {
         if firsts.ante(Seat { number: index + 1 }).is_none() {

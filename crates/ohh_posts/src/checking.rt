@@ -157,11 +157,11 @@ fn is_uneven_ante(facts: &Facts, post: &Post) -> bool
 }
 
 // Whether a post breaks a condition, where these were posted before it.
-#[tactic(auto, unfolding(crate::specs::Conditions::breaks))]
-fn breaks(condition: Condition, facts: &Facts, before: &FirstPosts, post: &Post) -> bool
+#[tactic(auto, unfolding(crate::specs::Conditions::is_breaking))]
+fn is_breaking(condition: Condition, facts: &Facts, before: &FirstPosts, post: &Post) -> bool
     ensures { (posts earlier : List PlainPost) → AreFacts posts facts.now
         → AreFirst earlier before.now
-        → result ≡ conditions.breaks condition (plain_table facts.now.table) posts earlier
+        → result ≡ conditions.is_breaking condition (plain_table facts.now.table) posts earlier
         (plain_post post.now) }
 {
     match condition {
@@ -183,7 +183,7 @@ fn first_break(condition: Condition, facts: &Facts, posts: &[Post]) -> Option<Ac
 {
     let mut before = FirstPosts::none();
     for post in posts {
-        if breaks(condition, facts, &before, post) {
+        if is_breaking(condition, facts, &before, post) {
             return Some(post.place);
         }
         before.note(post);

@@ -6,7 +6,7 @@ ghost use Rattle.chip_ledger.specs.declared.rows.TheConstants.{MOST_AMOUNT};
 ghost use Rattle.chip_ledger.specs.declared.numbers.TheConstants.{MOST_CHIPS};
 ghost use Rattle.chip_ledger.specs.Seat.{seats_of};
 ghost use Rattle.chip_ledger.specs.SeatRow.{amount_of};
-ghost use Rattle.ohh_posts.specs.Conditions.{all_post_antes};
+ghost use Rattle.ohh_posts.specs.Conditions.{has_all_antes};
 ghost use Rattle.ohh_posts.specs.Posts.{AreFirst, PlainPost, first_straddle, plain_post};
 ghost use Rattle.ohh_posts.specs.Stakes.{AreStakesFor, has_amount, held_ante, named_blind, plain_stakes, stakes_said};
 ghost use Rattle.ohh_posts.specs.Table.{plain_table};
@@ -100,7 +100,7 @@ fn blinds_of(table: &Table, firsts: &FirstPosts) -> SeatRow
 fn are_dead(table: &Table, firsts: &FirstPosts, antes: &SeatRow) -> bool
     requires { antes.now.seats ≡ table.now.stacks.seats }
     ensures { (posts : List PlainPost) → AreFirst posts firsts.now
-        → result ≡ (has_amount antes.now && not (all_post_antes (plain_table table.now) posts)) }
+        → result ≡ (has_amount antes.now && not (has_all_antes (plain_table table.now) posts)) }
 {
     has_some(antes) && !all_post(table, firsts)
 }

@@ -1,4 +1,3 @@
 -- Laws of reading the bytes of a file.
 pub mod Trees
 pub mod Lines
-pub mod Records

@@ -12,7 +12,7 @@ use Rattle.ohh_members.specs.declared.fault.What.TheVariants as whats
 use Rattle.ohh_members.specs.declared.fault.Fault.{Fault}
 use Rattle.ohh_members.specs.Values.{cards_said, field, list_said, needed, object_said, or_wrong, text_said, wrong}
 use Rattle.ohh_rounds.specs.declared.street.Street.{Street}
-use Rattle.ohh_rounds.specs.Streets.{deals_board, street_after}
+use Rattle.ohh_rounds.specs.Streets.{has_board_cards, street_after}
 use Rattle.ohh_rounds.specs.Steps.{PlainStep, Happened}
 use Rattle.ohh_rounds.specs.Setting.{PlainSetting}
 use Rattle.ohh_rounds.specs.Actions.{event_counted, step_said}
@@ -42,7 +42,7 @@ no_cards path cards = do
 unfoldable pub board_said : Street → ℕ → Data → Result (List Card) Fault
 board_said street index round = elim (field (at_round index members.Cards) round) [
   | None ↦ Ok []
-  | Some cards ↦ if deals_board street then cards_said (at_round index members.Cards) cards else no_cards (at_round index members.Cards) cards
+  | Some cards ↦ if has_board_cards street then cards_said (at_round index members.Cards) cards else no_cards (at_round index members.Cards) cards
 ]
 
 -- the steps with a deal to the board, where there are cards

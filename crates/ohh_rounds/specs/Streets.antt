@@ -27,9 +27,9 @@ street_after (Some streets.River) text = if_named streets.Showdown text
 street_after (Some streets.Showdown) text = None
 
 -- the street deals cards to the board
-abbrev pub deals_board : Street → Bool
-deals_board streets.Preflop = false
-deals_board streets.Flop = true
-deals_board streets.Turn = true
-deals_board streets.River = true
-deals_board streets.Showdown = false
+abbrev pub has_board_cards : Street → Bool
+has_board_cards streets.Preflop = false
+has_board_cards streets.Flop = true
+has_board_cards streets.Turn = true
+has_board_cards streets.River = true
+has_board_cards streets.Showdown = false

@@ -10,7 +10,7 @@ ghost use Rattle.ohh_rounds.specs.Steps.{plain_step};
 use crate::actions::{count_event, read_step};
 use crate::setting::Setting;
 use crate::step::{Deed, Step};
-use crate::street::{Street, deals_board, street_after};
+use crate::street::{Street, has_board_cards, street_after};
 use crate::told::Told;
 use card_set::CardRow;
 use first_fault::Stop;
@@ -61,7 +61,7 @@ fn read_board(street: Street, index: u64, round: &Value) -> Result<CardRow, Stop
     let path = path_of(index, RoundMember::Cards);
     match field(round, path) {
         None => Ok(CardRow::new()),
-        Some(cards) => if deals_board(street) {
+        Some(cards) => if has_board_cards(street) {
             read_cards(cards, path)
         } else {
             read_no_cards(cards, path)

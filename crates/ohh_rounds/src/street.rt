@@ -1,6 +1,6 @@
 //! The streets come in their order.
 ghost use Rattle.std.specs.Prelude.{◌≡◌};
-ghost use Rattle.ohh_rounds.specs.Streets.{deals_board as deals_board_said, if_named, street_after as street_said, street_name};
+ghost use Rattle.ohh_rounds.specs.Streets.{has_board_cards as has_board_cards_said, if_named, street_after as street_said, street_name};
 
 /// A street, or the showdown.
 #[derive(Clone, Copy, Debug, PartialEq, Eq)]
@@ -58,8 +58,8 @@ pub fn street_after(last: Option<Street>, text: &str) -> Option<Street>
 }
 
 /// Whether the street deals cards to the board.
-pub fn deals_board(street: Street) -> bool
-    ensures { result ≡ deals_board_said street }
+pub fn has_board_cards(street: Street) -> bool
+    ensures { result ≡ has_board_cards_said street }
 {
     match street {
         Street::Flop | Street::Turn | Street::River => true,

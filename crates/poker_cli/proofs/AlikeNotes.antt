@@ -23,7 +23,7 @@ use Rattle.ohh_line.specs.Games.{game_word}
 use Rattle.ohh_line.specs.Actions.{small_blind_seat}
 use Rattle.ohh_line.specs.Moment.{moment_said}
 use Rattle.ohh_line.specs.Rounds.{hand_rounds}
-use Rattle.ohh_line.specs.Seating.{goes_round, number_among, numbers_spelled}
+use Rattle.ohh_line.specs.Seating.{is_circular, number_among, numbers_spelled}
 use Rattle.ohh_line.specs.Spelled.{Tried, big_blind, greatest_ante, note_facts}
 use Rattle.ohh_line.specs.Tree.{date_member, hand_members, limit_tree, list, numbers_written, player_tree, players, pots, round_trees, text_or_empty, whole}
 use Rattle.chip_ledger.specs.SeatRow.{amount_of}
@@ -124,7 +124,7 @@ number_same count None (Some b) seat first last same = absurd (cc)
 number_same count (Some a) None seat first last same = absurd (cc)
 number_same count (Some a) (Some b) seat first last same =
     let row : take count a ≡ take count b = same_Some (take count a) (take count b) same in
-    chosen_same (goes_round (take count a)) (goes_round (take count b)) a b seat (ap goes_round row)
+    chosen_same (is_circular (take count a)) (is_circular (take count b)) a b seat (ap is_circular row)
     (sym (get_or-take count a (seat - 1) 0 (omega (arith, first, last)))
     ∙ ap (λ (numbers : List ℕ). get_or numbers (seat - 1) 0) row
     ∙ get_or-take count b (seat - 1) 0 (omega (arith, first, last)))
@@ -146,8 +146,8 @@ has_same_numbers count None None same = refl
 has_same_numbers count None (Some b) same = absurd (cc)
 has_same_numbers count (Some a) None same = absurd (cc)
 has_same_numbers count (Some a) (Some b) same =
-    spelled_if (goes_round (take count a)) (goes_round (take count b)) a b
-    (ap goes_round (same_Some (take count a) (take count b) same))
+    spelled_if (is_circular (take count a)) (is_circular (take count b)) a b
+    (ap is_circular (same_Some (take count a) (take count b) same))
 
 -- the members of a hand, by its players and the number of its dealer
 members_from : Dialect → ℕ → Trace → json.Data → ℕ → PlainNotes → json.Members

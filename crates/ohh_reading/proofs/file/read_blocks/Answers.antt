@@ -2,10 +2,10 @@ use Rattle.std.proofs.Common.{◌∷◌, [], length, map, sum_by, sym, ap, ◌�
 use Rattle.std.proofs.lemmas.List.{map_push}
 use Rattle.std.proofs.lemmas.List.Sums.{sum_by_push}
 use Rattle.std.proofs.lemmas.Result.{err_from_is_err_and}
+use Rattle.list_laws.proofs.Entries.{all_push}
 use Rattle.first_fault.proofs.Thread.{threads_on, thread_ends, thread_done}
 use Rattle.ohh_reading.specs.Hand.{plain}
 use Rattle.ohh_reading.specs.Reading.{IsHistory, hands_said, moves_of, numbered_hand}
-use Rattle.ohh_reading.proofs.Records.{all_push}
 use Rattle.ohh_reading.proofs.file.read_blocks.Goals as goal
 
 pub returns-in_err-record-clause-said : goal.returns-in_err-record-clause-said

@@ -4,7 +4,7 @@ use Rattle.std.specs.List.{list_any}
 use Rattle.chip_ledger.proofs.SeatLists.{any_seats}
 use Rattle.chip_ledger.specs.Seat.{seats_of}
 use Rattle.chip_ledger.specs.SeatRow.{amount_of}
-use Rattle.ohh_posts.specs.Conditions.{all_post_antes}
+use Rattle.ohh_posts.specs.Conditions.{has_all_antes}
 use Rattle.ohh_posts.specs.Posts.{PlainPost, plain_post}
 use Rattle.ohh_posts.specs.Stakes.{PlainStakes, held_ante, named_blind, stakes_said}
 use Rattle.ohh_posts.specs.Table.{PlainTable, amounts_in, plain_table, seat_count}
@@ -29,12 +29,12 @@ returns-clause-said c =
     let count = seats_in table.stacks.amounts table.stacks.seats table.stacks.full table.stacks.greatest in
     same_stakes
     (amounts_in c.antes_of-antes.result) (map (held_ante (plain_table table) posts) (seats_of (seat_count (plain_table table))))
-    c.are_dead.result (list_any (λ seat. nat_lt 0 (held_ante (plain_table table) posts seat)) (seats_of (seat_count (plain_table table))) && not (all_post_antes (plain_table table) posts))
+    c.are_dead.result (list_any (λ seat. nat_lt 0 (held_ante (plain_table table) posts seat)) (seats_of (seat_count (plain_table table))) && not (has_all_antes (plain_table table) posts))
     (amounts_in c.blinds_of.result) (map (named_blind (plain_table table) posts) (seats_of (seat_count (plain_table table))))
     (row_listed (held_ante (plain_table table) posts) c.antes_of-antes.result (seat_count (plain_table table)) (antes.seats ∙ sym count) (λ seat from to. antes.antes posts first seat from (omega (arith, to, count))))
     (c.are_dead.ensures posts first
-    ∙ ap (λ n. list_any (λ seat. nat_lt 0 (amount_of c.antes_of-antes.result seat)) (seats_of n) && not (all_post_antes (plain_table table) posts)) (antes.seats ∙ sym count)
-    ∙ ap (λ some. some && not (all_post_antes (plain_table table) posts)) (any_seats (λ seat. nat_lt 0 (amount_of c.antes_of-antes.result seat)) (λ seat. nat_lt 0 (held_ante (plain_table table) posts seat)) (seat_count (plain_table table)) (λ seat from to. ap (λ n. nat_lt 0 n) (antes.antes posts first seat from (omega (arith, to, count))))))
+    ∙ ap (λ n. list_any (λ seat. nat_lt 0 (amount_of c.antes_of-antes.result seat)) (seats_of n) && not (has_all_antes (plain_table table) posts)) (antes.seats ∙ sym count)
+    ∙ ap (λ some. some && not (has_all_antes (plain_table table) posts)) (any_seats (λ seat. nat_lt 0 (amount_of c.antes_of-antes.result seat)) (λ seat. nat_lt 0 (held_ante (plain_table table) posts seat)) (seat_count (plain_table table)) (λ seat from to. ap (λ n. nat_lt 0 n) (antes.antes posts first seat from (omega (arith, to, count))))))
     (row_listed (named_blind (plain_table table) posts) c.blinds_of.result (seat_count (plain_table table)) (blinds.seats ∙ sym count) (λ seat from to. blinds.blinds posts first seat from (omega (arith, to, count))))
 
 -- of two seats the second has the small blind, and the first the big one
@@ -59,7 +59,7 @@ returns-clause-fit c =
       blinds = blinds.most;
       dead_antes = λ is.
           ap (λ n. list_any (λ seat. nat_lt 0 (amount_of c.antes_of-antes.result seat)) (seats_of n)) (sym antes.seats)
-          ∙ (and_parts (list_any (λ seat. nat_lt 0 (amount_of c.antes_of-antes.result seat)) (seats_of c.antes_of-antes.result.seats)) (not (all_post_antes (plain_table table) posts)) (sym (c.are_dead.ensures posts first) ∙ is)).0;
+          ∙ (and_parts (list_any (λ seat. nat_lt 0 (amount_of c.antes_of-antes.result seat)) (seats_of c.antes_of-antes.result.seats)) (not (has_all_antes (plain_table table) posts)) (sym (c.are_dead.ensures posts first) ∙ is)).0;
       heads_up = λ two.
           omega (arith, blinds.blinds posts first 2 (omega arith) (omega (arith, two)), blinds.blinds posts first 1 (omega arith) (omega (arith, two)), small_of_two (plain_table table) posts (count ∙ two), big_of_two (plain_table table) posts (count ∙ two), table.smaller);
     }
