@@ -5,7 +5,7 @@ use Rattle.std.proofs.lemmas.Bool.{and_parts, cases_lt, eq-eqb, eqb-true, ltb-fa
 use Rattle.std.proofs.lemmas.Bool.Decides.{nat_tests}
 use Rattle.std.proofs.lemmas.List.{length-take-le}
 use Rattle.hand_records.specs.AllowedNotes.{AreSeatNumbers, IsWithin}
-use Rattle.ohh_line.specs.Seating.{all_differ, fall, falls, first_or, goes_round, number_among}
+use Rattle.ohh_line.specs.Seating.{fall, falls, first_or, has_no_repeat, is_circular, number_among}
 
 -- the numbers of so many seats go round: they differ, and rise but behind one seat
 pub record IsCircle (count : ℕ) (number : ℕ → ℕ) : Type 0 where
@@ -71,12 +71,12 @@ not_among x (y ∷ rest) none (suc k) within = not_among x rest (later (y == x) 
     later false is = is
     later true is = absurd (true≢false (sym is))
 
-differ_at : (xs : List ℕ) → all_differ xs ≡ true → (i j : ℕ) → i < j → j < length xs → get_or xs i 0 ≢ get_or xs j 0
+differ_at : (xs : List ℕ) → has_no_repeat xs ≡ true → (i j : ℕ) → i < j → j < length xs → get_or xs i 0 ≢ get_or xs j 0
 differ_at [] differ i j before within = absurd (omega (arith, within))
 differ_at (x ∷ rest) differ zero zero before within = absurd (omega (arith, before))
-differ_at (x ∷ rest) differ zero (suc j) before within = not_among x rest (and_parts (not (list_any (λ other. other == x) rest)) (all_differ rest) differ).0 j (omega (arith, within))
+differ_at (x ∷ rest) differ zero (suc j) before within = not_among x rest (and_parts (not (list_any (λ other. other == x) rest)) (has_no_repeat rest) differ).0 j (omega (arith, within))
 differ_at (x ∷ rest) differ (suc i) zero before within = absurd (omega (arith, before))
-differ_at (x ∷ rest) differ (suc i) (suc j) before within = differ_at rest (and_parts (not (list_any (λ other. other == x) rest)) (all_differ rest) differ).1 i j (omega (arith, before)) (omega (arith, within))
+differ_at (x ∷ rest) differ (suc i) (suc j) before within = differ_at rest (and_parts (not (list_any (λ other. other == x) rest)) (has_no_repeat rest) differ).1 i j (omega (arith, before)) (omega (arith, within))
 
 any_default : (xs : List ℕ) (k d e : ℕ) → k < length xs → get_or xs k d ≡ get_or xs k e
 any_default [] k d e within = absurd (omega (arith, within))
@@ -119,7 +119,7 @@ long count numbers some are = elim (cases_lt (length numbers) count) [
   | inr enough ↦ enough
 ]
 
-module _ (count : ℕ) (numbers : List ℕ) (some : 2 ≤ count) (are : AreSeatNumbers count numbers) (goes : goes_round (take count numbers) ≡ true) where
+module _ (count : ℕ) (numbers : List ℕ) (some : 2 ≤ count) (are : AreSeatNumbers count numbers) (goes : is_circular (take count numbers) ≡ true) where
   abbrev xs : List ℕ
   xs = take count numbers
 
@@ -130,8 +130,8 @@ module _ (count : ℕ) (numbers : List ℕ) (some : 2 ≤ count) (are : AreSeatN
   number : (seat : ℕ) → 1 ≤ seat → seat ≤ count → number_among (Some numbers) seat ≡ get_or xs (seat - 1) 0
   number seat low high = sym (taken_at count numbers (seat - 1) (omega (arith, low, high)))
 
-  parts : (all_differ xs ≡ true) × ((falls (get_or xs 0 0) xs == 1) ≡ true)
-  parts = and_parts (all_differ xs) (falls (get_or xs 0 0) xs == 1) goes
+  parts : (has_no_repeat xs ≡ true) × ((falls (get_or xs 0 0) xs == 1) ≡ true)
+  parts = and_parts (has_no_repeat xs) (falls (get_or xs 0 0) xs == 1) goes
 
   one : OneFalls (get_or xs 0 0) xs
   one = one_falls (get_or xs 0 0) xs (eqb-true (falls (get_or xs 0 0) xs) 1 parts.1)

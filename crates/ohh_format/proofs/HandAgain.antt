@@ -25,7 +25,7 @@ use Rattle.ohh_members.specs.Values.{field, list_said, needed}
 use Rattle.ohh_line.specs.declared.moment.Moment.{Moment}
 use Rattle.ohh_line.specs.Moment.{moment_of}
 use Rattle.ohh_line.specs.Rounds.{hand_rounds}
-use Rattle.ohh_line.specs.Seating.{goes_round, number_among, numbers_spelled}
+use Rattle.ohh_line.specs.Seating.{is_circular, number_among, numbers_spelled}
 use Rattle.ohh_line.specs.Tree.{hand_members, round_trees, whole}
 use Rattle.ohh_posts.specs.Stakes.{PlainStakes}
 use Rattle.ohh_rounds.specs.Play.{rounds_said}
@@ -78,9 +78,9 @@ circle_written count notes some few are = by_said notes.seats are.seats
   where
     by_said : (said : Option (List ℕ)) → IfSome said (AreSeatNumbers count) → IsCircle count (number_among (numbers_spelled count said))
     by_said None is = usual_circle count (omega (arith, some)) few
-    by_said (Some numbers) is = by_round (goes_round (take count numbers)) refl
+    by_said (Some numbers) is = by_round (is_circular (take count numbers)) refl
       where
-        by_round : (goes : Bool) → goes_round (take count numbers) ≡ goes → IsCircle count (number_among (cond goes (Some numbers) None))
+        by_round : (goes : Bool) → is_circular (take count numbers) ≡ goes → IsCircle count (number_among (cond goes (Some numbers) None))
         by_round true e = said_circle count numbers some is e
         by_round false e = usual_circle count (omega (arith, some)) few
 
@@ -92,7 +92,7 @@ long_written count notes some are = by_said notes.seats are.seats
   where
     by_said : (said : Option (List ℕ)) → IfSome said (AreSeatNumbers count) → IfSome (numbers_spelled count said) (λ all. count ≤ length all)
     by_said None is = tt
-    by_said (Some numbers) is = by_round (goes_round (take count numbers))
+    by_said (Some numbers) is = by_round (is_circular (take count numbers))
       where
         by_round : (goes : Bool) → IfSome (cond goes (Some numbers) None) (λ all. count ≤ length all)
         by_round true = long_enough count numbers some is

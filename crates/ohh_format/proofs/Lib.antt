@@ -24,12 +24,10 @@ pub mod HandAgain
 pub mod BlocksAgain
 pub mod FileAgain
 pub mod FlopGames
-pub mod StreetsPlayed
 pub mod SoundMoves
 pub mod SoundPots
 pub mod SoundShows
 pub mod SoundPlays
-pub mod RaiseUp
 pub mod WordEvents
 pub mod WordScript
 pub mod WordPlays

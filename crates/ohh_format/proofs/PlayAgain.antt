@@ -22,7 +22,7 @@ use Rattle.ohh_line.specs.declared.action.Street.TheVariants as written
 use Rattle.ohh_posts.specs.Table.{seat_count}
 use Rattle.ohh_rounds.specs.Setting.{PlainSetting}
 use Rattle.ohh_rounds.specs.Steps.{PlainStep, has_folded, is_action, is_fold_of, is_move_deed, is_other_deed, moves_in, others_in}
-use Rattle.ohh_rounds.specs.Streets.{deals_board, street_after}
+use Rattle.ohh_rounds.specs.Streets.{has_board_cards, street_after}
 use Rattle.ohh_rounds.specs.declared.street.Street.{Street}
 use Rattle.ohh_rounds.specs.declared.street.Street.TheVariants as streets
 use Rattle.ohh_format.proofs.DeedRounds.{DeedRound, FitRounds, board_deeds, deeds_on, first_deeds, last_street, later_rounds, rounds_of, showdown_deeds, steps_after}
@@ -238,7 +238,7 @@ module _ (setting : PlainSetting) (trace : Trace) (is : CanBePlayed setting trac
 
   -- ---- a round of a board street
 
-  module _ (street : written_streets.Street) (number : ℕ) (deals : deals_board (street_of street) ≡ true) where
+  module _ (street : written_streets.Street) (number : ℕ) (deals : has_board_cards (street_of street) ≡ true) where
     abbrev cards : List Slot
     cards = dealt_slots placed None number
 

@@ -20,7 +20,7 @@ use Rattle.ohh_posts.specs.declared.checking.Condition.TheVariants as conditions
 use Rattle.ohh_posts.specs.declared.post.PostKind.{PostKind}
 use Rattle.ohh_posts.specs.declared.post.PostKind.TheVariants as kinds
 use Rattle.ohh_posts.specs.Conditions as conditions_of
-use Rattle.ohh_posts.specs.Conditions.{all_post_antes, at_first, breaks, first_breaking, has_blinds, holds, posts_checked}
+use Rattle.ohh_posts.specs.Conditions.{at_first, first_breaking, has_all_antes, holds, is_breaking, posts_checked}
 use Rattle.ohh_posts.specs.Posts.{PlainPost, ante_of, first_ante, first_straddle, has_big_blind, has_small_blind, is_ante, is_big_blind, is_small_blind, is_straddle}
 use Rattle.ohh_posts.specs.Stakes.{are_dead, held_ante, named_blind, stakes_said}
 use Rattle.ohh_posts.specs.Table as tables
@@ -160,7 +160,7 @@ module _ (setup : Setup) (table : PlainTable) (is : IsTableOf setup table) where
       by_some true = refl
       by_some false = refl
 
-  not_all_post : setup.dead_antes ≡ true → all_post_antes table posts ≡ false
+  not_all_post : setup.dead_antes ≡ true → has_all_antes table posts ≡ false
   not_all_post dead =
       let found = some_in_range (λ seat. amount_of setup.antes seat == 0) 1 count (is.some_none dead) in
       let seat : ℕ = found.0 in
@@ -204,22 +204,22 @@ module _ (setup : Setup) (table : PlainTable) (is : IsTableOf setup table) where
   IsFine kinds.Straddle before seat amount = IsStraddle before seat amount
 
   even : (before : List Put) (seat amount : ℕ) → IsAnte before seat amount → (dead : Bool) → setup.dead_antes ≡ dead
-      → (all_post_antes table posts && not (amount == min (conditions_of.greatest_ante table posts) (stack_of table seat))) ≡ false
+      → (has_all_antes table posts && not (amount == min (conditions_of.greatest_ante table posts) (stack_of table seat))) ≡ false
   even before seat amount fine true e = rw (not_all_post e) refl
   even before seat amount fine false e =
       let greatest_same = greatest_is in
       let stack_same = is.stacks seat in
       let same : amount ≡ min (conditions_of.greatest_ante table posts) (stack_of table seat) =
       omega (arith, fine.same, is.whole e seat fine.low fine.high, greatest_same, stack_same) in
-      rw (eq-eqb amount (min (conditions_of.greatest_ante table posts) (stack_of table seat)) same) (and_no (all_post_antes table posts))
+      rw (eq-eqb amount (min (conditions_of.greatest_ante table posts) (stack_of table seat)) same) (and_no (has_all_antes table posts))
     where
       and_no : (b : Bool) → (b && false) ≡ false
       and_no true = refl
       and_no false = refl
 
   ante_fine : (condition : Condition) (before : List Put) (index seat amount : ℕ) → IsAnte before seat amount
-      → breaks condition table posts (posts_at 0 before) (post_at index (record { kind = kinds.Ante; seat = seat; amount = amount })) ≡ false
-  unfolding breaks
+      → is_breaking condition table posts (posts_at 0 before) (post_at index (record { kind = kinds.Ante; seat = seat; amount = amount })) ≡ false
+  unfolding is_breaking
   ante_fine conditions.Early before index seat amount fine = refl
   ante_fine conditions.OneOfEachBlind before index seat amount fine = refl
   ante_fine conditions.BlindSeats before index seat amount fine = refl
@@ -235,8 +235,8 @@ module _ (setup : Setup) (table : PlainTable) (is : IsTableOf setup table) where
   ante_fine conditions.EvenAntes before index seat amount fine = even before seat amount fine setup.dead_antes refl
 
   small_fine : (condition : Condition) (before : List Put) (index seat amount : ℕ) → IsSmall before seat amount
-      → breaks condition table posts (posts_at 0 before) (post_at index (record { kind = kinds.SmallBlind; seat = seat; amount = amount })) ≡ false
-  unfolding breaks
+      → is_breaking condition table posts (posts_at 0 before) (post_at index (record { kind = kinds.SmallBlind; seat = seat; amount = amount })) ≡ false
+  unfolding is_breaking
   small_fine conditions.Early before index seat amount fine = refl
   small_fine conditions.OneOfEachBlind before index seat amount fine = rw (has_is is_small_blind 0 before, fine.first) refl
   small_fine conditions.BlindSeats before index seat amount fine = rw (small_seat, eq-eqb seat (small_blind_seat setup) fine.at) refl
@@ -251,8 +251,8 @@ module _ (setup : Setup) (table : PlainTable) (is : IsTableOf setup table) where
   small_fine conditions.EvenAntes before index seat amount fine = refl
 
   big_fine : (condition : Condition) (before : List Put) (index seat amount : ℕ) → IsBig before seat amount
-      → breaks condition table posts (posts_at 0 before) (post_at index (record { kind = kinds.BigBlind; seat = seat; amount = amount })) ≡ false
-  unfolding breaks
+      → is_breaking condition table posts (posts_at 0 before) (post_at index (record { kind = kinds.BigBlind; seat = seat; amount = amount })) ≡ false
+  unfolding is_breaking
   big_fine conditions.Early before index seat amount fine = refl
   big_fine conditions.OneOfEachBlind before index seat amount fine = rw (has_is is_big_blind 0 before, fine.first) refl
   big_fine conditions.BlindSeats before index seat amount fine = rw (big_seat, eq-eqb seat (big_blind_seat setup) fine.at) refl
@@ -267,8 +267,8 @@ module _ (setup : Setup) (table : PlainTable) (is : IsTableOf setup table) where
   big_fine conditions.EvenAntes before index seat amount fine = refl
 
   straddle_fine : (condition : Condition) (before : List Put) (index seat amount : ℕ) → IsStraddle before seat amount
-      → breaks condition table posts (posts_at 0 before) (post_at index (record { kind = kinds.Straddle; seat = seat; amount = amount })) ≡ false
-  unfolding breaks
+      → is_breaking condition table posts (posts_at 0 before) (post_at index (record { kind = kinds.Straddle; seat = seat; amount = amount })) ≡ false
+  unfolding is_breaking
   straddle_fine conditions.Early before index seat amount fine = refl
   straddle_fine conditions.OneOfEachBlind before index seat amount fine = refl
   straddle_fine conditions.BlindSeats before index seat amount fine = refl
@@ -287,7 +287,7 @@ module _ (setup : Setup) (table : PlainTable) (is : IsTableOf setup table) where
   straddle_fine conditions.EvenAntes before index seat amount fine = refl
 
   one_fine : (condition : Condition) (kind : PostKind) (before : List Put) (index seat amount : ℕ) → IsFine kind before seat amount
-      → breaks condition table posts (posts_at 0 before) (post_at index (record { kind = kind; seat = seat; amount = amount })) ≡ false
+      → is_breaking condition table posts (posts_at 0 before) (post_at index (record { kind = kind; seat = seat; amount = amount })) ≡ false
   one_fine condition kinds.Ante before index seat amount fine = ante_fine condition before index seat amount fine
   one_fine condition kinds.SmallBlind before index seat amount fine = small_fine condition before index seat amount fine
   one_fine condition kinds.BigBlind before index seat amount fine = big_fine condition before index seat amount fine
@@ -407,7 +407,7 @@ module _ (setup : Setup) (table : PlainTable) (is : IsTableOf setup table) where
     where
       by_greatest : (some : Bool) → nat_lt 0 (greatest_ante setup) ≡ some → are_dead table posts ≡ false
       by_greatest true g =
-          let all : all_post_antes table posts ≡ true =
+          let all : has_all_antes table posts ≡ true =
           ap (λ (n : ℕ). list_all (λ seat. is_some (first_ante seat posts)) (seats_of n)) is.count
           ∙ all_of (λ seat. is_some (first_ante seat posts)) 1 count (λ seat low within.
           post_found seat low (omega (arith, within))

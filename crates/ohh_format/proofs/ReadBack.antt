@@ -36,7 +36,8 @@ use Rattle.ohh_line.specs.Spelled.{first_refusal, first_unspelled, has_closed, h
 use Rattle.ohh_reading.specs.Hand.{PlainHand, plain}
 use Rattle.ohh_reading.specs.Reading.{reading}
 use Rattle.ohh_format.specs.Again.{hand_again, hands_again, is_told, moves_played, notes_again, numbered_from, script_again}
-use Rattle.ohh_format.specs.ReadBack.{AreAgain, IsAgain, KeepsNotes}
+use Rattle.hand_canon.specs.ReadAgain.{AreAgain, IsAgain}
+use Rattle.ohh_format.specs.ReadBack.{KeepsNotes}
 use Rattle.ohh_rounds.specs.Steps.{kept_number}
 use Rattle.ohh_format.proofs.FlopGames.{flop_game}
 use Rattle.ohh_format.proofs.FrontAgain.{no_stud}

@@ -21,7 +21,7 @@ use Rattle.ohh_rounds.specs.Actions.{event_counted}
 use Rattle.ohh_rounds.specs.Rounds.{at_round, board_dealt, board_said, no_cards, opening_said, round_said, street_said}
 use Rattle.ohh_rounds.specs.Setting.{PlainSetting}
 use Rattle.ohh_rounds.specs.Steps.{PlainStep, Happened, is_action, others_in}
-use Rattle.ohh_rounds.specs.Streets.{deals_board, street_after}
+use Rattle.ohh_rounds.specs.Streets.{has_board_cards, street_after}
 use Rattle.ohh_format.proofs.CardLists.{cards_again, listed_again}
 use Rattle.ohh_format.proofs.Deeds.{Deed, action_of}
 use Rattle.ohh_format.proofs.StepsAgain.{AllTold, actions_read, steps_of}
@@ -50,7 +50,7 @@ all_known (slots.Known card ∷ rest) known = ap suc (all_known rest known)
 
 module _ (setting : PlainSetting) where
   -- the cards of a round
-  board_again : (street : Street) (index n : ℕ) (cards : List Slot) (word : written_streets.Street) (deeds : List Deed) → length cards ≤ 7 → list_any is_unknown cards ≡ false → (deals : Bool) → deals_board street ≡ deals → (deals ≡ false → cards ≡ [])
+  board_again : (street : Street) (index n : ℕ) (cards : List Slot) (word : written_streets.Street) (deeds : List Deed) → length cards ≤ 7 → list_any is_unknown cards ≡ false → (deals : Bool) → has_board_cards street ≡ deals → (deals ≡ false → cards ≡ [])
       → board_said street index (round_tree n (round word cards (map action_of deeds))) ≡ Ok (known_cards cards)
   unfolding board_said no_cards list_said
   board_again street index n cards word deeds few known true is none = rw (is, cards_again (at_round index members.Cards) cards few known) refl
@@ -72,7 +72,7 @@ module _ (setting : PlainSetting) where
     pub follows : street_after last (street_text street) ≡ Some (street_of street)
     pub few : length cards ≤ 7
     pub known : list_any is_unknown cards ≡ false
-    pub deals : deals_board (street_of street) ≡ false → cards ≡ []
+    pub deals : has_board_cards (street_of street) ≡ false → cards ≡ []
     pub room : seat_count setting.table + others_in earlier < MOST_OTHER_EVENTS
     pub numbered : count_by is_action earlier + 1 ≡ n
     pub told : AllTold setting index n 0 (with_board earlier cards) deeds
@@ -84,7 +84,7 @@ module _ (setting : PlainSetting) where
   round_read last earlier n m index street cards deeds fits =
       rw (
         fits.follows,
-        board_again (street_of street) index m cards street deeds fits.few fits.known (deals_board (street_of street)) refl fits.deals,
+        board_again (street_of street) index m cards street deeds fits.few fits.known (has_board_cards (street_of street)) refl fits.deals,
         dealt_again earlier index cards fits.known fits.room,
         listed_again (action_trees m (map action_of deeds)),
         actions_read setting index (with_board earlier cards) n 0 m deeds (omega (arith, board_counts earlier cards, fits.numbered)) fits.told,

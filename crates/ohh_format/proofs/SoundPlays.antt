@@ -1,13 +1,12 @@
 -- Sound plays that the format spells read back when they were written.
-use Rattle.std.proofs.Common.{◌≡◌, ℕ, zero, suc, ◌+◌, ◌-◌, ◌≤◌, Bool, true, false, ◌&&◌, ◌==◌, nat_lt, if◌then◌else◌, sum_by, List, [], ◌∷◌, ◌++◌, length, filter, reverse, take, pos, Option, Some, None, is_some, Ok, refl, sym, ap, subst, ◌∙◌, arith, true≢false}
+use Rattle.std.proofs.Common.{◌≡◌, ℕ, zero, suc, ◌+◌, ◌-◌, ◌≤◌, Bool, true, false, ◌&&◌, ◌==◌, nat_lt, if◌then◌else◌, sum_by, List, [], ◌∷◌, ◌++◌, length, reverse, take, pos, Option, Some, None, is_some, Ok, refl, sym, ap, subst, ◌∙◌, arith, true≢false}
 use Rattle.std.specs.List.{AllByRecursion, flat_map, list_any, range_with_len}
-use Rattle.std.proofs.lemmas.Bool.{and_parts}
 use Rattle.std.proofs.lemmas.List.Sums.{sum_by-cons}
 use Rattle.canon_laws.proofs.MoveCounts.{move_count, tidy_within}
 use Rattle.canon_laws.proofs.TidyTraces.{as_many}
 use Rattle.canon_ranges.proofs.MoveRanges.{moves_in_range}
 use Rattle.card_set.specs.Known.{is_unknown}
-use Rattle.canonical_play.specs.CanonScript.{dealt_slots, held_slots, is_dealt_to}
+use Rattle.canonical_play.specs.CanonScript.{dealt_slots, held_slots}
 use Rattle.canonical_play.specs.PlayedScript.{IsPlayed, is_move}
 use Rattle.canonical_play.specs.Tidy.{IsTidy}
 use Rattle.canonical_play.specs.TraceCore.{TraceCore, core_of}
@@ -25,21 +24,17 @@ use Rattle.hand_records.specs.declared.trace.Trace.{Trace}
 use Rattle.hand_records.specs.declared.writing.Keep.{Keep}
 use Rattle.hand_records.specs.declared.writing.Unspelled.{Unspelled}
 use Rattle.hand_records.specs.declared.writing.WriteRefusal.{WriteRefusal}
-use Rattle.list_laws.proofs.Any.{list_any-filter, list_any-map}
-use Rattle.list_laws.proofs.Finding.{none_stronger}
 use Rattle.list_laws.proofs.Reversed.{count_reversed}
 use Rattle.play_event.proofs.ChipLaws.{puts_within}
 use Rattle.play_event.specs.Chips.{blind_posted}
 use Rattle.play_event.specs.Due.{is_unfinished, turn}
 use Rattle.play_event.specs.Games.{board_cards_on, game_of}
-use Rattle.play_event.specs.Laws.{AreLegal}
 use Rattle.play_event.specs.Past.{Past, moves_of}
-use Rattle.play_event.specs.Places.{is_same_owner}
 use Rattle.play_event.specs.Said.{Said}
 use Rattle.play_event.specs.Scripts.{past_after, past_at_end, past_of}
 use Rattle.play_event.specs.Seats.{all_seats}
 use Rattle.play_event.specs.Table.{places_of}
-use Rattle.play_event.specs.Trace.{TracedPlace, traced_places}
+use Rattle.play_event.specs.Trace.{traced_places}
 use Rattle.play_event.specs.ValidSetup.{IsValid}
 use Rattle.play_event.specs.declared.setup.Rules.{Rules}
 use Rattle.play_event.specs.declared.setup.Setup.{Setup}
@@ -67,7 +62,7 @@ use Rattle.ohh_format.proofs.PlayAgain.{CanBePlayed}
 use Rattle.ohh_format.proofs.SoundMoves.{live_folds, no_moves_on, written_moves}
 use Rattle.ohh_format.proofs.SoundPots.{has_pots}
 use Rattle.ohh_format.proofs.SoundShows.{mucked_live, showdown_is}
-use Rattle.ohh_format.proofs.StreetsPlayed.{HasStreet, came_before, first_holes, has_street, is_passed}
+use Rattle.canon_ranges.proofs.StreetsPlayed.{HasStreet, board_known, came_before, first_holes, four_streets, is_passed, no_cards}
 use Rattle.ohh_format.proofs.ToldDeeds.{IsGoodPost}
 use Rattle.ohh_format.proofs.WinsAgain.{seat_again}
 
@@ -142,23 +137,6 @@ module _ (setting : PlainSetting) (setup : Setup) (valid : IsValid setup) (few :
 
 -- ---- cards and moves
 
--- the cards of a tidy board are known
-board_known : (placed : List TracedPlace) (street : ℕ) → list_any (λ place. is_same_owner place.owner None && is_unknown place.slot) placed ≡ false → list_any is_unknown (dealt_slots placed None street) ≡ false
-board_known placed street known =
-    list_any-map is_unknown (λ (place : TracedPlace). place.slot) (filter (is_dealt_to None street) placed)
-    ∙ list_any-filter (λ (place : TracedPlace). is_unknown place.slot) (is_dealt_to None street) placed
-    ∙ none_stronger (λ (place : TracedPlace). is_dealt_to None street place && is_unknown place.slot) (λ (place : TracedPlace). is_same_owner place.owner None && is_unknown place.slot) weaker placed known
-  where
-    weaker : (place : TracedPlace) → (is_dealt_to None street place && is_unknown place.slot) ≡ true → (is_same_owner place.owner None && is_unknown place.slot) ≡ true
-    weaker place both =
-        let outer = and_parts (is_dealt_to None street place) (is_unknown place.slot) both in
-        let inner = and_parts (is_same_owner place.owner None) (place.street == street) outer.0 in
-        rw (inner.0, outer.1) refl
-
-no_cards : {A : Type 0} (cards : List A) → length cards ≤ 0 → cards ≡ []
-no_cards [] none = refl
-no_cards (card ∷ cards) none = absurd (omega (arith, none))
-
 -- what a hand with this core has
 record Reads (setup : Setup) (core : TraceCore) : Type 0 where
   holes : (seat : ℕ) → 1 ≤ seat → seat ≤ setup.stacks.seats → length (dealt_slots core.places (Some seat) 1) ≡ (game_of setup.code).hole
@@ -173,15 +151,6 @@ record Reads (setup : Setup) (core : TraceCore) : Type 0 where
   few : length core.moves ≤ MOST_MOVES
   held_few : (seat : ℕ) → length (held_slots core.places seat) ≤ 7
   shown_known : (seat : ℕ) → list_any (λ other. other == seat) core.shown ≡ true → list_any is_unknown (held_slots core.places seat) ≡ false
-
-streets_of_hand : (setup : Setup) (rules : Rules) (events : List Said) → AreLegal setup rules events → is_unfinished (turn setup (past_of setup events)).1 ≡ false → IsFlopGame setup.code
-    → (street : ℕ) → 1 ≤ street → street ≤ 4 → HasStreet setup events street
-streets_of_hand setup rules events legal complete is zero low high = absurd (omega (arith, low))
-streets_of_hand setup rules events legal complete is (suc before) low high =
-    subst (HasStreet setup events) (next before) (has_street setup rules events before legal complete is.no_draw (omega (arith, high, is.streets)))
-  where
-    next : (n : ℕ) → n + 1 ≡ suc n
-    next n = omega arith
 
 board_some : (setup : Setup) → IsFlopGame setup.code → (street : ℕ) → 2 ≤ street → street ≤ 4 → 1 ≤ board_cards_on setup.code street
 board_some setup is zero low high = absurd (omega (arith, low))
@@ -222,7 +191,7 @@ core_reads setup rules script valid played tidy is =
     let placed = traced_places setup past in
     let list = moves_of past in
     let complete : is_unfinished (turn setup past).1 ≡ false = sym (ap (λ (p : Past). is_unfinished (turn setup p).1) (end_of setup script)) ∙ played.complete in
-    let streets = streets_of_hand setup rules events played.legal complete is in
+    let streets = four_streets setup rules events played.legal complete is.no_draw is.streets in
     let passed : (street : ℕ) → 2 ≤ street → street ≤ 4 → dealt_slots placed None street ≡ [] → is_passed setup list street ≡ true =
     λ street low high none. passed_there setup events street is low high (streets street (omega (arith, low)) high) (is_passed setup list street) refl none in
     record {

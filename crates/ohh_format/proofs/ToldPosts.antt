@@ -5,7 +5,7 @@ use Rattle.std.specs.List.{AllByRecursion}
 use Rattle.std.specs.Option.{option_map_or}
 use Rattle.std.proofs.lemmas.Bool.{and_parts, eqb-true, ltb-false, not-false}
 use Rattle.first_fault.specs.Reading.{◌>>=◌}
-use Rattle.ohh_posts.specs.Conditions.{all_post_antes, at_first, breaks, first_breaking, greatest_ante, has_blinds, holds, left_of, posts_checked}
+use Rattle.ohh_posts.specs.Conditions.{at_first, first_breaking, greatest_ante, has_all_antes, has_blinds, holds, is_breaking, left_of, posts_checked}
 use Rattle.ohh_posts.specs.Posts.{PlainPost, ante_of, first_ante, first_post, first_straddle, is_ante, is_straddle}
 use Rattle.ohh_posts.specs.Table.{PlainTable, stack_of}
 use Rattle.ohh_posts.specs.declared.checking.Condition.{Condition}
@@ -57,12 +57,12 @@ first_is is_kind Q (post ∷ rest) each seat amount found = by_test (is_kind pos
 
 module _ (table : PlainTable) (posts : List PlainPost) (checked : posts_checked table posts ≡ Ok tt) where
   -- what holds of each post that does not break a condition
-  kept : (condition : Condition) (P : PlainPost → Type 0) → ((before : List PlainPost) (post : PlainPost) → breaks condition table posts before post ≡ false → P post)
+  kept : (condition : Condition) (P : PlainPost → Type 0) → ((before : List PlainPost) (post : PlainPost) → is_breaking condition table posts before post ≡ false → P post)
       → (before rest : List PlainPost) → first_breaking condition table posts before rest ≡ None → AllByRecursion P rest
   kept condition P each before [] none = tt
-  kept condition P each before (post ∷ rest) none = by_break (breaks condition table posts before post) refl none (kept condition P each (before ++ post ∷ []) rest)
+  kept condition P each before (post ∷ rest) none = by_break (is_breaking condition table posts before post) refl none (kept condition P each (before ++ post ∷ []) rest)
     where
-      by_break : (broken : Bool) → breaks condition table posts before post ≡ broken → (if broken then Some post.place else first_breaking condition table posts (before ++ post ∷ []) rest) ≡ None
+      by_break : (broken : Bool) → is_breaking condition table posts before post ≡ broken → (if broken then Some post.place else first_breaking condition table posts (before ++ post ∷ []) rest) ≡ None
           → (first_breaking condition table posts (before ++ post ∷ []) rest ≡ None → AllByRecursion P rest) → P post × AllByRecursion P rest
       by_break true is none later = absurd (cc (none))
       by_break false is none later = (each before post is, later none)
@@ -84,7 +84,7 @@ module _ (table : PlainTable) (posts : List PlainPost) (checked : posts_checked 
 
   -- a straddle is no more than the stack without the ante
   pub straddle_few : (seat amount : ℕ) → first_straddle seat posts ≡ Some amount → amount ≤ left_of table posts seat
-  unfolding breaks
+  unfolding is_breaking
   straddle_few =
       first_is is_straddle (λ seat amount. amount ≤ left_of table posts seat) posts
       (kept conditions.Straddles (λ (post : PlainPost). is_straddle post.kind ≡ true → post.amount ≤ left_of table posts post.seat)
@@ -94,7 +94,7 @@ module _ (table : PlainTable) (posts : List PlainPost) (checked : posts_checked 
 
   -- an ante is no more than the stack
   pub ante_few : (seat amount : ℕ) → first_ante seat posts ≡ Some amount → amount ≤ stack_of table seat
-  unfolding breaks
+  unfolding is_breaking
   ante_few =
       first_is is_ante (λ seat amount. amount ≤ stack_of table seat) posts
       (kept conditions.Antes (λ (post : PlainPost). is_ante post.kind ≡ true → post.amount ≤ stack_of table post.seat)
@@ -103,14 +103,14 @@ module _ (table : PlainTable) (posts : List PlainPost) (checked : posts_checked 
       (first_of (is_ante post.kind) (nat_lt (stack_of table post.seat) post.amount) ((post.amount == 0) || is_some (first_ante post.seat before)) is fits)) [] posts met.1.0)
 
   -- where all post antes each is the greatest, as far as the stack goes
-  pub ante_even : all_post_antes table posts ≡ true → (seat amount : ℕ) → first_ante seat posts ≡ Some amount → amount ≡ min (greatest_ante table posts) (stack_of table seat)
-  unfolding breaks
+  pub ante_even : has_all_antes table posts ≡ true → (seat amount : ℕ) → first_ante seat posts ≡ Some amount → amount ≡ min (greatest_ante table posts) (stack_of table seat)
+  unfolding is_breaking
   ante_even all =
       first_is is_ante (λ seat amount. amount ≡ min (greatest_ante table posts) (stack_of table seat)) posts
       (kept conditions.EvenAntes (λ (post : PlainPost). is_ante post.kind ≡ true → post.amount ≡ min (greatest_ante table posts) (stack_of table post.seat))
       (λ before post fits is.
       eqb-true post.amount (min (greatest_ante table posts) (stack_of table post.seat))
-      (second_of (is_ante post.kind) (all_post_antes table posts) (post.amount == min (greatest_ante table posts) (stack_of table post.seat)) is all fits)) [] posts met.1.1)
+      (second_of (is_ante post.kind) (has_all_antes table posts) (post.amount == min (greatest_ante table posts) (stack_of table post.seat)) is all fits)) [] posts met.1.1)
 
   -- so no seat posts more than its stack
   pub ante_within : (seat : ℕ) → ante_of posts seat ≤ stack_of table seat

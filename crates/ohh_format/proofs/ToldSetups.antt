@@ -15,7 +15,7 @@ use Rattle.play_event.specs.declared.setup.Setup.{Setup}
 use Rattle.ohh_line.specs.Spelled.{big_blind, greatest_ante, has_no_ante, has_spelled_antes, has_spelled_blinds, has_spelled_sizes, has_spelled_straddles, has_two_blinds, is_covered_straddle, is_whole_ante}
 use Rattle.ohh_posts.proofs.Stacks.{seats_in, stack_in}
 use Rattle.ohh_posts.specs.Conditions as conditions_of
-use Rattle.ohh_posts.specs.Conditions.{all_post_antes}
+use Rattle.ohh_posts.specs.Conditions.{has_all_antes}
 use Rattle.ohh_posts.specs.Posts.{PlainPost, ante_of, first_ante, first_straddle}
 use Rattle.ohh_posts.specs.Stakes.{PlainStakes, are_dead, held_ante, named_blind, stakes_said}
 use Rattle.ohh_posts.specs.Table.{PlainTable, amounts_in, seat_count, stack_of}
@@ -197,14 +197,14 @@ module _ (setup : Setup) (is : IsToldSetup (plain_setup setup)) where
       by_first None none = refl
       by_first (Some ante) none = absurd (true≢false none)
 
-  some_none : all_post_antes table posts ≡ false → list_any (has_no_ante setup) (all_seats setup) ≡ true
+  some_none : has_all_antes table posts ≡ false → list_any (has_no_ante setup) (all_seats setup) ≡ true
   some_none fails =
       some_other (λ seat. is_some (first_ante seat posts)) (has_no_ante setup) 1 count
       (λ seat low high none. eq-eqb (amount_of setup.antes seat) 0 (ante_is seat low (omega (arith, high)) ∙ without seat none))
       (sym (ap (λ n. list_all (λ seat. is_some (first_ante seat posts)) (seats_of n)) count_is) ∙ fails)
 
   -- antes of all are even
-  even_ante : all_post_antes table posts ≡ true → (seat : ℕ) → 1 ≤ seat → seat < 1 + count → ante_of posts seat ≡ min (conditions_of.greatest_ante table posts) (stack_of table seat)
+  even_ante : has_all_antes table posts ≡ true → (seat : ℕ) → 1 ≤ seat → seat < 1 + count → ante_of posts seat ≡ min (conditions_of.greatest_ante table posts) (stack_of table seat)
   even_ante all seat low high =
       by_first (first_ante seat posts) refl
       (each_of (λ n. is_some (first_ante n posts)) 1 count seat (sym (ap (λ n. list_all (λ seat. is_some (first_ante seat posts)) (seats_of n)) count_is) ∙ all) low high)
@@ -218,7 +218,7 @@ module _ (setup : Setup) (is : IsToldSetup (plain_setup setup)) where
       ap greatest (map_agree (amount_of setup.antes) (ante_of posts) 1 count (λ seat low high. ante_is seat low (omega (arith, high))))
       ∙ ap (λ n. greatest (map (ante_of posts) (seats_of n))) (sym count_is)
 
-  whole_even : all_post_antes table posts ≡ true → (seat : ℕ) → 1 ≤ seat → seat < 1 + count → is_whole_ante setup seat ≡ true
+  whole_even : has_all_antes table posts ≡ true → (seat : ℕ) → 1 ≤ seat → seat < 1 + count → is_whole_ante setup seat ≡ true
   whole_even all seat low high =
       eq-eqb (amount_of setup.antes seat) (min (amount_of setup.stacks seat) (greatest_ante setup))
       (omega (arith, ante_is seat low (omega (arith, high)), even_ante all seat low high, greatest_is, stack_is seat))
@@ -234,7 +234,7 @@ module _ (setup : Setup) (is : IsToldSetup (plain_setup setup)) where
       let most : greatest_ante setup ≡ 0 = greatest_none (amount_of setup.antes) 1 count (none_ante none) in
       eq-eqb (amount_of setup.antes seat) (min (amount_of setup.stacks seat) (greatest_ante setup)) (omega (arith, none_ante none seat low high, most))
 
-  live_whole : (some all : Bool) → list_any (λ seat. nat_lt 0 (held_ante table posts seat)) (seats_of (seat_count table)) ≡ some → all_post_antes table posts ≡ all → (some && not all) ≡ false
+  live_whole : (some all : Bool) → list_any (λ seat. nat_lt 0 (held_ante table posts seat)) (seats_of (seat_count table)) ≡ some → has_all_antes table posts ≡ all → (some && not all) ≡ false
       → (seat : ℕ) → 1 ≤ seat → seat < 1 + count → is_whole_ante setup seat ≡ true
   live_whole some true e all live = whole_even all
   live_whole true false e all live = absurd (true≢false live)
@@ -249,7 +249,7 @@ module _ (setup : Setup) (is : IsToldSetup (plain_setup setup)) where
   antes_spelled = by_dead setup.dead_antes refl
     where
       by_dead : (dead : Bool) → setup.dead_antes ≡ dead → (if dead then list_any (has_no_ante setup) (all_seats setup) else list_all (is_whole_ante setup) (all_seats setup)) ≡ true
-      by_dead true e = some_none (dead_parts (list_any (λ seat. nat_lt 0 (held_ante table posts seat)) (seats_of (seat_count table))) (all_post_antes table posts) (sym dead_is ∙ e))
+      by_dead true e = some_none (dead_parts (list_any (λ seat. nat_lt 0 (held_ante table posts seat)) (seats_of (seat_count table))) (has_all_antes table posts) (sym dead_is ∙ e))
       by_dead false e =
           all_of (is_whole_ante setup) 1 count
-          (live_whole (list_any (λ seat. nat_lt 0 (held_ante table posts seat)) (seats_of (seat_count table))) (all_post_antes table posts) refl refl (sym dead_is ∙ e))
+          (live_whole (list_any (λ seat. nat_lt 0 (held_ante table posts seat)) (seats_of (seat_count table))) (has_all_antes table posts) refl refl (sym dead_is ∙ e))

@@ -32,7 +32,8 @@ use Rattle.play_laws.proofs.OneSpelling.{equal_past, equal_reason}
 use Rattle.ohh_members.specs.declared.dialect.Dialect.{Dialect}
 use Rattle.ohh_members.specs.declared.dialect.Dialect.TheVariants as dialects
 use Rattle.ohh_format.specs.Again.{move_again, raise_again, raise_by_dialect}
-use Rattle.ohh_format.proofs.RaiseUp.{raise_up}
+use Rattle.canon_ranges.proofs.RaiseUp.{raise_up}
+use Rattle.canon_ranges.proofs.SameEvents.{AreSame, IsNewest, IsSame, newest, one_more, same_moves}
 
 -- The events of a canonical script, the newest first, with its moves, and the same events in words: an event that is no move stays,
 -- and a move has its word.
@@ -45,11 +46,6 @@ pub data InWords (dialect : Dialect) : List Said → List Move → List Said →
 -- a move that has a word: no bring-in
 abbrev pub HasWord : Move → Type 0
 HasWord move = is_bring_in move.act ≡ false
-
--- an event is legal, and takes place as another one does
-record IsSame (setup : Setup) (rules : Rules) (before : Past) (event other : Said) : Type 0 where
-  legal : why setup rules before other ≡ None
-  past : with_event setup other before ≡ with_event setup event before
 
 -- why a call is illegal, by whether its kind may come and whether it states other chips than it adds
 abbrev call_refused : Setup → Rules → List Move → ℕ × Due → InTurn → ℕ → ℕ → Bool → Bool → Option Illegal
@@ -98,39 +94,6 @@ raise_same setup rules past seat target amount goes legal =
       past = equal_past setup past (Some seat) amount (spelled.To target) goes;
     }
 
--- an event that is no move leaves the moves
-same_moves : (setup : Setup) (past : Past) (event : Said) → is_move event ≡ false → moves_of (with_event setup event past) ≡ moves_of past
-unfolding with_event
-same_moves setup past (said.Hole seat cards) still = refl
-same_moves setup past (said.Board cards) still = refl
-same_moves setup past (said.Discard seat cards) still = refl
-same_moves setup past (said.Show seat cards) still = refl
-same_moves setup past (said.Muck seat) still = refl
-same_moves setup past (said.Fold named) still = absurd (true≢false still)
-same_moves setup past (said.Call named stated) still = absurd (true≢false still)
-same_moves setup past (said.Raise named amount) still = absurd (true≢false still)
-same_moves setup past (said.BringIn named) still = absurd (true≢false still)
-
--- what the newest of the moves tells of the past before it
-record IsNewest (setup : Setup) (past : Past) (move : Move) (older : List Move) : Type 0 where
-  moves : moves_of past ≡ older
-  from : move.from ≡ street_chips setup (moves_of past) (turn setup past).0 move.seat
-
-newest_by : (setup : Setup) (past : Past) (placed move : Move) (older : List Move) → placed ∷ moves_of past ≡ move ∷ older → placed.from ≡ street_chips setup (moves_of past) (turn setup past).0 placed.seat → IsNewest setup past move older
-newest_by setup past placed move older same from =
-    let here : placed ≡ move = cc in
-    record {
-      moves = cc;
-      from = sym (ap (λ (m : Move). m.from) here) ∙ from ∙ ap (λ (m : Move). street_chips setup (moves_of past) (turn setup past).0 m.seat) here;
-    }
-
-newest : (setup : Setup) (past : Past) (move : Move) (older : List Move) (act : Act) → moves_of (with_event setup (act_named act move.seat move.to) past) ≡ move ∷ older → IsNewest setup past move older
-unfolding with_event
-newest setup past move older Folded same = newest_by setup past _ move older same refl
-newest setup past move older Called same = newest_by setup past _ move older same refl
-newest setup past move older Raised same = newest_by setup past _ move older same refl
-newest setup past move older BroughtIn same = newest_by setup past _ move older same refl
-
 -- where a call goes
 goes_to : (placed move : Move) (before older : List Move) → placed ∷ before ≡ move ∷ older → placed.to ≡ move.to
 goes_to placed move before older same =
@@ -140,19 +103,6 @@ goes_to placed move before older same =
 call_goes : (setup : Setup) (past : Past) (move : Move) (older : List Move) → moves_of (with_event setup (said.Call (Some move.seat) None) past) ≡ move ∷ older → move.to ≡ call_target setup (moves_of past) (turn setup past).0 move.seat
 unfolding with_event
 call_goes setup past move older same = sym (goes_to _ move (moves_of past) older same)
-
--- words are legal, and leave the past of events
-pub record AreSame (setup : Setup) (rules : Rules) (events words : List Said) : Type 0 where
-  pub legal : AreLegal setup rules words
-  pub past : past_of setup words ≡ past_of setup events
-
--- one event more
-one_more : (setup : Setup) (rules : Rules) (events words : List Said) (event other : Said) → AreSame setup rules events words → IsSame setup rules (past_of setup events) event other → AreSame setup rules (event ∷ events) (other ∷ words)
-one_more setup rules events words event other same is =
-    record {
-      legal = (ap (λ (p : Past). why setup rules p other) same.past ∙ is.legal, same.legal);
-      past = ap (with_event setup other) same.past ∙ is.past;
-    }
 
 -- where a raise goes, as its word says it
 raise_goes : (dialect : Dialect) (setup : Setup) (moves : List Move) (street : ℕ) (move : TracedMove) → move.from ≡ street_chips setup moves street move.seat → move.from ≤ move.to

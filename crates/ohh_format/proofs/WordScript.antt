@@ -1,56 +1,23 @@
 -- The canonical script of a game without draws, in the words of the format.
-use Rattle.std.proofs.Common.{◌≡◌, ℕ, zero, suc, ◌+◌, ◌<◌, Bool, true, false, ◌&&◌, ◌==◌, nat_le, nat_lt, if◌then◌else◌, List, [], ◌∷◌, ◌++◌, map, filter, reverse, Some, None, refl, sym, ap, subst, ◌∙◌, arith, append_assoc}
+use Rattle.std.proofs.Common.{◌≡◌, ℕ, ◌+◌, ◌<◌, Bool, true, false, ◌==◌, nat_le, nat_lt, if◌then◌else◌, List, [], ◌∷◌, ◌++◌, map, filter, reverse, refl, sym, ap, subst, ◌∙◌, arith}
 use Rattle.std.specs.List.{flat_map, list_any, range_with_len}
 use Rattle.std.proofs.lemmas.Bool.{eqb-true, ltb-true, ne_eqb}
-use Rattle.std.proofs.lemmas.List.{append-nil, flat_map_more, map-append, reverse-append, reverse-reverse}
+use Rattle.std.proofs.lemmas.List.{append-nil, flat_map_more, reverse-append}
 use Rattle.card_set.specs.Known.{known_cards}
-use Rattle.card_set.specs.declared.card.Slot.{Slot}
-use Rattle.canonical_play.specs.CanonScript.{board_said, deal_said, dealt_slots, deals_said, discarded_slots, discards_said, drawing_seats, held_slots, is_reached, move_named, moves_named, plain_move, showdown_said, showing_said, street_said}
+use Rattle.canonical_play.specs.CanonScript.{held_slots, move_named, plain_move, showdown_said, showing_said, street_said}
 use Rattle.canonical_play.specs.PlayedScript.{is_move}
 use Rattle.play_event.specs.Past.{Act, BroughtIn, Called, Folded, Move, Raised, moves_before}
-use Rattle.play_event.specs.Said.{Discard, Muck, Said, Show}
+use Rattle.play_event.specs.Said.{Muck, Said, Show}
 use Rattle.play_event.specs.Seats.{all_seats, is_live, live_count}
 use Rattle.play_event.specs.Streets.{has_draw}
 use Rattle.play_event.specs.Trace.{TracedMove, TracedPlace}
 use Rattle.play_event.specs.declared.setup.Setup.{Setup}
 use Rattle.play_laws.specs.PastLaws.{AreReached}
-use Rattle.canon_blocks.proofs.StreetMoves.{AreFalling, moves_split, own_moves}
+use Rattle.canon_blocks.proofs.StreetMoves.{AreFalling, own_moves}
+use Rattle.canon_ranges.proofs.OtherWords.{NoMoves, all_streets, behind_both, none_own, quiet_stay}
 use Rattle.ohh_members.specs.declared.dialect.Dialect.{Dialect}
 use Rattle.ohh_format.specs.Again.{move_again, move_on, moves_again, street_again}
 use Rattle.ohh_format.proofs.WordEvents.{InWords, nothing, stays, word}
-
--- events of which none is a move
-abbrev NoMoves : List Said → Type 0
-NoMoves [] = Unit {0}
-NoMoves (event ∷ events) = (is_move event ≡ false) × NoMoves events
-
-both_no : (first second : List Said) → NoMoves first → NoMoves second → NoMoves (first ++ second)
-both_no [] second one two = two
-both_no (event ∷ first) second one two = (one.0, both_no first second one.1 two)
-
--- the deals of a street
-deal_no : (seat : ℕ) (cards : List Slot) → NoMoves (deal_said seat cards)
-deal_no seat [] = tt
-deal_no seat (card ∷ cards) = (refl, tt)
-
-board_no : (cards : List Slot) → NoMoves (board_said cards)
-board_no [] = tt
-board_no (card ∷ cards) = (refl, tt)
-
-holes_no : (placed : List TracedPlace) (street : ℕ) (seats : List ℕ) → NoMoves (flat_map (λ seat. deal_said seat (dealt_slots placed (Some seat) street)) seats)
-holes_no placed street [] = tt
-holes_no placed street (seat ∷ seats) =
-    both_no (deal_said seat (dealt_slots placed (Some seat) street)) (flat_map (λ seat. deal_said seat (dealt_slots placed (Some seat) street)) seats) (deal_no seat (dealt_slots placed (Some seat) street)) (holes_no placed street seats)
-
-deals_no : (setup : Setup) (placed : List TracedPlace) (street : ℕ) → NoMoves (deals_said setup placed street)
-deals_no setup placed street =
-    both_no (flat_map (λ seat. deal_said seat (dealt_slots placed (Some seat) street)) (all_seats setup)) (board_said (dealt_slots placed None street)) (holes_no placed street (all_seats setup)) (board_no (dealt_slots placed None street))
-
-behind : (first : Said) (rest events : List Said) → reverse (first ∷ rest) ++ events ≡ reverse rest ++ (first ∷ events)
-behind first rest events = ap (λ (l : List Said). l ++ events) (reverse-append (first ∷ []) rest) ∙ append_assoc (reverse rest) (first ∷ []) events
-
-behind_both : (first second events : List Said) → reverse (first ++ second) ++ events ≡ reverse second ++ (reverse first ++ events)
-behind_both first second events = ap (λ (l : List Said). l ++ events) (reverse-append first second) ∙ append_assoc (reverse second) (reverse first) events
 
 -- the showdown
 showing_no : (placed : List TracedPlace) (shown : List ℕ) (seats : List ℕ) → NoMoves (map (showing_said placed shown) seats)
@@ -68,14 +35,6 @@ showdown_no setup placed list shown = by_contest (nat_le 2 (live_count setup lis
     by_contest true = showing_no placed shown (filter (is_live list) (all_seats setup))
     by_contest false = tt
 
--- deals and shows stay as they are
-quiet_stay : (dialect : Dialect) (quiet events : List Said) (moves : List Move) (words : List Said) → NoMoves quiet → InWords dialect events moves words → InWords dialect (reverse quiet ++ events) moves (reverse quiet ++ words)
-quiet_stay dialect [] events moves words none before = before
-quiet_stay dialect (event ∷ quiet) events moves words none before =
-    let P : List Said → Type 0 = λ l. InWords dialect l moves (reverse (event ∷ quiet) ++ words) in
-    let Q : List Said → Type 0 = λ l. InWords dialect (reverse quiet ++ (event ∷ events)) moves l in
-    subst P (sym (behind event quiet events)) (subst Q (sym (behind event quiet words)) (quiet_stay dialect quiet (event ∷ events) moves (event ∷ words) none.1 (stays event events moves words none.0 before)))
-
 -- the words of the moves of a street, where the moves are the newest first
 words_on : Dialect → ℕ → List TracedMove → List Said
 words_on dialect street [] = []
@@ -90,11 +49,6 @@ words_are dialect street (first ∷ older) =
     ∙ ap (λ (l : List Said). l ++ move_on dialect street first) (words_are dialect street older)
 
 -- no move of a street has a word where all moves are of earlier ones
-none_own : (newest street : ℕ) (list : List Move) → AreReached newest list → newest < street → own_moves street list ≡ []
-none_own newest street [] all less = refl
-none_own newest street (first ∷ rest) all less =
-    ap (λ b. if b then (first ∷ own_moves street rest) else own_moves street rest) (ne_eqb first.street street (λ same. omega (arith, same, all.0, less))) ∙ none_own newest street rest all.1 less
-
 none_again : (dialect : Dialect) (newest street : ℕ) (list : List TracedMove) → AreReached newest (map plain_move list) → newest < street → words_on dialect street list ≡ []
 unfolding words_on
 none_again dialect newest street [] all less = refl
@@ -151,61 +105,11 @@ moves_words dialect street (first ∷ older) events words falling before =
     by_street false other false late here_before more =
         subst (λ (l : List Said). InWords dialect (map move_named own ++ events) (own ++ early) (reverse l ++ words)) (sym (append-nil again)) (more here_before)
 
-map_reverse : (moves : List Move) → reverse (map move_named moves) ≡ map move_named (reverse moves)
-map_reverse [] = refl
-map_reverse (move ∷ moves) =
-    reverse-append (move_named move ∷ []) (map move_named moves)
-    ∙ ap (λ (l : List Said). l ++ move_named move ∷ []) (map_reverse moves)
-    ∙ sym (map-append move_named (reverse moves) (move ∷ []))
-    ∙ sym (ap (map move_named) (reverse-append (move ∷ []) moves))
-
-newest_first : (list : List Move) (street : ℕ) → reverse (moves_named list street) ≡ map move_named (own_moves street list)
-newest_first list street = map_reverse (reverse (own_moves street list)) ∙ ap (map move_named) (reverse-reverse (own_moves street list))
-
-no_discards : (setup : Setup) (placed : List TracedPlace) (list : List Move) (street : ℕ) → has_draw setup.code street ≡ false → discards_said setup placed list street ≡ []
-no_discards setup placed list street undrawn =
-    ap (λ b. if b && is_reached setup list street then map (λ seat. Discard seat (discarded_slots placed seat street)) (drawing_seats setup list street) else []) undrawn
-
--- a street of the script
-street_words : (dialect : Dialect) (setup : Setup) (placed : List TracedPlace) (list : List TracedMove) (street : ℕ) (events words : List Said) → has_draw setup.code street ≡ false → AreFalling (map plain_move list)
-    → InWords dialect events (moves_before street (map plain_move list)) words
-    → InWords dialect (reverse (street_said setup placed (map plain_move list) street) ++ events) (moves_before (street + 1) (map plain_move list)) (reverse (street_again dialect setup placed (reverse list) street) ++ words)
-street_words dialect setup placed list street events words undrawn falling before =
-    let plain = map plain_move list in
-    let deals = deals_said setup placed street in
-    let own = own_moves street plain in
-    let here = words_on dialect street list in
-    let said : reverse (street_said setup placed plain street) ++ events ≡ map move_named own ++ (reverse deals ++ events) =
-    ap (λ (l : List Said). reverse (l ++ (deals ++ moves_named plain street)) ++ events) (no_discards setup placed plain street undrawn)
-    ∙ behind_both deals (moves_named plain street) events
-    ∙ ap (λ (l : List Said). l ++ (reverse deals ++ events)) (newest_first plain street) in
-    let again : reverse (street_again dialect setup placed (reverse list) street) ++ words ≡ reverse here ++ (reverse deals ++ words) =
-    ap (λ (l : List Said). reverse (deals ++ l) ++ words) (words_are dialect street list) ∙ behind_both deals here words in
-    let it = moves_words dialect street list (reverse deals ++ events) (reverse deals ++ words) falling (quiet_stay dialect deals events (moves_before street plain) words (deals_no setup placed street) before) in
-    subst (λ (l : List Said). InWords dialect l (moves_before (street + 1) plain) (reverse (street_again dialect setup placed (reverse list) street) ++ words)) (sym said)
-    (subst (λ (l : List Said). InWords dialect (map move_named own ++ (reverse deals ++ events)) (moves_before (street + 1) plain) l) (sym again)
-    (subst (λ (l : List Move). InWords dialect (map move_named own ++ (reverse deals ++ events)) l (reverse here ++ (reverse deals ++ words))) (sym (moves_split street plain falling)) it))
-
--- so many streets
-streets_words : (dialect : Dialect) (setup : Setup) (placed : List TracedPlace) (list : List TracedMove) (first count : ℕ) (events words : List Said) → ((street : ℕ) → has_draw setup.code street ≡ false) → AreFalling (map plain_move list)
-    → InWords dialect events (moves_before first (map plain_move list)) words
-    → InWords dialect (reverse (flat_map (street_said setup placed (map plain_move list)) (range_with_len first count)) ++ events) (moves_before (first + count) (map plain_move list)) (reverse (flat_map (street_again dialect setup placed (reverse list)) (range_with_len first count)) ++ words)
-streets_words dialect setup placed list first zero events words undrawn falling before =
-    subst (λ n. InWords dialect events (moves_before n (map plain_move list)) words) (zero_more first) before
-  where
-    zero_more : (n : ℕ) → n ≡ n + 0
-    zero_more n = omega arith
-streets_words dialect setup placed list first (suc count) events words undrawn falling before =
-    let plain = map plain_move list in
-    let said = street_said setup placed plain first in
-    let again = street_again dialect setup placed (reverse list) first in
-    let later = flat_map (street_said setup placed plain) (range_with_len (first + 1) count) in
-    let later_again = flat_map (street_again dialect setup placed (reverse list)) (range_with_len (first + 1) count) in
-    let it = streets_words dialect setup placed list (first + 1) count (reverse said ++ events) (reverse again ++ words) undrawn falling (street_words dialect setup placed list first events words (undrawn first) falling before) in
-    let next : (first + 1) + count ≡ first + suc count = omega arith in
-    subst (λ n. InWords dialect (reverse (said ++ later) ++ events) (moves_before n plain) (reverse (again ++ later_again) ++ words)) next
-    (subst (λ (l : List Said). InWords dialect l (moves_before ((first + 1) + count) plain) (reverse (again ++ later_again) ++ words)) (sym (behind_both said later events))
-    (subst (λ (l : List Said). InWords dialect (reverse later ++ (reverse said ++ events)) (moves_before ((first + 1) + count) plain) l) (sym (behind_both again later_again words)) it))
+own_words : (dialect : Dialect) (list : List TracedMove) → AreFalling (map plain_move list) → (street : ℕ) (events words : List Said) → InWords dialect events (moves_before street (map plain_move list)) words
+    → InWords dialect (map move_named (own_moves street (map plain_move list)) ++ events) (own_moves street (map plain_move list) ++ moves_before street (map plain_move list)) (reverse (moves_again dialect (reverse list) street) ++ words)
+own_words dialect list falling street events words before =
+    let P : List Said → Type 0 = λ l. InWords dialect (map move_named (own_moves street (map plain_move list)) ++ events) (own_moves street (map plain_move list) ++ moves_before street (map plain_move list)) (reverse l ++ words) in
+    subst P (sym (words_are dialect street list)) (moves_words dialect street list events words falling before)
 
 -- all four streets, and the showdown
 pub script_words : (dialect : Dialect) (setup : Setup) (placed : List TracedPlace) (list : List TracedMove) (shown : List ℕ) → ((street : ℕ) → has_draw setup.code street ≡ false) → AreFalling (map plain_move list)
@@ -217,11 +121,8 @@ script_words dialect setup placed list shown undrawn falling none all =
     let said = flat_map (street_said setup placed plain) (range_with_len 1 4) in
     let again = flat_map (street_again dialect setup placed (reverse list)) (range_with_len 1 4) in
     let shows = showdown_said setup placed plain shown in
-    let streets = streets_words dialect setup placed list 1 4 [] [] undrawn falling (subst (λ (l : List Move). InWords dialect [] l []) (sym none) nothing) in
     let whole : InWords dialect (reverse said) plain (reverse again) =
-    subst (λ (l : List Move). InWords dialect (reverse said) l (reverse again)) all
-    (subst (λ (l : List Said). InWords dialect l (moves_before 5 plain) (reverse again)) (append-nil (reverse said))
-    (subst (λ (l : List Said). InWords dialect (reverse said ++ []) (moves_before 5 plain) l) (append-nil (reverse again)) streets)) in
+    all_streets (InWords dialect) stays setup placed plain (moves_again dialect (reverse list)) undrawn falling (own_words dialect list falling) nothing none all in
     subst (λ (l : List Said). InWords dialect l plain (reverse (again ++ shows))) (sym (reverse-append said shows))
     (subst (λ (l : List Said). InWords dialect (reverse shows ++ reverse said) plain l) (sym (reverse-append again shows))
-    (quiet_stay dialect shows (reverse said) plain (reverse again) (showdown_no setup placed plain shown) whole))
+    (quiet_stay (InWords dialect) stays shows (reverse said) plain (reverse again) (showdown_no setup placed plain shown) whole))
