@@ -8,14 +8,13 @@ use Rattle.hand_records.specs.declared.writing.Unspelled.{Unspelled}
 use Rattle.hand_records.specs.declared.writing.WriteRefusal.{WriteRefusal}
 use Rattle.play_event.specs.HistoryRules.{history_rules}
 use Rattle.phh_format.specs.Again.{hands_again}
-use Rattle.phh_format.specs.ReadBack as history
 use Rattle.phh_format.specs.ReadBack.{KeepsNotes}
 use Rattle.phh_format.proofs.ReadBack.{read_back}
 use Rattle.phh_format.proofs.SoundPlays.{sound_again}
 use Rattle.phh_reading.specs.Reading.{IsHistory, reading}
 use Rattle.phh_table.specs.Spelled as facts
 use Rattle.convert_core.specs.Histories.{HaveFault, Say, Spell}
-use Rattle.convert_core.specs.ReadBack.{AreAgain, ReadBack}
+use Rattle.convert_core.specs.ReadBack.{ReadBack}
 use Rattle.convert_core.specs.Records.{AreFew, AreOfFile, IsUnder}
 use Rattle.convert_core.specs.Spelled.{first_refusal, refusal_from, refused_at}
 use Rattle.convert_core.specs.declared.format_fault.FormatFault.{FormatFault}
@@ -44,15 +43,6 @@ same_refusal number [] = refl
 same_refusal number (play ∷ plays) =
     same_at number (facts.unspelled play) (facts.refusal_from (number + 1) plays) (refusal_from facts.unspelled (number + 1) plays) (same_refusal (number + 1) plays)
 
--- hands that are read of plays again
-again_too : (place : ℕ) (plays : List Play) (hands : List Record) → history.AreAgain KeepsNotes place plays hands → AreAgain KeepsNotes place plays hands
-unfolding AreAgain history.AreAgain
-again_too place [] [] are = tt
-again_too place [] (hand ∷ hands) are = are
-again_too place (play ∷ plays) [] are = are
-again_too place (play ∷ plays) (hand ∷ hands) are =
-    (record { judged = are.0.judged; same_setup = are.0.same_setup; notes = are.0.notes }, again_too (place + 1) plays hands are.1)
-
 -- what is written reads back
 pub reads_back : (plays : List Play) (bytes : List ℕ) → AreFew plays → AllByRecursion IsSound plays → first_refusal facts.unspelled plays ≡ None → Spell plays bytes
     → ReadBack (Say bytes) (HaveFault bytes) KeepsNotes plays
@@ -60,7 +50,7 @@ reads_back plays bytes few sound spelled spell =
     let read : reading bytes ≡ Ok (hands_again 0 plays) = sound_again plays bytes few.few sound few.few_moves spell.document in
     record {
       no_fault = λ fault have. none fault read have;
-      again = λ hands say. again_too 0 plays hands (read_back plays bytes few.few sound few.few_moves (same_refusal 1 plays ∙ spelled) spell.document hands say.reads);
+      again = λ hands say. read_back plays bytes few.few sound few.few_moves (same_refusal 1 plays ∙ spelled) spell.document hands say.reads;
     }
   where
     none : (fault : FormatFault) → reading bytes ≡ Ok (hands_again 0 plays) → HaveFault bytes fault → ⊥

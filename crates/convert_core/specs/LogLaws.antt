@@ -3,7 +3,6 @@ use Rattle.std.proofs.Common.{◌≡◌, ℕ, ◌+◌, ◌≤◌, List, [], ◌�
 use Rattle.std.specs.List.{AllByRecursion}
 use Rattle.std.proofs.lemmas.List.Sums.{sum_by-cons}
 use Rattle.acpc_format.specs.Again.{hands_again, moves_written}
-use Rattle.acpc_format.specs.ReadBack as log
 use Rattle.acpc_format.specs.ReadBack.{KeepsNotes}
 use Rattle.acpc_format.proofs.HandsAgain.{read_back}
 use Rattle.acpc_format.proofs.SoundReads.{sound_again}
@@ -29,7 +28,7 @@ use Rattle.hand_records.specs.declared.writing.Keep.{Keep}
 use Rattle.hand_records.specs.declared.writing.Unspelled.{Unspelled}
 use Rattle.hand_records.specs.declared.writing.WriteRefusal.{WriteRefusal}
 use Rattle.convert_core.specs.Logs.{HaveFault, Say, Spell}
-use Rattle.convert_core.specs.ReadBack.{AreAgain, ReadBack}
+use Rattle.convert_core.specs.ReadBack.{ReadBack}
 use Rattle.convert_core.specs.Records.{AreFew, AreOfFile, IsUnder, moves_played}
 use Rattle.convert_core.specs.Spelled.{first_refusal, refusal_from, refused_at}
 use Rattle.convert_core.specs.declared.format_fault.FormatFault.{FormatFault}
@@ -73,15 +72,6 @@ all_counted [] each = refl
 all_counted (play ∷ rest) each =
     omega (arith, sum_by-cons moves_written play rest, sum_by-cons moves_played play rest, same_count play each.0, all_counted rest each.1)
 
--- hands that are read of plays again
-again_too : (place : ℕ) (plays : List Play) (hands : List Record) → log.AreAgain KeepsNotes place plays hands → AreAgain KeepsNotes place plays hands
-unfolding AreAgain log.AreAgain
-again_too place [] [] are = tt
-again_too place [] (hand ∷ hands) are = are
-again_too place (play ∷ plays) [] are = are
-again_too place (play ∷ plays) (hand ∷ hands) are =
-    (record { judged = are.0.judged; same_setup = are.0.same_setup; notes = are.0.notes }, again_too (place + 1) plays hands are.1)
-
 -- what is written reads back
 none_had : (game : Game) (lines : List ℕ) (plays : List Play) (fault : FormatFault) → reading game lines ≡ Ok (hands_again game.no_limit 0 plays) → HaveFault game lines fault → ⊥
 none_had game lines plays (formats.Phh fault) read have = have
@@ -95,7 +85,7 @@ lines_back game keep plays few sound texts spelled =
     let read : reading game (log_text game.no_limit plays) ≡ Ok (hands_again game.no_limit 0 plays) = sound_again game keep plays few.few sound texts none moves in
     record {
       no_fault = λ fault have. none_had game (log_text game.no_limit plays) plays fault read have;
-      again = λ hands say. again_too 0 plays hands (read_back game keep plays few.few sound texts none moves hands say.each say.reads);
+      again = λ hands say. read_back game keep plays few.few sound texts none moves hands say.each say.reads;
     }
 
 pub reads_back : (game : Game) (keep : Keep) (plays : List Play) (bytes : List ℕ) → AreFew plays → AllByRecursion IsSound plays → first_refusal (facts.unspelled game keep) plays ≡ None → Spell game plays bytes

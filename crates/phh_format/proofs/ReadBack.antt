@@ -42,7 +42,8 @@ use Rattle.phh_table.specs.Document.{Spells}
 use Rattle.phh_table.specs.HandFields.{script_of}
 use Rattle.phh_table.specs.Spelled.{refusal_from, refused_at, unspelled, first_refusal}
 use Rattle.phh_format.specs.Again.{hand_again, hands_again, moves_played, notes_again, numbered_from}
-use Rattle.phh_format.specs.ReadBack.{AreAgain, IsAgain, KeepsNotes}
+use Rattle.hand_canon.specs.ReadAgain.{AreAgain, IsAgain}
+use Rattle.phh_format.specs.ReadBack.{KeepsNotes}
 use Rattle.phh_format.proofs.RowsAgain.{amount_count}
 use Rattle.phh_format.proofs.SoundPlays.{same_script, sound_again}
 

@@ -11,7 +11,8 @@ ghost use Rattle.phh_reading.specs.Reading.{reading};
 ghost use Rattle.phh_table.specs.Document.{Spells};
 ghost use Rattle.phh_table.specs.Spelled.{first_refusal, unspelled};
 ghost use Rattle.phh_format.specs.Again.{hands_again, moves_played};
-ghost use Rattle.phh_format.specs.ReadBack.{AreAgain, KeepsNotes};
+ghost use Rattle.hand_canon.specs.ReadAgain.{AreAgain};
+ghost use Rattle.phh_format.specs.ReadBack.{KeepsNotes};
 ghost use Rattle.phh_format.specs.Sharp.{IsOther};
 
 /// Bytes that spell sound plays, no more of them and of their moves than a file may have, read as the hands of these plays:
