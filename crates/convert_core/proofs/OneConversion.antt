@@ -1,12 +1,15 @@
 -- Records that bytes do not tell apart come to plays that a notation does not tell apart.
-use Rattle.std.proofs.Common.{◌≡◌, ℕ, ◌+◌, List, [], ◌∷◌, Option, Some, None, Result, Ok, Err, refl, sym, subst, ap₂, ◌∙◌}
+use Rattle.std.proofs.Common.{◌≡◌, ℕ, ◌+◌, All, List, [], ◌∷◌, Option, Some, None, Result, Ok, Err, refl, sym, subst, ap₂, ◌∙◌}
+use Rattle.std.proofs.lemmas.List.Elements.{All-head, All-tail}
+use Rattle.hand_canon.specs.Judged.{IsJudged}
 use Rattle.hand_records.specs.declared.record.Record.{Record}
 use Rattle.hand_records.specs.declared.trace.Play.{Play}
 use Rattle.hand_records.specs.declared.writing.Unspelled.{Unspelled}
 use Rattle.hand_records.specs.declared.writing.WriteRefusal.TheVariants as refusals
+use Rattle.play_event.specs.declared.setup.Setup.{Setup}
 use Rattle.convert_core.specs.Conversion.{HasUnspelled, IsConversion, ReadAsPlays, ReadAsRefused, RefusesNothing}
 use Rattle.convert_core.specs.Judged.{ArePlaysOf}
-use Rattle.convert_core.specs.SameRecords.{AllAlike, ArePlayedAlike}
+use Rattle.convert_core.specs.SameRecords.{AllAlike, ArePlayedAlike, NoteTheSame}
 use Rattle.convert_core.specs.Spelled.{first_refusal, refusal_from, refused_at}
 use Rattle.convert_core.specs.declared.convert_fault.ConvertFault.{ConvertFault}
 use Rattle.convert_core.specs.declared.convert_fault.ConvertFault.TheVariants as faults
@@ -29,18 +32,26 @@ AllPlayedAlike [] (q ∷ qs) = ⊥
 AllPlayedAlike (p ∷ ps) [] = ⊥
 AllPlayedAlike (p ∷ ps) (q ∷ qs) = ArePlayedAlike p q × AllPlayedAlike ps qs
 
-played_alike : (plays others : List Play) → AllTraced plays others → AllAlike (hands_of plays) (hands_of others) → AllPlayedAlike plays others
+pub played_alike : (plays others : List Play) → All IsJudged plays → AllTraced plays others → AllAlike (hands_of plays) (hands_of others) → AllPlayedAlike plays others
 unfolding AllTraced AllAlike AllPlayedAlike
-played_alike [] [] traced alike = tt
-played_alike [] (q ∷ qs) traced alike = traced
-played_alike (p ∷ ps) [] traced alike = traced
-played_alike (p ∷ ps) (q ∷ qs) traced alike =
-    (record { trace = traced.0.0; hand = alike.0 }, played_alike ps qs traced.1 alike.1)
+played_alike [] [] judged traced alike = tt
+played_alike [] (q ∷ qs) judged traced alike = traced
+played_alike (p ∷ ps) [] judged traced alike = traced
+played_alike (p ∷ ps) (q ∷ qs) judged traced alike = (
+  record {
+    trace = traced.0.0;
+    same = traced.0.1;
+    notes =
+        subst (λ (setup : Setup). NoteTheSame setup.stacks.seats p.hand.notes q.hand.notes)
+        (sym (All-head IsJudged p ps judged).traced.whole.same_setup) alike.0.notes;
+  },
+  played_alike ps qs (All-tail IsJudged p ps judged) traced.1 alike.1,
+)
 
 -- plays of records that are alike
 pub plays_alike : (records others : List Record) (plays too : List Play) → AllAlike records others → ArePlaysOf records plays → ArePlaysOf others too → AllPlayedAlike plays too
 plays_alike records others plays too alike are is =
-    played_alike plays too (same_traces records others plays too (all_same records others alike) are is)
+    played_alike plays too are.judged (same_traces records others plays too (all_same records others alike) are is)
     (subst (λ (rs : List Record). AllAlike rs (hands_of too)) (sym are.same) (subst (AllAlike records) (sym is.same) alike))
 
 module _ (unspelled : Play → Option Unspelled) (apart : (play other : Play) → ArePlayedAlike play other → unspelled play ≡ unspelled other) where

@@ -127,6 +127,13 @@ AllTheSame [] (b ∷ others) = ⊥
 AllTheSame (a ∷ rest) [] = ⊥
 AllTheSame (a ∷ rest) (b ∷ others) = SayTheSame a b × AllTheSame rest others
 
+pub all_turned : (records others : List Record) → AllTheSame records others → AllTheSame others records
+unfolding AllTheSame
+all_turned [] [] same = tt
+all_turned [] (b ∷ others) same = same
+all_turned (a ∷ rest) [] same = same
+all_turned (a ∷ rest) (b ∷ others) same = (turned a b same.0, all_turned rest others same.1)
+
 pub all_itself : (records : List Record) → AllTheSame records records
 unfolding AllTheSame
 all_itself [] = tt

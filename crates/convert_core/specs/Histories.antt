@@ -27,6 +27,7 @@ pub record Have (bytes : List ℕ) (fault : PhhFault) : Type 0 where
 -- a fault of this notation
 abbrev pub HaveFault : List ℕ → FormatFault → Type 0
 HaveFault bytes (formats.Phh fault) = Have bytes fault
+HaveFault bytes (formats.Ohh fault) = ⊥
 HaveFault bytes (formats.Acpc fault) = ⊥
 
 -- bytes are the spelling of plays: TOML reads them as the one document of the plays, and no plays are no bytes

@@ -1,33 +1,19 @@
 -- Bytes of a hand history say one list of records, as far as records can be told apart.
-use Rattle.std.proofs.Common.{◌≡◌, ℕ, inl, inr, List, [], ◌∷◌, map, take, get_or, slice_index_or, Option, Some, None, IfSome, option_map, Ok, refl, sym, subst, ap, ◌∙◌, arith, if◌then◌else◌}
+use Rattle.std.proofs.Common.{◌≡◌, ℕ, List, [], ◌∷◌, map, take, Some, None, option_map, Ok, sym, subst, ap, ◌∙◌, if◌then◌else◌}
 use Rattle.std.specs.List.{AllByRecursion, list_any}
-use Rattle.std.proofs.lemmas.Bool.{cases_lt}
-use Rattle.std.proofs.lemmas.List.{get_or-take}
-use Rattle.hand_records.specs.AllowedNotes.{AreSeatNumbers}
+use Rattle.hand_records.specs.AllowedNotes.{AreAllowed}
 use Rattle.hand_records.specs.declared.record.Record.{Record}
 use Rattle.hand_records.specs.declared.trace.Play.{Play}
 use Rattle.hand_records.specs.declared.trace.Trace.{Trace}
 use Rattle.hand_records.specs.declared.writing.Unspelled.TheVariants as unspellables
 use Rattle.phh_reading.specs.Hand.{PlainHand, plain}
 use Rattle.phh_reading.specs.Reading.{IsHistory}
-use Rattle.phh_reading.proofs.SamePlay.{same_name, same_rules, same_script, same_setup, same_stated}
+use Rattle.phh_reading.proofs.SamePlay.{same_rules, same_script, same_setup, same_stated}
 use Rattle.phh_table.specs.Spelled as facts
 use Rattle.play_event.specs.declared.setup.Setup.{Setup}
 use Rattle.convert_core.specs.Histories.{Say}
-use Rattle.convert_core.specs.SameRecords.{AllAlike, AreAlike, ArePlayedAlike, number_at}
-
--- the numbers of so many seats
-numbers_same : (count : ℕ) (x y : Option (List ℕ)) → option_map (take count) x ≡ option_map (take count) y → IfSome x (AreSeatNumbers count) → IfSome y (AreSeatNumbers count)
-    → (index : ℕ) → number_at index x ≡ number_at index y
-numbers_same count None None same is it index = refl
-numbers_same count None (Some b) same is it index = absurd (cc)
-numbers_same count (Some a) None same is it index = absurd (cc)
-numbers_same count (Some a) (Some b) same is it index =
-    let taken : take count a ≡ take count b = cc in
-    ap Some (elim (cases_lt index count) [
-      | inl within ↦ sym (get_or-take count a index 0 within) ∙ ap (λ (numbers : List ℕ). get_or numbers index 0) taken ∙ get_or-take count b index 0 within
-      | inr late ↦ is.no_more index late ∙ sym (it.no_more index late)
-    ])
+use Rattle.convert_core.specs.SameParts.{names_same, numbers_same}
+use Rattle.convert_core.specs.SameRecords.{AllAlike, AreAlike, ArePlayedAlike}
 
 module _ (a b : Record) (is : IsHistory a) (it : IsHistory b) (same : plain a ≡ plain b) where
   setups : a.setup ≡ b.setup
@@ -36,19 +22,15 @@ module _ (a b : Record) (is : IsHistory a) (it : IsHistory b) (same : plain a �
   count : a.setup.stacks.seats ≡ b.setup.stacks.seats
   count = ap (λ (setup : Setup). setup.stacks.seats) setups
 
-  names : (index : ℕ) → slice_index_or a.notes.names index None ≡ slice_index_or b.notes.names index None
-  names index = elim (cases_lt index a.setup.stacks.seats) [
-    | inl within ↦ same_name a b same index within
-    | inr late ↦ is.sound.notes.no_more_names index late ∙ sym (it.sound.notes.no_more_names index (omega (arith, late, count)))
-  ]
+  names : take a.setup.stacks.seats a.notes.names ≡ take a.setup.stacks.seats b.notes.names
+  names = ap (λ (hand : PlainHand). hand.notes.seating.names) same ∙ ap (λ (n : ℕ). take n b.notes.names) (sym count)
 
-  numbers : (index : ℕ) → number_at index a.notes.seats ≡ number_at index b.notes.seats
-  numbers =
-      let seats = a.setup.stacks.seats in
-      let taken : option_map (take seats) a.notes.seats ≡ option_map (take seats) b.notes.seats =
-      ap (λ (hand : PlainHand). hand.notes.seating.seats) same ∙ ap (λ (n : ℕ). option_map (take n) b.notes.seats) (sym count) in
-      numbers_same seats a.notes.seats b.notes.seats taken is.sound.notes.seats
-      (subst (λ (n : ℕ). IfSome b.notes.seats (AreSeatNumbers n)) (sym count) it.sound.notes.seats)
+  numbers : option_map (take a.setup.stacks.seats) a.notes.seats ≡ option_map (take a.setup.stacks.seats) b.notes.seats
+  numbers = ap (λ (hand : PlainHand). hand.notes.seating.seats) same ∙ ap (λ (n : ℕ). option_map (take n) b.notes.seats) (sym count)
+
+  -- the notes of the other record are those of as many seats
+  allowed : AreAllowed a.setup.stacks.seats b.notes
+  allowed = subst (λ (n : ℕ). AreAllowed n b.notes) (sym count) it.sound.notes
 
   pub history_alike : AreAlike a b
   history_alike =
@@ -56,8 +38,10 @@ module _ (a b : Record) (is : IsHistory a) (it : IsHistory b) (same : plain a �
         same = record { setup = setups; rules = same_rules a b same; script = same_script a b same; stated = same_stated a b same };
         notes =
             record {
-              names = names;
-              seats = numbers;
+              names = names_same a.setup.stacks.seats a.notes.names b.notes.names names is.sound.notes.no_more_names allowed.no_more_names;
+              all_names = names;
+              seats = numbers_same a.setup.stacks.seats a.notes.seats b.notes.seats numbers is.sound.notes.seats allowed.seats;
+              all_seats = numbers;
               seat_count = ap (λ (hand : PlainHand). hand.notes.seating.seat_count) same;
               hand = ap (λ (hand : PlainHand). hand.notes.labels.hand) same;
               table = ap (λ (hand : PlainHand). hand.notes.labels.table) same;
@@ -71,7 +55,8 @@ module _ (a b : Record) (is : IsHistory a) (it : IsHistory b) (same : plain a �
             };
       }
 
-all_alike : (records others : List Record) → AllByRecursion IsHistory records → AllByRecursion IsHistory others → map plain records ≡ map plain others → AllAlike records others
+-- records that are said alike are alike, one by one
+pub all_alike : (records others : List Record) → AllByRecursion IsHistory records → AllByRecursion IsHistory others → map plain records ≡ map plain others → AllAlike records others
 unfolding AllAlike
 all_alike [] [] all each same = tt
 all_alike [] (b ∷ others) all each same = absurd (cc)

@@ -1,5 +1,5 @@
 -- The laws that a notation keeps, of the Poker Hand History format.
-use Rattle.std.proofs.Common.{◌≡◌, ℕ, ◌+◌, List, [], ◌∷◌, Option, Some, None, Ok, refl, ◌∙◌}
+use Rattle.std.proofs.Common.{◌≡◌, ℕ, ◌+◌, true, List, [], ◌∷◌, Option, Some, None, Ok, refl, ◌∙◌}
 use Rattle.std.specs.List.{AllByRecursion}
 use Rattle.hand_canon.specs.Sound.{IsSound}
 use Rattle.hand_records.specs.declared.record.Record.{Record}
@@ -10,12 +10,14 @@ use Rattle.play_event.specs.HistoryRules.{history_rules}
 use Rattle.phh_format.specs.Again.{hands_again}
 use Rattle.phh_format.specs.ReadBack.{KeepsNotes}
 use Rattle.phh_format.proofs.ReadBack.{read_back}
+use Rattle.phh_format.proofs.Sharpness.{unspelled_unsaid}
 use Rattle.phh_format.proofs.SoundPlays.{sound_again}
 use Rattle.phh_reading.specs.Reading.{IsHistory, reading}
 use Rattle.phh_table.specs.Spelled as facts
 use Rattle.convert_core.specs.Histories.{HaveFault, Say, Spell}
 use Rattle.convert_core.specs.ReadBack.{ReadBack}
 use Rattle.convert_core.specs.Records.{AreFew, AreOfFile, IsUnder}
+use Rattle.convert_core.specs.Sharp.{IsOther, is_sharp}
 use Rattle.convert_core.specs.Spelled.{first_refusal, refusal_from, refused_at}
 use Rattle.convert_core.specs.declared.format_fault.FormatFault.{FormatFault}
 use Rattle.convert_core.specs.declared.format_fault.FormatFault.TheVariants as formats
@@ -31,6 +33,7 @@ reads_file bytes hands say = record { each = each_under hands say.each; few = sa
 -- what is read has no fault
 pub no_fault : (bytes : List ℕ) (hands : List Record) (fault : FormatFault) → Say bytes hands → HaveFault bytes fault → ⊥
 no_fault bytes hands (formats.Phh fault) say have = (let said = say.reads in let had = have.reads in cc)
+no_fault bytes hands (formats.Ohh fault) say have = have
 no_fault bytes hands (formats.Acpc fault) say have = have
 
 -- the first refusal of the format is that of its facts
@@ -55,4 +58,10 @@ reads_back plays bytes few sound spelled spell =
   where
     none : (fault : FormatFault) → reading bytes ≡ Ok (hands_again 0 plays) → HaveFault bytes fault → ⊥
     none (formats.Phh fault) read have = (let had = have.reads in cc)
+    none (formats.Ohh fault) read have = have
     none (formats.Acpc fault) read have = have
+
+-- what is not spelled no bytes say
+pub sharp : (play : Play) (fact : Unspelled) → facts.unspelled play ≡ Some fact → is_sharp fact ≡ true
+    → (bytes : List ℕ) (hands : List Record) → Say bytes hands → AllByRecursion (IsOther play) hands
+sharp play fact found is bytes hands say = unspelled_unsaid play fact found bytes hands say.reads

@@ -5,10 +5,15 @@ pub mod Spelled
 pub mod Records
 pub mod ReadBack
 pub mod SameRecords
+pub mod SameParts
+pub mod Sharp
 pub mod Conversion
 pub mod Histories
 pub mod HistoryAlike
 pub mod HistoryLaws
+pub mod Trees
+pub mod TreeAlike
+pub mod TreeLaws
 pub mod Logs
 pub mod LogAlike
 pub mod LogLaws

@@ -1,5 +1,5 @@
 -- Bytes of a log under a game say one list of records, as far as records can be told apart.
-use Rattle.std.proofs.Common.{◌≡◌, ℕ, suc, ◌≤◌, ◌||◌, Bool, true, false, ℤ, pos, List, [], ◌∷◌, map, length, get_or, slice_index_or, Option, Some, None, is_some, Ok, refl, sym, subst, ap, ap₂, ◌∙◌, inl, inr, arith}
+use Rattle.std.proofs.Common.{◌≡◌, ℕ, suc, ◌≤◌, ◌||◌, Bool, true, false, ℤ, pos, List, [], ◌∷◌, map, length, take, get_or, slice_index, slice_index_or, Option, Some, None, is_some, option_map, Ok, refl, sym, subst, ap, ap₂, ◌∙◌, inl, inr, arith}
 use Rattle.std.specs.List.{AllByRecursion, list_any}
 use Rattle.std.specs.Option.{option_map_or}
 use Rattle.std.proofs.Props.{props}
@@ -7,7 +7,6 @@ use Rattle.std.proofs.lemmas.Bool.{cases_lt}
 use Rattle.std.proofs.lemmas.List.{ext_get_or, get_or-take, length-take-le}
 use Rattle.chip_ledger.specs.declared.rows.SeatRow.{SeatRow}
 use Rattle.play_event.specs.declared.setup.Setup.{Setup}
-use Rattle.play_event.specs.Said.{Numbered, numbered}
 use Rattle.hand_records.specs.declared.notes.Notes.{Notes}
 use Rattle.hand_records.specs.declared.record.NetRow.{NetRow}
 use Rattle.hand_records.specs.declared.record.Record.{Record}
@@ -26,15 +25,9 @@ use Rattle.acpc_line.specs.Spelled.{first_where, or_else, unspelled, unspelled_n
 use Rattle.acpc_reading.specs.Logs.{HandSaid}
 use Rattle.acpc_reading.specs.RecordView.{IsOfGame, StatesValues, record_said}
 use Rattle.acpc_reading.specs.Views.{nets_in}
-use Rattle.phh_reading.specs.Hand.{plain}
-use Rattle.phh_reading.proofs.SamePlay.{same_script}
 use Rattle.convert_core.specs.Logs.{Say}
+use Rattle.convert_core.specs.SameParts.{names_same, one_script}
 use Rattle.convert_core.specs.SameRecords.{AllAlike, AreAlike, ArePlayedAlike, NoteTheSame, number_at}
-
--- scripts with the same parts are one, as in the hands of histories
-one_script : (a b : Record) → map numbered a.script ≡ map numbered b.script → a.script ≡ b.script
-one_script a b same =
-    same_script a (record a { script = b.script }) (ap (λ (events : List Numbered). record (plain a) { script = events }) same)
 
 -- rows of nets with the same nets are one row
 record KeptNets (seats : ℕ) (nets : List ℤ) : Type 0 where
@@ -104,14 +97,11 @@ module _ (game : Game) (a b : Record) (is : IsOfGame game a) (it : IsOfGame game
   count : a.setup.stacks.seats ≡ b.setup.stacks.seats
   count = ap (λ (s : Setup). s.stacks.seats) setups
 
-  names : (index : ℕ) → slice_index_or a.notes.names index None ≡ slice_index_or b.notes.names index None
-  names index = elim (cases_lt index a.setup.stacks.seats) [
-    | inl within ↦
-        sym (get_or-take a.setup.stacks.seats a.notes.names index None within)
-        ∙ ap (λ (hand : HandSaid). get_or hand.names index None) same
-        ∙ get_or-take b.setup.stacks.seats b.notes.names index None (omega (arith, within, count))
-    | inr late ↦ is.sound.notes.no_more_names index late ∙ sym (it.sound.notes.no_more_names index (omega (arith, late, count)))
-  ]
+  names : take a.setup.stacks.seats a.notes.names ≡ take a.setup.stacks.seats b.notes.names
+  names = ap (λ (hand : HandSaid). hand.names) same ∙ ap (λ (n : ℕ). take n b.notes.names) (sym count)
+
+  no_names : (index : ℕ) → a.setup.stacks.seats ≤ index → slice_index_or b.notes.names index None ≡ None
+  no_names index late = it.sound.notes.no_more_names index (omega (arith, late, count))
 
   -- two hands of one game that are said alike
   pub log_alike : AreAlike a b
@@ -124,8 +114,10 @@ module _ (game : Game) (a b : Record) (is : IsOfGame game a) (it : IsOfGame game
           stated = one_stated a.stated b.stated is.stated it.stated (ap (λ (hand : HandSaid). hand.values) same);
         };
         notes = record {
-          names = names;
+          names = names_same a.setup.stacks.seats a.notes.names b.notes.names names is.sound.notes.no_more_names no_names;
+          all_names = names;
           seats = λ index. ap (number_at index) (is.notes.seats ∙ sym it.notes.seats);
+          all_seats = ap (option_map (take a.setup.stacks.seats)) (is.notes.seats ∙ sym it.notes.seats);
           seat_count = is.notes.seat_count ∙ sym it.notes.seat_count;
           hand = ap (λ (hand : HandSaid). hand.hand) same;
           table = is.notes.table ∙ sym it.notes.table;
@@ -139,7 +131,8 @@ module _ (game : Game) (a b : Record) (is : IsOfGame game a) (it : IsOfGame game
         };
       }
 
-all_alike : (game : Game) (records others : List Record) → AllByRecursion (IsOfGame game) records → AllByRecursion (IsOfGame game) others
+-- records that are said alike are alike, one by one
+pub all_alike : (game : Game) (records others : List Record) → AllByRecursion (IsOfGame game) records → AllByRecursion (IsOfGame game) others
     → map record_said records ≡ map record_said others → AllAlike records others
 unfolding AllAlike
 all_alike game [] [] all each same = tt
@@ -171,8 +164,8 @@ numbers_alike None (Some b) same = absurd (let first = same 0 in cc)
 numbers_alike (Some a) None same = absurd (let first = same 0 in cc)
 numbers_alike (Some a) (Some b) same = refl
 
-texts_alike : (a b : Notes) → NoteTheSame a b → text_conditions a ≡ text_conditions b
-texts_alike a b same =
+texts_alike : (count : ℕ) (a b : Notes) → NoteTheSame count a b → text_conditions a ≡ text_conditions b
+texts_alike count a b same =
     cc (
       names_alike is_unspelled_name refl a.names b.names same.names,
       numbers_alike a.seats b.seats same.seats,
@@ -183,17 +176,18 @@ texts_alike a b same =
       same.currency,
     )
 
-times_alike : (a b : Notes) → NoteTheSame a b → time_conditions a ≡ time_conditions b
-times_alike a b same = cc (same.zone, same.year, same.month, same.day, same.time)
+times_alike : (count : ℕ) (a b : Notes) → NoteTheSame count a b → time_conditions a ≡ time_conditions b
+times_alike count a b same = cc (same.zone, same.year, same.month, same.day, same.time)
 
-notes_alike : (keep : Keep) (a b : Notes) → NoteTheSame a b → unspelled_note keep a ≡ unspelled_note keep b
+notes_alike : (keep : Keep) (count : ℕ) (a b : Notes) → NoteTheSame count a b → unspelled_note keep a ≡ unspelled_note keep b
 unfolding unspelled_note
-notes_alike keeps.All a b same = ap₂ (λ texts times. or_else (first_where texts) (first_where times)) (texts_alike a b same) (times_alike a b same)
-notes_alike keeps.Spelled a b same = refl
+notes_alike keeps.All count a b same =
+    ap₂ (λ texts times. or_else (first_where texts) (first_where times)) (texts_alike count a b same) (times_alike count a b same)
+notes_alike keeps.Spelled _ a b same = refl
 
 -- which fact of a play has no spelling is told by its trace and its notes
 pub same_fact : (game : Game) (keep : Keep) (play other : Play) → ArePlayedAlike play other → unspelled game keep play ≡ unspelled game keep other
 unfolding unspelled
 same_fact game keep play other alike =
     ap₂ (λ (trace : Trace) (note : Option Unspelled). or_else (first_where (setup_conditions game trace.setup)) (or_else (first_where (play_conditions game trace)) note))
-    alike.trace (notes_alike keep play.hand.notes other.hand.notes alike.hand.notes)
+    alike.trace (notes_alike keep play.trace.setup.stacks.seats play.hand.notes other.hand.notes alike.notes)

@@ -1,10 +1,11 @@
 -- The laws that a notation keeps, of the logs of the competition under a game.
-use Rattle.std.proofs.Common.{◌≡◌, ℕ, ◌+◌, ◌≤◌, List, [], ◌∷◌, length, reverse, sum_by, Option, Some, None, Ok, refl, sym, ap, subst, ◌∙◌, arith}
+use Rattle.std.proofs.Common.{◌≡◌, ℕ, ◌+◌, ◌≤◌, true, List, [], ◌∷◌, length, reverse, sum_by, Option, Some, None, Ok, refl, sym, ap, subst, ◌∙◌, arith}
 use Rattle.std.specs.List.{AllByRecursion}
 use Rattle.std.proofs.lemmas.List.Sums.{sum_by-cons}
 use Rattle.acpc_format.specs.Again.{hands_again, moves_written}
 use Rattle.acpc_format.specs.ReadBack.{KeepsNotes}
 use Rattle.acpc_format.proofs.HandsAgain.{read_back}
+use Rattle.acpc_format.proofs.Sharpness.{sharpness}
 use Rattle.acpc_format.proofs.SoundReads.{sound_again}
 use Rattle.acpc_game.specs.declared.game.Game.{Game}
 use Rattle.acpc_line.specs.Line.{log_text}
@@ -30,6 +31,7 @@ use Rattle.hand_records.specs.declared.writing.WriteRefusal.{WriteRefusal}
 use Rattle.convert_core.specs.Logs.{HaveFault, Say, Spell}
 use Rattle.convert_core.specs.ReadBack.{ReadBack}
 use Rattle.convert_core.specs.Records.{AreFew, AreOfFile, IsUnder, moves_played}
+use Rattle.convert_core.specs.Sharp.{IsOther, is_sharp}
 use Rattle.convert_core.specs.Spelled.{first_refusal, refusal_from, refused_at}
 use Rattle.convert_core.specs.declared.format_fault.FormatFault.{FormatFault}
 use Rattle.convert_core.specs.declared.format_fault.FormatFault.TheVariants as formats
@@ -45,6 +47,7 @@ reads_file game bytes hands say = record { each = each_under game hands say.each
 -- what is read has no fault
 pub no_fault : (game : Game) (bytes : List ℕ) (hands : List Record) (fault : FormatFault) → Say game bytes hands → HaveFault game bytes fault → ⊥
 no_fault game bytes hands (formats.Phh fault) say have = have
+no_fault game bytes hands (formats.Ohh fault) say have = have
 no_fault game bytes hands (formats.Acpc fault) say have = (let said = say.reads in let had = have.reads in cc)
 
 -- the first refusal of the logs of a game is that of their facts
@@ -75,6 +78,7 @@ all_counted (play ∷ rest) each =
 -- what is written reads back
 none_had : (game : Game) (lines : List ℕ) (plays : List Play) (fault : FormatFault) → reading game lines ≡ Ok (hands_again game.no_limit 0 plays) → HaveFault game lines fault → ⊥
 none_had game lines plays (formats.Phh fault) read have = have
+none_had game lines plays (formats.Ohh fault) read have = have
 none_had game lines plays (formats.Acpc fault) read have = (let had = have.reads in cc)
 
 lines_back : (game : Game) (keep : Keep) (plays : List Play) → AreFew plays → AllByRecursion IsSound plays → AllByRecursion HasTexts plays → first_refusal (facts.unspelled game keep) plays ≡ None
@@ -93,3 +97,8 @@ pub reads_back : (game : Game) (keep : Keep) (plays : List Play) (bytes : List �
 reads_back game keep plays bytes few sound spelled spell =
     subst (λ (written : List ℕ). ReadBack (Say game written) (HaveFault game written) KeepsNotes plays) (sym spell.lines)
     (lines_back game keep plays few sound spell.texts spelled)
+
+-- what is not spelled no bytes say, unless it is an odd chip or a note
+pub sharp : (game : Game) (keep : Keep) (play : Play) (fact : Unspelled) → facts.unspelled game keep play ≡ Some fact → is_sharp fact ≡ true
+    → (bytes : List ℕ) (hands : List Record) → Say game bytes hands → AllByRecursion (IsOther play) hands
+sharp game keep play fact found is bytes hands say = sharpness game keep play fact found is bytes hands say.each say.reads

@@ -29,6 +29,7 @@ pub record Have (game : Game) (bytes : List ℕ) (fault : AcpcFault) : Type 0 wh
 -- a fault of this notation
 abbrev pub HaveFault : Game → List ℕ → FormatFault → Type 0
 HaveFault game bytes (formats.Phh fault) = ⊥
+HaveFault game bytes (formats.Ohh fault) = ⊥
 HaveFault game bytes (formats.Acpc fault) = Have game bytes fault
 
 -- bytes are the spelling of plays: the one line of each, where the names of players are texts

@@ -1,5 +1,5 @@
 -- Records that say the same: bytes do not tell them apart.
-use Rattle.std.specs.Prelude.{◌≡◌, ℕ, List, [], ◌∷◌, Option, None, option_map, slice_index, slice_index_or}
+use Rattle.std.specs.Prelude.{◌≡◌, ℕ, List, [], ◌∷◌, take, Option, None, option_map, slice_index, slice_index_or}
 use Rattle.hand_records.specs.declared.notes.Notes.{Notes}
 use Rattle.hand_records.specs.declared.record.Record.{Record}
 use Rattle.hand_records.specs.declared.trace.Play.{Play}
@@ -15,10 +15,12 @@ pub record SayTheSame (a b : Record) : Type 0 where
 abbrev pub number_at : ℕ → Option (List ℕ) → Option ℕ
 number_at index numbers = option_map (λ said. slice_index said index) numbers
 
--- two notes are the same, name by name and number by number
-pub record NoteTheSame (a b : Notes) : Type 0 where
+-- two notes of a hand with so many seats are the same, name by name and number by number; those of the seats are as many
+pub record NoteTheSame (count : ℕ) (a b : Notes) : Type 0 where
   pub names : (index : ℕ) → slice_index_or a.names index None ≡ slice_index_or b.names index None
+  pub all_names : take count a.names ≡ take count b.names
   pub seats : (index : ℕ) → number_at index a.seats ≡ number_at index b.seats
+  pub all_seats : option_map (take count) a.seats ≡ option_map (take count) b.seats
   pub seat_count : a.seat_count ≡ b.seat_count
   pub hand : a.hand ≡ b.hand
   pub table : a.table ≡ b.table
@@ -33,7 +35,7 @@ pub record NoteTheSame (a b : Notes) : Type 0 where
 -- two records say the same, of their play and in their notes
 pub record AreAlike (a b : Record) : Type 0 where
   pub same : SayTheSame a b
-  pub notes : NoteTheSame a.notes b.notes
+  pub notes : NoteTheSame a.setup.stacks.seats a.notes b.notes
 
 -- records say the same, one by one and as many
 unfoldable pub AllAlike : List Record → List Record → Type 0
@@ -42,7 +44,8 @@ AllAlike [] (b ∷ others) = ⊥
 AllAlike (a ∷ rest) [] = ⊥
 AllAlike (a ∷ rest) (b ∷ others) = AreAlike a b × AllAlike rest others
 
--- two plays have one trace, and records that say the same
+-- two plays have one trace, and records that say the same of their play, and of the seats of the trace in their notes
 pub record ArePlayedAlike (a b : Play) : Type 0 where
   pub trace : a.trace ≡ b.trace
-  pub hand : AreAlike a.hand b.hand
+  pub same : SayTheSame a.hand b.hand
+  pub notes : NoteTheSame a.trace.setup.stacks.seats a.hand.notes b.hand.notes

@@ -7,7 +7,7 @@ ghost use Rattle.acpc_reading.specs.RecordView.{rules_of as rules_of_game};
 ghost use Rattle.first_fault.specs.declared.limits.TheConstants.{MOST_HANDS};
 ghost use Rattle.hand_canon.specs.Sound.{IsSound};
 ghost use Rattle.hand_records.specs.declared.writing.WriteRefusal.TheVariants as refusals;
-ghost use Rattle.convert_core.specs.Faults.{wants_memory};
+ghost use Rattle.convert_core.specs.Faults.{is_want_of_memory};
 ghost use Rattle.convert_core.specs.LogAlike as alike;
 ghost use Rattle.convert_core.specs.LogLaws as laws;
 ghost use Rattle.convert_core.specs.Logs as logs;
@@ -30,7 +30,7 @@ pub struct Acpc {
 fn read_log(alloc: Global, game: &Game, bytes: &[u8]) -> Result<Records, FormatFault>
     ensures say { IfOk result (logs.Say game.now bytes.now) }
     ensures fault { IfErr result (λ fault.
-        (wants_memory fault ≡ true) ⊎ logs.HaveFault game.now bytes.now fault) }
+        (is_want_of_memory fault ≡ true) ⊎ logs.HaveFault game.now bytes.now fault) }
 {
     match acpc_format::read(alloc, game, bytes) {
         Ok(records) => Ok(records),
@@ -78,6 +78,9 @@ impl Notation for Acpc {
 
     ghost one_fact = { λ log keep play other same.
         alike.same_fact log.game keep play other same };
+
+    ghost sharp = { λ log keep play fact found is bytes hands say.
+        laws.sharp log.game keep play fact found is bytes hands say };
 
     ghost reads_back = { λ log keep plays bytes few sound spelled spell.
         laws.reads_back log.game keep plays bytes few sound spelled spell };

@@ -1,11 +1,13 @@
-//! Records come to one list of plays, or to one refusal; and bytes to one conversion.
-ghost use Rattle.std.specs.Prelude.{◌≡◌, ℕ, List, None, Result};
+//! Records come to one list of plays, or to one refusal; bytes to one conversion; and what a notation does not spell it does not say.
+ghost use Rattle.std.specs.Prelude.{◌≡◌, ℕ, true, List, None, Some, Result};
+ghost use Rattle.std.specs.List.{AllByRecursion};
 ghost use Rattle.hand_records.specs.declared.record.Record.{Record};
 ghost use Rattle.hand_records.specs.declared.trace.Play.{Play};
 ghost use Rattle.hand_records.specs.declared.writing.Unspelled.{Unspelled};
 ghost use Rattle.convert_core.specs.Conversion.{HasUnspelled, IsConversion, ReadAsPlays, ReadAsRefused, RefusesNothing};
 ghost use Rattle.convert_core.specs.Judged.{ArePlaysOf, IsFirstRefused};
 ghost use Rattle.convert_core.specs.ReadBack.{ReadBack};
+ghost use Rattle.convert_core.specs.Sharp.{IsOther, is_sharp};
 ghost use Rattle.convert_core.specs.Spelled.{first_refusal};
 ghost use Rattle.convert_core.specs.declared.convert_fault.ConvertFault.{ConvertFault};
 ghost use Rattle.convert_core.specs.declared.fault.Refusal.{Refusal};
@@ -61,4 +63,13 @@ pub fn law_of_legal_conversions<N: Notation, M: Notation>(from: &N, to: &M, keep
         (λ read output. ReadBack (M.Say to.now output) (M.HaveFault to.now output)
         (M.KeepsNotes to.now) read) (λ output. output) answer
         → RefusesNothing answer }
+{}
+
+/// What a notation does not spell no bytes say. Where a play has a fact without a spelling that is neither an odd chip nor a note,
+/// none of the hands that any bytes say is legal with the trace of the play. The function does nothing: its contract is a law.
+pub fn law_of_sharpness<N: Notation>(notation: &N, keep: Keep)
+    ensures { (play : Play) (fact : Unspelled)
+        → N.unspelled notation.now keep play ≡ Some fact → is_sharp fact ≡ true
+        → (bytes : List ℕ) (hands : List Record) → N.Say notation.now bytes hands
+        → AllByRecursion (IsOther play) hands }
 {}

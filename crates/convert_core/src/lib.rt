@@ -10,6 +10,7 @@ mod format_fault;
 mod judging;
 mod laws;
 mod notation;
+mod ohh;
 mod phh;
 
 pub use acpc::Acpc;
@@ -18,6 +19,9 @@ pub use converting::{convert, plays};
 pub use fault::{PlaysFault, Refusal};
 pub use format_fault::FormatFault;
 pub use judging::{play_of, plays_of};
-pub use laws::{law_of_legal_conversions, law_of_one_conversion, law_of_one_outcome};
+pub use laws::{
+    law_of_legal_conversions, law_of_one_conversion, law_of_one_outcome, law_of_sharpness,
+};
 pub use notation::Notation;
+pub use ohh::Ohh;
 pub use phh::Phh;

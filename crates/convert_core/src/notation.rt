@@ -11,10 +11,11 @@ ghost use Rattle.hand_records.specs.declared.writing.Keep.{Keep as AnyKeep};
 ghost use Rattle.hand_records.specs.declared.writing.Unspelled.{Unspelled as Fact};
 ghost use Rattle.hand_records.specs.declared.writing.WriteRefusal.TheVariants as refusals;
 ghost use Rattle.play_event.specs.declared.setup.Rules.{Rules as AnyRules};
-ghost use Rattle.convert_core.specs.Faults.{wants_memory};
+ghost use Rattle.convert_core.specs.Faults.{is_want_of_memory};
 ghost use Rattle.convert_core.specs.ReadBack.{ReadBack};
 ghost use Rattle.convert_core.specs.Records.{AreFew, AreOfFile};
 ghost use Rattle.convert_core.specs.SameRecords.{AllAlike, ArePlayedAlike};
+ghost use Rattle.convert_core.specs.Sharp.{IsOther, is_sharp};
 ghost use Rattle.convert_core.specs.Spelled.{first_refusal};
 ghost use Rattle.convert_core.specs.declared.format_fault.FormatFault.{FormatFault as AnyFault};
 
@@ -54,7 +55,7 @@ pub trait Notation {
     fn read(&self, alloc: Global, bytes: &[u8]) -> Result<Records, FormatFault>
         ensures say { IfOk result (Say self.now bytes.now) }
         ensures fault { IfErr result (λ fault.
-            (wants_memory fault ≡ true) ⊎ HaveFault self.now bytes.now fault) };
+            (is_want_of_memory fault ≡ true) ⊎ HaveFault self.now bytes.now fault) };
 
     fn spells(&self, play: &Play, keep: Keep) -> Option<Unspelled>
         ensures { result ≡ unspelled self.now keep play.now };
@@ -88,6 +89,13 @@ pub trait Notation {
     ghost one_fact: { (notation : Self) (keep : AnyKeep) (play other : AnyPlay)
         → ArePlayedAlike play other
         → unspelled notation keep play ≡ unspelled notation keep other };
+
+    /// Whatever bytes say records, none of these is a legal hand with the trace of a play that has a fact without a spelling, unless
+    /// the fact is an odd chip or a note: a hand that is read may well have these.
+    ghost sharp: { (notation : Self) (keep : AnyKeep) (play : AnyPlay) (fact : Fact)
+        → unspelled notation keep play ≡ Some fact → is_sharp fact ≡ true
+        → (bytes : List ℕ) (hands : List Record) → Say notation bytes hands
+        → AllByRecursion (IsOther play) hands };
 
     /// The spelling of sound plays, each of which has one, reads back as these plays: legal under the rules of the notation, with
     /// the whole traces, stated facts that agree, and the kept notes.

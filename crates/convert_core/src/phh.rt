@@ -7,7 +7,7 @@ ghost use Rattle.hand_records.specs.declared.writing.WriteRefusal.TheVariants as
 ghost use Rattle.phh_format.specs.ReadBack.{KeepsNotes as KeepsAll};
 ghost use Rattle.phh_table.specs.Spelled as facts;
 ghost use Rattle.play_event.specs.HistoryRules.{history_rules as rules_of_histories};
-ghost use Rattle.convert_core.specs.Faults.{wants_memory};
+ghost use Rattle.convert_core.specs.Faults.{is_want_of_memory};
 ghost use Rattle.convert_core.specs.Histories as histories;
 ghost use Rattle.convert_core.specs.HistoryAlike as alike;
 ghost use Rattle.convert_core.specs.HistoryLaws as laws;
@@ -27,7 +27,7 @@ pub struct Phh;
 fn read_history(alloc: Global, bytes: &[u8]) -> Result<Records, FormatFault>
     ensures say { IfOk result (histories.Say bytes.now) }
     ensures fault { IfErr result (λ fault.
-        (wants_memory fault ≡ true) ⊎ histories.HaveFault bytes.now fault) }
+        (is_want_of_memory fault ≡ true) ⊎ histories.HaveFault bytes.now fault) }
 {
     match phh_format::read(alloc, bytes) {
         Ok(records) => Ok(records),
@@ -64,9 +64,13 @@ impl Notation for Phh {
 
     ghost no_fault = { λ _ bytes hands fault say have. laws.no_fault bytes hands fault say have };
 
-    ghost one_reading = { λ _ bytes hands others say too. alike.one_reading bytes hands others say too };
+    ghost one_reading = { λ _ bytes hands others say too.
+        alike.one_reading bytes hands others say too };
 
     ghost one_fact = { λ _ _ play other same. alike.same_fact play other same };
+
+    ghost sharp = { λ _ _ play fact found is bytes hands say.
+        laws.sharp play fact found is bytes hands say };
 
     ghost reads_back = { λ _ _ plays bytes few sound spelled spell.
         laws.reads_back plays bytes few sound spelled spell };

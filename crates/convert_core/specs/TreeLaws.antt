@@ -1,0 +1,88 @@
+-- The laws that a notation keeps, of Open Hand History in a dialect.
+use Rattle.std.proofs.Common.{◌≡◌, ℕ, ◌+◌, true, List, [], ◌∷◌, Option, Some, None, Ok, refl, ◌∙◌}
+use Rattle.std.specs.List.{AllByRecursion}
+use Rattle.hand_canon.specs.Sound.{IsSound}
+use Rattle.hand_records.specs.declared.record.Record.{Record}
+use Rattle.hand_records.specs.declared.trace.Play.{Play}
+use Rattle.hand_records.specs.declared.writing.Keep.{Keep}
+use Rattle.hand_records.specs.declared.writing.Unspelled.{Unspelled}
+use Rattle.hand_records.specs.declared.writing.Unspelled.TheVariants as unspellables
+use Rattle.hand_records.specs.declared.writing.WriteRefusal.{WriteRefusal}
+use Rattle.play_event.specs.HistoryRules.{history_rules}
+use Rattle.ohh_format.specs.Again.{hands_again}
+use Rattle.ohh_format.specs.ReadBack as tree
+use Rattle.ohh_format.specs.ReadBack.{KeepsNotes}
+use Rattle.ohh_format.specs.Sharp as sharp_trees
+use Rattle.ohh_format.proofs.ReadBack.{read_back}
+use Rattle.ohh_format.proofs.Sharpness.{sharpness}
+use Rattle.ohh_format.proofs.SoundPlays.{sound_again}
+use Rattle.ohh_line.specs.Spelled as facts
+use Rattle.ohh_members.specs.declared.dialect.Dialect.{Dialect}
+use Rattle.ohh_reading.specs.Reading.{IsHistory, reading}
+use Rattle.convert_core.specs.ReadBack.{AreAgain, ReadBack}
+use Rattle.convert_core.specs.Records.{AreFew, AreOfFile, IsUnder}
+use Rattle.convert_core.specs.Sharp.{IsOther, is_sharp}
+use Rattle.convert_core.specs.Spelled.{first_refusal, refusal_from, refused_at}
+use Rattle.convert_core.specs.Trees.{HaveFault, Say, Spell}
+use Rattle.convert_core.specs.declared.format_fault.FormatFault.{FormatFault}
+use Rattle.convert_core.specs.declared.format_fault.FormatFault.TheVariants as formats
+
+-- what bytes say is what a reader gives of a file
+each_under : (records : List Record) → AllByRecursion IsHistory records → AllByRecursion (IsUnder history_rules) records
+each_under [] each = tt
+each_under (hand ∷ hands) each = (record { sound = each.0.sound; rules_are = each.0.rules }, each_under hands each.1)
+
+pub reads_file : (dialect : Dialect) (bytes : List ℕ) (hands : List Record) → Say dialect bytes hands → AreOfFile history_rules hands
+reads_file dialect bytes hands say = record { each = each_under hands say.each; few = say.few; few_moves = say.few_moves }
+
+-- what is read has no fault
+pub no_fault : (dialect : Dialect) (bytes : List ℕ) (hands : List Record) (fault : FormatFault) → Say dialect bytes hands → HaveFault dialect bytes fault → ⊥
+no_fault dialect bytes hands (formats.Phh fault) say have = have
+no_fault dialect bytes hands (formats.Ohh fault) say have = (let said = say.reads in let had = have.reads in cc)
+no_fault dialect bytes hands (formats.Acpc fault) say have = have
+
+-- the first refusal of the format is that of its facts
+same_at : (number : ℕ) (fact : Option Unspelled) (behind other : Option WriteRefusal) → behind ≡ other → facts.refused_at number fact behind ≡ refused_at number fact other
+same_at number (Some fact) behind other same = refl
+same_at number None behind other same = same
+
+pub same_refusal : (keep : Keep) (number : ℕ) (plays : List Play) → facts.refusal_from keep number plays ≡ refusal_from (facts.unspelled keep) number plays
+same_refusal keep number [] = refl
+same_refusal keep number (play ∷ plays) =
+    same_at number (facts.unspelled keep play) (facts.refusal_from keep (number + 1) plays) (refusal_from (facts.unspelled keep) (number + 1) plays) (same_refusal keep (number + 1) plays)
+
+-- hands that are read of plays again
+again_too : (place : ℕ) (plays : List Play) (hands : List Record) → tree.AreAgain KeepsNotes place plays hands → AreAgain KeepsNotes place plays hands
+unfolding AreAgain tree.AreAgain
+again_too place [] [] are = tt
+again_too place [] (hand ∷ hands) are = are
+again_too place (play ∷ plays) [] are = are
+again_too place (play ∷ plays) (hand ∷ hands) are =
+    (record { judged = are.0.judged; same_setup = are.0.same_setup; notes = are.0.notes }, again_too (place + 1) plays hands are.1)
+
+-- what is written reads back
+pub reads_back : (dialect : Dialect) (keep : Keep) (plays : List Play) (bytes : List ℕ) → AreFew plays → AllByRecursion IsSound plays → first_refusal (facts.unspelled keep) plays ≡ None → Spell dialect plays bytes
+    → ReadBack (Say dialect bytes) (HaveFault dialect bytes) KeepsNotes plays
+reads_back dialect keep plays bytes few sound spelled spell =
+    let unrefused = same_refusal keep 1 plays ∙ spelled in
+    let read : reading dialect bytes ≡ Ok (hands_again dialect 0 plays) = sound_again dialect keep plays bytes few.few sound unrefused few.few_moves spell in
+    record {
+      no_fault = λ fault have. none fault read have;
+      again = λ hands say. again_too 0 plays hands (read_back dialect keep plays bytes few.few sound unrefused few.few_moves spell hands say.reads);
+    }
+  where
+    none : (fault : FormatFault) → reading dialect bytes ≡ Ok (hands_again dialect 0 plays) → HaveFault dialect bytes fault → ⊥
+    none (formats.Phh fault) read have = have
+    none (formats.Ohh fault) read have = (let had = have.reads in cc)
+    none (formats.Acpc fault) read have = have
+
+-- a fact that is sharp in every notation is sharp here
+sharp_too : (fact : Unspelled) → is_sharp fact ≡ true → sharp_trees.is_sharp fact ≡ true
+sharp_too unspellables.OddChip is = refl
+sharp_too (unspellables.Note name) is = is
+sharp_too _ is = refl
+
+-- what is not spelled no bytes say
+pub sharp : (dialect : Dialect) (keep : Keep) (play : Play) (fact : Unspelled) → facts.unspelled keep play ≡ Some fact → is_sharp fact ≡ true
+    → (bytes : List ℕ) (hands : List Record) → Say dialect bytes hands → AllByRecursion (IsOther play) hands
+sharp dialect keep play fact found is bytes hands say = sharpness dialect keep play fact found (sharp_too fact is) bytes hands say.reads

@@ -1,0 +1,106 @@
+//! Open Hand History, in a dialect.
+ghost use Rattle.std.specs.Prelude.{◌≡◌, ◌⊎◌, ◌≤◌, true, length, None, Some, IfErr, IfOk, OnOk};
+ghost use Rattle.std.specs.List.{AllByRecursion};
+ghost use Rattle.first_fault.specs.declared.limits.TheConstants.{MOST_HANDS};
+ghost use Rattle.hand_canon.specs.Sound.{IsSound};
+ghost use Rattle.hand_records.specs.declared.writing.WriteRefusal.TheVariants as refusals;
+ghost use Rattle.ohh_format.specs.ReadBack.{KeepsNotes as KeepsSpelled};
+ghost use Rattle.ohh_line.specs.Spelled as facts;
+ghost use Rattle.play_event.specs.HistoryRules.{history_rules as rules_of_histories};
+ghost use Rattle.convert_core.specs.Faults.{is_want_of_memory};
+ghost use Rattle.convert_core.specs.Spelled.{first_refusal};
+ghost use Rattle.convert_core.specs.TreeAlike as alike;
+ghost use Rattle.convert_core.specs.TreeLaws as laws;
+ghost use Rattle.convert_core.specs.Trees as trees;
+
+use crate::format_fault::FormatFault;
+use crate::notation::Notation;
+use hand_records::{Keep, Play, Records, Unspelled, WriteRefusal};
+use ohh_format::Dialect;
+use play_event::{Reopen, Rules};
+use std::alloc::Global;
+
+/// Open Hand History in a dialect.
+#[derive(Clone, Copy, Debug, PartialEq, Eq)]
+pub struct Ohh {
+    pub dialect: Dialect,
+}
+
+// The records that bytes say in a dialect.
+fn read_trees(alloc: Global, dialect: Dialect, bytes: &[u8]) -> Result<Records, FormatFault>
+    ensures say { IfOk result (trees.Say dialect bytes.now) }
+    ensures fault { IfErr result (λ fault.
+        (is_want_of_memory fault ≡ true) ⊎ trees.HaveFault dialect bytes.now fault) }
+{
+    match ohh_format::read(alloc, dialect, bytes) {
+        Ok(records) => Ok(records),
+        Err(fault) => Err(FormatFault::Ohh(fault)),
+    }
+}
+
+// The spelling of plays in a dialect.
+fn write_trees(
+    alloc: Global,
+    dialect: Dialect,
+    plays: &[Play],
+    keep: Keep,
+) -> Result<Vec<u8>, WriteRefusal>
+    requires few { length plays.now ≤ MOST_HANDS }
+    requires sound { AllByRecursion IsSound plays.now }
+    ensures spell { IfOk result (λ bytes. trees.Spell dialect plays.now bytes.items) }
+    ensures spelled { OnOk result (first_refusal (facts.unspelled keep) plays.now ≡ None) }
+    ensures refused { IfErr result (λ refusal. (refusal ≡ refusals.Memory)
+        ⊎ (first_refusal (facts.unspelled keep) plays.now ≡ Some refusal)) }
+{
+    ohh_format::write(alloc, dialect, plays, keep)
+}
+
+impl Notation for Ohh {
+    ghost rules_of = { λ _. rules_of_histories };
+
+    ghost Say = { λ tree bytes records. trees.Say tree.dialect bytes records };
+
+    ghost HaveFault = { λ tree bytes fault. trees.HaveFault tree.dialect bytes fault };
+
+    ghost unspelled = { λ _ keep play. facts.unspelled keep play };
+
+    ghost Spell = { λ tree plays bytes. trees.Spell tree.dialect plays bytes };
+
+    ghost KeepsNotes = { λ _ place seats notes again. KeepsSpelled place seats notes again };
+
+    ghost reads_file = { λ tree bytes hands say. laws.reads_file tree.dialect bytes hands say };
+
+    ghost no_fault = { λ tree bytes hands fault say have.
+        laws.no_fault tree.dialect bytes hands fault say have };
+
+    ghost one_reading = { λ tree bytes hands others say too.
+        alike.one_reading tree.dialect bytes hands others say too };
+
+    ghost one_fact = { λ _ keep play other same. alike.same_fact keep play other same };
+
+    ghost sharp = { λ tree keep play fact found is bytes hands say.
+        laws.sharp tree.dialect keep play fact found is bytes hands say };
+
+    ghost reads_back = { λ tree keep plays bytes few sound spelled spell.
+        laws.reads_back tree.dialect keep plays bytes few sound spelled spell };
+
+    fn rules(&self) -> Rules {
+        Rules {
+            reopen: Reopen::Full,
+            free_fold: true,
+            caps: None,
+        }
+    }
+
+    fn read(&self, alloc: Global, bytes: &[u8]) -> Result<Records, FormatFault> {
+        read_trees(alloc, self.dialect, bytes)
+    }
+
+    fn spells(&self, play: &Play, keep: Keep) -> Option<Unspelled> {
+        ohh_format::spells(play, keep)
+    }
+
+    fn write(&self, alloc: Global, plays: &[Play], keep: Keep) -> Result<Vec<u8>, WriteRefusal> {
+        write_trees(alloc, self.dialect, plays, keep)
+    }
+}
