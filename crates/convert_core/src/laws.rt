@@ -1,4 +1,4 @@
-//! Records come to one list of plays, or to one refusal; bytes to one conversion; and what a notation does not spell it does not say.
+//! Records come to one list of plays, or to one refusal; bytes come to one conversion; and what is not spelled is not said.
 ghost use Rattle.std.specs.Prelude.{◌≡◌, ℕ, true, List, None, Some, Result};
 ghost use Rattle.std.specs.List.{AllByRecursion};
 ghost use Rattle.hand_records.specs.declared.record.Record.{Record};
@@ -65,8 +65,9 @@ pub fn law_of_legal_conversions<N: Notation, M: Notation>(from: &N, to: &M, keep
         → RefusesNothing answer }
 {}
 
-/// What a notation does not spell no bytes say. Where a play has a fact without a spelling that is neither an odd chip nor a note,
-/// none of the hands that any bytes say is legal with the trace of the play. The function does nothing: its contract is a law.
+/// What a notation does not spell no bytes say. Where a play has a fact without a spelling that is neither an odd chip nor a
+/// note, none of the hands that any bytes say is legal with the trace of the play. The function does nothing: its contract is
+/// a law.
 pub fn law_of_sharpness<N: Notation>(notation: &N, keep: Keep)
     ensures { (play : Play) (fact : Unspelled)
         → N.unspelled notation.now keep play ≡ Some fact → is_sharp fact ≡ true

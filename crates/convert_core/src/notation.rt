@@ -90,8 +90,8 @@ pub trait Notation {
         → ArePlayedAlike play other
         → unspelled notation keep play ≡ unspelled notation keep other };
 
-    /// Whatever bytes say records, none of these is a legal hand with the trace of a play that has a fact without a spelling, unless
-    /// the fact is an odd chip or a note: a hand that is read may well have these.
+    /// Whatever bytes say records, none of these is a legal hand with the trace of a play that has a fact without a spelling,
+    /// unless the fact is an odd chip or a note: a hand that is read may well have these.
     ghost sharp: { (notation : Self) (keep : AnyKeep) (play : AnyPlay) (fact : Fact)
         → unspelled notation keep play ≡ Some fact → is_sharp fact ≡ true
         → (bytes : List ℕ) (hands : List Record) → Say notation bytes hands
