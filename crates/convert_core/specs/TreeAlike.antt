@@ -12,7 +12,7 @@ use Rattle.hand_records.specs.declared.trace.Play.{Play}
 use Rattle.hand_records.specs.declared.trace.Trace.{Trace}
 use Rattle.hand_records.specs.declared.writing.Keep.{Keep}
 use Rattle.hand_records.specs.declared.writing.Keep.TheVariants as keeps
-use Rattle.ohh_line.specs.Seating.{goes_round, numbers_spelled}
+use Rattle.ohh_line.specs.Seating.{is_circular, numbers_spelled}
 use Rattle.ohh_line.specs.Spelled.{Tried, first_unspelled, note_facts, or_behind, trace_facts, unspelled}
 use Rattle.ohh_members.specs.Front.{amounts_in}
 use Rattle.ohh_members.specs.declared.dialect.Dialect.{Dialect}
@@ -148,7 +148,7 @@ numbers_alike count None None same = refl
 numbers_alike count None (Some b) same = absurd (cc)
 numbers_alike count (Some a) None same = absurd (cc)
 numbers_alike count (Some a) (Some b) same =
-    spelled_if (goes_round (take count a)) (goes_round (take count b)) a b (ap goes_round (same_Some (take count a) (take count b) same))
+    spelled_if (is_circular (take count a)) (is_circular (take count b)) a b (ap is_circular (same_Some (take count a) (take count b) same))
 
 -- notes that are the same have the same facts
 notes_alike : (count : ℕ) (a b : Notes) → NoteTheSame count a b → note_facts count a ≡ note_facts count b

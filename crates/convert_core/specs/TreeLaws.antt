@@ -10,7 +10,6 @@ use Rattle.hand_records.specs.declared.writing.Unspelled.TheVariants as unspella
 use Rattle.hand_records.specs.declared.writing.WriteRefusal.{WriteRefusal}
 use Rattle.play_event.specs.HistoryRules.{history_rules}
 use Rattle.ohh_format.specs.Again.{hands_again}
-use Rattle.ohh_format.specs.ReadBack as tree
 use Rattle.ohh_format.specs.ReadBack.{KeepsNotes}
 use Rattle.ohh_format.specs.Sharp as sharp_trees
 use Rattle.ohh_format.proofs.ReadBack.{read_back}
@@ -19,7 +18,7 @@ use Rattle.ohh_format.proofs.SoundPlays.{sound_again}
 use Rattle.ohh_line.specs.Spelled as facts
 use Rattle.ohh_members.specs.declared.dialect.Dialect.{Dialect}
 use Rattle.ohh_reading.specs.Reading.{IsHistory, reading}
-use Rattle.convert_core.specs.ReadBack.{AreAgain, ReadBack}
+use Rattle.convert_core.specs.ReadBack.{ReadBack}
 use Rattle.convert_core.specs.Records.{AreFew, AreOfFile, IsUnder}
 use Rattle.convert_core.specs.Sharp.{IsOther, is_sharp}
 use Rattle.convert_core.specs.Spelled.{first_refusal, refusal_from, refused_at}
@@ -51,15 +50,6 @@ same_refusal keep number [] = refl
 same_refusal keep number (play ∷ plays) =
     same_at number (facts.unspelled keep play) (facts.refusal_from keep (number + 1) plays) (refusal_from (facts.unspelled keep) (number + 1) plays) (same_refusal keep (number + 1) plays)
 
--- hands that are read of plays again
-again_too : (place : ℕ) (plays : List Play) (hands : List Record) → tree.AreAgain KeepsNotes place plays hands → AreAgain KeepsNotes place plays hands
-unfolding AreAgain tree.AreAgain
-again_too place [] [] are = tt
-again_too place [] (hand ∷ hands) are = are
-again_too place (play ∷ plays) [] are = are
-again_too place (play ∷ plays) (hand ∷ hands) are =
-    (record { judged = are.0.judged; same_setup = are.0.same_setup; notes = are.0.notes }, again_too (place + 1) plays hands are.1)
-
 -- what is written reads back
 pub reads_back : (dialect : Dialect) (keep : Keep) (plays : List Play) (bytes : List ℕ) → AreFew plays → AllByRecursion IsSound plays → first_refusal (facts.unspelled keep) plays ≡ None → Spell dialect plays bytes
     → ReadBack (Say dialect bytes) (HaveFault dialect bytes) KeepsNotes plays
@@ -68,7 +58,7 @@ reads_back dialect keep plays bytes few sound spelled spell =
     let read : reading dialect bytes ≡ Ok (hands_again dialect 0 plays) = sound_again dialect keep plays bytes few.few sound unrefused few.few_moves spell in
     record {
       no_fault = λ fault have. none fault read have;
-      again = λ hands say. again_too 0 plays hands (read_back dialect keep plays bytes few.few sound unrefused few.few_moves spell hands say.reads);
+      again = λ hands say. read_back dialect keep plays bytes few.few sound unrefused few.few_moves spell hands say.reads;
     }
   where
     none : (fault : FormatFault) → reading dialect bytes ≡ Ok (hands_again dialect 0 plays) → HaveFault dialect bytes fault → ⊥

@@ -1,6 +1,6 @@
--- What a notation writes of notes, and refuses of them, is the same where they say the same.
-use Rattle.std.proofs.Common.{◌≡◌, ℕ, zero, suc, ◌+◌, ◌-◌, ◌<◌, ◌≤◌, Bool, true, false, ◌||◌, if◌then◌else◌, List, [], ◌∷◌, ◌++◌, map, take, codes, get_or, slice_index, slice_index_or, Option, Some, None, option_map, refl, sym, ap, ap₂, ◌∙◌, arith}
-use Rattle.std.specs.Prelude.{is_none, is_some, unwrap_or}
+-- What a notation writes of notes is the same where they say the same.
+use Rattle.std.proofs.Common.{◌≡◌, ℕ, zero, suc, ◌+◌, ◌-◌, ◌<◌, ◌≤◌, Bool, true, false, if◌then◌else◌, List, [], ◌∷◌, ◌++◌, map, take, codes, get_or, slice_index, Option, Some, None, option_map, refl, sym, ap, ap₂, ◌∙◌, arith}
+use Rattle.std.specs.Prelude.{is_some, unwrap_or}
 use Rattle.std.specs.Fmt.{decimal}
 use Rattle.std.specs.List.{flat_map, list_any, range_with_len}
 use Rattle.std.proofs.lemmas.List.{get_or-take}
@@ -8,30 +8,23 @@ use Rattle.std.proofs.lemmas.Option.{same_Some}
 use Rattle.serde_json.specs.Data as json
 use Rattle.toml.specs.Data as toml
 use Rattle.hand_records.specs.AllowedNotes.{default_name}
-use Rattle.hand_records.specs.declared.notes.NoteName.TheVariants as names
 use Rattle.hand_records.specs.declared.notes.Notes.{Notes}
 use Rattle.hand_records.specs.declared.trace.Trace.{Trace}
-use Rattle.hand_records.specs.declared.writing.Keep.{Keep}
-use Rattle.hand_records.specs.declared.writing.Keep.TheVariants as keeps
-use Rattle.hand_records.specs.declared.writing.Unspelled.{Unspelled}
-use Rattle.hand_records.specs.declared.writing.Unspelled.TheVariants as facts
-use Rattle.acpc_line.specs.NoteFacts.{is_unspelled_hand, is_unspelled_name, text_conditions, time_conditions}
 use Rattle.acpc_line.specs.Names.{name_or_default, name_text, names_text}
 use Rattle.acpc_line.specs.Seats.{bar_before}
-use Rattle.acpc_line.specs.Spelled.{first_where, or_else, unspelled_note}
 use Rattle.ohh_line.specs.Games.{game_word}
 use Rattle.ohh_line.specs.Actions.{small_blind_seat}
 use Rattle.ohh_line.specs.Moment.{moment_said}
 use Rattle.ohh_line.specs.Rounds.{hand_rounds}
 use Rattle.ohh_line.specs.Seating.{is_circular, number_among, numbers_spelled}
-use Rattle.ohh_line.specs.Spelled.{Tried, big_blind, greatest_ante, note_facts}
+use Rattle.ohh_line.specs.Spelled.{big_blind, greatest_ante}
 use Rattle.ohh_line.specs.Tree.{date_member, hand_members, limit_tree, list, numbers_written, player_tree, players, pots, round_trees, text_or_empty, whole}
 use Rattle.chip_ledger.specs.SeatRow.{amount_of}
 use Rattle.ohh_members.specs.declared.dialect.Dialect.{Dialect}
 use Rattle.phh_fields.specs.NoteFields.{PlainNotes, plain_notes}
 use Rattle.phh_table.specs.HandFields.{hand_field, label, local_time, name_written, names_field, note_fields, number_field, numbers, texts}
 use Rattle.phh_table.specs.Members.{Field}
-use Rattle.poker_cli.proofs.AlikeRecords.{AreNotedAlike, alike_name}
+use Rattle.convert_core.specs.SameRecords.{NoteTheSame}
 
 -- over seats
 pub same_range : {X : Type 0} (f g : ℕ → X) (first count : ℕ) → ((n : ℕ) → first ≤ n → n < first + count → f n ≡ g n)
@@ -48,15 +41,23 @@ same_texts f g first (suc count) each =
     ap₂ (λ x xs. x ++ xs) (each first (omega arith) (omega arith))
     (same_texts f g (first + 1) count (λ n least most. each n (omega (arith, least)) (omega (arith, most))))
 
--- the name of a seat's player
-name_at : (count : ℕ) (notes others : Notes) → AreNotedAlike count notes others → (seat : ℕ) → 1 ≤ seat → seat < 1 + count
-    → slice_index_or notes.names (seat - 1) None ≡ slice_index_or others.names (seat - 1) None
-name_at count notes others alike seat first last = alike_name count notes others alike (seat - 1) (omega (arith, first, last))
-
--- the numbers of the seats
-seats_same : (count : ℕ) (notes others : Notes) → AreNotedAlike count notes others
-    → option_map (take count) notes.seats ≡ option_map (take count) others.seats
-seats_same count notes others alike = ap (λ (plain : PlainNotes). plain.seating.seats) alike.same
+-- the plain notes of so many seats
+plain_same : (count : ℕ) (notes others : Notes) → NoteTheSame count notes others → plain_notes count notes ≡ plain_notes count others
+plain_same count notes others alike =
+    cc (
+      alike.all_names,
+      alike.all_seats,
+      alike.seat_count,
+      alike.hand,
+      alike.table,
+      alike.venue,
+      alike.currency,
+      alike.year,
+      alike.month,
+      alike.day,
+      alike.time,
+      alike.zone,
+    )
 
 -- what is made of the numbers of so many seats
 mapped_same : {X : Type 0} (f : List ℕ → X) (count : ℕ) (x y : Option (List ℕ)) → option_map (take count) x ≡ option_map (take count) y
@@ -91,20 +92,20 @@ fields_are : (place count : ℕ) (notes : Notes)
 unfolding fields_from
 fields_are place count notes = refl
 
-players_same : (count : ℕ) (notes others : Notes) → AreNotedAlike count notes others → names_field count notes ≡ names_field count others
+players_same : (count : ℕ) (notes others : Notes) → NoteTheSame count notes others → names_field count notes ≡ names_field count others
 players_same count notes others alike =
     ap₂ (λ (named : Bool) (all : List (List ℕ)). if named then Some (texts all) else None)
-    (ap (λ (plain : PlainNotes). list_any is_some plain.seating.names) alike.same)
+    (ap (λ (names : List (Option (List ℕ))). list_any is_some names) alike.all_names)
     (same_range (name_written notes) (name_written others) 1 count
-    (λ seat first last. ap (λ name. unwrap_or name (default_name seat)) (name_at count notes others alike seat first last)))
+    (λ seat first last. ap (λ name. unwrap_or name (default_name seat)) (alike.names (seat - 1))))
 
-pub fields_same : (place count : ℕ) (notes others : Notes) → AreNotedAlike count notes others
+pub fields_same : (place count : ℕ) (notes others : Notes) → NoteTheSame count notes others
     → note_fields place count notes ≡ note_fields place count others
 fields_same place count notes others alike =
     fields_are place count notes
     ∙ ap₂ (λ names seats. fields_from names seats place (plain_notes count notes)) (players_same count notes others alike)
-    (mapped_same numbers count notes.seats others.seats (seats_same count notes others alike))
-    ∙ ap (fields_from (names_field count others) (option_map (λ said. numbers (take count said)) others.seats) place) alike.same
+    (mapped_same numbers count notes.seats others.seats alike.all_seats)
+    ∙ ap (fields_from (names_field count others) (option_map (λ said. numbers (take count said)) others.seats) place) (plain_same count notes others alike)
     ∙ sym (fields_are place count others)
 
 -- ---- Open Hand History
@@ -128,26 +129,6 @@ number_same count (Some a) (Some b) seat first last same =
     (sym (get_or-take count a (seat - 1) 0 (omega (arith, first, last)))
     ∙ ap (λ (numbers : List ℕ). get_or numbers (seat - 1) 0) row
     ∙ get_or-take count b (seat - 1) 0 (omega (arith, first, last)))
-
--- some numbers go round
-spelled_if : (g h : Bool) (a b : List ℕ) → g ≡ h → is_some (if g then Some a else None) ≡ is_some (if h then Some b else None)
-spelled_if true true a b goes = refl
-spelled_if false false a b goes = refl
-spelled_if true false a b goes = absurd (cc)
-spelled_if false true a b goes = absurd (cc)
-
-has_numbers : ℕ → Option (List ℕ) → Bool
-has_numbers count said = is_none said || is_some (numbers_spelled count said)
-
-has_same_numbers : (count : ℕ) (x y : Option (List ℕ)) → option_map (take count) x ≡ option_map (take count) y
-    → has_numbers count x ≡ has_numbers count y
-unfolding has_numbers
-has_same_numbers count None None same = refl
-has_same_numbers count None (Some b) same = absurd (cc)
-has_same_numbers count (Some a) None same = absurd (cc)
-has_same_numbers count (Some a) (Some b) same =
-    spelled_if (is_circular (take count a)) (is_circular (take count b)) a b
-    (ap is_circular (same_Some (take count a) (take count b) same))
 
 -- the members of a hand, by its players and the number of its dealer
 members_from : Dialect → ℕ → Trace → json.Data → ℕ → PlainNotes → json.Members
@@ -180,12 +161,11 @@ members_are : (dialect : Dialect) (place : ℕ) (trace : Trace) (notes : Notes)
 unfolding members_from dealer_of
 members_are dialect place trace notes = refl
 
-dealer_same : (trace : Trace) (notes others : Notes) → AreNotedAlike trace.setup.stacks.seats notes others → dealer_of trace notes ≡ dealer_of trace others
+dealer_same : (trace : Trace) (notes others : Notes) → NoteTheSame trace.setup.stacks.seats notes others → dealer_of trace notes ≡ dealer_of trace others
 unfolding dealer_of
 dealer_same trace notes others alike =
     let least = trace.setup.stacks.least in
-    number_same trace.setup.stacks.seats notes.seats others.seats trace.setup.stacks.seats (omega (arith, least)) (omega arith)
-    (seats_same trace.setup.stacks.seats notes others alike)
+    number_same trace.setup.stacks.seats notes.seats others.seats trace.setup.stacks.seats (omega (arith, least)) (omega arith) alike.all_seats
 
 -- a player, by its name and the number of its seat
 player_from : ℕ → ℕ → List ℕ → ℕ → json.Data
@@ -195,18 +175,17 @@ player_from seat stack name number =
     (json.member (codes "seat") (whole number)
     (json.member (codes "starting_stack") (whole stack) json.no_members))))
 
-player_same : (trace : Trace) (notes others : Notes) → AreNotedAlike trace.setup.stacks.seats notes others
+player_same : (trace : Trace) (notes others : Notes) → NoteTheSame trace.setup.stacks.seats notes others
     → (seat : ℕ) → 1 ≤ seat → seat < 1 + trace.setup.stacks.seats
     → player_tree trace.setup.stacks notes (numbers_written trace.setup notes) seat
     ≡ player_tree trace.setup.stacks others (numbers_written trace.setup others) seat
 unfolding player_from
 player_same trace notes others alike seat first last =
     ap₂ (λ (name : List ℕ) (number : ℕ). player_from seat (amount_of trace.setup.stacks seat) name number)
-    (ap (λ name. unwrap_or name (default_name seat)) (name_at trace.setup.stacks.seats notes others alike seat first last))
-    (number_same trace.setup.stacks.seats notes.seats others.seats seat first (omega (arith, last))
-    (seats_same trace.setup.stacks.seats notes others alike))
+    (ap (λ name. unwrap_or name (default_name seat)) (alike.names (seat - 1)))
+    (number_same trace.setup.stacks.seats notes.seats others.seats seat first (omega (arith, last)) alike.all_seats)
 
-pub members_same : (dialect : Dialect) (place : ℕ) (trace : Trace) (notes others : Notes) → AreNotedAlike trace.setup.stacks.seats notes others
+pub members_same : (dialect : Dialect) (place : ℕ) (trace : Trace) (notes others : Notes) → NoteTheSame trace.setup.stacks.seats notes others
     → hand_members dialect place trace notes ≡ hand_members dialect place trace others
 members_same dialect place trace notes others alike =
     let all : players trace.setup.stacks notes (numbers_written trace.setup notes) ≡ players trace.setup.stacks others (numbers_written trace.setup others) =
@@ -216,95 +195,14 @@ members_same dialect place trace notes others alike =
     (player_same trace notes others alike)) in
     members_are dialect place trace notes
     ∙ ap₂ (λ people dealer. members_from dialect place trace people dealer (plain_notes trace.setup.stacks.seats notes)) all (dealer_same trace notes others alike)
-    ∙ ap (members_from dialect place trace (players trace.setup.stacks others (numbers_written trace.setup others)) (dealer_of trace others)) alike.same
+    ∙ ap (members_from dialect place trace (players trace.setup.stacks others (numbers_written trace.setup others)) (dealer_of trace others))
+    (plain_same trace.setup.stacks.seats notes others alike)
     ∙ sym (members_are dialect place trace others)
-
--- which notes have a spelling, by that of the numbers
-facts_from : Bool → PlainNotes → Tried
-facts_from numbered notes =
-    let dated : Bool = is_some (moment_said notes.day.year notes.day.month notes.day.day notes.time notes.zone) in
-    (numbered, facts.Note names.Seats)
-    ∷ (is_none notes.zone || dated, facts.Note names.TimeZone)
-    ∷ (is_none notes.day.year || dated, facts.Note names.Year)
-    ∷ (is_none notes.day.month || dated, facts.Note names.Month)
-    ∷ (is_none notes.day.day || dated, facts.Note names.Day)
-    ∷ (is_none notes.time || dated, facts.Note names.Time)
-    ∷ []
-
-facts_are : (count : ℕ) (notes : Notes) → note_facts count notes ≡ facts_from (has_numbers count notes.seats) (plain_notes count notes)
-unfolding facts_from has_numbers
-facts_are count notes = refl
-
-pub facts_same : (count : ℕ) (notes others : Notes) → AreNotedAlike count notes others → note_facts count notes ≡ note_facts count others
-facts_same count notes others alike =
-    facts_are count notes
-    ∙ ap₂ facts_from (has_same_numbers count notes.seats others.seats (seats_same count notes others alike)) alike.same
-    ∙ sym (facts_are count others)
 
 -- ---- logs
 
-pub line_names_same : (count : ℕ) (notes others : Notes) → AreNotedAlike count notes others → names_text notes count ≡ names_text others count
+pub line_names_same : (count : ℕ) (notes others : Notes) → NoteTheSame count notes others → names_text notes count ≡ names_text others count
 unfolding names_text
 line_names_same count notes others alike =
     same_texts (λ seat. bar_before seat ++ name_text notes seat) (λ seat. bar_before seat ++ name_text others seat) 1 count
-    (λ seat first last. ap (λ name. bar_before seat ++ name_or_default seat name) (name_at count notes others alike seat first last))
-
-pub hand_same : (count : ℕ) (notes others : Notes) → AreNotedAlike count notes others → notes.hand ≡ others.hand
-hand_same count notes others alike = ap (λ (plain : PlainNotes). plain.labels.hand) alike.same
-
--- what holds of no missing name holds of a name exactly where it does of one of so many seats
-any_within : (p : Option (List ℕ) → Bool) → p None ≡ false → (count : ℕ) (all : List (Option (List ℕ)))
-    → ((index : ℕ) → count ≤ index → slice_index_or all index None ≡ None) → list_any p all ≡ list_any p (take count all)
-any_within p none zero [] no_more = refl
-any_within p none (suc count) [] no_more = refl
-any_within p none zero (name ∷ rest) no_more =
-    ap₂ (λ (here behind : Bool). here || behind) (ap p (no_more 0 (omega arith)) ∙ none)
-    (any_within p none zero rest (λ index past. no_more (suc index) (omega (arith, past))))
-any_within p none (suc count) (name ∷ rest) no_more =
-    ap (λ behind. p name || behind) (any_within p none count rest (λ index past. no_more (suc index) (omega (arith, past))))
-
-any_same : (count : ℕ) (notes others : Notes) → AreNotedAlike count notes others
-    → list_any is_unspelled_name notes.names ≡ list_any is_unspelled_name others.names
-any_same count notes others alike =
-    any_within is_unspelled_name refl count notes.names alike.no_more.names
-    ∙ ap (λ (plain : PlainNotes). list_any is_unspelled_name plain.seating.names) alike.same
-    ∙ sym (any_within is_unspelled_name refl count others.names alike.no_others.names)
-
-some_taken : (count : ℕ) (said : Option (List ℕ)) → is_some said ≡ is_some (option_map (take count) said)
-some_taken count None = refl
-some_taken count (Some numbers) = refl
-
-conditions_from : Bool → Bool → PlainNotes → Option Unspelled
-conditions_from named seated notes =
-    or_else
-    (first_where ((named, facts.Note names.Players)
-    ∷ (seated, facts.Note names.Seats)
-    ∷ (is_some notes.seating.seat_count, facts.Note names.SeatCount)
-    ∷ (is_unspelled_hand notes.labels.hand, facts.Note names.Hand)
-    ∷ (is_some notes.labels.table, facts.Note names.Table)
-    ∷ (is_some notes.labels.venue, facts.Note names.Venue)
-    ∷ (is_some notes.labels.currency, facts.Note names.Currency)
-    ∷ []))
-    (first_where ((is_some notes.zone, facts.Note names.TimeZone)
-    ∷ (is_some notes.day.year, facts.Note names.Year)
-    ∷ (is_some notes.day.month, facts.Note names.Month)
-    ∷ (is_some notes.day.day, facts.Note names.Day)
-    ∷ (is_some notes.time, facts.Note names.Time)
-    ∷ []))
-
-conditions_are : (count : ℕ) (notes : Notes)
-    → or_else (first_where (text_conditions notes)) (first_where (time_conditions notes))
-    ≡ conditions_from (list_any is_unspelled_name notes.names) (is_some notes.seats) (plain_notes count notes)
-unfolding conditions_from
-conditions_are count notes = refl
-
-pub refused_note_same : (keep : Keep) (count : ℕ) (notes others : Notes) → AreNotedAlike count notes others
-    → unspelled_note keep notes ≡ unspelled_note keep others
-unfolding unspelled_note
-refused_note_same keeps.All count notes others alike =
-    conditions_are count notes
-    ∙ ap₂ (λ named seated. conditions_from named seated (plain_notes count notes)) (any_same count notes others alike)
-    (some_taken count notes.seats ∙ ap is_some (seats_same count notes others alike) ∙ sym (some_taken count others.seats))
-    ∙ ap (conditions_from (list_any is_unspelled_name others.names) (is_some others.seats)) alike.same
-    ∙ sym (conditions_are count others)
-refused_note_same keeps.Spelled count notes others alike = refl
+    (λ seat first last. ap (λ name. bar_before seat ++ name_or_default seat name) (alike.names (seat - 1)))

@@ -1,9 +1,7 @@
 -- How a run ends with the answer to its input, what is printed hand by hand, and why an input has one answer.
 mod Answering
 mod HandByHand
-mod AlikeRecords
-mod AlikeTrees
-mod AlikeLogs
+mod AlikeGames
 mod AlikeNotes
 mod AlikeOutputs
 mod OneAnswer

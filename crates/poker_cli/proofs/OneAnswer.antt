@@ -26,8 +26,12 @@ use Rattle.printed_hands.specs.Steps.{replay_lines}
 use Rattle.printed_report.specs.Report.{Hand, Seated, hand_of, report_on, seated_in}
 use Rattle.hand_canon.specs.Judged.{IsJudged}
 use Rattle.convert_core.specs.Judged.{ArePlaysOf}
-use Rattle.convert_core.specs.SameRecords.{SayTheSame}
-use Rattle.convert_core.proofs.OneOutcome.{AllTraced, no_plays, same_refused, same_traces}
+use Rattle.convert_core.specs.HistoryAlike as histories_alike
+use Rattle.convert_core.specs.LogAlike as logs_alike
+use Rattle.convert_core.specs.SameRecords.{AllAlike, AreAlike, SayTheSame}
+use Rattle.convert_core.specs.TreeAlike as trees_alike
+use Rattle.convert_core.proofs.OneConversion.{AllPlayedAlike, all_same, played_alike}
+use Rattle.convert_core.proofs.OneOutcome.{AllTraced, all_turned, no_plays, same_refused, same_traces}
 use Rattle.convert_core.proofs.JudgedPlays.{hands_of}
 use Rattle.poker_cli.specs.Answer.{Answer, Files, GivesGame, GivesNoGame, IsAnswer, IsAnswerIn, IsAnswerTo, IsConversion, IsMadeOf, IsWay, done, most_input, text_of, to_excess, to_fault, to_first_game, to_refusal, to_unspelled}
 use Rattle.poker_cli.specs.Answer as answers
@@ -44,10 +48,8 @@ use Rattle.poker_cli.specs.declared.task.Task.{Task}
 use Rattle.poker_cli.specs.declared.task.Task.TheVariants as tasks
 use Rattle.poker_cli.specs.declared.task.Way.{Way}
 use Rattle.poker_cli.proofs.AlikeNotes.{same_range}
-use Rattle.poker_cli.proofs.AlikeOutputs.{PlaysAlike, document_same, lines_same, log_same, plays_alike, refusal_same}
-use Rattle.poker_cli.proofs.AlikeRecords.{AllAlike, AreAlike, alike_name, all_the_same, all_turned, histories_alike}
-use Rattle.poker_cli.proofs.AlikeTrees.{trees_alike}
-use Rattle.poker_cli.proofs.AlikeLogs.{logs_alike, one_game}
+use Rattle.poker_cli.proofs.AlikeGames.{one_game}
+use Rattle.poker_cli.proofs.AlikeOutputs.{document_same, lines_same, log_same, refusal_same}
 
 -- the lines of hands with the same traces
 same_lines : (lines : ℕ → Play → List ℕ)
@@ -80,7 +82,7 @@ same_seated : (p q : Play) → p.trace ≡ q.trace → AreAlike p.hand q.hand
     → (seat : ℕ) → 1 ≤ seat → seat < 1 + p.hand.setup.stacks.seats → seated_in p seat ≡ seated_in q seat
 same_seated p q traced alike seat first last =
     ap₂ (λ (name : List ℕ) (trace : Trace). record (seated_in (record p { trace = trace }) seat) { name = name })
-    (ap (λ name. unwrap_or name (default_name seat)) (alike_name p.hand.setup.stacks.seats p.hand.notes q.hand.notes alike.notes (seat - 1) (omega (arith, first, last)))) traced
+    (ap (λ name. unwrap_or name (default_name seat)) (alike.notes.names (seat - 1))) traced
 
 same_hand : (p q : Play) → p.trace ≡ q.trace → p.trace.setup ≡ p.hand.setup → AreAlike p.hand q.hand → hand_of p ≡ hand_of q
 same_hand p q traced own alike =
@@ -133,7 +135,7 @@ one_itself (tasks.Convert readers.Phh keep) answer other same =
     }
 
 -- the same plays are written as one output
-one_output : (to : Reader) (keep : Keep) (ps qs : List Play) (bytes others : List ℕ) → PlaysAlike ps qs
+one_output : (to : Reader) (keep : Keep) (ps qs : List Play) (bytes others : List ℕ) → AllPlayedAlike ps qs
     → SpellPlays to ps bytes → SpellPlays to qs others → AreOneAnswer (tasks.Convert to keep) (done bytes) (done others)
 one_output readers.Phh keep ps qs bytes others alike spell too =
     record {
@@ -148,7 +150,7 @@ refusals_same : (number count : ℕ) (fact other : Unspelled) → refusals.Unspe
     → to_unspelled number fact ≡ to_unspelled count other
 refusals_same number count fact other same = ap₂ to_unspelled (cc) (cc)
 
-one_conversion : (to : Reader) (keep : Keep) (ps qs : List Play) (answer other : Answer) → PlaysAlike ps qs
+one_conversion : (to : Reader) (keep : Keep) (ps qs : List Play) (answer other : Answer) → AllPlayedAlike ps qs
     → IsConversion to keep ps answer → IsConversion to keep qs other → AreOneAnswer (tasks.Convert to keep) answer other
 one_conversion to keep ps qs _ _ alike (answers.NotSpelled number fact is) (answers.NotSpelled count more it) =
     one_itself (tasks.Convert to keep) (to_unspelled number fact) (to_unspelled count more)
@@ -167,7 +169,7 @@ one_made : (task : Task) (ps qs : List Play) (answer other : Answer) → All IsJ
 one_made (tasks.Show command) ps qs answer other judged traced alike is it = is ∙ ap done (same_text command ps qs judged traced alike) ∙ sym it
 one_made tasks.GameFile ps qs answer other judged traced alike is it = is ∙ same_game ps qs traced ∙ sym it
 one_made (tasks.Convert to keep) ps qs answer other judged traced alike is it =
-    one_conversion to keep ps qs answer other (plays_alike ps qs judged traced alike) is it
+    one_conversion to keep ps qs answer other (played_alike ps qs judged traced alike) is it
 
 -- the hands of plays are alike where their records are
 alike_hands : (records others : List Record) (ps qs : List Play) → AllAlike records others → ArePlaysOf records ps → ArePlaysOf others qs
@@ -179,14 +181,14 @@ alike_hands records others ps qs alike are is =
 same_answer : (task : Task) (records others : List Record) (answer other : Answer) → AllAlike records others
     → IsAnswerTo task records answer → IsAnswerTo task others other → AreOneAnswer task answer other
 same_answer task records others _ _ alike (answers.Refused number why first) (answers.Refused count reason next) =
-    let one = same_refused records others number count why reason (all_the_same records others alike) first next in
+    let one = same_refused records others number count why reason (all_same records others alike) first next in
     one_itself task (to_refusal number why) (to_refusal count reason) (ap₂ to_refusal one.0 one.1)
 same_answer task records others _ _ alike (answers.Refused number why first) (answers.Played plays are answer is) =
-    absurd (no_plays records others number why plays (all_the_same records others alike) first are)
+    absurd (no_plays records others number why plays (all_same records others alike) first are)
 same_answer task records others _ _ alike (answers.Played plays are answer is) (answers.Refused number why first) =
-    absurd (no_plays others records number why plays (all_turned records others (all_the_same records others alike)) first are)
+    absurd (no_plays others records number why plays (all_turned records others (all_same records others alike)) first are)
 same_answer task records others _ _ alike (answers.Played plays are answer made) (answers.Played too is other makes) =
-    one_made task plays too answer other are.judged (same_traces records others plays too (all_the_same records others alike) are is)
+    one_made task plays too answer other are.judged (same_traces records others plays too (all_same records others alike) are is)
     (alike_hands records others plays too alike are is) made makes
 
 -- bytes have one first fault
@@ -231,15 +233,15 @@ unfolding SayAlike
 read_alike readers.Phh bytes records others is it =
     let says = is.0 in
     let too = it.0 in
-    histories_alike records others is.1 it.1 (cc (says, too))
+    histories_alike.all_alike records others is.1 it.1 (cc (says, too))
 read_alike (readers.Ohh dialect) bytes records others is it =
     let says = is.0 in
     let too = it.0 in
-    trees_alike records others is.1 it.1 (cc (says, too))
+    trees_alike.all_alike records others is.1 it.1 (cc (says, too))
 read_alike (readers.Acpc game) bytes records others is it =
     let says = is.0 in
     let too = it.0 in
-    logs_alike game records others is.1 it.1 (cc (says, too))
+    logs_alike.all_alike game records others is.1 it.1 (cc (says, too))
 
 pub one_answer : (task : Task) (reader : Reader) (bytes : List ℕ) (answer other : Answer)
     → IsAnswer task reader bytes answer → IsAnswer task reader bytes other → AreOneAnswer task answer other
@@ -249,19 +251,19 @@ one_answer task reader bytes answer other is it = same_reading task reader bytes
 record IsMadeAlike (task : Task) (plays : List Play) (answer : Answer) : Type 0 where
   others : List Play
   traced : AllTraced plays others
-  alike : PlaysAlike plays others
+  alike : AllPlayedAlike plays others
   made : IsMadeOf task others answer
 
 made_of : (task : Task) (records others : List Record) (plays : List Play) (answer : Answer) → AllAlike records others
     → ArePlaysOf records plays → IsAnswerTo task others answer → IsMadeAlike task plays answer
 made_of task records others plays _ alike are (answers.Refused number why first) =
-    absurd (no_plays others records number why plays (all_turned records others (all_the_same records others alike)) first are)
+    absurd (no_plays others records number why plays (all_turned records others (all_same records others alike)) first are)
 made_of task records others plays _ alike are (answers.Played too is answer makes) =
-    let traced = same_traces records others plays too (all_the_same records others alike) are is in
+    let traced = same_traces records others plays too (all_same records others alike) are is in
     record {
       others = too;
       traced = traced;
-      alike = plays_alike plays too are.judged traced (alike_hands records others plays too alike are is);
+      alike = played_alike plays too are.judged traced (alike_hands records others plays too alike are is);
       made = makes;
     }
 
