@@ -20,12 +20,9 @@ use Rattle.phh_table.specs.HandFields.{note_fields, setup_fields, trace_fields}
 use Rattle.phh_table.specs.Members.{Field, table_of}
 use Rattle.phh_table.specs.Spelled as history_facts
 use Rattle.convert_core.specs.HistoryAlike as histories_alike
-use Rattle.convert_core.specs.HistoryLaws as history_laws
 use Rattle.convert_core.specs.LogAlike as logs_alike
-use Rattle.convert_core.specs.LogLaws as log_laws
 use Rattle.convert_core.specs.SameRecords.{ArePlayedAlike}
 use Rattle.convert_core.specs.TreeAlike as trees_alike
-use Rattle.convert_core.specs.TreeLaws as tree_laws
 use Rattle.convert_core.proofs.OneConversion.{AllPlayedAlike, one_refusal_from}
 use Rattle.poker_cli.specs.Outputs.{first_refusal_in}
 use Rattle.poker_cli.specs.declared.task.Reader.{Reader}
@@ -119,15 +116,6 @@ log_same no_limit ps qs alike = log_same_from no_limit 0 ps qs alike
 
 -- they are refused alike
 pub refusal_same : (to : Reader) (keep : Keep) (ps qs : List Play) → AllPlayedAlike ps qs → first_refusal_in to keep ps ≡ first_refusal_in to keep qs
-refusal_same readers.Phh keep ps qs alike =
-    history_laws.same_refusal 1 ps
-    ∙ one_refusal_from history_facts.unspelled histories_alike.same_fact 1 ps qs alike
-    ∙ sym (history_laws.same_refusal 1 qs)
-refusal_same (readers.Ohh dialect) keep ps qs alike =
-    tree_laws.same_refusal keep 1 ps
-    ∙ one_refusal_from (tree_facts.unspelled keep) (trees_alike.same_fact keep) 1 ps qs alike
-    ∙ sym (tree_laws.same_refusal keep 1 qs)
-refusal_same (readers.Acpc game) keep ps qs alike =
-    log_laws.same_refusal game keep 1 ps
-    ∙ one_refusal_from (log_facts.unspelled game keep) (logs_alike.same_fact game keep) 1 ps qs alike
-    ∙ sym (log_laws.same_refusal game keep 1 qs)
+refusal_same readers.Phh keep ps qs alike = one_refusal_from history_facts.unspelled histories_alike.same_fact 1 ps qs alike
+refusal_same (readers.Ohh dialect) keep ps qs alike = one_refusal_from (tree_facts.unspelled keep) (trees_alike.same_fact keep) 1 ps qs alike
+refusal_same (readers.Acpc game) keep ps qs alike = one_refusal_from (log_facts.unspelled game keep) (logs_alike.same_fact game keep) 1 ps qs alike

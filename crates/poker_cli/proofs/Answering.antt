@@ -1,35 +1,33 @@
 -- The answer to what a source has left, where it tells that, and how a run ends with it.
-use Rattle.std.proofs.Common.{◌≡◌, ◌≢◌, ◌⊎◌, ℕ, ◌<◌, ◌≤◌, true, List, [], ◌∷◌, length, map, All, Option, Some, None, is_some, IfOk, IfSome, Result, Ok, Err, refl, subst, sym, ap, ◌∙◌, inl, inr}
-use Rattle.std.proofs.lemmas.List.Elements.{All-from_recursion}
-use Rattle.std.specs.List.{AllByRecursion}
+use Rattle.std.proofs.Common.{◌≡◌, ◌⊎◌, ℕ, ◌<◌, ◌≤◌, true, List, length, Option, Some, None, is_some, IfOk, IfSome, Result, Ok, Err, refl, subst, sym, ap, ◌∙◌, inl, inr}
 use Rattle.std.specs.Option.{option_map}
 use Rattle.acpc_game.specs.declared.game.Game.{Game}
-use Rattle.acpc_reading.specs.Logs as logs
-use Rattle.acpc_reading.specs.RecordView.{IsOfGame, record_said}
-use Rattle.acpc_text.specs.Faults.{Answers as Tells}
 use Rattle.acpc_text.specs.declared.fault.AcpcFault.{AcpcFault}
-use Rattle.acpc_text.specs.declared.fault.AcpcFault.TheVariants as faults
+use Rattle.acpc_text.specs.declared.fault.AcpcFault.TheVariants as logs
 use Rattle.command_words.specs.Words.{Convert, Notation, Request, Show}
 use Rattle.command_words.specs.Words as words
 use Rattle.command_words.specs.declared.command.Command.{Command}
+use Rattle.convert_core.specs.Conversion.{IsConversion as IsConverting, IsConverted, IsPlaysRefusal, ReadAsRefused}
+use Rattle.convert_core.specs.Faults.{is_want_in_history, is_want_in_log, is_want_in_tree, is_want_of_memory}
+use Rattle.convert_core.specs.declared.convert_fault.ConvertFault.{ConvertFault}
+use Rattle.convert_core.specs.declared.convert_fault.ConvertFault.TheVariants as convert_faults
+use Rattle.convert_core.specs.Judged.{IsPlaysFaultOf}
+use Rattle.convert_core.specs.declared.fault.PlaysFault.{PlaysFault}
+use Rattle.convert_core.specs.declared.fault.PlaysFault.TheVariants as plays_faults
+use Rattle.convert_core.specs.declared.fault.Refusal.{Refusal}
+use Rattle.convert_core.specs.declared.format_fault.FormatFault.{FormatFault}
+use Rattle.convert_core.specs.declared.format_fault.FormatFault.TheVariants as formats
 use Rattle.hand_records.specs.declared.record.Record.{Record}
 use Rattle.hand_records.specs.declared.trace.Play.{Play}
 use Rattle.hand_records.specs.declared.writing.Keep.{Keep}
 use Rattle.hand_records.specs.declared.writing.Unspelled.{Unspelled}
-use Rattle.hand_records.specs.declared.writing.WriteRefusal.{WriteRefusal}
-use Rattle.hand_records.specs.declared.writing.WriteRefusal.TheVariants as refusals
-use Rattle.hand_records.specs.SoundRecord.{IsSoundRecord}
-use Rattle.ohh_members.specs.declared.dialect.Dialect.{Dialect}
-use Rattle.ohh_reading.specs.Reading as ohh
-use Rattle.phh_reading.specs.Reading.{IsHistory, Wrong, reading}
-use Rattle.convert_core.specs.Judged.{ArePlaysOf, IsPlaysFaultOf}
-use Rattle.convert_core.specs.declared.fault.PlaysFault.{PlaysFault}
-use Rattle.convert_core.specs.declared.fault.PlaysFault.TheVariants as plays_faults
-use Rattle.poker_cli.specs.Answer.{Answer, Files, GivesGame, GivesNoGame, IsAnswer, IsAnswerIn, IsAnswerTo, IsConversion, IsMadeOf, IsToldOf, IsWay, done, most_input, text_of, to_excess, to_fault, to_first_game, to_unspelled}
+use Rattle.ohh_reading.specs.declared.fault.OhhFault.{OhhFault}
+use Rattle.ohh_reading.specs.declared.fault.OhhFault.TheVariants as trees
+use Rattle.phh_reading.specs.declared.fault.PhhFault.{PhhFault}
+use Rattle.phh_reading.specs.declared.fault.PhhFault.TheVariants as histories
+use Rattle.poker_cli.specs.Answer.{Answer, Files, GivesGame, GivesNoGame, IsAnswer, IsAnswerIn, IsAnswerTo, IsMadeOf, IsToldOf, IsWay, IsWritten, done, most_input, to_excess, to_fault, to_refusal}
 use Rattle.poker_cli.specs.Answer as answers
-use Rattle.poker_cli.specs.Inputs.{InHistory, InLog, InTree}
-use Rattle.poker_cli.specs.Lacking.{IsLackTold, IsLogFaultTold, Lacks}
-use Rattle.poker_cli.specs.Outputs.{SpellPlays, first_refusal_in}
+use Rattle.poker_cli.specs.Lacking.{IsLackTold, Lacks}
 use Rattle.poker_cli.specs.Printing.{IsPrinted}
 use Rattle.poker_cli.specs.Told.{answer_told}
 use Rattle.poker_cli.specs.Ways.{conversion_way, file_of, game_name, kept, or_file, reader_with, way, way_of}
@@ -58,47 +56,100 @@ pub answer_beyond : (task : Task) (reader : Reader) (left : Option (List ℕ)) (
 answer_beyond task reader (Some left) answer many is = subst (λ (a : Answer). IsAnswer task reader left a) (sym is) (answers.TooLong many)
 answer_beyond task reader None answer many is = tt
 
-some-same : {A : Type 0} {x y : A} → Some x ≡ Some y → x ≡ y
-some-same same = cc
+-- want of memory is not told as a fault
+history_memory : (fault : PhhFault) (answer : Answer) → to_fault (formats.Phh fault) ≡ Some answer → is_want_in_history fault ≡ true → ⊥
+history_memory histories.Memory answer told memory = cc (told)
+history_memory histories.Text answer told memory = cc (memory)
+history_memory (histories.MissingField hand key) answer told memory = cc (memory)
+history_memory (histories.WrongType hand key) answer told memory = cc (memory)
+history_memory (histories.AmountNotWhole hand key) answer told memory = cc (memory)
+history_memory (histories.AmountLimit hand key) answer told memory = cc (memory)
+history_memory (histories.UnknownVariant hand key) answer told memory = cc (memory)
+history_memory (histories.SeatCount hand key) answer told memory = cc (memory)
+history_memory (histories.ListLength hand key) answer told memory = cc (memory)
+history_memory (histories.BadAction hand key) answer told memory = cc (memory)
+history_memory (histories.TooMany quantity hand key) answer told memory = cc (memory)
 
--- bytes that do not read as hands
-pub answer_unread : (task : Task) (bytes : List ℕ) (wrong : Option Wrong) (answer : Answer)
-    → length bytes ≤ most_input → IfSome wrong (λ w. reading bytes ≡ Err w)
-    → option_map (λ (w : Wrong). to_fault (InHistory w)) wrong ≡ Some answer
-    → IsAnswer task readers.Phh bytes answer
-answer_unread task bytes (Some wrong) answer few is same =
-    subst (λ (a : Answer). IsAnswer task readers.Phh bytes a) (some-same same) (answers.Unread few (InHistory wrong) is)
-answer_unread task bytes None answer few is same = cc
+tree_memory : (fault : OhhFault) (answer : Answer) → to_fault (formats.Ohh fault) ≡ Some answer → is_want_in_tree fault ≡ true → ⊥
+tree_memory trees.Memory answer told memory = cc (told)
+tree_memory (trees.Text hand) answer told memory = cc (memory)
+tree_memory (trees.MissingMember hand path) answer told memory = cc (memory)
+tree_memory (trees.WrongType hand path) answer told memory = cc (memory)
+tree_memory (trees.AmountNotWhole hand path) answer told memory = cc (memory)
+tree_memory (trees.AmountLimit hand path) answer told memory = cc (memory)
+tree_memory (trees.UnsupportedGame hand path) answer told memory = cc (memory)
+tree_memory (trees.BadPlayer hand path) answer told memory = cc (memory)
+tree_memory (trees.UnsupportedAction hand path) answer told memory = cc (memory)
+tree_memory (trees.BadStreet hand path) answer told memory = cc (memory)
+tree_memory (trees.BadPost hand path) answer told memory = cc (memory)
+tree_memory (trees.RakePlace hand path) answer told memory = cc (memory)
+tree_memory (trees.TooMany quantity hand path) answer told memory = cc (memory)
 
-pub answer_untold : (task : Task) (dialect : Dialect) (bytes : List ℕ) (wrong : Option ohh.Wrong) (answer : Answer)
-    → length bytes ≤ most_input → IfSome wrong (λ w. ohh.reading dialect bytes ≡ Err w)
-    → option_map (λ (w : ohh.Wrong). to_fault (InTree w)) wrong ≡ Some answer
-    → IsAnswer task (readers.Ohh dialect) bytes answer
-answer_untold task dialect bytes (Some wrong) answer few is same =
-    subst (λ (a : Answer). IsAnswer task (readers.Ohh dialect) bytes a) (some-same same) (answers.Unread few (InTree wrong) is)
-answer_untold task dialect bytes None answer few is same = cc
+log_memory : (fault : AcpcFault) (answer : Answer) → to_fault (formats.Acpc fault) ≡ Some answer → is_want_in_log fault ≡ true → ⊥
+log_memory logs.Memory answer told memory = cc (told)
+log_memory (logs.LineShape line byte) answer told memory = cc (memory)
+log_memory (logs.BadBetting line byte) answer told memory = cc (memory)
+log_memory (logs.BadCards line byte) answer told memory = cc (memory)
+log_memory (logs.BadValue line byte) answer told memory = cc (memory)
+log_memory (logs.SeatCount line byte) answer told memory = cc (memory)
+log_memory (logs.GameShape line byte) answer told memory = cc (memory)
+log_memory (logs.UnsupportedGame line byte) answer told memory = cc (memory)
+log_memory (logs.AmountLimit line byte) answer told memory = cc (memory)
+log_memory (logs.TooMany quantity line byte) answer told memory = cc (memory)
 
--- the fault of a log, unless memory ran out
-pub log_fault : {X Y : Type 0} (view : X → Y) (said : Result Y AcpcFault) (fault : AcpcFault) → fault ≢ faults.Memory
-    → Tells view (Err fault) said → said ≡ Err fault
-log_fault view said (faults.LineShape line byte) told answers = answers
-log_fault view said (faults.BadBetting line byte) told answers = answers
-log_fault view said (faults.BadCards line byte) told answers = answers
-log_fault view said (faults.BadValue line byte) told answers = answers
-log_fault view said (faults.SeatCount line byte) told answers = answers
-log_fault view said (faults.GameShape line byte) told answers = answers
-log_fault view said (faults.UnsupportedGame line byte) told answers = answers
-log_fault view said (faults.AmountLimit line byte) told answers = answers
-log_fault view said (faults.TooMany quantity line byte) told answers = answers
-log_fault view said faults.Memory told answers = absurd (told refl)
+no_memory : (fault : FormatFault) (answer : Answer) → to_fault fault ≡ Some answer → is_want_of_memory fault ≡ true → ⊥
+no_memory (formats.Phh fault) answer told memory = history_memory fault answer told memory
+no_memory (formats.Ohh fault) answer told memory = tree_memory fault answer told memory
+no_memory (formats.Acpc fault) answer told memory = log_memory fault answer told memory
 
--- the bytes of a log that does not read
-pub answer_to_bad_log : (task : Task) (game : Game) (bytes : List ℕ) (fault : AcpcFault) (answer : Answer)
-    → length bytes ≤ most_input → Tells {X = List Record} (map record_said) (Err fault) (logs.reading game bytes)
-    → IsLogFaultTold fault answer → IsAnswer task (readers.Acpc game) bytes answer
-answer_to_bad_log task game bytes fault answer few is told =
-    subst (λ (a : Answer). IsAnswer task (readers.Acpc game) bytes a) (sym told.same)
-    (answers.Unread few (InLog fault) (log_fault {X = List Record} (map record_said) (logs.reading game bytes) fault told.told is))
+module _ (Say : List Record → Type 0) (HaveFault : FormatFault → Type 0) where
+  module _ (IsMade : List Play → Answer → Type 0) (answer : Answer) where
+    -- bytes do not read
+    pub answer_unread : (fault : FormatFault) → (is_want_of_memory fault ≡ true) ⊎ HaveFault fault → to_fault fault ≡ Some answer
+        → IsAnswerTo Say HaveFault IsMade answer
+    answer_unread fault (inl memory) told = absurd (no_memory fault answer told memory)
+    answer_unread fault (inr have) told = answers.Unread fault have answer told
+
+    -- a hand is refused
+    pub answer_refused : (number : ℕ) (why : Refusal) → ReadAsRefused Say number why → answer ≡ to_refusal number why
+        → IsAnswerTo Say HaveFault IsMade answer
+    answer_refused number why is told = subst (IsAnswerTo Say HaveFault IsMade) (sym told) (answers.Refused number why is)
+
+    pub answer_refused_hand : (records : List Record) (fault : PlaysFault) (number : ℕ) (why : Refusal) → Say records → IsPlaysFaultOf records fault
+        → fault ≡ plays_faults.Refused number why → answer ≡ to_refusal number why → IsAnswerTo Say HaveFault IsMade answer
+    answer_refused_hand records fault number why say first same told =
+        answer_refused number why (record { records = records; say = say; first = subst (IsPlaysFaultOf records) same first }) told
+
+    -- bytes have no plays
+    pub answer_unplayed : (fault : ConvertFault) → IsPlaysRefusal Say HaveFault fault → IsToldOf fault answer → IsAnswerTo Say HaveFault IsMade answer
+    answer_unplayed (convert_faults.Format fault) have told = answers.Unread fault have answer told
+    answer_unplayed (convert_faults.Refused number why) is told = answer_refused number why is told
+    answer_unplayed (convert_faults.Unspelled number fact) is told = absurd is
+    answer_unplayed convert_faults.Memory is told = absurd told
+
+  -- all hands are legal and agree, and their lines are printed
+  pub answer_printed : (command : Command) (records : List Record) (output : List ℕ) (answer : Answer) → Say records
+      → IsPrinted command records output → answer ≡ done output → IsAnswerTo Say HaveFault (IsMadeOf (tasks.Show command)) answer
+  answer_printed command records output answer say is same =
+      answers.Played is.plays (record { records = records; say = say; are = is.are }) answer (same ∙ ap done is.printed)
+
+  module _ (unspelled : Play → Option Unspelled) (Spell Back : List Play → List ℕ → Type 0) (answer : Answer) where
+    -- bytes are not converted
+    pub answer_unconverted : {X : Type 0} (view : X → List ℕ) (fault : ConvertFault) → IsConverting Say HaveFault unspelled Spell Back view (Err fault)
+        → IsToldOf fault answer → IsAnswerTo Say HaveFault (IsWritten unspelled Spell Back) answer
+    answer_unconverted view (convert_faults.Format fault) have told = answers.Unread fault have answer told
+    answer_unconverted view (convert_faults.Refused number why) is told = answer_refused (IsWritten unspelled Spell Back) answer number why is told
+    answer_unconverted view (convert_faults.Unspelled number fact) is told =
+        answers.Played is.plays is.read answer
+        (subst (IsWritten unspelled Spell Back is.plays) (sym told) (answers.NotSpelled number fact is.first))
+    answer_unconverted view convert_faults.Memory is told = absurd told
+
+    -- or they are
+    pub answer_converted : (output : List ℕ) → IsConverted Say unspelled Spell Back output → answer ≡ done output
+        → IsAnswerTo Say HaveFault (IsWritten unspelled Spell Back) answer
+    answer_converted output is same =
+        answers.Played is.plays is.read answer
+        (subst (IsWritten unspelled Spell Back is.plays) (sym same) (answers.Spelled is.spelled output is.spell is.back))
 
 -- a run ends with the answer to its files and its input
 pub ends_with : (request : Request) (files : Files) (bytes : List ℕ) (out diag : Sinks) (answer : Answer) (status : Status)
@@ -136,68 +187,6 @@ ends_where_told request (Some files) (Some bytes) out diag answer status is own 
     ends_with request files bytes out diag answer status is own ends written line
 ends_where_told request None (Some bytes) out diag answer status is own ends written line = tt
 ends_where_told request told None out diag answer status is own ends written line = tt
-
--- what is read is sound
-pub sound_records : (records : List Record) → AllByRecursion IsHistory records → All IsSoundRecord records
-sound_records records all = All-from_recursion IsSoundRecord records (each records all)
-  where
-    each : (records : List Record) → AllByRecursion IsHistory records → AllByRecursion IsSoundRecord records
-    each [] all = tt
-    each (hand ∷ others) all = (all.0.sound, each others all.1)
-
--- so are those of Open Hand History
-pub sound_trees : (records : List Record) → AllByRecursion ohh.IsHistory records → All IsSoundRecord records
-sound_trees records all = All-from_recursion IsSoundRecord records (each records all)
-  where
-    each : (records : List Record) → AllByRecursion ohh.IsHistory records → AllByRecursion IsSoundRecord records
-    each [] all = tt
-    each (hand ∷ others) all = (all.0.sound, each others all.1)
-
--- a log's records are sound
-pub sound_log : (game : Game) (records : List Record) → AllByRecursion (IsOfGame game) records → All IsSoundRecord records
-sound_log game records all = All-from_recursion IsSoundRecord records (each records all)
-  where
-    each : (records : List Record) → AllByRecursion (IsOfGame game) records → AllByRecursion IsSoundRecord records
-    each [] all = tt
-    each (hand ∷ others) all = (all.0.sound, each others all.1)
-
--- all hands are legal and agree, and their lines are printed
-pub answer_printed : (command : Command) (records : List Record) (output : List ℕ) (answer : Answer)
-    → IsPrinted command records output → answer ≡ done output
-    → IsAnswerTo (tasks.Show command) records answer
-answer_printed command records output answer is same =
-    subst (λ (a : Answer). IsAnswerTo (tasks.Show command) records a) (sym (same ∙ ap done is.printed)) (answers.Played is.plays is.are (done (text_of command is.plays)) refl)
-
--- or the game of the first is written
-pub answer_of_game : (records : List Record) (plays : List Play) (answer : Answer) → ArePlaysOf records plays
-    → answer ≡ to_first_game plays → IsAnswerTo tasks.GameFile records answer
-answer_of_game records plays answer are same =
-    answers.Played plays are answer same
-
--- or the plays are converted
-pub answer_converted : (to : Reader) (keep : Keep) (records : List Record) (plays : List Play) (answer : Answer) → ArePlaysOf records plays
-    → IsConversion to keep plays answer → IsAnswerTo (tasks.Convert to keep) records answer
-answer_converted to keep records plays answer are is = answers.Played plays are answer is
-
--- all facts of the plays have a spelling, or the first that has none is told
-pub conversion_done : (to : Reader) (keep : Keep) (plays : List Play) (bytes : List ℕ) (answer : Answer)
-    → first_refusal_in to keep plays ≡ None → SpellPlays to plays bytes → answer ≡ done bytes → IsConversion to keep plays answer
-conversion_done to keep plays bytes answer none spell same =
-    subst (λ (a : Answer). IsConversion to keep plays a) (sym same) (answers.Spelled none bytes spell)
-
-pub conversion_refused : (to : Reader) (keep : Keep) (plays : List Play) (number : ℕ) (fact : Unspelled) (refusal : WriteRefusal) (answer : Answer)
-    → (refusal ≡ refusals.Memory) ⊎ (first_refusal_in to keep plays ≡ Some refusal) → refusal ≡ refusals.Unspelled number fact
-    → answer ≡ to_unspelled number fact → IsConversion to keep plays answer
-conversion_refused to keep plays number fact refusal answer (inl memory) is told = absurd (cc (memory, is))
-conversion_refused to keep plays number fact refusal answer (inr first) is told =
-    subst (λ (a : Answer). IsConversion to keep plays a) (sym told) (answers.NotSpelled number fact (first ∙ ap Some is))
-
--- a hand is refused
-pub answer_refused : (task : Task) (records : List Record) (fault : PlaysFault) (answer : Answer)
-    → IsPlaysFaultOf records fault → IsToldOf fault answer → IsAnswerTo task records answer
-answer_refused task records (plays_faults.Refused number why) answer first told =
-    subst (λ (a : Answer). IsAnswerTo task records a) (sym told) (answers.Refused number why first)
-answer_refused task records plays_faults.Memory answer first told = absurd told
 
 -- What is known of a status of an answer where nothing is written.
 pub record IsTold (answer : Answer) (status : Status) (held : Option (List ℕ)) : Type 0 where

@@ -2,7 +2,7 @@
 use Rattle.std.proofs.Common.{◌≡◌, ◌⊎◌, ℕ, ◌+◌, ◌-◌, ◌<◌, ◌≤◌, suc, All, List, [], ◌∷◌, ◌++◌, length, map, Option, Some, None, Ok, refl, sym, subst, ap, ap₂, ◌∙◌, inl, inr, arith}
 use Rattle.std.specs.List.{range_with_len}
 use Rattle.toml.specs.Parse.{parse_document}
-use Rattle.std.specs.Option.{unwrap_or}
+use Rattle.std.specs.Option.{option_map, unwrap_or}
 use Rattle.std.proofs.lemmas.List.Elements.{All-head, All-tail}
 use Rattle.std.proofs.lemmas.Option.{same_Some}
 use Rattle.acpc_game.specs.declared.game.Game.{Game as AnyGame}
@@ -25,17 +25,23 @@ use Rattle.printed_hands.specs.Check.{check_end, check_line, each_hand}
 use Rattle.printed_hands.specs.Steps.{replay_lines}
 use Rattle.printed_report.specs.Report.{Hand, Seated, hand_of, report_on, seated_in}
 use Rattle.hand_canon.specs.Judged.{IsJudged}
-use Rattle.convert_core.specs.Judged.{ArePlaysOf}
+use Rattle.convert_core.specs.HistoryLaws as history_laws
+use Rattle.convert_core.specs.Judged.{ArePlaysOf, IsFirstRefused}
+use Rattle.convert_core.specs.LogLaws as log_laws
+use Rattle.convert_core.specs.TreeLaws as tree_laws
+use Rattle.convert_core.specs.declared.fault.Refusal.{Refusal}
+use Rattle.convert_core.specs.declared.format_fault.FormatFault.{FormatFault}
+use Rattle.convert_core.specs.declared.format_fault.FormatFault.TheVariants as formats
 use Rattle.convert_core.specs.HistoryAlike as histories_alike
 use Rattle.convert_core.specs.LogAlike as logs_alike
 use Rattle.convert_core.specs.SameRecords.{AllAlike, AreAlike, SayTheSame}
 use Rattle.convert_core.specs.TreeAlike as trees_alike
 use Rattle.convert_core.proofs.OneConversion.{AllPlayedAlike, all_same, played_alike}
-use Rattle.convert_core.proofs.OneOutcome.{AllTraced, all_turned, no_plays, same_refused, same_traces}
+use Rattle.convert_core.proofs.OneOutcome.{AllTraced, no_plays, same_refused, same_traces}
 use Rattle.convert_core.proofs.JudgedPlays.{hands_of}
-use Rattle.poker_cli.specs.Answer.{Answer, Files, GivesGame, GivesNoGame, IsAnswer, IsAnswerIn, IsAnswerTo, IsConversion, IsMadeOf, IsWay, done, most_input, text_of, to_excess, to_fault, to_first_game, to_refusal, to_unspelled}
+use Rattle.poker_cli.specs.Answer.{Answer, Files, GivesGame, GivesNoGame, IsAnswer, IsAnswerIn, IsAnswerTo, IsConversion, IsMadeOf, IsWay, done, most_input, text_of, to_excess, to_fault, to_first_game, to_refusal, to_unspelled, to_wrong_history, to_wrong_log, to_wrong_tree}
 use Rattle.poker_cli.specs.Answer as answers
-use Rattle.poker_cli.specs.Inputs.{Fault, HaveFault, InHistory, InLog, InTree, SayRecords}
+use Rattle.poker_cli.specs.Inputs.{HaveFault, SayRecords}
 use Rattle.poker_cli.specs.OneAnswer.{AreOneAnswer}
 use Rattle.poker_cli.specs.Outputs.{SpellPlays, first_refusal_in}
 use Rattle.poker_cli.specs.Ways.{game_name, kept, way, way_of}
@@ -156,11 +162,11 @@ one_conversion to keep ps qs _ _ alike (answers.NotSpelled number fact is) (answ
     one_itself (tasks.Convert to keep) (to_unspelled number fact) (to_unspelled count more)
     (refusals_same number count fact more
     (same_Some (refusals.Unspelled number fact) (refusals.Unspelled count more) (sym is ∙ refusal_same to keep ps qs alike ∙ it)))
-one_conversion to keep ps qs _ _ alike (answers.NotSpelled number fact is) (answers.Spelled none bytes spell) =
+one_conversion to keep ps qs _ _ alike (answers.NotSpelled number fact is) (answers.Spelled none bytes spell back) =
     let same = sym is ∙ refusal_same to keep ps qs alike ∙ none in absurd (cc (same))
-one_conversion to keep ps qs _ _ alike (answers.Spelled none bytes spell) (answers.NotSpelled number fact is) =
+one_conversion to keep ps qs _ _ alike (answers.Spelled none bytes spell back) (answers.NotSpelled number fact is) =
     let same = sym is ∙ sym (refusal_same to keep ps qs alike) ∙ none in absurd (cc (same))
-one_conversion to keep ps qs _ _ alike (answers.Spelled none bytes spell) (answers.Spelled too others it) =
+one_conversion to keep ps qs _ _ alike (answers.Spelled none bytes spell back) (answers.Spelled too others it again) =
     one_output to keep ps qs bytes others alike spell it
 
 -- what is made of hands
@@ -177,75 +183,103 @@ alike_hands : (records others : List Record) (ps qs : List Play) → AllAlike re
 alike_hands records others ps qs alike are is =
     subst (λ (hands : List Record). AllAlike hands (hands_of qs)) (sym are.same) (subst (AllAlike records) (sym is.same) alike)
 
--- the answer to records that are alike
-same_answer : (task : Task) (records others : List Record) (answer other : Answer) → AllAlike records others
-    → IsAnswerTo task records answer → IsAnswerTo task others other → AreOneAnswer task answer other
-same_answer task records others _ _ alike (answers.Refused number why first) (answers.Refused count reason next) =
-    let one = same_refused records others number count why reason (all_same records others alike) first next in
-    one_itself task (to_refusal number why) (to_refusal count reason) (ap₂ to_refusal one.0 one.1)
-same_answer task records others _ _ alike (answers.Refused number why first) (answers.Played plays are answer is) =
-    absurd (no_plays records others number why plays (all_same records others alike) first are)
-same_answer task records others _ _ alike (answers.Played plays are answer is) (answers.Refused number why first) =
-    absurd (no_plays others records number why plays (all_turned records others (all_same records others alike)) first are)
-same_answer task records others _ _ alike (answers.Played plays are answer made) (answers.Played too is other makes) =
-    one_made task plays too answer other are.judged (same_traces records others plays too (all_same records others alike) are is)
-    (alike_hands records others plays too alike are is) made makes
+-- the answer to bytes of which all records are alike, and all faults told alike
+AllSaidAlike : (List Record → Type 0) → Type 0
+AllSaidAlike Say = (records others : List Record) → Say records → Say others → AllAlike records others
 
--- bytes have one first fault
-one_fault : (reader : Reader) (bytes : List ℕ) (fault other : Fault) → HaveFault reader bytes fault → HaveFault reader bytes other → fault ≡ other
-one_fault readers.Phh bytes (InHistory wrong) (InHistory other) is it = ap InHistory (cc)
-one_fault readers.Phh bytes (InHistory wrong) other is it = absurd it
-one_fault (readers.Ohh dialect) bytes (InTree wrong) (InTree other) is it = ap InTree (cc)
-one_fault (readers.Ohh dialect) bytes (InTree wrong) other is it = absurd it
-one_fault (readers.Acpc game) bytes (InLog wrong) (InLog other) is it = ap InLog (cc)
-one_fault (readers.Acpc game) bytes (InLog wrong) other is it = absurd it
-one_fault reader bytes fault other is it = absurd is
+AllToldAlike : (FormatFault → Type 0) → Type 0
+AllToldAlike HaveFault =
+    (fault other : FormatFault) (answer too : Answer) → HaveFault fault → HaveFault other → to_fault fault ≡ Some answer → to_fault other ≡ Some too → answer ≡ too
+
+SayOrFault : (List Record → Type 0) → (FormatFault → Type 0) → Type 0
+SayOrFault Say HaveFault = (records : List Record) (fault : FormatFault) → Say records → HaveFault fault → ⊥
+
+refused_or_played : (records others : List Record) (number : ℕ) (why : Refusal) (plays : List Play) → AllAlike records others
+    → IsFirstRefused records number why → ArePlaysOf others plays → ⊥
+refused_or_played records others number why plays alike first are =
+    no_plays records others number why plays (all_same records others alike) first are
+
+same_answer : (Say : List Record → Type 0) (HaveFault : FormatFault → Type 0) (task : Task) (answer other : Answer)
+    → AllSaidAlike Say → AllToldAlike HaveFault → SayOrFault Say HaveFault
+    → IsAnswerTo Say HaveFault (IsMadeOf task) answer → IsAnswerTo Say HaveFault (IsMadeOf task) other → AreOneAnswer task answer other
+unfolding AllSaidAlike AllToldAlike SayOrFault
+same_answer Say HaveFault task answer other alike told apart (answers.Unread fault have _ is) (answers.Unread found has _ it) =
+    one_itself task answer other (told fault found answer other have has is it)
+same_answer Say HaveFault task answer _ alike told apart (answers.Unread fault have _ is) (answers.Refused number why first) =
+    absurd (apart first.records fault first.say have)
+same_answer Say HaveFault task answer other alike told apart (answers.Unread fault have _ is) (answers.Played plays read _ made) =
+    absurd (apart read.records fault read.say have)
+same_answer Say HaveFault task _ other alike told apart (answers.Refused number why first) (answers.Unread fault have _ is) =
+    absurd (apart first.records fault first.say have)
+same_answer Say HaveFault task _ _ alike told apart (answers.Refused number why first) (answers.Refused count reason next) =
+    let one = same_refused first.records next.records number count why reason
+    (all_same first.records next.records (alike first.records next.records first.say next.say)) first.first next.first in
+    one_itself task (to_refusal number why) (to_refusal count reason) (ap₂ to_refusal one.0 one.1)
+same_answer Say HaveFault task _ other alike told apart (answers.Refused number why first) (answers.Played plays read _ made) =
+    absurd (refused_or_played first.records read.records number why plays (alike first.records read.records first.say read.say) first.first read.are)
+same_answer Say HaveFault task answer other alike told apart (answers.Played plays read _ made) (answers.Unread fault have _ is) =
+    absurd (apart read.records fault read.say have)
+same_answer Say HaveFault task answer _ alike told apart (answers.Played plays read _ made) (answers.Refused number why first) =
+    absurd (refused_or_played first.records read.records number why plays (alike first.records read.records first.say read.say) first.first read.are)
+same_answer Say HaveFault task answer other alike told apart (answers.Played plays read _ made) (answers.Played too reads _ makes) =
+    let both = alike read.records reads.records read.say reads.say in
+    one_made task plays too answer other read.are.judged
+    (same_traces read.records reads.records plays too (all_same read.records reads.records both) read.are reads.are)
+    (alike_hands read.records reads.records plays too both read.are reads.are) made makes
+
+-- a fault of bytes is told in one way
+one_told : (reader : Reader) (bytes : List ℕ) → AllToldAlike (HaveFault reader bytes)
+unfolding AllToldAlike
+one_told readers.Phh bytes (formats.Phh fault) (formats.Phh other) answer too have has told tells =
+    let reads = have.reads in
+    let again = has.reads in
+    let wrong : have.wrong ≡ has.wrong = cc (reads, again) in
+    same_Some answer too (sym told ∙ ap (option_map to_wrong_history) (have.told ∙ ap Some wrong ∙ sym has.told) ∙ tells)
+one_told readers.Phh bytes (formats.Ohh fault) other answer too have has told tells = absurd have
+one_told readers.Phh bytes (formats.Acpc fault) other answer too have has told tells = absurd have
+one_told readers.Phh bytes (formats.Phh fault) (formats.Ohh other) answer too have has told tells = absurd has
+one_told readers.Phh bytes (formats.Phh fault) (formats.Acpc other) answer too have has told tells = absurd has
+one_told (readers.Ohh dialect) bytes (formats.Ohh fault) (formats.Ohh other) answer too have has told tells =
+    let reads = have.reads in
+    let again = has.reads in
+    let wrong : have.wrong ≡ has.wrong = cc (reads, again) in
+    same_Some answer too (sym told ∙ ap (option_map to_wrong_tree) (have.told ∙ ap Some wrong ∙ sym has.told) ∙ tells)
+one_told (readers.Ohh dialect) bytes (formats.Phh fault) other answer too have has told tells = absurd have
+one_told (readers.Ohh dialect) bytes (formats.Acpc fault) other answer too have has told tells = absurd have
+one_told (readers.Ohh dialect) bytes (formats.Ohh fault) (formats.Phh other) answer too have has told tells = absurd has
+one_told (readers.Ohh dialect) bytes (formats.Ohh fault) (formats.Acpc other) answer too have has told tells = absurd has
+one_told (readers.Acpc game) bytes (formats.Acpc fault) (formats.Acpc other) answer too have has told tells =
+    let reads = have.reads in
+    let again = has.reads in
+    let same : fault ≡ other = cc (reads, again) in
+    same_Some answer too (sym told ∙ ap to_wrong_log same ∙ tells)
+one_told (readers.Acpc game) bytes (formats.Phh fault) other answer too have has told tells = absurd have
+one_told (readers.Acpc game) bytes (formats.Ohh fault) other answer too have has told tells = absurd have
+one_told (readers.Acpc game) bytes (formats.Acpc fault) (formats.Phh other) answer too have has told tells = absurd has
+one_told (readers.Acpc game) bytes (formats.Acpc fault) (formats.Ohh other) answer too have has told tells = absurd has
 
 -- bytes with a fault say no records
-no_records : (reader : Reader) (bytes : List ℕ) (fault : Fault) (records : List Record) → HaveFault reader bytes fault → SayRecords reader bytes records → ⊥
-no_records readers.Phh bytes (InHistory wrong) records is it = let says = it.0 in cc
-no_records (readers.Ohh dialect) bytes (InTree wrong) records is it = let says = it.0 in cc
-no_records (readers.Acpc game) bytes (InLog wrong) records is it = let says = it.0 in cc
-no_records reader bytes fault records is it = is
+say_or_fault : (reader : Reader) (bytes : List ℕ) → SayOrFault (SayRecords reader bytes) (HaveFault reader bytes)
+unfolding SayOrFault
+say_or_fault readers.Phh bytes records fault say have = history_laws.no_fault bytes records fault say have
+say_or_fault (readers.Ohh dialect) bytes records fault say have = tree_laws.no_fault dialect bytes records fault say have
+say_or_fault (readers.Acpc game) bytes records fault say have = log_laws.no_fault game bytes records fault say have
 
 -- the records of bytes are alike
-SayAlike : Reader → List ℕ → Type 0
-SayAlike reader bytes = (records others : List Record) → SayRecords reader bytes records → SayRecords reader bytes others → AllAlike records others
-
--- so the bytes have one answer
-same_reading : (task : Task) (reader : Reader) (bytes : List ℕ) (answer other : Answer) → SayAlike reader bytes
-    → IsAnswer task reader bytes answer → IsAnswer task reader bytes other → AreOneAnswer task answer other
-unfolding SayAlike
-same_reading task reader bytes _ _ alike (answers.TooLong many) (answers.TooLong too) = one_itself task to_excess to_excess refl
-same_reading task reader bytes _ _ alike (answers.TooLong many) (answers.Unread few fault is) = absurd (omega (arith, many, few))
-same_reading task reader bytes _ _ alike (answers.TooLong many) (answers.Read few records is other to) = absurd (omega (arith, many, few))
-same_reading task reader bytes _ _ alike (answers.Unread few fault is) (answers.TooLong many) = absurd (omega (arith, many, few))
-same_reading task reader bytes _ _ alike (answers.Unread few fault is) (answers.Unread less found it) =
-    one_itself task (to_fault fault) (to_fault found) (ap to_fault (one_fault reader bytes fault found is it))
-same_reading task reader bytes _ _ alike (answers.Unread few fault is) (answers.Read less records it other to) = absurd (no_records reader bytes fault records is it)
-same_reading task reader bytes _ _ alike (answers.Read few records is answer to) (answers.TooLong many) = absurd (omega (arith, many, few))
-same_reading task reader bytes _ _ alike (answers.Read few records is answer to) (answers.Unread less fault it) = absurd (no_records reader bytes fault records it is)
-same_reading task reader bytes _ _ alike (answers.Read few records is answer to) (answers.Read less others it other from) =
-    same_answer task records others answer other (alike records others is it) to from
-
-read_alike : (reader : Reader) (bytes : List ℕ) → SayAlike reader bytes
-unfolding SayAlike
-read_alike readers.Phh bytes records others is it =
-    let says = is.0 in
-    let too = it.0 in
-    histories_alike.all_alike records others is.1 it.1 (cc (says, too))
-read_alike (readers.Ohh dialect) bytes records others is it =
-    let says = is.0 in
-    let too = it.0 in
-    trees_alike.all_alike records others is.1 it.1 (cc (says, too))
-read_alike (readers.Acpc game) bytes records others is it =
-    let says = is.0 in
-    let too = it.0 in
-    logs_alike.all_alike game records others is.1 it.1 (cc (says, too))
+said_alike : (reader : Reader) (bytes : List ℕ) → AllSaidAlike (SayRecords reader bytes)
+unfolding AllSaidAlike
+said_alike readers.Phh bytes records others is it = histories_alike.one_reading bytes records others is it
+said_alike (readers.Ohh dialect) bytes records others is it = trees_alike.one_reading dialect bytes records others is it
+said_alike (readers.Acpc game) bytes records others is it = logs_alike.one_reading game bytes records others is it
 
 pub one_answer : (task : Task) (reader : Reader) (bytes : List ℕ) (answer other : Answer)
     → IsAnswer task reader bytes answer → IsAnswer task reader bytes other → AreOneAnswer task answer other
-one_answer task reader bytes answer other is it = same_reading task reader bytes answer other (read_alike reader bytes) is it
+one_answer task reader bytes _ _ (answers.TooLong many) (answers.TooLong too) = one_itself task to_excess to_excess refl
+one_answer task reader bytes _ other (answers.TooLong many) (answers.Read few _ is) = absurd (omega (arith, many, few))
+one_answer task reader bytes answer _ (answers.Read few _ is) (answers.TooLong many) = absurd (omega (arith, many, few))
+one_answer task reader bytes answer other (answers.Read few _ is) (answers.Read less _ it) =
+    same_answer (SayRecords reader bytes) (HaveFault reader bytes) task answer other
+    (said_alike reader bytes) (one_told reader bytes) (say_or_fault reader bytes) is it
 
 -- what an input whose hands are all legal and agree is made of
 record IsMadeAlike (task : Task) (plays : List Play) (answer : Answer) : Type 0 where
@@ -254,26 +288,27 @@ record IsMadeAlike (task : Task) (plays : List Play) (answer : Answer) : Type 0 
   alike : AllPlayedAlike plays others
   made : IsMadeOf task others answer
 
-made_of : (task : Task) (records others : List Record) (plays : List Play) (answer : Answer) → AllAlike records others
-    → ArePlaysOf records plays → IsAnswerTo task others answer → IsMadeAlike task plays answer
-made_of task records others plays _ alike are (answers.Refused number why first) =
-    absurd (no_plays others records number why plays (all_turned records others (all_same records others alike)) first are)
-made_of task records others plays _ alike are (answers.Played too is answer makes) =
-    let traced = same_traces records others plays too (all_same records others alike) are is in
+made_of : (Say : List Record → Type 0) (HaveFault : FormatFault → Type 0) (task : Task) (records : List Record) (plays : List Play) (answer : Answer)
+    → AllSaidAlike Say → SayOrFault Say HaveFault → Say records → ArePlaysOf records plays → IsAnswerTo Say HaveFault (IsMadeOf task) answer → IsMadeAlike task plays answer
+unfolding AllSaidAlike SayOrFault
+made_of Say HaveFault task records plays answer alike apart say are (answers.Unread fault have _ is) = absurd (apart records fault say have)
+made_of Say HaveFault task records plays _ alike apart say are (answers.Refused number why first) =
+    absurd (refused_or_played first.records records number why plays (alike first.records records first.say say) first.first are)
+made_of Say HaveFault task records plays answer alike apart say are (answers.Played too read _ makes) =
+    let both = alike records read.records say read.say in
+    let traced = same_traces records read.records plays too (all_same records read.records both) are read.are in
     record {
       others = too;
       traced = traced;
-      alike = played_alike plays too are.judged traced (alike_hands records others plays too alike are is);
+      alike = played_alike plays too are.judged traced (alike_hands records read.records plays too both are read.are);
       made = makes;
     }
 
 legal_made : (task : Task) (reader : Reader) (bytes : List ℕ) (records : List Record) (plays : List Play) (answer : Answer) → length bytes ≤ most_input
     → SayRecords reader bytes records → ArePlaysOf records plays → IsAnswer task reader bytes answer → IsMadeAlike task plays answer
-unfolding SayAlike
 legal_made task reader bytes records plays _ few is are (answers.TooLong many) = absurd (omega (arith, many, few))
-legal_made task reader bytes records plays _ few is are (answers.Unread less fault it) = absurd (no_records reader bytes fault records it is)
-legal_made task reader bytes records plays _ few is are (answers.Read less others it answer to) =
-    made_of task records others plays answer (read_alike reader bytes records others is it) are to
+legal_made task reader bytes records plays answer few is are (answers.Read less _ to) =
+    made_of (SayRecords reader bytes) (HaveFault reader bytes) task records plays answer (said_alike reader bytes) (say_or_fault reader bytes) is are to
 
 -- so its status is known
 shown_status : (command : Command) (plays : List Play) (answer : Answer) → IsMadeAlike (tasks.Show command) plays answer → answer.status ≡ statuses.Done
@@ -285,7 +320,7 @@ game_status plays answer is = ap (λ (a : Answer). a.status) (is.made ∙ sym (s
 spelled_status : (to : Reader) (keep : Keep) (plays : List Play) (answer : Answer) → first_refusal_in to keep plays ≡ None
     → IsConversion to keep plays answer → answer.status ≡ statuses.Done
 spelled_status to keep plays _ none (answers.NotSpelled number fact is) = absurd (cc (none, is))
-spelled_status to keep plays _ none (answers.Spelled spelled bytes spell) = refl
+spelled_status to keep plays _ none (answers.Spelled spelled bytes spell back) = refl
 
 converted_status : (to : Reader) (keep : Keep) (plays : List Play) (answer : Answer) → first_refusal_in to keep plays ≡ None
     → IsMadeAlike (tasks.Convert to keep) plays answer → answer.status ≡ statuses.Done

@@ -1,11 +1,12 @@
 -- What the program answers to the bytes of its input, and of the file of a game.
-use Rattle.std.specs.Prelude.{◌≡◌, ℕ, ◌<◌, ◌≤◌, List, [], ◌∷◌, length, codes, Option, Some, None, Result, Ok, Err}
+use Rattle.std.specs.Prelude.{◌≡◌, ℕ, ◌<◌, ◌≤◌, List, [], ◌∷◌, length, codes, Option, Some, None, option_map, Result, Ok, Err}
 use Rattle.acpc_game.specs.GameFile.{GameSaid, game_said}
 use Rattle.acpc_game.specs.GameText.{game_text}
 use Rattle.acpc_game.specs.GameView.{game_in}
 use Rattle.acpc_game.specs.declared.game.Game.{Game}
 use Rattle.acpc_line.specs.GameOf.{game_of}
 use Rattle.acpc_text.specs.declared.fault.AcpcFault.{AcpcFault}
+use Rattle.acpc_text.specs.declared.fault.AcpcFault.TheVariants as log_faults
 use Rattle.command_words.specs.Words.{Request}
 use Rattle.command_words.specs.declared.command.Command.{Command}
 use Rattle.command_words.specs.declared.command.Command.TheVariants as commands
@@ -17,15 +18,20 @@ use Rattle.hand_records.specs.declared.writing.WriteRefusal.TheVariants as refus
 use Rattle.printed_hands.specs.Check.{check_said}
 use Rattle.printed_hands.specs.Replay.{replay_said}
 use Rattle.printed_report.specs.Report.{report_said}
-use Rattle.convert_core.specs.Judged.{ArePlaysOf, IsFirstRefused}
-use Rattle.convert_core.specs.declared.fault.PlaysFault.{PlaysFault}
-use Rattle.convert_core.specs.declared.fault.PlaysFault.TheVariants as plays_faults
+use Rattle.ohh_reading.specs.Reading as trees
+use Rattle.phh_reading.specs.Reading as histories
+use Rattle.convert_core.specs.Conversion.{ReadAsPlays, ReadAsRefused}
+use Rattle.convert_core.specs.Spelled.{first_refusal}
+use Rattle.convert_core.specs.declared.convert_fault.ConvertFault.{ConvertFault}
+use Rattle.convert_core.specs.declared.convert_fault.ConvertFault.TheVariants as convert_faults
 use Rattle.convert_core.specs.declared.fault.Refusal.{Refusal}
+use Rattle.convert_core.specs.declared.format_fault.FormatFault.{FormatFault}
+use Rattle.convert_core.specs.declared.format_fault.FormatFault.TheVariants as formats
 use Rattle.poker_cli.specs.Faults.{wrong_line, wrong_status}
-use Rattle.poker_cli.specs.Inputs.{Fault, HaveFault, InHistory, InLog, InTree, SayRecords}
+use Rattle.poker_cli.specs.Inputs.{HaveFault, SayRecords}
 use Rattle.poker_cli.specs.Lines.{refused_line}
 use Rattle.poker_cli.specs.LogFaults.{bad_game_line, log_line, log_status}
-use Rattle.poker_cli.specs.Outputs.{SpellPlays, first_refusal_in}
+use Rattle.poker_cli.specs.Outputs.{ReadsBack, SpellPlays, unspelled_in}
 use Rattle.poker_cli.specs.TreeFaults.{tree_line, tree_status}
 use Rattle.poker_cli.specs.Unspelled.{unspelled_line}
 use Rattle.poker_cli.specs.Ways.{game_name, way_of}
@@ -54,20 +60,25 @@ refusal status line = record { status = status; output = []; line = line }
 abbrev pub to_excess : Answer
 to_excess = refusal statuses.Limit (codes "limit: input bytes 16777216\n")
 
--- the answer to an input that does not read as hands
-abbrev pub to_fault : Fault → Answer
-to_fault (InHistory wrong) = refusal (wrong_status wrong) (wrong_line wrong)
-to_fault (InTree wrong) = refusal (tree_status wrong) (tree_line wrong)
-to_fault (InLog fault) = refusal (log_status fault) (log_line fault)
+-- The answer to an input that does not read as hands, by its first fault; want of memory has none.
+abbrev pub to_wrong_history : histories.Wrong → Answer
+to_wrong_history wrong = refusal (wrong_status wrong) (wrong_line wrong)
+
+abbrev pub to_wrong_tree : trees.Wrong → Answer
+to_wrong_tree wrong = refusal (tree_status wrong) (tree_line wrong)
+
+abbrev pub to_wrong_log : AcpcFault → Option Answer
+to_wrong_log log_faults.Memory = None
+to_wrong_log fault = Some (refusal (log_status fault) (log_line fault))
+
+abbrev pub to_fault : FormatFault → Option Answer
+to_fault (formats.Phh fault) = option_map to_wrong_history (histories.wrong_of fault)
+to_fault (formats.Ohh fault) = option_map to_wrong_tree (trees.wrong_of fault)
+to_fault (formats.Acpc fault) = to_wrong_log fault
 
 -- the answer to a refused hand
 abbrev pub to_refusal : ℕ → Refusal → Answer
 to_refusal number why = refusal statuses.Refused (refused_line number why)
-
--- an answer tells which hand is refused, and why
-abbrev pub IsToldOf : PlaysFault → Answer → Type 0
-IsToldOf (plays_faults.Refused number why) answer = answer ≡ to_refusal number why
-IsToldOf plays_faults.Memory answer = ⊥
 
 -- what a command prints of plays
 abbrev pub text_of : Command → List Play → List ℕ
@@ -92,13 +103,19 @@ abbrev pub to_first_game : List Play → Answer
 to_first_game [] = done []
 to_first_game (play ∷ plays) = to_game (game_of play.trace.setup)
 
--- The answer where plays are to be written in a notation, with so many of their notes.
-pub data IsConversion (to : Reader) (keep : Keep) (plays : List Play) : Answer → Type 0 where
+-- The answer where plays are to be written in a notation, which tells their first fact that has no spelling, which bytes spell them,
+-- and what it means that bytes read back as them.
+pub data IsWritten (unspelled : Play → Option Unspelled) (Spell Back : List Play → List ℕ → Type 0) (plays : List Play) : Answer → Type 0 where
   -- a fact that is to be kept has no spelling, and this is the first
-  NotSpelled : (number : ℕ) (fact : Unspelled) → first_refusal_in to keep plays ≡ Some (refusals.Unspelled number fact)
-      → IsConversion to keep plays (to_unspelled number fact)
-  -- all of them have one, and bytes spell the plays
-  Spelled : first_refusal_in to keep plays ≡ None → (bytes : List ℕ) → SpellPlays to plays bytes → IsConversion to keep plays (done bytes)
+  NotSpelled : (number : ℕ) (fact : Unspelled) → first_refusal unspelled plays ≡ Some (refusals.Unspelled number fact)
+      → IsWritten unspelled Spell Back plays (to_unspelled number fact)
+  -- all of them have one, and the bytes that spell the plays read back as them
+  Spelled : first_refusal unspelled plays ≡ None → (bytes : List ℕ) → Spell plays bytes → Back plays bytes
+      → IsWritten unspelled Spell Back plays (done bytes)
+
+-- plays are written in a notation, with so many of their notes
+abbrev pub IsConversion : Reader → Keep → List Play → Answer → Type 0
+IsConversion to keep plays answer = IsWritten (unspelled_in to keep) (SpellPlays to) (ReadsBack to) plays answer
 
 -- the answer to an input whose hands are all legal and agree
 abbrev pub IsMadeOf : Task → List Play → Answer → Type 0
@@ -106,22 +123,29 @@ IsMadeOf (tasks.Show command) plays answer = answer ≡ done (text_of command pl
 IsMadeOf tasks.GameFile plays answer = answer ≡ to_first_game plays
 IsMadeOf (tasks.Convert to keep) plays answer = IsConversion to keep plays answer
 
--- The answer to the records of an input, of which something is to be made.
-pub data IsAnswerTo (task : Task) (records : List Record) : Answer → Type 0 where
-  -- a hand is refused, and this is the first
-  Refused : (number : ℕ) (why : Refusal) → IsFirstRefused records number why → IsAnswerTo task records (to_refusal number why)
-  -- all hands are legal, and agree with what is stated of them
-  Played : (plays : List Play) → ArePlaysOf records plays → (answer : Answer) → IsMadeOf task plays answer → IsAnswerTo task records answer
+-- The answer to bytes, of which a notation tells what they say and which fault they have, where this is made of their plays.
+pub data IsAnswerTo (Say : List Record → Type 0) (HaveFault : FormatFault → Type 0) (IsMade : List Play → Answer → Type 0) : Answer → Type 0 where
+  -- they do not read as hands
+  Unread : (fault : FormatFault) → HaveFault fault → (answer : Answer) → to_fault fault ≡ Some answer → IsAnswerTo Say HaveFault IsMade answer
+  -- a hand is refused
+  Refused : (number : ℕ) (why : Refusal) → ReadAsRefused Say number why → IsAnswerTo Say HaveFault IsMade (to_refusal number why)
+  -- all hands are legal and agree
+  Played : (plays : List Play) → ReadAsPlays Say plays → (answer : Answer) → IsMade plays answer → IsAnswerTo Say HaveFault IsMade answer
 
--- The answer to the bytes of an input.
+-- The answer to the bytes of an input, as they are read and what is made of them.
 pub data IsAnswer (task : Task) (reader : Reader) (bytes : List ℕ) : Answer → Type 0 where
   -- they are too many
   TooLong : most_input < length bytes → IsAnswer task reader bytes to_excess
-  -- they do not read as hands
-  Unread : length bytes ≤ most_input → (fault : Fault) → HaveFault reader bytes fault → IsAnswer task reader bytes (to_fault fault)
-  -- they read as these hands
-  Read : length bytes ≤ most_input → (records : List Record) → SayRecords reader bytes records
-      → (answer : Answer) → IsAnswerTo task records answer → IsAnswer task reader bytes answer
+  -- they are read
+  Read : length bytes ≤ most_input → (answer : Answer) → IsAnswerTo (SayRecords reader bytes) (HaveFault reader bytes) (IsMadeOf task) answer
+      → IsAnswer task reader bytes answer
+
+-- an answer tells why bytes are not converted, or have no plays; want of memory has no answer
+abbrev pub IsToldOf : ConvertFault → Answer → Type 0
+IsToldOf (convert_faults.Format fault) answer = to_fault fault ≡ Some answer
+IsToldOf (convert_faults.Refused number why) answer = answer ≡ to_refusal number why
+IsToldOf (convert_faults.Unspelled number fact) answer = answer ≡ to_unspelled number fact
+IsToldOf convert_faults.Memory answer = ⊥
 
 -- the answers to a game's file that is too long, or says no game
 abbrev pub to_game_excess : Answer

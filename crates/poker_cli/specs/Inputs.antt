@@ -1,35 +1,21 @@
--- What an input says as it is read: its records, or its first fault.
-use Rattle.std.specs.Prelude.{◌≡◌, ℕ, List, map, Ok, Err}
-use Rattle.std.specs.List.{AllByRecursion}
-use Rattle.acpc_reading.specs.Logs as logs
-use Rattle.acpc_reading.specs.RecordView.{IsOfGame, record_said}
-use Rattle.acpc_text.specs.declared.fault.AcpcFault.{AcpcFault}
+-- What bytes say as they are read, and their first fault: the words of each notation.
+use Rattle.std.specs.Prelude.{ℕ, List}
+use Rattle.convert_core.specs.Histories as histories
+use Rattle.convert_core.specs.Logs as logs
+use Rattle.convert_core.specs.Trees as trees
+use Rattle.convert_core.specs.declared.format_fault.FormatFault.{FormatFault}
 use Rattle.hand_records.specs.declared.record.Record.{Record}
-use Rattle.ohh_reading.specs.Hand as hands
-use Rattle.ohh_reading.specs.Reading as ohh
-use Rattle.phh_reading.specs.Hand.{plain}
-use Rattle.phh_reading.specs.Reading as phh
 use Rattle.poker_cli.specs.declared.task.Reader.{Reader}
 use Rattle.poker_cli.specs.declared.task.Reader.TheVariants as readers
 
--- bytes say these records, each of them one of its notation
+-- bytes say these records
 abbrev pub SayRecords : Reader → List ℕ → List Record → Type 0
-SayRecords readers.Phh bytes records =
-    (phh.reading bytes ≡ Ok (map plain records)) × AllByRecursion phh.IsHistory records
-SayRecords (readers.Ohh dialect) bytes records =
-    (ohh.reading dialect bytes ≡ Ok (map hands.plain records)) × AllByRecursion ohh.IsHistory records
-SayRecords (readers.Acpc game) bytes records =
-    (logs.reading game bytes ≡ Ok (map record_said records)) × AllByRecursion (IsOfGame game) records
+SayRecords readers.Phh bytes records = histories.Say bytes records
+SayRecords (readers.Ohh dialect) bytes records = trees.Say dialect bytes records
+SayRecords (readers.Acpc game) bytes records = logs.Say game bytes records
 
--- the first fault of bytes that say no hands
-pub data Fault : Type 0 where
-  InHistory : (wrong : phh.Wrong) → Fault
-  InTree : (wrong : ohh.Wrong) → Fault
-  InLog : (fault : AcpcFault) → Fault
-
--- bytes have this first fault
-abbrev pub HaveFault : Reader → List ℕ → Fault → Type 0
-HaveFault readers.Phh bytes (InHistory wrong) = phh.reading bytes ≡ Err wrong
-HaveFault (readers.Ohh dialect) bytes (InTree wrong) = ohh.reading dialect bytes ≡ Err wrong
-HaveFault (readers.Acpc game) bytes (InLog fault) = logs.reading game bytes ≡ Err fault
-HaveFault reader bytes fault = ⊥
+-- bytes do not read as hands, and this is their first fault
+abbrev pub HaveFault : Reader → List ℕ → FormatFault → Type 0
+HaveFault readers.Phh bytes fault = histories.HaveFault bytes fault
+HaveFault (readers.Ohh dialect) bytes fault = trees.HaveFault dialect bytes fault
+HaveFault (readers.Acpc game) bytes fault = logs.HaveFault game bytes fault

@@ -1,10 +1,7 @@
 -- What the file of a game lacks, and why there is no answer.
-use Rattle.std.specs.Prelude.{◌≡◌, ◌≢◌, ℕ, ◌<◌, ◌≤◌, List, length, Option, Some, None, Err}
+use Rattle.std.specs.Prelude.{◌≡◌, ℕ, ◌<◌, ◌≤◌, List, length, Option, Some, None, Err}
 use Rattle.acpc_game.specs.GameFile.{game_said}
-use Rattle.poker_cli.specs.Answer.{Answer, most_input, to_bad_game, to_fault, to_game_excess}
-use Rattle.acpc_text.specs.declared.fault.AcpcFault.{AcpcFault}
-use Rattle.acpc_text.specs.declared.fault.AcpcFault.TheVariants as faults
-use Rattle.poker_cli.specs.Inputs.{InLog}
+use Rattle.poker_cli.specs.Answer.{Answer, most_input, to_bad_game, to_game_excess}
 use Rattle.poker_cli.specs.declared.games.Lack.{Lack}
 use Rattle.poker_cli.specs.declared.games.Lack.TheVariants as lacks
 use Rattle.poker_cli.specs.declared.games.NoGame.{NoGame}
@@ -35,8 +32,3 @@ ComesFirst whys.GameMissing = Unit {0}
 ComesFirst whys.ShelfFault = Unit {0}
 ComesFirst whys.ReadFault = ⊥
 ComesFirst whys.Memory = ⊥
-
--- an answer tells a fault of a log, which is not that memory ran out
-pub record IsLogFaultTold (fault : AcpcFault) (answer : Answer) : Type 0 where
-  pub told : fault ≢ faults.Memory
-  pub same : answer ≡ to_fault (InLog fault)

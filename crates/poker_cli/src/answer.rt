@@ -1,15 +1,17 @@
-//! What the program answers to the bytes of its input.
-ghost use Rattle.std.specs.Prelude.{◌≡◌, ◌≤◌, All, length, IfOk, string_bytes};
-ghost use Rattle.std.specs.List.{AllByRecursion};
+//! The answer to the bytes of an input, as they are read and what is made of their hands.
+ghost use Rattle.std.specs.Prelude.{◌≡◌, ◌≤◌, All, Some, length, IfOk, string_bytes};
+ghost use Rattle.convert_core.specs.Judged.{IsPlaysFaultOf};
+ghost use Rattle.convert_core.specs.ReadBack.{ReadBack};
+ghost use Rattle.first_fault.specs.declared.limits.TheConstants.{MOST_HANDS};
 ghost use Rattle.hand_canon.specs.Sound.{IsSound};
 ghost use Rattle.hand_records.specs.SoundRecord.{IsSoundRecord};
-ghost use Rattle.first_fault.specs.declared.limits.TheConstants.{MOST_HANDS};
 ghost use Rattle.poker_cli.specs.Answer as definition;
-ghost use Rattle.poker_cli.specs.Answer.{IsAnswer, IsAnswerTo, IsConversion, IsToldOf, most_input};
+ghost use Rattle.poker_cli.specs.Answer.{IsAnswer, IsAnswerTo, IsMadeOf, IsToldOf, IsWritten, most_input};
 ghost use Rattle.poker_cli.specs.Run.{IsOfInput};
 ghost use Rattle.poker_cli.specs.Told.{answer_told};
+ghost use Rattle.poker_cli.specs.declared.task.Task.TheVariants as tasks;
 
-use crate::faults::answer_to_fault;
+use crate::faults::answer_to_history_fault;
 use crate::lines::refused_line;
 use crate::log_faults::answer_to_log_fault;
 use crate::printing::print_records;
@@ -17,14 +19,14 @@ use crate::status::Status;
 use crate::task::{Reader, Task};
 use crate::tree_faults::answer_to_tree_fault;
 use crate::unspelled::unspelled_line;
-use crate::writing::write_in;
-use acpc_game::{Game, write_game};
+use acpc_game::write_game;
 use acpc_line::game_of;
 use card_set::Memory;
 use command_words::Command;
-use convert_core::{PlaysFault, plays_of};
-use hand_records::{Keep, Play, Records, Unspelled, WriteRefusal};
-use ohh_members::Dialect;
+use convert_core::{
+    Acpc, ConvertFault, FormatFault, Notation, Ohh, Phh, PlaysFault, Refusal, convert, plays,
+};
+use hand_records::{Keep, Play, Unspelled};
 use std::alloc::Global;
 
 /// An answer: its status, what goes to the output, and the line that is told beside it.
@@ -46,95 +48,61 @@ pub fn answer_to(alloc: Global, task: Task, reader: &Reader, bytes: &[u8]) -> Re
     ensures own { IfOk result (λ answer. IsOfInput answer.status) }
 {
     match reader {
-        Reader::Phh => answer_to_history(alloc, task, bytes),
-        Reader::Ohh(dialect) => answer_to_trees(alloc, task, *dialect, bytes),
-        Reader::Acpc(game) => answer_to_log(alloc, task, game, bytes),
+        Reader::Phh => answer_from(alloc, task, &Phh, bytes),
+        Reader::Ohh(dialect) => answer_from(alloc, task, &Ohh { dialect: *dialect }, bytes),
+        Reader::Acpc(game) => answer_from(alloc, task, &Acpc { game: *game }, bytes),
     }
 }
 
-// The answer to bytes in the Poker Hand History format.
-fn answer_to_history(alloc: Global, task: Task, bytes: &[u8]) -> Result<Answer, Memory>
-    requires { length bytes.now ≤ most_input }
-    ensures answer { IfOk result (λ answer.
-        IsAnswer task Reader.Phh bytes.now (answer_told answer)) }
-    ensures own { IfOk result (λ answer. IsOfInput answer.status) }
-{
-    match phh_reading::read(alloc, bytes) {
-        Ok(records) => answer_to_records(alloc, task, records),
-        Err(fault) => answer_to_fault(alloc, &fault),
-    }
-}
-
-// The answer to bytes in a dialect of Open Hand History.
-fn answer_to_trees(
+// The answer to bytes in a notation.
+fn answer_from<N: Notation>(
     alloc: Global,
     task: Task,
-    dialect: Dialect,
+    from: &N,
     bytes: &[u8],
 ) -> Result<Answer, Memory>
-    requires { length bytes.now ≤ most_input }
-    ensures answer { IfOk result (λ answer.
-        IsAnswer task (Reader.Ohh dialect) bytes.now (answer_told answer)) }
-    ensures own { IfOk result (λ answer. IsOfInput answer.status) }
-{
-    match ohh_reading::read(alloc, dialect, bytes) {
-        Ok(records) => answer_to_records(alloc, task, records),
-        Err(fault) => answer_to_tree_fault(alloc, &fault),
-    }
-}
-
-// The answer to the bytes of a log under a game.
-fn answer_to_log(alloc: Global, task: Task, game: &Game, bytes: &[u8]) -> Result<Answer, Memory>
-    requires { length bytes.now ≤ most_input }
-    ensures answer { IfOk result (λ answer.
-        IsAnswer task (Reader.Acpc game.now) bytes.now (answer_told answer)) }
-    ensures own { IfOk result (λ answer. IsOfInput answer.status) }
-{
-    match acpc_reading::read(alloc, game, bytes) {
-        Ok(records) => answer_to_records(alloc, task, records),
-        Err(fault) => answer_to_log_fault(alloc, &fault),
-    }
-}
-
-// The answer to the records that bytes say.
-fn answer_to_records(alloc: Global, task: Task, records: Records) -> Result<Answer, Memory>
-    requires sound { All IsSoundRecord records }
-    requires few { length records ≤ MOST_HANDS }
-    ensures answer { IfOk result (λ answer. IsAnswerTo task records (answer_told answer)) }
+    ensures answer { IfOk result (λ answer. IsAnswerTo (N.Say from.now bytes.now)
+        (N.HaveFault from.now bytes.now) (IsMadeOf task) (answer_told answer)) }
     ensures own { IfOk result (λ answer. IsOfInput answer.status) }
 {
     match task {
-        Task::Show(command) => answer_with_text(alloc, command, records),
-        Task::GameFile => answer_with_game(alloc, records),
-        Task::Convert { to, keep } => answer_with_conversion(alloc, &to, keep, records),
+        Task::Show(command) => answer_with_text(alloc, command, from, bytes),
+        Task::GameFile => answer_with_game(alloc, from, bytes),
+        Task::Convert { to, keep } => answer_with_hands(alloc, from, &to, keep, bytes),
     }
 }
 
-// The answer with what a command prints of records.
-fn answer_with_text(alloc: Global, command: Command, records: Records) -> Result<Answer, Memory>
-    requires sound { All IsSoundRecord records }
-    requires few { length records ≤ MOST_HANDS }
-    ensures answer { IfOk result (λ answer.
-        IsAnswerTo (Task.Show command) records (answer_told answer)) }
+// The answer with what a command prints of the hands of bytes.
+fn answer_with_text<N: Notation>(
+    alloc: Global,
+    command: Command,
+    from: &N,
+    bytes: &[u8],
+) -> Result<Answer, Memory>
+    ensures answer { IfOk result (λ answer. IsAnswerTo (N.Say from.now bytes.now)
+        (N.HaveFault from.now bytes.now) (IsMadeOf (Task.Show command)) (answer_told answer)) }
     ensures own { IfOk result (λ answer. IsOfInput answer.status) }
 {
+    let records = match from.read(alloc, bytes) {
+        Ok(records) => records,
+        Err(fault) => return answer_to_unread(alloc, &fault),
+    };
     match print_records(alloc, command, records) {
         Ok(output) => Ok(done(alloc, output.into_bytes())),
-        Err(fault) => answer_to_refused(alloc, &fault),
+        Err(PlaysFault::Refused { hand, why }) => answer_to_refused(alloc, hand, &why),
+        Err(PlaysFault::Memory) => Err(Memory),
     }
 }
 
-// The answer with the game file of the first of records.
-fn answer_with_game(alloc: Global, records: Records) -> Result<Answer, Memory>
-    requires sound { All IsSoundRecord records }
-    requires few { length records ≤ MOST_HANDS }
-    ensures answer { IfOk result (λ answer.
-        IsAnswerTo Task.GameFile records (answer_told answer)) }
+// The answer with the game file of the first hand of bytes.
+fn answer_with_game<N: Notation>(alloc: Global, from: &N, bytes: &[u8]) -> Result<Answer, Memory>
+    ensures answer { IfOk result (λ answer. IsAnswerTo (N.Say from.now bytes.now)
+        (N.HaveFault from.now bytes.now) (IsMadeOf Task.GameFile) (answer_told answer)) }
     ensures own { IfOk result (λ answer. IsOfInput answer.status) }
 {
-    match plays_of(alloc, records) {
+    match plays(alloc, from, bytes) {
         Ok(plays) => answer_with_first_game(alloc, &plays),
-        Err(fault) => answer_to_refused(alloc, &fault),
+        Err(fault) => answer_to_fault(alloc, &fault),
     }
 }
 
@@ -154,43 +122,85 @@ fn answer_with_first_game(alloc: Global, plays: &[Play]) -> Result<Answer, Memor
     }
 }
 
-// The answer with the hands of records in a notation.
-fn answer_with_conversion(
+// The answer with the hands of bytes as they are written otherwise.
+fn answer_with_hands<N: Notation>(
     alloc: Global,
+    from: &N,
     to: &Reader,
     keep: Keep,
-    records: Records,
+    bytes: &[u8],
 ) -> Result<Answer, Memory>
-    requires sound { All IsSoundRecord records }
-    requires few { length records ≤ MOST_HANDS }
-    ensures answer { IfOk result (λ answer.
-        IsAnswerTo (Task.Convert to.now keep) records (answer_told answer)) }
+    ensures answer { IfOk result (λ answer. IsAnswerTo (N.Say from.now bytes.now)
+        (N.HaveFault from.now bytes.now) (IsMadeOf (Task.Convert to.now keep))
+        (answer_told answer)) }
     ensures own { IfOk result (λ answer. IsOfInput answer.status) }
 {
-    match plays_of(alloc, records) {
-        Ok(plays) => answer_with_plays(alloc, to, keep, &plays),
-        Err(fault) => answer_to_refused(alloc, &fault),
+    match to {
+        Reader::Phh => answer_with_conversion(alloc, from, &Phh, keep, bytes),
+        Reader::Ohh(dialect) => {
+            answer_with_conversion(alloc, from, &Ohh { dialect: *dialect }, keep, bytes)
+        }
+        Reader::Acpc(game) => {
+            answer_with_conversion(alloc, from, &Acpc { game: *game }, keep, bytes)
+        }
     }
 }
 
-// The answer with plays in a notation.
-fn answer_with_plays(
+// The answer with the hands of bytes in another notation.
+fn answer_with_conversion<N: Notation, M: Notation>(
     alloc: Global,
-    to: &Reader,
+    from: &N,
+    to: &M,
     keep: Keep,
-    plays: &[Play],
+    bytes: &[u8],
 ) -> Result<Answer, Memory>
-    requires few { length plays.now ≤ MOST_HANDS }
-    requires sound { AllByRecursion IsSound plays.now }
-    ensures answer { IfOk result (λ answer.
-        IsConversion to.now keep plays.now (answer_told answer)) }
+    ensures answer { IfOk result (λ answer. IsAnswerTo (N.Say from.now bytes.now)
+        (N.HaveFault from.now bytes.now)
+        (IsWritten (M.unspelled to.now keep) (M.Spell to.now) (λ plays output.
+        ReadBack (M.Say to.now output) (M.HaveFault to.now output) (M.KeepsNotes to.now) plays))
+        (answer_told answer)) }
     ensures own { IfOk result (λ answer. IsOfInput answer.status) }
 {
-    match write_in(alloc, to, plays, keep) {
+    match convert(alloc, from, to, keep, bytes) {
         Ok(output) => Ok(done(alloc, output)),
-        Err(WriteRefusal::Unspelled { hand, fact }) => answer_to_unspelled(alloc, hand, fact),
-        Err(WriteRefusal::Memory) => Err(Memory),
+        Err(fault) => answer_to_fault(alloc, &fault),
     }
+}
+
+// The answer to bytes that are not converted, or have no plays.
+fn answer_to_fault(alloc: Global, fault: &ConvertFault) -> Result<Answer, Memory>
+    ensures answer { IfOk result (λ answer. IsToldOf fault.now (answer_told answer)) }
+    ensures own { IfOk result (λ answer. IsOfInput answer.status) }
+{
+    match fault {
+        ConvertFault::Format(fault) => answer_to_unread(alloc, fault),
+        ConvertFault::Refused { hand, why } => answer_to_refused(alloc, *hand, why),
+        ConvertFault::Unspelled { hand, fact } => answer_to_unspelled(alloc, *hand, *fact),
+        ConvertFault::Memory => Err(Memory),
+    }
+}
+
+// The answer to bytes that do not read as hands.
+fn answer_to_unread(alloc: Global, fault: &FormatFault) -> Result<Answer, Memory>
+    ensures answer { IfOk result (λ answer.
+        definition.to_fault fault.now ≡ Some (answer_told answer)) }
+    ensures own { IfOk result (λ answer. IsOfInput answer.status) }
+{
+    match fault {
+        FormatFault::Phh(fault) => answer_to_history_fault(alloc, fault),
+        FormatFault::Ohh(fault) => answer_to_tree_fault(alloc, fault),
+        FormatFault::Acpc(fault) => answer_to_log_fault(alloc, fault),
+    }
+}
+
+// The answer where the hand with this number is refused.
+fn answer_to_refused(alloc: Global, hand: u32, why: &Refusal) -> Result<Answer, Memory>
+    ensures answer { IfOk result (λ answer.
+        answer_told answer ≡ definition.to_refusal hand why.now) }
+    ensures own { IfOk result (λ answer. answer.status ≡ Status.Refused) }
+{
+    let line = refused_line(alloc, hand, why)?;
+    Ok(refusal(alloc, Status::Refused, line))
 }
 
 // The answer where a fact of the hand with this number has no spelling.
@@ -201,20 +211,6 @@ fn answer_to_unspelled(alloc: Global, hand: u32, fact: Unspelled) -> Result<Answ
 {
     let line = unspelled_line(alloc, hand, fact)?;
     Ok(refusal(alloc, Status::Unspelled, line))
-}
-
-// The answer to records that have no plays.
-fn answer_to_refused(alloc: Global, fault: &PlaysFault) -> Result<Answer, Memory>
-    ensures answer { IfOk result (λ answer. IsToldOf fault.now (answer_told answer)) }
-    ensures own { IfOk result (λ answer. IsOfInput answer.status) }
-{
-    match fault {
-        PlaysFault::Refused { hand, why } => {
-            let line = refused_line(alloc, *hand, why)?;
-            Ok(refusal(alloc, Status::Refused, line))
-        }
-        PlaysFault::Memory => Err(Memory),
-    }
 }
 
 /// The answer to an input that is too long.

@@ -1,10 +1,8 @@
 //! The line that is told where an input does not read as hands.
 ghost use Rattle.std.specs.Prelude.{◌≡◌, IfOk, Some, string_bytes};
-ghost use Rattle.std.specs.Option.{option_map};
-ghost use Rattle.phh_reading.specs.Reading.{wrong_of};
+ghost use Rattle.convert_core.specs.declared.format_fault.FormatFault.TheVariants as formats;
 ghost use Rattle.poker_cli.specs.Answer as definition;
 ghost use Rattle.poker_cli.specs.Faults.{bad_hand_line, limit_line as limit_line_said, limit_text as limit_said, what_text as what_said};
-ghost use Rattle.poker_cli.specs.Inputs.{InHistory};
 ghost use Rattle.poker_cli.specs.Run.{IsOfInput};
 ghost use Rattle.poker_cli.specs.Told.{answer_told};
 
@@ -16,11 +14,10 @@ use phh_fields::fault::What;
 use phh_reading::PhhFault;
 use std::alloc::Global;
 
-/// The answer to an input that does not read as hands.
-pub fn answer_to_fault(alloc: Global, fault: &PhhFault) -> Result<Answer, Memory>
+/// The answer to an input that does not read as hands in the Poker Hand History format.
+pub fn answer_to_history_fault(alloc: Global, fault: &PhhFault) -> Result<Answer, Memory>
     ensures answer { IfOk result (λ answer.
-        option_map (λ wrong. definition.to_fault (InHistory wrong)) (wrong_of fault.now)
-        ≡ Some (answer_told answer)) }
+        definition.to_fault (formats.Phh fault.now) ≡ Some (answer_told answer)) }
     ensures own { IfOk result (λ answer. IsOfInput answer.status) }
 {
     match fault {

@@ -16,7 +16,6 @@ mod task;
 mod tree_faults;
 mod unspelled;
 mod ways;
-mod writing;
 
 pub use entry::run;
 pub use laws::{law_of_legal_inputs, law_of_one_answer};

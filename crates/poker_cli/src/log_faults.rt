@@ -1,6 +1,7 @@
 //! The line that is told where a log does not read.
-ghost use Rattle.std.specs.Prelude.{◌≡◌, IfOk, string_bytes};
-ghost use Rattle.poker_cli.specs.Lacking.{IsLogFaultTold};
+ghost use Rattle.std.specs.Prelude.{◌≡◌, IfOk, Some, string_bytes};
+ghost use Rattle.convert_core.specs.declared.format_fault.FormatFault.TheVariants as formats;
+ghost use Rattle.poker_cli.specs.Answer as definition;
 ghost use Rattle.poker_cli.specs.LogFaults.{bad_log_line as bad_log_line_said, byte_of as byte_of_said, fault_name as fault_name_said, line_of as line_of_said};
 ghost use Rattle.poker_cli.specs.Run.{IsOfInput};
 ghost use Rattle.poker_cli.specs.Told.{answer_told};
@@ -14,7 +15,8 @@ use std::alloc::Global;
 
 /// The answer to a log that does not read.
 pub fn answer_to_log_fault(alloc: Global, fault: &AcpcFault) -> Result<Answer, Memory>
-    ensures answer { IfOk result (λ answer. IsLogFaultTold fault.now (answer_told answer)) }
+    ensures answer { IfOk result (λ answer.
+        definition.to_fault (formats.Acpc fault.now) ≡ Some (answer_told answer)) }
     ensures own { IfOk result (λ answer. IsOfInput answer.status) }
 {
     match *fault {

@@ -1,9 +1,7 @@
 //! The line that is told where an input in Open Hand History does not read as hands.
 ghost use Rattle.std.specs.Prelude.{◌≡◌, IfOk, Some, string_bytes};
-ghost use Rattle.std.specs.Option.{option_map};
-ghost use Rattle.ohh_reading.specs.Reading.{wrong_of};
+ghost use Rattle.convert_core.specs.declared.format_fault.FormatFault.TheVariants as formats;
 ghost use Rattle.poker_cli.specs.Answer as definition;
-ghost use Rattle.poker_cli.specs.Inputs.{InTree};
 ghost use Rattle.poker_cli.specs.Run.{IsOfInput};
 ghost use Rattle.poker_cli.specs.Told.{answer_told};
 ghost use Rattle.poker_cli.specs.TreeFaults.{bad_member_line, no_text_line as no_text_line_said, tree_what_text};
@@ -20,8 +18,7 @@ use std::alloc::Global;
 /// The answer to an input in Open Hand History that does not read as hands.
 pub fn answer_to_tree_fault(alloc: Global, fault: &OhhFault) -> Result<Answer, Memory>
     ensures answer { IfOk result (λ answer.
-        option_map (λ wrong. definition.to_fault (InTree wrong)) (wrong_of fault.now)
-        ≡ Some (answer_told answer)) }
+        definition.to_fault (formats.Ohh fault.now) ≡ Some (answer_told answer)) }
     ensures own { IfOk result (λ answer. IsOfInput answer.status) }
 {
     match fault {
