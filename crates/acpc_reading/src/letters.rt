@@ -15,6 +15,9 @@ use chip_ledger::MOST_CHIPS;
 use first_fault::{MOST_FILE_MOVES, Quantity, Stop, read_digits};
 use std::alloc::Global;
 
+// For so many letters of a hand room is made at once, and for more of them as they come.
+const USUAL_LETTERS: usize = 64;
+
 /// A fault at a byte.
 pub fn wrong(what: What, byte: u64) -> Stop<LineFault>
     ensures { result ≡ Stop.At (record { what = what; byte = byte }) }
@@ -146,8 +149,9 @@ fn read_letters(
     ensures { Gives bets_in result
         (bets_after no_limit (no_bets file_moves) at (scan text.now).1) }
 {
+    let steps = Vec::with_capacity(alloc, text.len().min(USUAL_LETTERS))?;
     let mut betting = Betting {
-        steps: Vec::new(alloc),
+        steps,
         round: 1,
         moves: 0,
         file_moves,

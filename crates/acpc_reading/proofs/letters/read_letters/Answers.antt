@@ -11,7 +11,7 @@ take_letter-requires-clause-few c = omega (arith, ap length c.in-Some.ensures, c
 
 pub returns-in_err-take_letter : goal.returns-in_err-take_letter
 returns-in_err-take_letter c =
-    let p = err_from_is_err_and c.from_residual.result c.from_residual.ensures.1 in
+    let p = err_from_is_err_and c.from_residual-in_err-take_letter.result c.from_residual-in_err-take_letter.ensures.1 in
     rw (p.1, p.2) (ends c.args.no_limit c.in_err-take_letter.field-0.0 (bets_in c.loop-letter.betting) c.loop-letter.place c.in-Some.letter c.loop-letter.rest.now c.in-Some.behind.now c.cut_digits.result.0.now c.cut_digits.result.1.now (bets_after c.args.no_limit (no_bets c.args.file_moves) c.args.at (scan c.args.text.now).1) c.in-Some.ensures c.cut_digits.ensures.digits c.cut_digits.ensures.letters c.loop-letter.invariant.begins c.in_err-take_letter.ensures.err c.loop-letter.invariant.read)
 
 pub loop-letter-preserved : goal.loop-letter-preserved
