@@ -45,24 +45,20 @@ fn known_row(slots: &SlotRow) -> CardRow
 {
     let mut cards = CardRow::new();
     for slot in slots.as_slice() {
-        cards = with_known(cards, *slot);
+        push_known(&mut cards, *slot);
     }
     cards
 }
 
-// The cards and one more, where it is known.
-fn with_known(cards: CardRow, slot: Slot) -> CardRow
-    requires { cards.len < 7 }
-    ensures cards { cards_of result ≡ cards_of cards ++ known_cards (slot ∷ []) }
-    ensures longer { result.len ≤ cards.len + 1 }
+// Puts a card after the others, where it is known.
+fn push_known(cards: &mut CardRow, slot: Slot)
+    requires { cards.old.len < 7 }
+    ensures cards { cards_of cards.new ≡ cards_of cards.old ++ known_cards (slot ∷ []) }
+    ensures longer { cards.new.len ≤ cards.old.len + 1 }
 {
     match slot {
-        Slot::Known(card) => {
-            let mut more = cards;
-            more.push(card);
-            more
-        }
-        Slot::Unknown => cards,
+        Slot::Known(card) => cards.push(card),
+        Slot::Unknown => {}
     }
 }
 
