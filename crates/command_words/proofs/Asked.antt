@@ -23,7 +23,7 @@ either word name false decides asked others plain other some = other some
 begins_by : (word : Text) (options : Options) → is_some (request_by word options) ≡ true → BeginsPlain word
 begins_by word options =
     by (codes "check") _ _ refl (by (codes "replay") _ _ refl (by (codes "report") _ _ refl (by (codes "game") _ _ refl
-    (by (codes "convert") _ _ refl (λ some. cc)))))
+    (by (codes "convert") _ _ refl (by (codes "load") _ _ refl (λ some. cc))))))
   where
     by : (name : Text) (asked others : Option Request) → BeginsPlain name → (is_some others ≡ true → BeginsPlain word)
         → is_some (if bytes_eq word name then asked else others) ≡ true → BeginsPlain word

@@ -1,5 +1,5 @@
 -- What the code's requests and options say.
-use Rattle.std.specs.Prelude.{◌≡◌, ◌≤◌, ⊤, ℕ, Bool, true, false, List, Some, codes, drop, option_map, slice_get}
+use Rattle.std.specs.Prelude.{◌≡◌, ℕ, Bool, true, false, List, Some, codes, drop, option_map, slice_get}
 use Rattle.clap.specs.Words.{first_value}
 use Rattle.clap.specs.Matches.{one_text}
 use Rattle.clap.specs.declared.parser.matches.Found.{Found}
@@ -34,6 +34,7 @@ abbrev pub request_in : Request → words.Request
 request_in (requests.Show command notation) = words.Show command (notation_in notation)
 request_in (requests.Game notation) = words.Game (notation_in notation)
 request_in (requests.Convert from to keep) = words.Convert (notation_in from) (notation_in to) keep
+request_in (requests.Load seed hands) = words.Load seed hands.number
 
 -- the text of a flag
 abbrev pub flag_text : Bool → List ℕ

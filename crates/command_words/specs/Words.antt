@@ -1,7 +1,8 @@
 -- Which words say what is asked for: the word of a command, and behind it its options, each once and in any order.
 use Rattle.std.specs.Prelude.{ℕ, ◌&&◌, ◌||◌, not, Bool, true, false, if◌then◌else◌, List, [], ◌∷◌, codes, Option, Some, None, is_some, length, nat_le, option_and_then, option_map}
-use Rattle.std.specs.Str.{all_ascii_digits, bytes_eq}
-use Rattle.std.specs.Str.Parse.{digits_value}
+use Rattle.std.specs.Str.{bytes_eq}
+use Rattle.first_fault.specs.Digits.{are_digits, number_of}
+use Rattle.first_fault.specs.declared.limits.TheConstants.{MOST_HANDS}
 use Rattle.command_words.specs.declared.command.Command.{Command}
 use Rattle.command_words.specs.declared.command.Command.TheVariants as commands
 use Rattle.command_words.specs.declared.request.Keep.{Keep}
@@ -17,11 +18,12 @@ pub data Notation : Type 0 where
   Acpc : (game : List ℕ) → Notation
 
 -- what is asked for: what a command prints of hands in a notation, the game file of the first of them, hands of one notation
--- written in another with so many of their notes
+-- written in another with so many of their notes, the summary of so many hands that are made from a seed
 pub data Request : Type 0 where
   Show : Command → Notation → Request
   Game : Notation → Request
   Convert : (from to : Notation) → Keep → Request
+  Load : (seed hands : ℕ) → Request
 
 -- the values of the options that are given
 pub record Options : Type 0 where
@@ -112,6 +114,9 @@ is_game_right logs (Some []) = false
 is_game_right logs (Some (first ∷ others)) = logs
 
 -- an option of what is read is given
+abbrev pub has_input : Options → Bool
+has_input options = is_some options.from || is_some options.game
+
 -- an option of what is written is given
 abbrev pub has_output : Options → Bool
 has_output options = is_some options.to || options.drops_notes
@@ -152,6 +157,30 @@ conversion_said options =
     if has_number options then None
     else conversion options (notation_named options.from options.game) (notation_named options.to options.game)
 
+-- the number that a text of one to so many decimal digits says, if it is no more than this
+abbrev pub number_said : (digits most : ℕ) → List ℕ → Option ℕ
+number_said digits most text = if are_digits text && nat_le (length text) digits then number_of most text else None
+
+-- a seed has at most nine digits
+abbrev pub seed_said : List ℕ → Option ℕ
+seed_said text = number_said 9 999999999 text
+
+-- hands are at most as many as those of a file, in at most five digits
+abbrev pub hands_said : List ℕ → Option ℕ
+hands_said text = number_said 5 MOST_HANDS text
+
+-- so many hands are made from a seed, where both are given
+abbrev pub made : Option ℕ → Option ℕ → Option Request
+made None hands = None
+made (Some seed) None = None
+made (Some seed) (Some hands) = Some (Load seed hands)
+
+-- what `load` asks for: it has the options of hands that are made alone
+abbrev pub load_said : Options → Option Request
+load_said options =
+    if has_input options || has_output options then None
+    else made (option_and_then seed_said options.seed) (option_and_then hands_said options.hands)
+
 -- what the word of a command asks for with these options
 abbrev pub request_by : List ℕ → Options → Option Request
 request_by word options =
@@ -160,6 +189,7 @@ request_by word options =
     else if bytes_eq word (codes "report") then option_map (Show commands.Report) (input_said options)
     else if bytes_eq word (codes "game") then option_and_then game_asked (input_said options)
     else if bytes_eq word (codes "convert") then conversion_said options
+    else if bytes_eq word (codes "load") then load_said options
     else None
 
 -- what words ask for, if they ask for something

@@ -3,11 +3,13 @@
 
 mod command;
 mod notation;
+mod numbers;
 mod options;
 mod reading;
 mod request;
 
 pub use command::Command;
 pub use notation::Notation;
+pub use numbers::HandCount;
 pub use reading::read_words;
 pub use request::{Keep, Request};

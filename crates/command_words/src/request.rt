@@ -1,10 +1,11 @@
 //! A command's word and its options ask for something, or for nothing.
 ghost use Rattle.std.specs.Prelude.{◌≡◌, option_map};
 ghost use Rattle.command_words.specs.Requests.{notation_in, options_in, request_in};
-ghost use Rattle.command_words.specs.Words.{conversion_said, game_asked, has_number as has_number_said, has_output as has_output_said, input_said, keep_said, request_by};
+ghost use Rattle.command_words.specs.Words.{conversion_said, game_asked, has_input as has_input_said, has_number as has_number_said, has_output as has_output_said, input_said, keep_said, load_said, request_by};
 
 use crate::command::Command;
 use crate::notation::{Notation, is_game_right, notation_named};
+use crate::numbers::{HandCount, read_count, read_seed};
 use crate::options::Options;
 
 /// Which notes of a hand are kept.
@@ -29,6 +30,11 @@ pub enum Request<'a> {
         to: Notation<'a>,
         keep: Keep,
     },
+    /// The summary of so many hands that are made from a seed.
+    Load {
+        seed: u64,
+        hands: HandCount,
+    },
 }
 
 /// What a command's word asks for with these options, or `None` where that is no command.
@@ -41,6 +47,7 @@ pub fn request_of<'a>(word: &str, options: Options<'a>) -> Option<Request<'a>>
         "report" => Some(Request::Show(Command::Report, input_of(options)?)),
         "game" => game_file(input_of(options)?),
         "convert" => conversion(options),
+        "load" => load(options),
         _ => None,
     }
 }
@@ -85,6 +92,18 @@ fn conversion<'a>(options: Options<'a>) -> Option<Request<'a>>
     Some(Request::Convert { from, to, keep })
 }
 
+// Hands are made from a seed.
+fn load<'a>(options: Options<'a>) -> Option<Request<'a>>
+    ensures { option_map request_in result ≡ load_said (options_in options.entry) }
+{
+    if has_input(options) || has_output(options) {
+        return None;
+    }
+    let seed = read_seed(options.seed?)?;
+    let hands = read_count(options.hands?)?;
+    Some(Request::Load { seed, hands })
+}
+
 // Which notes are kept, as the flag stands.
 fn keep_of(drops_notes: bool) -> Keep
     ensures { result ≡ keep_said drops_notes }
@@ -94,6 +113,13 @@ fn keep_of(drops_notes: bool) -> Keep
     } else {
         Keep::All
     }
+}
+
+// Whether an option of what is read is given.
+fn has_input(options: Options<'_>) -> bool
+    ensures { result ≡ has_input_said (options_in options.entry) }
+{
+    options.from.is_some() || options.game.is_some()
 }
 
 // Whether an option of what is written is given.

@@ -21,4 +21,5 @@ returns-in_default c =
       other word (codes "report") c.in_default.not-report,
       other word (codes "game") c.in_default.not-game,
       other word (codes "convert") c.in_default.not-convert,
+      other word (codes "load") c.in_default.not-load,
     ) refl
