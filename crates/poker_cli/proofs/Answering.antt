@@ -4,7 +4,7 @@ use Rattle.std.specs.Option.{option_map}
 use Rattle.acpc_game.specs.declared.game.Game.{Game}
 use Rattle.acpc_text.specs.declared.fault.AcpcFault.{AcpcFault}
 use Rattle.acpc_text.specs.declared.fault.AcpcFault.TheVariants as logs
-use Rattle.command_words.specs.Words.{Convert, Notation, Request, Show}
+use Rattle.command_words.specs.Words.{Convert, Load, Notation, Request, Show}
 use Rattle.command_words.specs.Words as words
 use Rattle.command_words.specs.declared.command.Command.{Command}
 use Rattle.convert_core.specs.Conversion.{IsConversion as IsConverting, IsConverted, IsPlaysRefusal, ReadAsRefused}
@@ -25,17 +25,17 @@ use Rattle.ohh_reading.specs.declared.fault.OhhFault.{OhhFault}
 use Rattle.ohh_reading.specs.declared.fault.OhhFault.TheVariants as trees
 use Rattle.phh_reading.specs.declared.fault.PhhFault.{PhhFault}
 use Rattle.phh_reading.specs.declared.fault.PhhFault.TheVariants as histories
-use Rattle.poker_cli.specs.Answer.{Answer, Files, GivesGame, GivesNoGame, IsAnswer, IsAnswerIn, IsAnswerTo, IsMadeOf, IsToldOf, IsWay, IsWritten, done, most_input, to_excess, to_fault, to_refusal}
+use Rattle.poker_cli.specs.Answer.{Answer, Files, GivesGame, GivesNoGame, IsAnswer, IsAnswerIn, IsAnswerTo, IsMadeOf, IsSummed, IsToldOf, IsWay, IsWritten, done, most_input, to_excess, to_fault, to_refusal}
 use Rattle.poker_cli.specs.Answer as answers
 use Rattle.poker_cli.specs.Lacking.{IsLackTold, Lacks}
 use Rattle.poker_cli.specs.Printing.{IsPrinted}
 use Rattle.poker_cli.specs.Told.{answer_told}
-use Rattle.poker_cli.specs.Ways.{conversion_way, file_of, game_name, kept, or_file, reader_with, way, way_of}
+use Rattle.poker_cli.specs.Ways.{conversion_way, file_of, game_name, kept, made_by, or_file, reader_with, way, way_of}
 use Rattle.poker_cli.specs.declared.answer.Answer as made
 use Rattle.poker_cli.specs.declared.entry.NoAnswer.{NoAnswer}
 use Rattle.poker_cli.specs.declared.games.Lack.{Lack}
 use Rattle.poker_cli.specs.declared.games.Lack.TheVariants as lacks
-use Rattle.poker_cli.specs.Run.{Ends, LacksGame, IsOfInput, IsOwn, MayEnd, ReadsNothing, Sinks, TellsLine, Writes, files_told, line_of}
+use Rattle.poker_cli.specs.Run.{Ends, IsOfInput, IsOwn, MayEnd, ReadsNothing, Sinks, TellsLine, Writes, bytes_told, files_told, line_of}
 use Rattle.poker_cli.specs.declared.status.Status.{Status}
 use Rattle.poker_cli.specs.declared.status.Status.TheVariants as statuses
 use Rattle.poker_cli.specs.declared.task.Reader.{Reader}
@@ -158,7 +158,7 @@ pub ends_with : (request : Request) (files : Files) (bytes : List ℕ) (out diag
     → TellsLine diag.before diag.now diag.held diag.holds (line_of answer status)
     → Ends request files bytes out diag status
 ends_with request files bytes out diag answer statuses.Usage is own ends written line = subst IsOwn ends own
-ends_with request files bytes out diag answer statuses.ReadFault is own ends written line = tt
+ends_with request files bytes out diag answer statuses.ReadFault is own ends written line = absurd (subst IsOwn ends own)
 ends_with request files bytes out diag answer statuses.Memory is own ends written line = tt
 ends_with request files bytes out diag answer statuses.ShelfFault is own ends written line = absurd (subst IsOwn ends own)
 ends_with request files bytes out diag answer statuses.Done is own ends written line =
@@ -246,7 +246,7 @@ read_of_input statuses.ShelfFault of nothing = of
 read_of_input statuses.GameMissing of nothing = of
 read_of_input statuses.BadGame of nothing = of
 
--- a way is found where no game is asked for, or one is given
+-- a way is found where hands are read, and no game is asked for, or one is given
 some_mapped : {A B : Type 0} (f : A → B) (found : Option A) → is_some found ≡ true → is_some (option_map f found) ≡ true
 some_mapped f (Some x) some = refl
 some_mapped f None some = cc
@@ -276,17 +276,19 @@ second_none : (name other : Option (List ℕ)) → or_file name other ≡ None �
 second_none None other none = none
 second_none (Some name) other none = cc
 
-pub plain_way : (request : Request) → game_name request ≡ None → is_some (way_of None request) ≡ true
-plain_way (Show command notation) none = some_mapped (way (tasks.Show command)) (reader_with None notation) (some_reader notation none)
-plain_way (words.Game notation) none = some_mapped (way tasks.GameFile) (reader_with None notation) (some_reader notation none)
-plain_way (Convert from to keep) none =
+pub plain_way : (request : Request) → made_by request ≡ None → game_name request ≡ None → is_some (way_of None request) ≡ true
+plain_way (Load seed hands) reads none = cc (reads)
+plain_way (Show command notation) reads none = some_mapped (way (tasks.Show command)) (reader_with None notation) (some_reader notation none)
+plain_way (words.Game notation) reads none = some_mapped (way tasks.GameFile) (reader_with None notation) (some_reader notation none)
+plain_way (Convert from to keep) reads none =
     some_conversion (kept keep) (reader_with None from) (reader_with None to)
     (some_reader from (first_none (file_of from) (file_of to) none)) (some_reader to (second_none (file_of from) (file_of to) none))
 
-pub game_way : (game : Game) (request : Request) → is_some (way_of (Some game) request) ≡ true
-game_way game (Show command notation) = some_mapped (way (tasks.Show command)) (reader_with (Some game) notation) (game_reader game notation)
-game_way game (words.Game notation) = some_mapped (way tasks.GameFile) (reader_with (Some game) notation) (game_reader game notation)
-game_way game (Convert from to keep) =
+pub game_way : (game : Game) (request : Request) (name : List ℕ) → game_name request ≡ Some name → is_some (way_of (Some game) request) ≡ true
+game_way game (Load seed hands) name named = cc (named)
+game_way game (Show command notation) name named = some_mapped (way (tasks.Show command)) (reader_with (Some game) notation) (game_reader game notation)
+game_way game (words.Game notation) name named = some_mapped (way tasks.GameFile) (reader_with (Some game) notation) (game_reader game notation)
+game_way game (Convert from to keep) name named =
     some_conversion (kept keep) (reader_with (Some game) from) (reader_with (Some game) to) (game_reader game from) (game_reader game to)
 
 -- an input is answered in the way that is found
@@ -300,21 +302,21 @@ unfolding IsFoundAnswer
 in_way request files bytes answer (Some way) each some is = answers.OfInput way (each way refl) answer is
 in_way request files bytes answer None each some is = cc
 
-where_told : (told : Option Files) (P : Files → Type 0) → ((files : Files) → P files) → IfSome told P
-where_told (Some files) P each = each files
+where_told : {A : Type 0} (told : Option A) (P : A → Type 0) → ((x : A) → P x) → IfSome told P
+where_told (Some x) P each = each x
 where_told None P each = tt
 
 -- the answer to a request that asks for no game asks for no file
 pub plain_reply : (request : Request) (told : Option Files) (left : Option (List ℕ)) (result : Result made.Answer NoAnswer)
-    → game_name request ≡ None
+    → made_by request ≡ None → game_name request ≡ None
     → IfOk result (λ answer. IfSome left (λ bytes. IfSome (way_of None request) (λ way. IsAnswer way.task way.reader bytes (answer_told answer))))
     → IfOk result (λ answer. IfSome left (λ bytes. IfSome told (λ files. IsAnswerIn request files bytes (answer_told answer))))
 unfolding IsFoundAnswer
-plain_reply request told None (Ok answer) none is = tt
-plain_reply request told left (Err why) none is = tt
-plain_reply request told (Some bytes) (Ok answer) none is =
+plain_reply request told None (Ok answer) reads none is = tt
+plain_reply request told left (Err why) reads none is = tt
+plain_reply request told (Some bytes) (Ok answer) reads none is =
     where_told told (λ files. IsAnswerIn request files bytes (answer_told answer))
-    (λ files. in_way request files bytes (answer_told answer) (way_of None request) (λ way found. answers.Plain none found) (plain_way request none) is)
+    (λ files. in_way request files bytes (answer_told answer) (way_of None request) (λ way found. answers.Plain none found) (plain_way request reads none) is)
 
 -- the answer to any other is by the game that its file gives
 pub game_reply : (request : Request) (told : Option Files) (left : Option (List ℕ)) (name : List ℕ) (game : Game) (result : Result made.Answer NoAnswer)
@@ -324,7 +326,7 @@ pub game_reply : (request : Request) (told : Option Files) (left : Option (List 
 unfolding IsFoundAnswer
 game_reply request (Some files) (Some bytes) name game (Ok answer) named gives is =
     in_way request files bytes (answer_told answer) (way_of (Some game) request) (λ way found. answers.Under name named game gives found)
-    (game_way game request) is
+    (game_way game request name named) is
 game_reply request None (Some bytes) name game (Ok answer) named gives is = tt
 game_reply request told None name game (Ok answer) named gives is = tt
 game_reply request told left name game (Err why) named gives is = tt
@@ -343,14 +345,31 @@ lack_reply request (Some files) (Some bytes) name lack answer named is tells =
 lack_reply request None (Some bytes) name lack answer named is tells = tt
 lack_reply request told None name lack answer named is tells = tt
 
+-- where hands are made, the answer is their summary, whatever files and bytes there are
+pub load_reply : (request : Request) (told : Option Files) (left : Option (List ℕ)) (seed hands : ℕ) (answer : Answer)
+    → made_by request ≡ Some (seed, hands) → IsSummed seed hands answer
+    → IfSome left (λ bytes. IfSome told (λ files. IsAnswerIn request files bytes answer))
+load_reply request told left seed hands answer made is =
+    where_told left (λ bytes. IfSome told (λ files. IsAnswerIn request files bytes answer))
+    (λ bytes. where_told told (λ files. IsAnswerIn request files bytes answer) (λ files. answers.Summed seed hands made answer is))
+
+-- and where none are made, it is to the bytes that the source has left
+pub reading_reply : (request : Request) (told : Option Files) (left : Option (List ℕ)) (result : Result made.Answer NoAnswer)
+    → made_by request ≡ None
+    → IfOk result (λ answer. IfSome left (λ bytes. IfSome told (λ files. IsAnswerIn request files bytes (answer_told answer))))
+    → IfOk result (λ answer. IfSome (bytes_told (made_by request) left) (λ bytes. IfSome told (λ files. IsAnswerIn request files bytes (answer_told answer))))
+reading_reply request told left result reads is =
+    subst (λ (m : Option (ℕ × ℕ)). IfOk result (λ answer. IfSome (bytes_told m left) (λ bytes. IfSome told (λ files. IsAnswerIn request files bytes (answer_told answer)))))
+    (sym reads) is
+
 -- want of memory says nothing of files and bytes, and leaves the input
 pub ends_unread : (said : Option Request) (left : Option (List ℕ)) (told : Option Files)
-    → IfSome said (λ request. IfSome left (λ bytes. IfSome (files_told (game_name request) told) (λ files. Unit {0})))
+    → IfSome said (λ request. IfSome (bytes_told (made_by request) left) (λ bytes. IfSome (files_told (game_name request) told) (λ files. Unit {0})))
 ends_unread None left told = tt
-ends_unread (Some request) None told = tt
-ends_unread (Some request) (Some bytes) told = where_told (files_told (game_name request) told) (λ files. Unit {0}) (λ files. tt)
+ends_unread (Some request) left told =
+    where_told (bytes_told (made_by request) left) (λ bytes. IfSome (files_told (game_name request) told) (λ files. Unit {0}))
+    (λ bytes. where_told (files_told (game_name request) told) (λ files. Unit {0}) (λ files. tt))
 
-pub kept_unread : {X : Type 0} (said : Option Request) (told : Option Files) (input : X)
-    → IfSome said (λ request. LacksGame (game_name request) told → input ≡ input)
-kept_unread None told input = tt
-kept_unread (Some request) told input = λ lacks. refl
+pub kept_unread : {X : Type 0} (said : Option Request) (asks : Request → Type 0) (input : X) → IfSome said (λ request. asks request → input ≡ input)
+kept_unread None asks input = tt
+kept_unread (Some request) asks input = λ is. refl

@@ -8,7 +8,7 @@ use Rattle.std.proofs.lemmas.Option.{same_Some}
 use Rattle.acpc_game.specs.declared.game.Game.{Game as AnyGame}
 use Rattle.acpc_game.specs.GameFile.{game_said}
 use Rattle.acpc_game.specs.GameView.{game_in}
-use Rattle.command_words.specs.Words.{Convert, Game, Notation, Request, Show}
+use Rattle.command_words.specs.Words.{Convert, Game, Load, Notation, Request, Show}
 use Rattle.command_words.specs.declared.command.Command.{Command}
 use Rattle.command_words.specs.declared.command.Command.TheVariants as commands
 use Rattle.command_words.specs.declared.request.Keep.{Keep as KeepAsked}
@@ -44,8 +44,8 @@ use Rattle.poker_cli.specs.Answer as answers
 use Rattle.poker_cli.specs.Inputs.{HaveFault, SayRecords}
 use Rattle.poker_cli.specs.OneAnswer.{AreOneAnswer}
 use Rattle.poker_cli.specs.Outputs.{SpellPlays, first_refusal_in}
-use Rattle.poker_cli.specs.Ways.{game_name, kept, way, way_of}
-use Rattle.poker_cli.specs.Run.{Ends, IsGameMissing, RefusesNothing, Sinks}
+use Rattle.poker_cli.specs.Ways.{game_name, kept, made_by, way, way_of}
+use Rattle.poker_cli.specs.Run.{Ends, IsGameMissing, NeedsNoInput, RefusesNothing, Sinks}
 use Rattle.poker_cli.specs.declared.status.Status.{Status}
 use Rattle.poker_cli.specs.declared.status.Status.TheVariants as statuses
 use Rattle.poker_cli.specs.declared.task.Reader.{Reader}
@@ -364,11 +364,23 @@ no_lack files request way name answer (answers.Plain none found) named lacks = c
 no_lack files request way name answer (answers.Under called calls game gives found) named lacks =
     no_game (files name) game answer (subst (λ (n : List ℕ). GivesGame (files n) game) (some_name request called name calls named) gives) lacks
 
+-- hands that are made are not read
+no_way : (game : Option AnyGame) (request : Request) (way : Way) (made : ℕ × ℕ) → made_by request ≡ Some made → way_of game request ≡ Some way → ⊥
+no_way game (Show command notation) way made makes found = cc (makes)
+no_way game (Game notation) way made makes found = cc (makes)
+no_way game (Convert from to keep) way made makes found = cc (makes)
+no_way game (Load seed hands) way made makes found = cc (found)
+
+not_read : (files : Files) (request : Request) (way : Way) (made : ℕ × ℕ) → made_by request ≡ Some made → IsWay files request way → ⊥
+not_read files request way made makes (answers.Plain none found) = no_way None request way made makes found
+not_read files request way made makes (answers.Under name named game gives found) = no_way (Some game) request way made makes found
+
 in_way : (request : Request) (files : Files) (bytes : List ℕ) (way : Way) (answer : Answer) → IsWay files request way
     → IsAnswerIn request files bytes answer → IsAnswer way.task way.reader bytes answer
 in_way request files bytes way answer is (answers.NoGame name named _ lacks) = absurd (no_lack files request way name answer is named lacks)
 in_way request files bytes way answer is (answers.OfInput other it _ to) =
     subst (λ (w : Way). IsAnswer w.task w.reader bytes answer) (one_way files request other way it is) to
+in_way request files bytes way answer is (answers.Summed seed hands makes _ to) = absurd (not_read files request way (seed, hands) makes is)
 
 -- a request that is answered in a way lacks no game
 there_is_none : (asked : Option (List ℕ)) (files : Files) → asked ≡ None → IsGameMissing asked files → ⊥
@@ -450,3 +462,28 @@ legal_converted from to keep reader target files bytes records plays out diag st
     (λ answer given. converted_status target (kept keep) plays answer none
     (legal_made (tasks.Convert target (kept keep)) reader bytes records plays answer few is are (in_way request files bytes by answer found given)))
     (no_missing files request by found) ends)
+
+-- the answer to hands that are made is done, and a run on them needs no input
+load_done : (seed hands : ℕ) (files : Files) (bytes : List ℕ) (answer : Answer) → IsAnswerIn (Load seed hands) files bytes answer → answer.status ≡ statuses.Done
+load_done seed hands files bytes answer (answers.NoGame name named _ lacks) = absurd (cc (named))
+load_done seed hands files bytes answer (answers.OfInput way is _ to) = absurd (not_read files (Load seed hands) way (seed, hands) refl is)
+load_done seed hands files bytes answer (answers.Summed number count makes _ is) = ap (λ (a : Answer). a.status) is.told
+
+not_done : (seed hands : ℕ) (files : Files) (bytes : List ℕ) (answer : Answer) (status : Status) → IsAnswerIn (Load seed hands) files bytes answer
+    → answer.status ≡ status → NeedsNoInput status
+not_done seed hands files bytes answer status to same = subst NeedsNoInput (sym (load_done seed hands files bytes answer to) ∙ same) tt
+
+pub legal_load : (seed hands : ℕ) (files : Files) (bytes : List ℕ) (out diag : Sinks) (status : Status)
+    → Ends (Load seed hands) files bytes out diag status → NeedsNoInput status
+legal_load seed hands files bytes out diag statuses.Done ends = tt
+legal_load seed hands files bytes out diag statuses.WriteFault ends = tt
+legal_load seed hands files bytes out diag statuses.Memory ends = tt
+legal_load seed hands files bytes out diag statuses.Usage ends = ends
+legal_load seed hands files bytes out diag statuses.ReadFault ends = ends
+legal_load seed hands files bytes out diag statuses.ShelfFault ends = ends
+legal_load seed hands files bytes out diag statuses.GameMissing ends = ends
+legal_load seed hands files bytes out diag statuses.Refused ends = not_done seed hands files bytes ends.answer statuses.Refused ends.to_input ends.ends
+legal_load seed hands files bytes out diag statuses.BadInput ends = not_done seed hands files bytes ends.answer statuses.BadInput ends.to_input ends.ends
+legal_load seed hands files bytes out diag statuses.Limit ends = not_done seed hands files bytes ends.answer statuses.Limit ends.to_input ends.ends
+legal_load seed hands files bytes out diag statuses.Unspelled ends = not_done seed hands files bytes ends.answer statuses.Unspelled ends.to_input ends.ends
+legal_load seed hands files bytes out diag statuses.BadGame ends = not_done seed hands files bytes ends.answer statuses.BadGame ends.to_input ends.ends

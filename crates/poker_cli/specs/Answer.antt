@@ -10,6 +10,8 @@ use Rattle.acpc_text.specs.declared.fault.AcpcFault.TheVariants as log_faults
 use Rattle.command_words.specs.Words.{Request}
 use Rattle.command_words.specs.declared.command.Command.{Command}
 use Rattle.command_words.specs.declared.command.Command.TheVariants as commands
+use Rattle.hand_gen.specs.Load.{IsLoad, summary_text}
+use Rattle.hand_gen.specs.declared.numbers.Summary.{Summary}
 use Rattle.hand_records.specs.declared.record.Record.{Record}
 use Rattle.hand_records.specs.declared.trace.Play.{Play}
 use Rattle.hand_records.specs.declared.writing.Keep.{Keep}
@@ -34,7 +36,7 @@ use Rattle.poker_cli.specs.LogFaults.{bad_game_line, log_line, log_status}
 use Rattle.poker_cli.specs.Outputs.{ReadsBack, SpellPlays, unspelled_in}
 use Rattle.poker_cli.specs.TreeFaults.{tree_line, tree_status}
 use Rattle.poker_cli.specs.Unspelled.{unspelled_line}
-use Rattle.poker_cli.specs.Ways.{game_name, way_of}
+use Rattle.poker_cli.specs.Ways.{game_name, made_by, way_of}
 use Rattle.poker_cli.specs.declared.status.Status.{Status}
 use Rattle.poker_cli.specs.declared.status.Status.TheVariants as statuses
 use Rattle.poker_cli.specs.declared.task.Reader.{Reader}
@@ -181,6 +183,12 @@ pub data IsWay (files : Files) (request : Request) (way : Way) : Type 0 where
   Under : (name : List ℕ) → game_name request ≡ Some name → (game : Game) → GivesGame (files name) game
       → way_of (Some game) request ≡ Some way → IsWay files request way
 
+-- An answer is the summary of so many hands that are made from a seed.
+pub record IsSummed (seed hands : ℕ) (answer : Answer) : Type 0 where
+  pub summary : Summary
+  pub load : IsLoad seed hands summary
+  pub told : answer ≡ done (summary_text summary)
+
 -- The answer to a request, by the files of a shelf and the bytes of an input.
 pub data IsAnswerIn (request : Request) (files : Files) (bytes : List ℕ) : Answer → Type 0 where
   -- the file of its game gives none
@@ -188,4 +196,7 @@ pub data IsAnswerIn (request : Request) (files : Files) (bytes : List ℕ) : Ans
       → IsAnswerIn request files bytes answer
   -- the input is answered
   OfInput : (way : Way) → IsWay files request way → (answer : Answer) → IsAnswer way.task way.reader bytes answer
+      → IsAnswerIn request files bytes answer
+  -- hands are made and summed, and neither files nor input come in
+  Summed : (seed hands : ℕ) → made_by request ≡ Some (seed, hands) → (answer : Answer) → IsSummed seed hands answer
       → IsAnswerIn request files bytes answer

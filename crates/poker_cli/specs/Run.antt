@@ -7,7 +7,7 @@ use Rattle.host_io.specs.Bytes.{AppendsPart}
 use Rattle.poker_cli.specs.declared.status.Status.{Status}
 use Rattle.poker_cli.specs.declared.status.Status.TheVariants as statuses
 use Rattle.poker_cli.specs.Answer.{Answer, Files, GivesNoGame, IsAnswerIn}
-use Rattle.poker_cli.specs.Ways.{game_name}
+use Rattle.poker_cli.specs.Ways.{game_name, made_by}
 
 -- the line where the words are no command
 abbrev pub usage_line : List ℕ
@@ -57,6 +57,21 @@ abbrev pub files_told : Option (List ℕ) → Option Files → Option Files
 files_told (Some name) told = told
 files_told None told = Some (λ (name : List ℕ). None)
 
+-- the bytes that a source has left, where it tells them and they are read; where hands are made, nothing is asked of it
+abbrev pub bytes_told : (made : Option (ℕ × ℕ)) → Option (List ℕ) → Option (List ℕ)
+bytes_told (Some made) told = Some []
+bytes_told None told = told
+
+-- hands are made
+abbrev pub MakesHands : Option (ℕ × ℕ) → Type 0
+MakesHands (Some made) = Unit {0}
+MakesHands None = ⊥
+
+-- no hands are made, and so the input is read
+abbrev pub MakesNone : Option (ℕ × ℕ) → Type 0
+MakesNone (Some made) = ⊥
+MakesNone None = Unit {0}
+
 -- a file of a game is asked for
 abbrev pub AsksForGame : Option (List ℕ) → Type 0
 AsksForGame (Some name) = Unit {0}
@@ -95,7 +110,7 @@ pub record Answers (request : Request) (files : Files) (bytes : List ℕ) (out d
 -- game is not there, a file or the input could not be read, or memory ran out.
 abbrev pub Ends : Request → Files → List ℕ → Sinks → Sinks → Status → Type 0
 Ends request files bytes out diag statuses.Usage = ⊥
-Ends request files bytes out diag statuses.ReadFault = Unit {0}
+Ends request files bytes out diag statuses.ReadFault = MakesNone (made_by request)
 Ends request files bytes out diag statuses.Memory = Unit {0}
 Ends request files bytes out diag statuses.ShelfFault = AsksForGame (game_name request)
 Ends request files bytes out diag statuses.GameMissing = IsGameMissing (game_name request) files
@@ -134,6 +149,13 @@ RefusesNothing statuses.WriteFault = Unit {0}
 RefusesNothing statuses.ShelfFault = Unit {0}
 RefusesNothing statuses.Memory = Unit {0}
 RefusesNothing _ = ⊥
+
+-- a status of a run that reads and refuses nothing: all is done, or the output could not be written, or memory ran out
+abbrev pub NeedsNoInput : Status → Type 0
+NeedsNoInput statuses.Done = Unit {0}
+NeedsNoInput statuses.WriteFault = Unit {0}
+NeedsNoInput statuses.Memory = Unit {0}
+NeedsNoInput _ = ⊥
 
 -- a status before the input is read
 abbrev pub ReadsNothing : Status → Type 0

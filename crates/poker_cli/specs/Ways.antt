@@ -1,7 +1,7 @@
 -- How the hands of a request are read, and what is made of them, under the game of its file.
 use Rattle.std.specs.Prelude.{ℕ, List, Option, Some, None, option_map}
 use Rattle.acpc_game.specs.declared.game.Game.{Game}
-use Rattle.command_words.specs.Words.{Convert, Notation, Request, Show}
+use Rattle.command_words.specs.Words.{Convert, Load, Notation, Request, Show}
 use Rattle.command_words.specs.Words as notations
 use Rattle.command_words.specs.declared.request.Keep.{Keep as KeepAsked}
 use Rattle.command_words.specs.declared.request.Keep.TheVariants as asked
@@ -29,6 +29,12 @@ abbrev pub game_name : Request → Option (List ℕ)
 game_name (Show command notation) = file_of notation
 game_name (notations.Game notation) = file_of notation
 game_name (Convert from to keep) = or_file (file_of from) (file_of to)
+game_name (Load seed hands) = None
+
+-- the seed and the number of the hands that a request makes; no other reads the input
+abbrev pub made_by : Request → Option (ℕ × ℕ)
+made_by (Load seed hands) = Some (seed, hands)
+made_by request = None
 
 -- how hands in a notation are read, and written: logs under the game that is given
 abbrev pub reader_with : Option Game → Notation → Option Reader
@@ -52,8 +58,9 @@ conversion_way keep None to = None
 conversion_way keep (Some from) None = None
 conversion_way keep (Some from) (Some to) = Some (way (tasks.Convert to keep) from)
 
--- how a request is answered under the game of its file
+-- how a request is answered under the game of its file, where it is answered by hands that are read
 abbrev pub way_of : Option Game → Request → Option Way
 way_of game (Show command notation) = option_map (way (tasks.Show command)) (reader_with game notation)
 way_of game (notations.Game notation) = option_map (way tasks.GameFile) (reader_with game notation)
 way_of game (Convert from to keep) = conversion_way (kept keep) (reader_with game from) (reader_with game to)
+way_of game (Load seed hands) = None

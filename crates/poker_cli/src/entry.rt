@@ -5,15 +5,16 @@ ghost use Rattle.command_words.specs.Words.{request_said};
 ghost use Rattle.host_io.specs.Faults.{Rose};
 ghost use Rattle.poker_cli.specs.Answer.{IsAnswer, IsAnswerIn};
 ghost use Rattle.poker_cli.specs.Lacking.{ComesFirst};
-ghost use Rattle.poker_cli.specs.Run.{AskForNoGame, AsksForGame, Ends, IsGameMissing, IsOfInput, IsOwn, LacksGame, MayEnd, ReadsNothing, TellsLine, Writes, WritesNothing, files_told, fixed_line, line_of};
+ghost use Rattle.poker_cli.specs.Run.{AskForNoGame, AsksForGame, Ends, IsGameMissing, IsOfInput, IsOwn, LacksGame, MakesHands, MakesNone, MayEnd, ReadsNothing, TellsLine, Writes, WritesNothing, bytes_told, files_told, fixed_line, line_of};
 ghost use Rattle.poker_cli.specs.Told.{answer_told};
-ghost use Rattle.poker_cli.specs.Ways.{game_name as game_asked, way_of as way_of_said};
+ghost use Rattle.poker_cli.specs.Ways.{game_name as game_asked, made_by as made_by_said, way_of as way_of_said};
 
 use crate::answer::{self, Answer, MOST_INPUT};
 use crate::games::{NoGame, answer_to_lack, fetch_game};
 use crate::status::Status;
+use crate::summing::answer_to_load;
 use crate::task::Way;
-use crate::ways::{game_name, way_of};
+use crate::ways::{game_name, made_by, way_of};
 use acpc_game::Game;
 use card_set::Memory;
 use command_words::{Request, read_words};
@@ -39,7 +40,7 @@ pub fn run<S: Source, H: Shelf, K: Sink, D: Sink>(
     // The words ask for something: the run ends with the answer to the file that the shelf has and
     // to the input, or with a fault whose count rose in this call.
     ensures ends { IfSome (request_said (map string_bytes words.now)) (λ request.
-        IfSome (S.left input.old) (λ bytes.
+        IfSome (bytes_told (made_by_said request) (S.left input.old)) (λ bytes.
         IfSome (files_told (game_asked request) (H.files shelf.old)) (λ files.
         Ends request files bytes
         (record {
@@ -66,6 +67,8 @@ pub fn run<S: Source, H: Shelf, K: Sink, D: Sink>(
     ensures unread { ReadsNothing result → input.new ≡ input.old }
     ensures without_game { IfSome (request_said (map string_bytes words.now)) (λ request.
         LacksGame (game_asked request) (H.files shelf.old) → input.new ≡ input.old) }
+    ensures without_input { IfSome (request_said (map string_bytes words.now)) (λ request.
+        MakesHands (made_by_said request) → input.new ≡ input.old) }
 
     // Nothing is written before all is done, and the line of a fault depends on no input.
     ensures nothing_written { WritesNothing result → out.new ≡ out.old }
@@ -96,7 +99,8 @@ fn run_request<S: Source, H: Shelf, K: Sink, D: Sink>(
     diag: &mut D,
 ) -> Status
     ensures answered { result ≡ Status.Usage → ⊥ }
-    ensures ends { IfSome (S.left input.old) (λ bytes.
+    ensures ends { IfSome (bytes_told (made_by_said (request_in request.entry)) (S.left input.old))
+        (λ bytes.
         IfSome (files_told (game_asked (request_in request.entry)) (H.files shelf.old)) (λ files.
         Ends (request_in request.entry) files bytes
         (record {
@@ -119,6 +123,8 @@ fn run_request<S: Source, H: Shelf, K: Sink, D: Sink>(
     ensures shelf { AskForNoGame (Some (request_in request.entry)) → shelf.new ≡ shelf.old }
     ensures unread { ReadsNothing result → input.new ≡ input.old }
     ensures without_game { LacksGame (game_asked (request_in request.entry)) (H.files shelf.old)
+        → input.new ≡ input.old }
+    ensures without_input { MakesHands (made_by_said (request_in request.entry))
         → input.new ≡ input.old }
     ensures nothing_written { WritesNothing result → out.new ≡ out.old }
     ensures fixed_line { IfSome (fixed_line result) (TellsLine
@@ -146,13 +152,54 @@ fn run_request<S: Source, H: Shelf, K: Sink, D: Sink>(
     }
 }
 
-// The answer to a request, by the file of its game and by all that the source has left.
+// The answer to a request: to hands that are made, or else by the file of its game and by all that the source has left.
 fn reply<S: Source, H: Shelf>(
     alloc: Global,
     request: Request<'_>,
     input: &mut S,
     shelf: &mut H,
 ) -> Result<Answer, NoAnswer>
+    ensures answer { IfOk result (λ answer.
+        IfSome (bytes_told (made_by_said (request_in request.entry)) (S.left input.old)) (λ bytes.
+        IfSome (files_told (game_asked (request_in request.entry)) (H.files shelf.old)) (λ files.
+        IsAnswerIn (request_in request.entry) files bytes (answer_told answer)))) }
+    ensures own { IfOk result (λ answer. IsOwn answer.status) }
+    ensures read_fault { IsErrOf result NoAnswer.ReadFault
+        → Rose (S.faults input.old) (S.faults input.new) }
+    ensures reads { IsErrOf result NoAnswer.ReadFault
+        → MakesNone (made_by_said (request_in request.entry)) }
+    ensures shelf_fault { IsErrOf result NoAnswer.ShelfFault
+        → Rose (H.faults shelf.old) (H.faults shelf.new) }
+    ensures asked { IsErrOf result NoAnswer.ShelfFault
+        → AsksForGame (game_asked (request_in request.entry)) }
+    ensures shelf { AskForNoGame (Some (request_in request.entry)) → shelf.new ≡ shelf.old }
+    ensures unread { IfOk result (λ answer. ReadsNothing answer.status → input.new ≡ input.old) }
+    ensures missing { IsErrOf result NoAnswer.GameMissing →
+        IfSome (files_told (game_asked (request_in request.entry)) (H.files shelf.old)) (λ files.
+        IsGameMissing (game_asked (request_in request.entry)) files) }
+    ensures unasked { IfErr result (λ why. ComesFirst why → input.new ≡ input.old) }
+    ensures without_game { LacksGame (game_asked (request_in request.entry)) (H.files shelf.old)
+        → input.new ≡ input.old }
+    ensures without_input { MakesHands (made_by_said (request_in request.entry))
+        → input.new ≡ input.old }
+{
+    match made_by(request) {
+        Some((seed, hands)) => match answer_to_load(alloc, seed, hands) {
+            Ok(answer) => Ok(answer),
+            Err(Memory) => Err(NoAnswer::Memory),
+        },
+        None => reply_to_input(alloc, request, input, shelf),
+    }
+}
+
+// The answer to a request that makes no hands, by the file of its game and by all that the source has left.
+fn reply_to_input<S: Source, H: Shelf>(
+    alloc: Global,
+    request: Request<'_>,
+    input: &mut S,
+    shelf: &mut H,
+) -> Result<Answer, NoAnswer>
+    requires { made_by_said (request_in request) ≡ None }
     ensures answer { IfOk result (λ answer. IfSome (S.left input.old) (λ bytes.
         IfSome (files_told (game_asked (request_in request.entry)) (H.files shelf.old)) (λ files.
         IsAnswerIn (request_in request.entry) files bytes (answer_told answer)))) }

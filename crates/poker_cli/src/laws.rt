@@ -1,6 +1,6 @@
 //! An input has one answer, and none is refused whose hands are all legal.
 ghost use Rattle.std.specs.Prelude.{◌≡◌, ◌⊎◌, ◌≤◌, ℕ, List, None, length};
-ghost use Rattle.command_words.specs.Words.{Convert, Game, Notation, Show};
+ghost use Rattle.command_words.specs.Words.{Convert, Game, Load, Notation, Show};
 ghost use Rattle.command_words.specs.declared.command.Command.{Command};
 ghost use Rattle.command_words.specs.declared.request.Keep.{Keep};
 ghost use Rattle.hand_records.specs.declared.record.Record.{Record};
@@ -9,7 +9,7 @@ ghost use Rattle.poker_cli.specs.Answer.{Answer, Files, IsAnswer, IsWay, most_in
 ghost use Rattle.poker_cli.specs.Inputs.{SayRecords};
 ghost use Rattle.poker_cli.specs.OneAnswer.{AreOneAnswer};
 ghost use Rattle.poker_cli.specs.Outputs.{first_refusal_in};
-ghost use Rattle.poker_cli.specs.Run.{Ends, RefusesNothing, Sinks};
+ghost use Rattle.poker_cli.specs.Run.{Ends, NeedsNoInput, RefusesNothing, Sinks};
 ghost use Rattle.poker_cli.specs.Ways.{kept, way};
 ghost use Rattle.poker_cli.specs.declared.status.Status.{Status};
 ghost use Rattle.poker_cli.specs.declared.task.Reader.{Reader};
@@ -28,8 +28,9 @@ pub fn law_of_one_answer()
 /// A run on an input that is not too long, and whose hands are all legal and agree with what is stated of them, ends with
 /// Done, or a device failed, or memory ran out: on hands in a notation without games, and on a log whose game's file gives
 /// its game. Where the game file of the first hand is asked for, it may also end with Unspelled, if that hand fits no game.
-/// Where hands are converted, each fact that is to be kept has a spelling in the other notation. The function does nothing:
-/// its contract is a law.
+/// Where hands are converted, each fact that is to be kept has a spelling in the other notation. A run that makes hands ends
+/// with Done, or the output failed, or memory ran out, whatever input and files there are. The function does nothing: its
+/// contract is a law.
 pub fn law_of_legal_inputs()
     ensures show { (command : Command) (notation : Notation) (reader : Reader)
         → (files : Files) (bytes : List ℕ) (records : List Record) (plays : List Play)
@@ -53,4 +54,7 @@ pub fn law_of_legal_inputs()
         → ArePlaysOf records plays
         → first_refusal_in target (kept keep) plays ≡ None
         → Ends (Convert from to keep) files bytes out diag status → RefusesNothing status }
+    ensures load { (seed hands : ℕ) (files : Files) (bytes : List ℕ)
+        → (out diag : Sinks) (status : Status)
+        → Ends (Load seed hands) files bytes out diag status → NeedsNoInput status }
 {}

@@ -12,6 +12,7 @@ mod log_faults;
 mod printing;
 mod process;
 mod status;
+mod summing;
 mod task;
 mod tree_faults;
 mod unspelled;

@@ -5,7 +5,7 @@ ghost use Rattle.poker_cli.specs.Ways as definition;
 
 use crate::task::{Reader, Task, Way};
 use acpc_game::Game;
-use command_words::{Keep as KeepAsked, Notation, Request};
+use command_words::{HandCount, Keep as KeepAsked, Notation, Request};
 use hand_records::Keep;
 use ohh_members::Dialect;
 
@@ -18,6 +18,18 @@ pub fn game_name<'a>(request: Request<'a>) -> Option<&'a str>
         Request::Show(_, notation) => file_of(notation),
         Request::Game(notation) => file_of(notation),
         Request::Convert { from, to, .. } => or_file(file_of(from), file_of(to)),
+        Request::Load { .. } => None,
+    }
+}
+
+/// The seed and the number of the hands that a request makes.
+pub fn made_by(request: Request<'_>) -> Option<(u64, HandCount)>
+    ensures { option_map (λ made. (made.0, made.1.number)) result
+        ≡ definition.made_by (request_in request.entry) }
+{
+    match request {
+        Request::Load { seed, hands } => Some((seed, hands)),
+        _ => None,
     }
 }
 
@@ -43,7 +55,8 @@ fn or_file<'a>(name: Option<&'a str>, other: Option<&'a str>) -> Option<&'a str>
     }
 }
 
-/// How a request is answered under the game of its file; `None` where it asks for a game and none is given.
+/// How a request is answered under the game of its file; `None` where it asks for a game and none is given, or makes
+/// hands.
 pub fn way_of(game: Option<Game>, request: Request<'_>) -> Option<Way>
     ensures { result ≡ definition.way_of game (request_in request.entry) }
 {
@@ -65,6 +78,7 @@ pub fn way_of(game: Option<Game>, request: Request<'_>) -> Option<Way>
             let task = Task::Convert { to, keep };
             Some(Way { reader, task })
         }
+        Request::Load { .. } => None,
     }
 }
 

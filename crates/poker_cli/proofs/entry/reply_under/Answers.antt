@@ -10,7 +10,7 @@ use Rattle.poker_cli.proofs.Answering.{game_reply, game_way, lack_reply}
 use Rattle.poker_cli.proofs.entry.reply_under.Goals as goal
 
 pub reply_with-requires : goal.reply_with-requires
-reply_with-requires g c = game_way c.in-Ok.game (request_in c.args.request)
+reply_with-requires g c = game_way c.in-Ok.game (request_in c.args.request) c.args.name.now c.requires
 
 pub returns-in-Ok-clause-answer : goal.returns-in-Ok-clause-answer
 returns-in-Ok-clause-answer g c =
