@@ -13,7 +13,7 @@ use Rattle.clap.specs.declared.parser.matches.ValueSource.TheVariants.{CommandLi
 use Rattle.clap.specs.Simple.{App, built, filled, help_rule, is_simple, matches_of, new_app, new_rule, with_index, with_rule}
 use Rattle.clap.proofs.OnLiterals.{clap_on_literals}
 use Rattle.command_words.specs.Requests.{flag_text}
-use Rattle.command_words.specs.Words.{Options, is_flag, no_options, options_said, stands_alone, with_flag, with_option, with_word}
+use Rattle.command_words.specs.Words.{Options, is_complete, is_flag, no_options, options_said, with_flag, with_option, with_word}
 use Rattle.command_words.proofs.Finds.{Hold, Named, at_row-end, given, hold_given, row_named}
 use Rattle.command_words.proofs.Walking.{IsBetween, IsFlag, IsOption, alone, apart, first, joined}
 
@@ -277,7 +277,7 @@ followed (Some some) f more e = (some, (refl, e))
 
 next : (walk : Walk) (first word value : Text) (words : List Text) (options more : Options) (found : Option (Text × Option Text))
     → Reaches (value ∷ words) first more → Reaches words first more → IsAt walk first options → long_of word ≡ found
-    → option_and_then (λ some. if stands_alone found then options_said some (value ∷ words) else options_said some words)
+    → option_and_then (λ some. if is_complete found then options_said some (value ∷ words) else options_said some words)
     (with_word options found (Some value)) ≡ Some more
     → IsAt (over walk (word ∷ value ∷ words)) first more
 next walk first word value words options more None behind_one behind_two at is e = cc

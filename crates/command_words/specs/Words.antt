@@ -75,9 +75,9 @@ with_word options (Some (name, Some value)) behind = with_option options name va
 with_word options (Some (name, None)) behind = if is_flag name then with_flag options else with_value options name behind
 
 -- a word is an option without the word behind it
-abbrev pub stands_alone : Option (List ℕ × Option (List ℕ)) → Bool
-stands_alone None = false
-stands_alone (Some (name, value)) = is_some value || is_flag name
+abbrev pub is_complete : Option (List ℕ × Option (List ℕ)) → Bool
+is_complete None = false
+is_complete (Some (name, value)) = is_some value || is_flag name
 
 -- The options with those of these words. An option is the word --name=value, or the word --name and its value behind it, or
 -- the flag.
@@ -85,7 +85,7 @@ unfoldable pub options_said : Options → List (List ℕ) → Option Options
 options_said options [] = Some options
 options_said options (word ∷ []) = with_word options (long_of word) None
 options_said options (word ∷ value ∷ words) = option_and_then
-    (λ more. if stands_alone (long_of word) then options_said more (value ∷ words) else options_said more words)
+    (λ more. if is_complete (long_of word) then options_said more (value ∷ words) else options_said more words)
     (with_word options (long_of word) (Some value))
 
 -- the notation of a name; logs are read and written under the game that is given
