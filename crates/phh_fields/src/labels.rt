@@ -4,6 +4,7 @@ ghost use Rattle.std.specs.Fmt.{decimal};
 ghost use Rattle.toml.specs.View.{table_view, view};
 ghost use Rattle.hand_records.specs.AllowedNotes.{IsNoteText};
 ghost use Rattle.first_fault.specs.Reading.{Gives};
+ghost use Rattle.phh_fields.specs.declared.fault.Key.TheVariants as keys;
 ghost use Rattle.phh_fields.specs.Fields.{at_key, field as field_said};
 ghost use Rattle.phh_fields.specs.NoteFields.{label_said, labels_said, or_none, plain_labels, text_note_said};
 
@@ -23,19 +24,14 @@ pub struct Labels {
     pub currency: Option<Text>,
 }
 
-// The label at a key, with this default, if there is one.
-fn label_at(
-    alloc: Global,
-    table: &Table,
-    key: Key,
-    default: &str,
-) -> Result<Option<Text>, Stop<Fault>>
+// The label at a key, if there is one that is not empty.
+fn label_at(alloc: Global, table: &Table, key: Key) -> Result<Option<Text>, Stop<Fault>>
     ensures said { Gives (λ note. note) result
-        (or_none (label_said default.now (at_key key)) (field_said key (table_view table.now))) }
+        (or_none (label_said [] (at_key key)) (field_said key (table_view table.now))) }
     ensures allowed { IfOk result (λ note. IfSome note IsNoteText) }
 {
     match field(table, key) {
-        Some(value) => read_label(alloc, value, default, Place::at_key(key)),
+        Some(value) => read_label(alloc, value, "", Place::at_key(key)),
         None => Ok(None),
     }
 }
@@ -52,6 +48,23 @@ pub fn text_at(alloc: Global, table: &Table, key: Key) -> Result<Option<Text>, S
     }
 }
 
+// The name of the hand at this place of its file, from 0, if there is one. Most files say none, and the number of a place
+// is spelled only where one is.
+fn hand_at(alloc: Global, table: &Table, place: u32) -> Result<Option<Text>, Stop<Fault>>
+    ensures said { Gives (λ note. note) result
+        (or_none (label_said (decimal place) (at_key keys.Hand))
+        (field_said keys.Hand (table_view table.now))) }
+    ensures allowed { IfOk result (λ note. IfSome note IsNoteText) }
+{
+    match field(table, Key::Hand) {
+        Some(value) => {
+            let usual = place.to_string(alloc)?;
+            read_label(alloc, value, usual.as_str(), Place::at_key(Key::Hand))
+        }
+        None => Ok(None),
+    }
+}
+
 /// The labels of the hand at this place of its file, from 0.
 #[tactic(auto, unfolding(crate::specs::NoteFields::labels_said))]
 pub fn read_labels(alloc: Global, table: &Table, place: u32) -> Result<Labels, Stop<Fault>>
@@ -61,9 +74,8 @@ pub fn read_labels(alloc: Global, table: &Table, place: u32) -> Result<Labels, S
     ensures venue { IfOk result (λ labels. IfSome labels.venue IsNoteText) }
     ensures currency { IfOk result (λ labels. IfSome labels.currency IsNoteText) }
 {
-    let usual = place.to_string(alloc)?;
-    let hand = label_at(alloc, table, Key::Hand, usual.as_str())?;
-    let label = label_at(alloc, table, Key::Table, "")?;
+    let hand = hand_at(alloc, table, place)?;
+    let label = label_at(alloc, table, Key::Table)?;
     let venue = text_at(alloc, table, Key::Venue)?;
     let currency = text_at(alloc, table, Key::Currency)?;
     Ok(Labels {
