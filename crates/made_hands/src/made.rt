@@ -1,0 +1,98 @@
+//! Made hands are written as one file, and the file is given to the program over devices in memory.
+ghost use Rattle.std.specs.Prelude.{◌≤◌, All, length, IfOk};
+ghost use Rattle.first_fault.specs.declared.limits.TheConstants.{MOST_HANDS};
+ghost use Rattle.hand_canon.specs.Sound.{IsSound};
+
+use card_set::Memory;
+use convert_core::{PlaysFault, plays_of};
+use hand_gen::make;
+use hand_records::{Keep, Play, WriteRefusal};
+use host_io::{MemShelf, MemSink, MemSource};
+use poker_cli::{Status, run};
+use std::alloc::Global;
+
+/// A file of made hands, and how many moves they have.
+#[derive(Drop)]
+pub struct MadeFile {
+    pub bytes: Vec<u8>,
+    pub moves: u64,
+}
+
+/// Why there is no file of made hands.
+#[derive(Clone, Copy, Debug, PartialEq, Eq)]
+pub enum NoFile {
+    /// The hand with this number is refused.
+    Refused { hand: u32 },
+    /// The hand with this number has a fact without a spelling.
+    Unspelled { hand: u32 },
+    Memory,
+}
+
+/// The file of so many made hands in the Poker Hand History format, and how many moves they have.
+///
+/// # Errors
+///
+/// Want of memory. Made hands are legal, and the format spells each of them, so that no hand is named.
+pub fn file_made(alloc: Global, seed: u64, count: u32) -> Result<MadeFile, NoFile>
+    requires few { count ≤ MOST_HANDS }
+{
+    let plays = match plays_made(alloc, seed, count) {
+        Ok(plays) => plays,
+        Err(PlaysFault::Refused { hand, .. }) => return Err(NoFile::Refused { hand }),
+        Err(PlaysFault::Memory) => return Err(NoFile::Memory),
+    };
+    let moves = moves_of(&plays);
+    match phh_table::write(alloc, &plays, Keep::All) {
+        Ok(bytes) => Ok(MadeFile { bytes, moves }),
+        Err(WriteRefusal::Unspelled { hand, .. }) => Err(NoFile::Unspelled { hand }),
+        Err(WriteRefusal::Memory) => Err(NoFile::Memory),
+    }
+}
+
+// The plays of so many made hands from a seed.
+fn plays_made(alloc: Global, seed: u64, count: u32) -> Result<Vec<Play>, PlaysFault>
+    requires few { count ≤ MOST_HANDS }
+    ensures few { IfOk result (λ plays. length plays.items ≤ MOST_HANDS) }
+    ensures sound { IfOk result (λ plays. All IsSound plays.items) }
+{
+    match make(alloc, seed, count) {
+        Ok(hands) => plays_of(alloc, hands),
+        Err(Memory) => Err(PlaysFault::Memory),
+    }
+}
+
+// How many moves plays have.
+fn moves_of(plays: &[Play]) -> u64 {
+    let mut moves = 0u64;
+    for play in plays {
+        moves = moves.saturating_add(play.trace.moves.len() as u64);
+    }
+    moves
+}
+
+/// The status of the program on a file of hands in the Poker Hand History format, and the last line of its output.
+pub fn check(alloc: Global, file: Vec<u8>) -> Result<(Status, String), Memory> {
+    let mut words = Vec::new(alloc);
+    for word in ["check", "--from", "phh"] {
+        words.push(String::from_str(alloc, word)?)?;
+    }
+    let mut input = MemSource::new(file, Vec::new(alloc));
+    let mut shelf = MemShelf::new(Vec::new(alloc), Vec::new(alloc));
+    let mut out = MemSink::new(alloc, 1_000_000, Vec::new(alloc))?;
+    let mut diag = MemSink::new(alloc, 1_000, Vec::new(alloc))?;
+    let status = run(alloc, &words, &mut input, &mut shelf, &mut out, &mut diag);
+    let mut last = String::new(alloc);
+    for byte in last_line(out.held()) {
+        last.push(char::from(*byte))?;
+    }
+    Ok((status, last))
+}
+
+// The last line of some lines, without its end.
+fn last_line(lines: &[u8]) -> &[u8] {
+    let mut line = lines.strip_suffix(b"\n").unwrap_or(lines);
+    while let Some(at) = line.iter().position(|byte| *byte == b'\n') {
+        line = &line[at + 1..];
+    }
+    line
+}
