@@ -1,0 +1,91 @@
+//! Hands are read in the notation of a name, and written in another.
+use acpc_format::{Game, read_game};
+use convert_core::{Acpc, Notation, Ohh, Phh, plays};
+use hand_records::Keep;
+use ohh_members::Dialect;
+use std::alloc::Global;
+
+// Three seats with 100 chips each, blinds 1 and 2, in no limit.
+const GAME: &[u8] =
+    b"GAMEDEF\nnolimit\nnumPlayers = 3\nnumRounds = 4\nstack = 100 100 100\nblind = 1 2 0\n\
+firstPlayer = 3 1 1 1\nnumSuits = 4\nnumRanks = 13\nnumHoleCards = 2\nnumBoardCards = 0 3 1 1\nEND GAMEDEF\n";
+
+/// How many hands the bytes say in the notation of this name, if they read as hands there.
+pub fn read_hands(alloc: Global, from: &str, bytes: &[u8]) -> Option<usize> {
+    match from {
+        "phh" => count_hands(alloc, &Phh, bytes),
+        "ohh" => count_hands(alloc, &added(), bytes),
+        "acpc" => count_hands(alloc, &game_log(alloc)?, bytes),
+        _ => None,
+    }
+}
+
+/// How many bytes the hands have in the notation of the second name. They are read and replayed once, and written so many
+/// times.
+pub fn write_hands(alloc: Global, from: &str, to: &str, times: u32, bytes: &[u8]) -> Option<usize> {
+    match from {
+        "phh" => write_from(alloc, &Phh, to, times, bytes),
+        "ohh" => write_from(alloc, &added(), to, times, bytes),
+        "acpc" => write_from(alloc, &game_log(alloc)?, to, times, bytes),
+        _ => None,
+    }
+}
+
+// Open Hand History, in the dialect in which a raise adds its amount.
+fn added() -> Ohh {
+    Ohh {
+        dialect: Dialect::Added,
+    }
+}
+
+// The logs of the game.
+fn game_log(alloc: Global) -> Option<Acpc> {
+    let game: Option<Game> = read_game(alloc, GAME).ok();
+    game.map(|game| Acpc { game })
+}
+
+// How many hands bytes say.
+fn count_hands<N: Notation>(alloc: Global, from: &N, bytes: &[u8]) -> Option<usize> {
+    match from.read(alloc, bytes) {
+        Ok(records) => Some(records.len()),
+        Err(_) => None,
+    }
+}
+
+// How many bytes the hands of bytes have in the notation of a name.
+fn write_from<N: Notation>(
+    alloc: Global,
+    from: &N,
+    to: &str,
+    times: u32,
+    bytes: &[u8],
+) -> Option<usize> {
+    match to {
+        "phh" => write_times(alloc, from, &Phh, times, bytes),
+        "ohh" => write_times(alloc, from, &added(), times, bytes),
+        "acpc" => write_times(alloc, from, &game_log(alloc)?, times, bytes),
+        _ => None,
+    }
+}
+
+// How many bytes the hands of bytes have in another notation. They are written so many times.
+fn write_times<N: Notation, M: Notation>(
+    alloc: Global,
+    from: &N,
+    to: &M,
+    times: u32,
+    bytes: &[u8],
+) -> Option<usize> {
+    let plays = match plays(alloc, from, bytes) {
+        Ok(plays) => plays,
+        Err(_) => return None,
+    };
+    let mut written = 0;
+    for _ in 0..times {
+        match to.write(alloc, &plays, Keep::All) {
+            Ok(output) => written = output.len(),
+            Err(_) => return None,
+        }
+    }
+    Some(written)
+}
