@@ -81,18 +81,22 @@ pub fn check(alloc: Global, file: Vec<u8>) -> Result<(Status, String), Memory> {
     let mut out = MemSink::new(alloc, 1_000_000, Vec::new(alloc))?;
     let mut diag = MemSink::new(alloc, 1_000, Vec::new(alloc))?;
     let status = run(alloc, &words, &mut input, &mut shelf, &mut out, &mut diag);
-    let mut last = String::new(alloc);
-    for byte in last_line(out.held()) {
-        last.push(char::from(*byte))?;
-    }
+    let last = last_line(alloc, out.held())?;
     Ok((status, last))
 }
 
-// The last line of some lines, without its end.
-fn last_line(lines: &[u8]) -> &[u8] {
-    let mut line = lines.strip_suffix(b"\n").unwrap_or(lines);
-    while let Some(at) = line.iter().position(|byte| *byte == b'\n') {
-        line = &line[at + 1..];
+// The last of some lines, without its end.
+fn last_line(alloc: Global, lines: &[u8]) -> Result<String, Memory> {
+    let mut line = String::new(alloc);
+    let mut ended = false;
+    for byte in lines {
+        if ended {
+            line = String::new(alloc);
+        }
+        ended = *byte == b'\n';
+        if !ended {
+            line.push(char::from(*byte))?;
+        }
     }
-    line
+    Ok(line)
 }
