@@ -1,5 +1,5 @@
 -- The setup of a game has no fact that the logs of the game do not spell.
-use Rattle.std.proofs.Common.{◌≡◌, ℕ, zero, suc, ◌+◌, ◌-◌, Bool, true, false, ◌&&◌, ◌||◌, ◌==◌, not, eqb, nat_lt, bytes_eq, if◌then◌else◌, List, [], ◌∷◌, take, slice_index, Option, Some, None, refl, sym, ap, ◌∙◌, arith, true≢false}
+use Rattle.std.proofs.Common.{◌≡◌, ℕ, ◌+◌, ◌-◌, Bool, true, false, ◌&&◌, ◌==◌, not, eqb, nat_lt, bytes_eq, if◌then◌else◌, [], slice_index, Option, Some, None, refl, sym, ap, ◌∙◌, arith, true≢false}
 use Rattle.std.specs.List.{list_any}
 use Rattle.std.proofs.lemmas.Bool.{and_from, eq-eqb}
 use Rattle.std.proofs.lemmas.Slice.Eq.{bytes_eq-Decides}
@@ -13,21 +13,13 @@ use Rattle.acpc_game.specs.Games.{amounts_in}
 use Rattle.acpc_line.specs.SetupFacts.{greatest_blind, has_sizes_of, is_code_of, setup_conditions}
 use Rattle.acpc_line.specs.Spelled.{first_where}
 use Rattle.acpc_reading.specs.RecordView.{IsSetupOf, code_of}
+use Rattle.list_laws.proofs.Any.{none_from_zeros, none_taken_from_zeros}
+use Rattle.list_laws.proofs.Tests.{not_true}
 
 -- the code of a game is one that its logs spell
 pub code_fits : (no_limit : Bool) → is_code_of no_limit (code_of no_limit) ≡ true
 code_fits true = refl
 code_fits false = refl
-
--- numbers that are all 0
-zeros_none : (numbers : List ℕ) → ((index : ℕ) → slice_index numbers index ≡ 0) → list_any (nat_lt 0) numbers ≡ false
-zeros_none [] zeros = refl
-zeros_none (number ∷ numbers) zeros = ap (λ n. nat_lt 0 n || list_any (nat_lt 0) numbers) (zeros zero) ∙ zeros_none numbers (λ index. zeros (suc index))
-
-taken_zeros : (count : ℕ) (numbers : List ℕ) → ((index : ℕ) → slice_index numbers index ≡ 0) → list_any (nat_lt 0) (take count numbers) ≡ false
-taken_zeros zero numbers zeros = refl
-taken_zeros (suc count) [] zeros = refl
-taken_zeros (suc count) (number ∷ numbers) zeros = ap (λ n. nat_lt 0 n || list_any (nat_lt 0) (take count numbers)) (zeros zero) ∙ taken_zeros count numbers (λ index. zeros (suc index))
 
 sizes_fit : (no_limit : Bool) (small big least blind game_small game_big game_blind : ℕ) → small ≡ game_small → big ≡ game_big → least ≡ (if no_limit then game_blind else 0) → blind ≡ game_blind
     → (if no_limit then eqb least blind else eqb small game_small && eqb big game_big) ≡ true
@@ -39,11 +31,6 @@ passed : (condition : Bool) (fact : Unspelled) (rest : Option Unspelled) → con
 passed false fact rest is none = none
 passed true fact rest is none = absurd (true≢false is)
 
--- what is true is not false
-pub not_true : (b : Bool) → b ≡ true → not b ≡ false
-not_true true is = refl
-not_true false is = absurd (true≢false (sym is))
-
 -- no condition of the setup holds
 pub setup_none : (game : Game) (setup : Setup) → IsSetupOf game setup → first_where (setup_conditions game setup) ≡ None
 setup_none game setup is =
@@ -54,8 +41,8 @@ setup_none game setup is =
     let sizes : has_sizes_of game setup ≡ true = sizes_fit game.no_limit setup.small_bet setup.big_bet setup.min_bet (greatest_blind setup) game.small_raise game.big_raise (greatest (amounts_in game.blinds)) is.small_bet is.big_bet is.min_bet
     (ap (λ (row : SeatRow). greatest (amounts_in row)) is.blinds) in
     let next : (index : ℕ) → (index + 1) - 1 ≡ index = λ index. omega arith in
-    let antes = taken_zeros setup.antes.seats setup.antes.amounts (λ index. sym (ap (slice_index setup.antes.amounts) (next index)) ∙ is.antes (index + 1)) in
-    let rakes = zeros_none setup.rakes.rakes (λ index. sym (ap (slice_index setup.rakes.rakes) (next index)) ∙ is.rakes (index + 1)) in
+    let antes = none_taken_from_zeros setup.antes.seats setup.antes.amounts (λ index. sym (ap (slice_index setup.antes.amounts) (next index)) ∙ is.antes (index + 1)) in
+    let rakes = none_from_zeros setup.rakes.rakes (λ index. sym (ap (slice_index setup.rakes.rakes) (next index)) ∙ is.rakes (index + 1)) in
     passed (not (is_code_of game.no_limit setup.code)) facts.Variant _ (not_true (is_code_of game.no_limit setup.code) code)
     (passed (not (setup.stacks.seats == game.stacks.seats)) facts.SeatCount _ (not_true (setup.stacks.seats == game.stacks.seats) seats)
     (passed (not (bytes_eq (amounts_in setup.stacks) (amounts_in game.stacks))) facts.Stacks _ (not_true (bytes_eq (amounts_in setup.stacks) (amounts_in game.stacks)) stacks)

@@ -2,7 +2,6 @@
 -- board, and letters, of which a raise is spelled as the game has it.
 use Rattle.std.proofs.Common.{◌≡◌, ℕ, ◌+◌, Bool, true, false, ◌&&◌, not, eqb, nat_lt, nat_le, if◌then◌else◌, codes, List, [], ◌∷◌, ◌++◌, length, map, Option, Some, None, option_and_then, Result, Ok, Err, IfOk, refl, sym, ap, ◌∙◌}
 use Rattle.std.specs.List.{AllByRecursion, list_any}
-use Rattle.std.specs.Option.{option_map_or}
 use Rattle.std.proofs.lemmas.Bool.{and_parts, eqb-true, not-true}
 use Rattle.card_set.specs.Known.{is_unknown}
 use Rattle.card_set.specs.Spelling.{slots_spelled}
@@ -24,7 +23,7 @@ use Rattle.acpc_text.specs.Letters.{Letter, scan}
 use Rattle.acpc_text.specs.Parts.{has_front, lines_of, parts_of}
 use Rattle.acpc_text.specs.declared.fault.LineFault.{LineFault}
 use Rattle.acpc_text.specs.declared.fault.What.TheVariants as whats
-use Rattle.acpc_reading.proofs.Checked.{after, either, where_some}
+use Rattle.acpc_reading.proofs.Checked.{after}
 use Rattle.acpc_reading.specs.Betting.{Bets, bare_said, bets_after, betting_said, letter_said, no_bets, raise_said, stroke_said, with_move}
 use Rattle.acpc_reading.specs.Cards.{Written, bad_cards, board_said, dealt, hole_after, hole_said, holes_after, known_said, next_round, only_known, script_said, step_after, steps_after, steps_said, without_rest}
 use Rattle.acpc_reading.specs.Logs.{FieldsSaid, HandSaid, Hands, behind, hand_of, hands_after, hands_after_line, is_passed_over, line_said, reading, six_fields}
@@ -32,6 +31,8 @@ use Rattle.acpc_reading.specs.Names.{hand_said, names_said}
 use Rattle.acpc_reading.specs.Values.{values_said}
 use Rattle.acpc_reading.specs.declared.step.Step.{Step}
 use Rattle.acpc_reading.specs.declared.step.Step.TheVariants as steps
+use Rattle.list_laws.proofs.Entries.{all_push}
+use Rattle.list_laws.proofs.Results.{ok_anyway, ok_either, ok_where_found, ok_where_some}
 
 -- two cards, both known or both unknown
 pub record AreWhole (cards : List Slot) : Type 0 where
@@ -57,11 +58,6 @@ IsLogEvent no_limit _ = ⊥
 abbrev pub IsLogNumbered : Bool → Numbered → Type 0
 IsLogNumbered no_limit event = IsLogEvent no_limit event.1
 
--- one more
-push : {A : Type 0} (P : A → Type 0) (xs : List A) (x : A) → AllByRecursion P xs → P x → AllByRecursion P (xs ++ x ∷ [])
-push P [] x all is = (is, tt)
-push P (first ∷ xs) x all is = (all.0, push P xs x all.1 is)
-
 -- ---- the betting
 
 -- a step as the game has it
@@ -78,35 +74,35 @@ AreSteps no_limit bets = AllByRecursion (IsStepOf no_limit) bets.steps
 one_step : (no_limit : Bool) (bets : Bets) (at : ℕ) (step : Step) → IsStepOf no_limit step → AreSteps no_limit bets → IfOk (with_move bets at step) (AreSteps no_limit)
 unfolding with_move
 one_step no_limit bets at step is all =
-    either (nat_le MOST_MOVES bets.moves) (wrong (whats.TooMany quantities.Moves) at) _ (AreSteps no_limit) (λ _. tt)
-    (λ _. either (nat_le MOST_FILE_MOVES bets.file_moves) (wrong (whats.TooMany quantities.FileMoves) at) _ (AreSteps no_limit) (λ _. tt)
-    (λ _. push (IsStepOf no_limit) bets.steps step all is))
+    ok_either (nat_le MOST_MOVES bets.moves) (wrong (whats.TooMany quantities.Moves) at) _ (AreSteps no_limit) (λ _. tt)
+    (λ _. ok_either (nat_le MOST_FILE_MOVES bets.file_moves) (wrong (whats.TooMany quantities.FileMoves) at) _ (AreSteps no_limit) (λ _. tt)
+    (λ _. all_push (IsStepOf no_limit) bets.steps step all is))
 
 bare : (no_limit : Bool) (bets : Bets) (at : ℕ) (digits : List ℕ) (step : Step) → IsStepOf no_limit step → AreSteps no_limit bets → IfOk (bare_said bets at digits step) (AreSteps no_limit)
 unfolding bare_said
-bare no_limit bets at digits step is all = either (eqb (length digits) 0) (with_move bets at step) (wrong whats.BadBetting (at + 1)) (AreSteps no_limit) (λ _. one_step no_limit bets at step is all) (λ _. tt)
+bare no_limit bets at digits step is all = ok_either (eqb (length digits) 0) (with_move bets at step) (wrong whats.BadBetting (at + 1)) (AreSteps no_limit) (λ _. one_step no_limit bets at step is all) (λ _. tt)
 
 raise : (no_limit : Bool) (bets : Bets) (at : ℕ) (digits : List ℕ) → no_limit ≡ true → AreSteps no_limit bets → IfOk (raise_said bets at digits) (AreSteps no_limit)
 unfolding raise_said
 raise no_limit bets at digits is all =
-    either (eqb (length digits) 0) (wrong whats.BadBetting (at + 1)) _ (AreSteps no_limit) (λ _. tt)
-    (λ _. where_some (number_of MOST_CHIPS digits) (λ total. with_move bets at (steps.RaiseTo total)) (wrong whats.AmountLimit (at + 1)) (AreSteps no_limit)
+    ok_either (eqb (length digits) 0) (wrong whats.BadBetting (at + 1)) _ (AreSteps no_limit) (λ _. tt)
+    (λ _. ok_where_some (number_of MOST_CHIPS digits) (λ total. with_move bets at (steps.RaiseTo total)) (wrong whats.AmountLimit (at + 1)) (AreSteps no_limit)
     (λ total. one_step no_limit bets at (steps.RaiseTo total) is all) tt)
 
 stroke : (no_limit : Bool) (bets : Bets) (at : ℕ) (digits : List ℕ) → AreSteps no_limit bets → IfOk (stroke_said bets at digits) (AreSteps no_limit)
 unfolding stroke_said
 stroke no_limit bets at digits all =
-    either (nat_le 4 bets.round) (wrong whats.BadBetting at) _ (AreSteps no_limit) (λ _. tt)
-    (λ _. either (eqb (length digits) 0) _ (wrong whats.BadBetting (at + 1)) (AreSteps no_limit) (λ _. push (IsStepOf no_limit) bets.steps steps.NextRound all tt) (λ _. tt))
+    ok_either (nat_le 4 bets.round) (wrong whats.BadBetting at) _ (AreSteps no_limit) (λ _. tt)
+    (λ _. ok_either (eqb (length digits) 0) _ (wrong whats.BadBetting (at + 1)) (AreSteps no_limit) (λ _. all_push (IsStepOf no_limit) bets.steps steps.NextRound all tt) (λ _. tt))
 
 one_letter : (no_limit : Bool) (bets : Bets) (at : ℕ) (letter : Letter) → AreSteps no_limit bets → IfOk (letter_said no_limit bets at letter) (AreSteps no_limit)
 unfolding letter_said
 one_letter no_limit bets at (letter, digits) all =
-    either (eqb letter 102) (bare_said bets at digits steps.Fold) _ (AreSteps no_limit) (λ _. bare no_limit bets at digits steps.Fold tt all)
-    (λ _. either (eqb letter 99) (bare_said bets at digits steps.Call) _ (AreSteps no_limit) (λ _. bare no_limit bets at digits steps.Call tt all)
-    (λ _. either (eqb letter 114) _ _ (AreSteps no_limit)
-    (λ _. either no_limit (raise_said bets at digits) (bare_said bets at digits steps.Raise) (AreSteps no_limit) (λ is. raise no_limit bets at digits is all) (λ is. bare no_limit bets at digits steps.Raise is all))
-    (λ _. either (eqb letter 47) (stroke_said bets at digits) (wrong whats.BadBetting at) (AreSteps no_limit) (λ _. stroke no_limit bets at digits all) (λ _. tt))))
+    ok_either (eqb letter 102) (bare_said bets at digits steps.Fold) _ (AreSteps no_limit) (λ _. bare no_limit bets at digits steps.Fold tt all)
+    (λ _. ok_either (eqb letter 99) (bare_said bets at digits steps.Call) _ (AreSteps no_limit) (λ _. bare no_limit bets at digits steps.Call tt all)
+    (λ _. ok_either (eqb letter 114) _ _ (AreSteps no_limit)
+    (λ _. ok_either no_limit (raise_said bets at digits) (bare_said bets at digits steps.Raise) (AreSteps no_limit) (λ is. raise no_limit bets at digits is all) (λ is. bare no_limit bets at digits steps.Raise is all))
+    (λ _. ok_either (eqb letter 47) (stroke_said bets at digits) (wrong whats.BadBetting at) (AreSteps no_limit) (λ _. stroke no_limit bets at digits all) (λ _. tt))))
 
 more_letters : (no_limit : Bool) (bets : Bets) (at : ℕ) (letters : List Letter) → AreSteps no_limit bets → IfOk (bets_after no_limit bets at letters) (AreSteps no_limit)
 unfolding bets_after
@@ -118,15 +114,10 @@ more_letters no_limit bets at (letter ∷ letters) all =
 betting_steps : (no_limit : Bool) (earlier at : ℕ) (text : List ℕ) → IfOk (betting_said no_limit earlier at text) (AreSteps no_limit)
 unfolding betting_said
 betting_steps no_limit earlier at text =
-    either (nat_lt 0 (length (scan text).0)) (wrong whats.BadBetting at) _ (AreSteps no_limit) (λ _. tt)
+    ok_either (nat_lt 0 (length (scan text).0)) (wrong whats.BadBetting at) _ (AreSteps no_limit) (λ _. tt)
     (λ _. more_letters no_limit (no_bets earlier) at (scan text).1 tt)
 
 -- ---- the script
-
--- what comes of a value that is found
-where_found : {X A F : Type 0} (found : Option X) (form : X → Result A F) (y : Result A F) (P : A → Type 0) → ((x : X) → found ≡ Some x → IfOk (form x) P) → IfOk y P → IfOk (option_map_or form found y) P
-where_found (Some x) form y P some other = some x refl
-where_found None form y P some other = other
 
 known_whole : (found : Option (List Slot)) (cards : List Slot) → option_and_then (only_known 2) found ≡ Some cards → AreWhole cards
 known_whole None cards is = absurd (cc)
@@ -167,23 +158,23 @@ unfolding holes_after hole_after
 holes_log no_limit at events seat [] all = all
 holes_log no_limit at events seat (part ∷ parts) all =
     after (hole_after at events seat part) (λ more. holes_after at more (seat + 1) parts) (AreLog no_limit) (AreLog no_limit)
-    (where_found (hole_said part) (λ cards. Ok (events ++ (0, said.Hole seat cards) ∷ [])) (bad_cards at) (AreLog no_limit)
-    (λ cards is. push (IsLogNumbered no_limit) events (0, said.Hole seat cards) all (hole_whole part cards is)) tt)
+    (ok_where_found (hole_said part) (λ cards. Ok (events ++ (0, said.Hole seat cards) ∷ [])) (bad_cards at) (AreLog no_limit)
+    (λ cards is. all_push (IsLogNumbered no_limit) events (0, said.Hole seat cards) all (hole_whole part cards is)) tt)
     (λ more so_far. holes_log no_limit at more (seat + 1) parts so_far)
 
 round_log : (no_limit : Bool) (at : ℕ) (so_far : Written) (boards : List (List ℕ)) → IsLog no_limit so_far → IfOk (next_round at so_far boards) (IsLog no_limit)
 unfolding next_round
 round_log no_limit at so_far [] all = tt
 round_log no_limit at so_far (board ∷ boards) all =
-    where_some (board_said so_far.size board) (λ cards. Ok (record { events = so_far.events ++ (0, said.Board cards) ∷ []; number = so_far.number; size = 1; boards = boards })) (bad_cards at) (IsLog no_limit)
-    (λ cards. push (IsLogNumbered no_limit) so_far.events (0, said.Board cards) all tt) tt
+    ok_where_some (board_said so_far.size board) (λ cards. Ok (record { events = so_far.events ++ (0, said.Board cards) ∷ []; number = so_far.number; size = 1; boards = boards })) (bad_cards at) (IsLog no_limit)
+    (λ cards. all_push (IsLogNumbered no_limit) so_far.events (0, said.Board cards) all tt) tt
 
 step_log : (no_limit : Bool) (at : ℕ) (so_far : Written) (step : Step) → IsStepOf no_limit step → IsLog no_limit so_far → IfOk (step_after at so_far step) (IsLog no_limit)
 unfolding step_after
-step_log no_limit at so_far steps.Fold is all = push (IsLogNumbered no_limit) so_far.events (_, said.Fold None) all tt
-step_log no_limit at so_far steps.Call is all = push (IsLogNumbered no_limit) so_far.events (_, said.Call None None) all tt
-step_log no_limit at so_far steps.Raise is all = push (IsLogNumbered no_limit) so_far.events (_, said.Raise None spelled.Unit) all is
-step_log no_limit at so_far (steps.RaiseTo total) is all = push (IsLogNumbered no_limit) so_far.events (_, said.Raise None (spelled.HandTotal total)) all is
+step_log no_limit at so_far steps.Fold is all = all_push (IsLogNumbered no_limit) so_far.events (_, said.Fold None) all tt
+step_log no_limit at so_far steps.Call is all = all_push (IsLogNumbered no_limit) so_far.events (_, said.Call None None) all tt
+step_log no_limit at so_far steps.Raise is all = all_push (IsLogNumbered no_limit) so_far.events (_, said.Raise None spelled.Unit) all is
+step_log no_limit at so_far (steps.RaiseTo total) is all = all_push (IsLogNumbered no_limit) so_far.events (_, said.Raise None (spelled.HandTotal total)) all is
 step_log no_limit at so_far steps.NextRound is all = round_log no_limit at so_far so_far.boards all
 
 steps_log : (no_limit : Bool) (at : ℕ) (so_far : Written) (bets : List Step) → AllByRecursion (IsStepOf no_limit) bets → IsLog no_limit so_far → IfOk (steps_after at so_far bets) (IsLog no_limit)
@@ -194,7 +185,7 @@ steps_log no_limit at so_far (step ∷ rest) each all =
     (λ more one. steps_log no_limit at more rest each.1 one)
 
 ending_log : (no_limit : Bool) (at : ℕ) (written : Written) → IsLog no_limit written → IfOk (without_rest at written) (AreLog no_limit)
-ending_log no_limit at written all = either (eqb (length written.boards) 0) (Ok written.events) (bad_cards at) (AreLog no_limit) (λ _. all) (λ _. tt)
+ending_log no_limit at written all = ok_either (eqb (length written.boards) 0) (Ok written.events) (bad_cards at) (AreLog no_limit) (λ _. all) (λ _. tt)
 
 all_steps_log : (no_limit : Bool) (at : ℕ) (so_far : Written) (bets : List Step) → AllByRecursion (IsStepOf no_limit) bets → IsLog no_limit so_far → IfOk (steps_said at so_far bets) (AreLog no_limit)
 unfolding steps_said
@@ -205,7 +196,7 @@ script_log : (no_limit : Bool) (players : ℕ) (bets : List Step) (at : ℕ) (pa
 unfolding script_said
 script_log no_limit players bets at [] each = tt
 script_log no_limit players bets at (holes ∷ boards) each =
-    either (eqb (length (parts_of 124 holes)) players) _ (wrong whats.SeatCount at) (AreLog no_limit)
+    ok_either (eqb (length (parts_of 124 holes)) players) _ (wrong whats.SeatCount at) (AreLog no_limit)
     (λ same. after (holes_after at [] 1 (parts_of 124 holes)) (λ events. steps_said at (dealt events boards) bets) (AreLog no_limit) (AreLog no_limit)
     (holes_log no_limit at [] 1 (parts_of 124 holes) tt) (λ events all. all_steps_log no_limit at (dealt events boards) bets each all))
     (λ _. tt)
@@ -218,11 +209,6 @@ IsLogHand no_limit hand = AreLog no_limit hand.events
 abbrev IsLogFound : Bool → HandSaid × ℕ → Type 0
 IsLogFound no_limit found = IsLogHand no_limit found.0
 
--- whatever is read before
-anything : {A F : Type 0} (result : Result A F) → IfOk result (λ _. Unit {0})
-anything (Ok x) = tt
-anything (Err fault) = tt
-
 hand_log : (game : Game) (place file_moves : ℕ) (fields : FieldsSaid) → IfOk (hand_of game place file_moves fields) (IsLogFound game.no_limit)
 unfolding hand_of
 hand_log game place file_moves fields =
@@ -231,17 +217,17 @@ hand_log game place file_moves fields =
     let cards_at = behind betting_at fields.betting in
     let values_at = behind cards_at fields.cards in
     let names_at = behind values_at fields.values in
-    after (hand_said place hand_at fields.hand) _ (λ _. Unit {0}) (IsLogFound game.no_limit) (anything (hand_said place hand_at fields.hand)) (λ note _.
+    after (hand_said place hand_at fields.hand) _ (λ _. Unit {0}) (IsLogFound game.no_limit) (ok_anyway (hand_said place hand_at fields.hand)) (λ note _.
     after (betting_said game.no_limit file_moves betting_at fields.betting) _ (AreSteps game.no_limit) (IsLogFound game.no_limit) (betting_steps game.no_limit file_moves betting_at fields.betting) (λ bets each.
     after (script_said game.stacks.seats bets.steps cards_at (parts_of 47 fields.cards)) _ (AreLog game.no_limit) (IsLogFound game.no_limit) (script_log game.no_limit game.stacks.seats bets.steps cards_at (parts_of 47 fields.cards) each) (λ events all.
-    after (values_said game.stacks.seats values_at fields.values) _ (λ _. Unit {0}) (IsLogFound game.no_limit) (anything (values_said game.stacks.seats values_at fields.values)) (λ nets _.
-    after (names_said game.stacks.seats names_at fields.names) _ (λ _. Unit {0}) (IsLogFound game.no_limit) (anything (names_said game.stacks.seats names_at fields.names)) (λ called _. all)))))
+    after (values_said game.stacks.seats values_at fields.values) _ (λ _. Unit {0}) (IsLogFound game.no_limit) (ok_anyway (values_said game.stacks.seats values_at fields.values)) (λ nets _.
+    after (names_said game.stacks.seats names_at fields.names) _ (λ _. Unit {0}) (IsLogFound game.no_limit) (ok_anyway (names_said game.stacks.seats names_at fields.names)) (λ called _. all)))))
 
 line_log : (game : Game) (place file_moves : ℕ) (line : List ℕ) → IfOk (line_said game place file_moves line) (IsLogFound game.no_limit)
 unfolding line_said
 line_log game place file_moves line =
-    either (has_front (codes "STATE:") line) _ (wrong whats.LineShape 1) (IsLogFound game.no_limit)
-    (λ _. after (six_fields (length line) (parts_of 58 line)) (hand_of game place file_moves) (λ _. Unit {0}) (IsLogFound game.no_limit) (anything (six_fields (length line) (parts_of 58 line))) (λ fields _. hand_log game place file_moves fields))
+    ok_either (has_front (codes "STATE:") line) _ (wrong whats.LineShape 1) (IsLogFound game.no_limit)
+    (λ _. after (six_fields (length line) (parts_of 58 line)) (hand_of game place file_moves) (λ _. Unit {0}) (IsLogFound game.no_limit) (ok_anyway (six_fields (length line) (parts_of 58 line))) (λ fields _. hand_log game place file_moves fields))
     (λ _. tt)
 
 abbrev AreLogHands : Bool → Hands → Type 0
@@ -255,11 +241,11 @@ in_line_too line (Err fault) P is = tt
 one_line : (game : Game) (hands : Hands) (line : ℕ) (text : List ℕ) → AreLogHands game.no_limit hands → IfOk (hands_after_line game hands line text) (AreLogHands game.no_limit)
 unfolding hands_after_line
 one_line game hands line text all =
-    either (is_passed_over text) (Ok hands) _ (AreLogHands game.no_limit) (λ _. all)
-    (λ _. either (nat_le MOST_HANDS (length hands.0)) (in_line line (wrong (whats.TooMany quantities.Hands) 1)) _ (AreLogHands game.no_limit) (λ _. tt)
+    ok_either (is_passed_over text) (Ok hands) _ (AreLogHands game.no_limit) (λ _. all)
+    (λ _. ok_either (nat_le MOST_HANDS (length hands.0)) (in_line line (wrong (whats.TooMany quantities.Hands) 1)) _ (AreLogHands game.no_limit) (λ _. tt)
     (λ _. after (in_line line (line_said game (length hands.0) hands.1 text)) (λ found. Ok (hands.0 ++ found.0 ∷ [], found.1)) (IsLogFound game.no_limit) (AreLogHands game.no_limit)
     (in_line_too line (line_said game (length hands.0) hands.1 text) (IsLogFound game.no_limit) (line_log game (length hands.0) hands.1 text))
-    (λ found is. push (IsLogHand game.no_limit) hands.0 found.0 all is)))
+    (λ found is. all_push (IsLogHand game.no_limit) hands.0 found.0 all is)))
 
 all_lines : (game : Game) (hands : Hands) (line : ℕ) (texts : List (List ℕ)) → AreLogHands game.no_limit hands → IfOk (hands_after game hands line texts) (AreLogHands game.no_limit)
 unfolding hands_after

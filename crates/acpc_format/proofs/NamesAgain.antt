@@ -16,10 +16,7 @@ use Rattle.acpc_line.specs.Names.{is_spelled_name, name_or_default, name_text}
 use Rattle.acpc_reading.specs.Names.{name_said, names_after}
 use Rattle.acpc_format.specs.Again.{kept_name, name_again}
 use Rattle.acpc_line.specs.Texts.{AreTexts}
-
--- a text is its own comparison
-same_text : (text : List ℕ) → bytes_eq text text ≡ true
-same_text text = (bytes_eq-Decides text text).1 refl
+use Rattle.list_laws.proofs.Bytes.{same_bytes}
 
 -- the default name of a seat reads as none
 default_again : (seat at : ℕ) → seat ≤ 10 → name_said seat at (default_name seat) ≡ Ok None
@@ -29,7 +26,7 @@ default_again seat at few =
     let digits = decimal_is_IsNumeral seat small in
     let utf8 : is_utf8 (default_name seat) ≡ true = is_utf8-from_IsUtf8 (default_name seat) (IsUtf8-from_ascii (default_name seat) (ascii digits.0.1)) in
     let short : nat_lt MOST_TEXT_BYTES (length (default_name seat)) ≡ false = grind (arith, nat_tests, length-decimal-le_succ seat small) in
-    rw (utf8, short) (ap Ok (ap (λ b. cond (length (default_name seat) == 0 || b) None (Some (default_name seat))) (same_text (default_name seat)) ∙ ap (λ b. cond b None (Some (default_name seat))) (either_true (length (default_name seat) == 0))))
+    rw (utf8, short) (ap Ok (ap (λ b. cond (length (default_name seat) == 0 || b) None (Some (default_name seat))) (same_bytes (default_name seat)) ∙ ap (λ b. cond b None (Some (default_name seat))) (either_true (length (default_name seat) == 0))))
   where
     either_true : (b : Bool) → (b || true) ≡ true
     either_true true = refl

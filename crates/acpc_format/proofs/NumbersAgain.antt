@@ -1,13 +1,13 @@
 -- Numbers that were written in decimal digits read back, and so do the number of the hand and the values.
-use Rattle.std.proofs.Common.{◌≡◌, ℕ, zero, suc, ◌+◌, ◌-◌, ◌≤◌, ◌<◌, ◌^◌, ℤ, pos, negsuc, ◌-ℤ◌, Bool, true, false, ◌&&◌, ◌||◌, ◌==◌, not, nat_le, nat_lt, if◌then◌else◌, cond, eqb, bytes_eq, decimal, List, [], ◌∷◌, ◌++◌, length, map, slice_index, Option, Some, None, Result, Ok, refl, sym, ap, subst, ◌∙◌, arith, append_assoc, ltb-false, ne_eqb, true≢false}
+use Rattle.std.proofs.Common.{◌≡◌, ℕ, zero, suc, ◌+◌, ◌-◌, ◌≤◌, ◌<◌, ◌^◌, ℤ, pos, ◌-ℤ◌, Bool, true, false, ◌&&◌, ◌||◌, ◌==◌, not, nat_le, nat_lt, if◌then◌else◌, cond, eqb, bytes_eq, decimal, List, [], ◌∷◌, ◌++◌, length, map, slice_index, Option, Some, None, Result, Ok, refl, sym, ap, subst, ◌∙◌, arith, append_assoc, ltb-false, ne_eqb, true≢false}
 use Rattle.std.specs.List.{list_all, range_with_len}
 use Rattle.std.specs.Char.{is_digit, digit_value}
 use Rattle.std.specs.Str.Parse.{AllDigits, digits_value}
-use Rattle.std.proofs.lemmas.Bool.{and_parts, eqb-true, eq-eqb, le-leb, le-ltb, leb-true, lt-ltb, ltb-true}
+use Rattle.std.proofs.lemmas.Bool.{and_parts, eqb-true, eq-eqb, le-leb, leb-true, lt-ltb, ltb-true}
 use Rattle.std.proofs.lemmas.Fmt.{decimal-digits_value, decimal_is_IsNumeral, length-decimal-le}
 use Rattle.std.proofs.lemmas.List.{append-nil}
 use Rattle.std.proofs.lemmas.Slice.Eq.{bytes_eq-Decides}
-use Rattle.std.proofs.lemmas.Str.Parse.{IsNumeralModel, digit_from_value, digits_value_short}
+use Rattle.std.proofs.lemmas.Str.Parse.{digit_from_value, digits_value_short}
 use Rattle.chip_ledger.specs.SeatRow.{amount_of}
 use Rattle.chip_ledger.specs.declared.rows.SeatRow.{SeatRow}
 use Rattle.chip_ledger.specs.declared.rows.TheConstants.{MOST_AMOUNT}
@@ -21,20 +21,9 @@ use Rattle.acpc_reading.specs.Values.{unsigned_said, value_said, values_after, w
 use Rattle.acpc_format.specs.Again.{kept_hand}
 use Rattle.acpc_format.proofs.Signs.{decimal_plain, digits_plain, is_plain}
 use Rattle.acpc_format.proofs.Splits.{Passes, whole}
-
--- one's own words for digits
-all_digits : (digits : List ℕ) → list_all (λ sign. is_digit sign 10) digits ≡ true → AllDigits 10 digits
-all_digits [] all = tt
-all_digits (digit ∷ digits) all =
-    let parts = and_parts (is_digit digit 10) (list_all (λ sign. is_digit sign 10) digits) all in
-    (ltb-true (digit_value digit) 10 parts.0, all_digits digits parts.1)
-
-of_digits : (digits : List ℕ) → AllDigits 10 digits → list_all (λ sign. is_digit sign 10) digits ≡ true
-of_digits [] all = refl
-of_digits (digit ∷ digits) all = rw (lt-ltb (digit_value digit) 10 all.0, of_digits digits all.1) refl
-
-own_digits : IsNumeralModel (AllDigits 10) (digits_value 10)
-own_digits = record { to = λ digits all. all; from = λ digits all. all; same = λ digits all. refl }
+use Rattle.list_laws.proofs.Digits.{all_digits, of_digits, own_digits}
+use Rattle.list_laws.proofs.Integers.{difference_above, difference_below}
+use Rattle.list_laws.proofs.Tests.{implied}
 
 -- a number in decimal digits
 pub decimal_digits : (n : ℕ) → n < 2 ^ 64 → are_digits (decimal n) ≡ true
@@ -59,10 +48,6 @@ place_again place at few =
 abbrev said_hand : Option (List ℕ) → Result (Option (List ℕ)) LineFault
 said_hand found = Ok found
 
-second_holds : (a b : Bool) → (not a || b) ≡ true → a ≡ true → b ≡ true
-second_holds true b either holds = either
-second_holds false b either holds = absurd (true≢false (sym holds))
-
 -- a number of a hand that is spelled reads as itself, unless it is the place
 spelled_again : (place at : ℕ) (text : List ℕ) → place < 2 ^ 32 → is_spelled_hand text ≡ true → hand_said place at text ≡ Ok (if bytes_eq text (decimal place) then None else Some text)
 unfolding hand_said is_spelled_hand are_digits number_of
@@ -74,7 +59,7 @@ spelled_again place at text few spelled =
     let value = digits_value 10 text in
     let within : value < 10 ^ 18 = digits_value_short own_digits text 18 all (leb-true (length text) 18 more.1) in
     let small : value < 2 ^ 64 = omega (arith, within) in
-    let no_zero : slice_index text 0 ≡ 48 → length text ≡ 1 = λ zero_first. eqb-true (length text) 1 (second_holds (slice_index text 0 == 48) (length text == 1) more.0 (eq-eqb (slice_index text 0) 48 zero_first)) in
+    let no_zero : slice_index text 0 ≡ 48 → length text ≡ 1 = λ zero_first. eqb-true (length text) 1 (implied (slice_index text 0 == 48) (length text == 1) more.0 (eq-eqb (slice_index text 0) 48 zero_first)) in
     let is : decimal value ≡ text = decimal-digits_value own_digits text all (ltb-true 0 (length text) digits.0) no_zero small in
     rw (digits.0, digits.1, more.1, le-leb value most_hand (omega (arith, within)))
     (by_place value is small (eqb value place) (bytes_eq text (decimal place)) refl refl)
@@ -118,17 +103,6 @@ loss_again : (at n : ℕ) → n ≤ MOST_AMOUNT → value_said at (45 ∷ decima
 loss_again at n few =
     ap (unsigned_said true at) (whole is_plain 46 (decimal n) refl (decimal_plain n (omega (arith, few)))) ∙ unsigned_again true at n few
 
-less_is : (finish stack : ℕ) → finish < stack → pos 0 -ℤ pos (stack - finish) ≡ pos finish -ℤ pos stack
-less_is finish zero less = absurd (omega (arith, less))
-less_is finish (suc most) less =
-    let rest : suc most - finish ≡ suc (most - finish) = omega (arith, less) in
-    let same : suc (most - finish) - 1 ≡ suc most - suc finish = omega (arith, less) in
-    rw (rest, lt-ltb 0 (suc (most - finish)) (omega arith), lt-ltb finish (suc most) less) (ap negsuc same)
-
-more_is : (finish stack : ℕ) → stack ≤ finish → pos (finish - stack) ≡ pos finish -ℤ pos stack
-more_is finish zero more = ap pos (omega arith)
-more_is finish (suc most) more = rw (le-ltb finish (suc most) more) refl
-
 value_again : (stacks finish : SeatRow) (seat at : ℕ) → value_said at (value_text stacks finish seat) ≡ Ok (pos (amount_of finish seat) -ℤ pos (amount_of stacks seat))
 value_again stacks finish seat at = by_less (nat_lt (amount_of finish seat) (amount_of stacks seat)) refl
   where
@@ -136,10 +110,10 @@ value_again stacks finish seat at = by_less (nat_lt (amount_of finish seat) (amo
         → value_said at (if less then 45 ∷ decimal (amount_of stacks seat - amount_of finish seat) else decimal (amount_of finish seat - amount_of stacks seat)) ≡ Ok (pos (amount_of finish seat) -ℤ pos (amount_of stacks seat))
     by_less true is =
         loss_again at (amount_of stacks seat - amount_of finish seat) (omega (arith, stacks.bounded (seat - 1)))
-        ∙ ap Ok (less_is (amount_of finish seat) (amount_of stacks seat) (ltb-true (amount_of finish seat) (amount_of stacks seat) is))
+        ∙ ap Ok (difference_below (amount_of finish seat) (amount_of stacks seat) (ltb-true (amount_of finish seat) (amount_of stacks seat) is))
     by_less false is =
         gain_again at (amount_of finish seat - amount_of stacks seat) (decimal (amount_of finish seat - amount_of stacks seat)) refl (omega (arith, finish.bounded (seat - 1)))
-        ∙ ap Ok (more_is (amount_of finish seat) (amount_of stacks seat) (ltb-false (amount_of finish seat) (amount_of stacks seat) is))
+        ∙ ap Ok (difference_above (amount_of finish seat) (amount_of stacks seat) (ltb-false (amount_of finish seat) (amount_of stacks seat) is))
 
 -- the values of seats, one after another
 pub values_again : (stacks finish : SeatRow) (so_far : List ℤ) (first count at : ℕ)

@@ -1,5 +1,5 @@
 -- A valid setup that the logs of a game spell is that of the game.
-use Rattle.std.proofs.Common.{◌≡◌, ℕ, zero, suc, ◌-◌, ◌<◌, Bool, true, false, ◌&&◌, ◌||◌, not, eqb, nat_lt, bytes_eq, if◌then◌else◌, List, [], ◌∷◌, take, slice_index, None, refl, sym, ap, subst, ◌∙◌, arith, ltb-false, true≢false, inl, inr}
+use Rattle.std.proofs.Common.{◌≡◌, ℕ, ◌-◌, Bool, true, false, ◌&&◌, not, eqb, nat_lt, bytes_eq, if◌then◌else◌, List, [], slice_index, None, refl, sym, ap, subst, ◌∙◌, arith, true≢false, inl, inr}
 use Rattle.std.specs.List.{list_any}
 use Rattle.std.proofs.lemmas.Bool.{and_parts, cases_lt, eqb-true}
 use Rattle.std.proofs.lemmas.Slice.Eq.{bytes_eq-Decides}
@@ -21,6 +21,8 @@ use Rattle.acpc_line.specs.SetupFacts.{greatest_blind, is_code_of}
 use Rattle.acpc_line.specs.Spelled.{unspelled}
 use Rattle.acpc_reading.specs.RecordView.{IsSetupOf, code_of}
 use Rattle.acpc_format.proofs.SpelledFacts.{HasSetupOf, spelled}
+use Rattle.list_laws.proofs.Any.{zero_from_none}
+use Rattle.list_laws.proofs.Entries.{index_taken_at}
 
 -- the code of a game
 pub code_is : (no_limit : Bool) (code : Code) → is_code_of no_limit code ≡ true → code ≡ code_of no_limit
@@ -38,36 +40,19 @@ code_is no_limit codes.N2L1D is = absurd (cc (is))
 code_is no_limit codes.F2L3D is = absurd (cc (is))
 code_is no_limit codes.FB is = absurd (cc (is))
 
--- an amount of the first so many
-taken_at : (amounts : List ℕ) (count k : ℕ) → k < count → slice_index (take count amounts) k ≡ slice_index amounts k
-taken_at amounts zero k within = absurd (omega (arith, within))
-taken_at [] (suc count) k within = refl
-taken_at (amount ∷ amounts) (suc count) zero within = refl
-taken_at (amount ∷ amounts) (suc count) (suc k) within = taken_at amounts count k (omega (arith, within))
-
 -- rows of one number of seats with the same amounts are one
 rows_same : (row other : SeatRow) → row.seats ≡ other.seats → bytes_eq (amounts_in row) (amounts_in other) ≡ true → row ≡ other
 rows_same row other seats equal =
     let same : amounts_in row ≡ amounts_in other = (bytes_eq-Decides (amounts_in row) (amounts_in other)).0 equal in
     seat_row_same_by_seats row other seats (λ n low high.
-    sym (taken_at row.amounts row.seats (n - 1) (omega (arith, low, high)))
+    sym (index_taken_at row.amounts row.seats (n - 1) (omega (arith, low, high)))
     ∙ ap (λ (list : List ℕ). slice_index list (n - 1)) same
-    ∙ taken_at other.amounts other.seats (n - 1) (omega (arith, low, high, seats)))
-
-rest_none : (first rest : Bool) → (first || rest) ≡ false → (first ≡ false) × (rest ≡ false)
-rest_none true rest none = absurd (true≢false none)
-rest_none false rest none = (refl, none)
-
--- numbers of which none is above 0
-none_above : (amounts : List ℕ) (k : ℕ) → list_any (nat_lt 0) amounts ≡ false → slice_index amounts k ≡ 0
-none_above [] k none = refl
-none_above (amount ∷ amounts) zero none = omega (arith, ltb-false 0 amount (rest_none (nat_lt 0 amount) (list_any (nat_lt 0) amounts) none).0)
-none_above (amount ∷ amounts) (suc k) none = none_above amounts k (rest_none (nat_lt 0 amount) (list_any (nat_lt 0) amounts) none).1
+    ∙ index_taken_at other.amounts other.seats (n - 1) (omega (arith, low, high, seats)))
 
 -- a row without an amount above 0
 none_in : (row : SeatRow) → list_any (nat_lt 0) (amounts_in row) ≡ false → (seat : ℕ) → amount_of row seat ≡ 0
 none_in row none seat = elim (cases_lt (seat - 1) row.seats) [
-  | inl within ↦ sym (taken_at row.amounts row.seats (seat - 1) within) ∙ none_above (amounts_in row) (seat - 1) none
+  | inl within ↦ sym (index_taken_at row.amounts row.seats (seat - 1) within) ∙ zero_from_none (amounts_in row) (seat - 1) none
   | inr beyond ↦ row.filler (seat - 1) beyond
 ]
 
@@ -124,7 +109,7 @@ setup_is game setup valid has =
       small_bet = sizes.0;
       big_bet = sizes.1.0;
       min_bet = sizes.1.1;
-      rakes = λ pot. none_above setup.rakes.rakes (pot - 1) has.rakes;
+      rakes = λ pot. zero_from_none setup.rakes.rakes (pot - 1) has.rakes;
     }
 
 -- so the setup of a play that is spelled is that of the game

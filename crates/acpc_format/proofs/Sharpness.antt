@@ -58,12 +58,13 @@ use Rattle.acpc_line.specs.Spelled.{first_where, or_else, unspelled, unspelled_n
 use Rattle.acpc_reading.specs.Logs.{reading}
 use Rattle.acpc_reading.specs.RecordView.{IsOfGame, record_said, rules_of}
 use Rattle.acpc_format.specs.Sharp.{IsOther, is_sharp}
-use Rattle.acpc_format.proofs.GameSetups.{code_fits, not_true, setup_none}
+use Rattle.acpc_format.proofs.GameSetups.{code_fits, setup_none}
 use Rattle.acpc_format.proofs.HandAgain.{HasNoUpCards, no_up_cards}
 use Rattle.acpc_format.proofs.Holdem.{IsHoldem, holdem}
 use Rattle.acpc_format.proofs.LogEvents.{IsLogEvent, IsLogHand, log_hands, script_events}
 use Rattle.acpc_format.proofs.LogPasts.{AreByUnit, all_whole, any_among, by_unit, is_hidden_of, is_open_of, none_mucked, on_first}
 use Rattle.acpc_format.proofs.SuitsGame.{is_off, raises_said}
+use Rattle.list_laws.proofs.Tests.{not_both_still, not_true}
 
 -- ---- the play, fact by fact
 
@@ -115,19 +116,13 @@ hole_own seat test placed some =
     let both = and_parts (is_in_group (Some seat) 1 place) (test place.slot) is in
     and_from (is_same_owner place.owner (Some seat)) (test place.slot) (and_parts (is_same_owner place.owner (Some seat)) (place.street == 1) both.0).0 both.1) some
 
--- not both, where not both of two that follow
-not_both : (a b c d : Bool) → (a ≡ true → c ≡ true) → (b ≡ true → d ≡ true) → (c && d) ≡ false → (a && b) ≡ false
-not_both false b c d one two none = refl
-not_both true false c d one two none = refl
-not_both true true c d one two none = absurd (true≢false (sym (ap (λ x. x && d) (one refl) ∙ two refl) ∙ none))
-
 -- no seat has one hole card known and another not
 part_none : (no_limit : Bool) (setup : Setup) (rules : Rules) (events : List Said) (seat : ℕ) → IsHoldem setup.code → AreLegal setup rules events → AllByRecursion (IsLogEvent no_limit) events → 1 ≤ seat → seat ≤ setup.stacks.seats
     → is_part_known (traced_places setup (past_of setup events)) seat ≡ false
 part_none no_limit setup rules events seat is legal each low high =
     let placed = places_of setup.code (past_of setup events) in
     let test : Slot → Bool = λ slot. not (is_unknown slot) in
-    not_both (has_unknown_hole_card (traced_places setup (past_of setup events)) seat) (list_any test (dealt_slots (traced_places setup (past_of setup events)) (Some seat) 1)) (list_any (is_hidden_of seat) placed) (list_any (is_open_of seat) placed)
+    not_both_still (has_unknown_hole_card (traced_places setup (past_of setup events)) seat) (list_any test (dealt_slots (traced_places setup (past_of setup events)) (Some seat) 1)) (list_any (is_hidden_of seat) placed) (list_any (is_open_of seat) placed)
     (λ some. hole_own seat is_unknown placed (sym (hole_is setup events seat is_unknown is low high) ∙ some))
     (λ some. hole_own seat test placed (sym (hole_is setup events seat test is low high) ∙ some))
     (all_whole no_limit setup rules events seat is legal each)

@@ -44,7 +44,8 @@ use Rattle.acpc_format.proofs.LogAgain.{plays_again}
 use Rattle.acpc_format.proofs.EventsAgain.{no_slots}
 use Rattle.acpc_format.proofs.Holdem.{IsHoldem, holdem}
 use Rattle.acpc_format.proofs.SpelledFacts.{spelled}
-use Rattle.canon_ranges.proofs.StreetsPlayed.{HasStreet, board_known, came_before, first_holes, four_streets, is_passed, no_cards}
+use Rattle.canon_ranges.proofs.StreetsPlayed.{HasStreet, board_known, came_before, first_holes, four_streets, is_passed}
+use Rattle.list_laws.proofs.Lists.{none_from_length}
 
 -- cards of the board, and whether there are some
 board_there : (placed : List TracedPlace) (street : ℕ) → 1 ≤ length (dealt_slots placed None street) → has_board placed street ≡ true
@@ -134,9 +135,9 @@ core_reads setup rules script valid played tidy is =
     } in
     record {
       two = λ seat low high. first_holes setup rules events seat played.legal complete (is.no_draw 1) (omega (arith, is.streets)) low high ∙ is.holes;
-      no_more = λ seat street low high from to. no_cards (dealt_slots placed (Some seat) street) (omega (arith, (streets street (omega (arith, from)) to).holes seat low high, is.later_holes street from));
+      no_more = λ seat street low high from to. none_from_length (dealt_slots placed (Some seat) street) (omega (arith, (streets street (omega (arith, from)) to).holes seat low high, is.later_holes street from));
       boards = record {
-        none = no_cards (dealt_slots placed None 1) (omega (arith, at_most setup events 1 (streets 1 (omega arith) (omega arith)) (is_passed setup list 1) refl, is.no_board));
+        none = none_from_length (dealt_slots placed None 1) (omega (arith, at_most setup events 1 (streets 1 (omega arith) (omega arith)) (is_passed setup list 1) refl, is.no_board));
         flop = λ dealt. in_full setup events 2 second dealt ∙ is.flop;
         turn = λ dealt. in_full setup events 3 third dealt ∙ is.turn;
         river = λ dealt. in_full setup events 4 fourth dealt ∙ is.river;

@@ -1,5 +1,5 @@
 -- What holds of a play that the logs of a game spell.
-use Rattle.std.proofs.Common.{◌≡◌, Bool, true, false, ◌==◌, ◌&&◌, not, nat_lt, bytes_eq, if◌then◌else◌, Option, Some, None, refl, ap, is_some, true≢false}
+use Rattle.std.proofs.Common.{◌≡◌, Bool, true, false, ◌==◌, ◌&&◌, not, nat_lt, bytes_eq, if◌then◌else◌, Option, Some, None, refl, true≢false}
 use Rattle.std.specs.List.{list_any}
 use Rattle.std.proofs.lemmas.Bool.{eqb-true}
 use Rattle.chip_ledger.specs.Seat.{seats_of}
@@ -15,6 +15,8 @@ use Rattle.acpc_game.specs.Games.{amounts_in}
 use Rattle.acpc_line.specs.PlayFacts.{is_above_caps, is_free_fold, is_off_unit, is_open_muck, is_part_known, play_conditions}
 use Rattle.acpc_line.specs.SetupFacts.{has_sizes_of, is_code_of, setup_conditions}
 use Rattle.acpc_line.specs.Spelled.{first_where, or_else, unspelled, unspelled_note}
+use Rattle.list_laws.proofs.Options.{from_some_none}
+use Rattle.list_laws.proofs.Tests.{not_not}
 
 -- the setup has what the game has
 pub record HasSetupOf (game : Game) (setup : Setup) : Type 0 where
@@ -26,20 +28,13 @@ pub record HasSetupOf (game : Game) (setup : Setup) : Type 0 where
   pub blinds : bytes_eq (amounts_in setup.blinds) (amounts_in game.blinds) ≡ true
   pub rakes : list_any (nat_lt 0) setup.rakes.rakes ≡ false
 
-none_some : {A : Type 0} {P : Type 0} {x : A} → Some x ≡ None → P
-none_some e = absurd (true≢false (ap is_some e))
-
 or_none : (a b : Option Unspelled) → or_else a b ≡ None → (a ≡ None) × (b ≡ None)
 or_none None b none = (refl, none)
-or_none (Some fact) b none = none_some none
+or_none (Some fact) b none = from_some_none none
 
 where_none : (condition : Bool) (fact : Unspelled) (rest : Option Unspelled) → (if condition then Some fact else rest) ≡ None → (condition ≡ false) × (rest ≡ None)
-where_none true fact rest none = none_some none
+where_none true fact rest none = from_some_none none
 where_none false fact rest none = (refl, none)
-
-not_not : (b : Bool) → not b ≡ false → b ≡ true
-not_not true is = refl
-not_not false is = absurd (true≢false is)
 
 has_setup : (game : Game) (setup : Setup) → first_where (setup_conditions game setup) ≡ None → HasSetupOf game setup
 has_setup game setup none =

@@ -1,24 +1,23 @@
 -- Texts that are cut at a sign which does not stand in them.
-use Rattle.std.proofs.Common.{◌≡◌, ℕ, zero, suc, ◌+◌, ◌≤◌, ◌<◌, Bool, true, false, ◌&&◌, eqb, nat_lt, if◌then◌else◌, List, [], ◌∷◌, ◌++◌, length, map, get_or, All, refl, sym, ap, ◌∙◌, arith, true≢false}
+use Rattle.std.proofs.Common.{◌≡◌, ℕ, zero, suc, ◌+◌, ◌≤◌, Bool, true, false, eqb, nat_lt, if◌then◌else◌, List, [], ◌∷◌, ◌++◌, map, All, refl, ap, ◌∙◌, arith, true≢false}
 use Rattle.std.specs.List.{flat_map, list_all, range_with_len}
-use Rattle.std.proofs.lemmas.Bool.{and_parts, eq-eqb, eqb-true, lt-ltb}
+use Rattle.std.proofs.lemmas.Bool.{and_parts, eq-eqb, lt-ltb}
 use Rattle.std.proofs.lemmas.List.{append-nil}
 use Rattle.std.proofs.lemmas.List.Splits.{slice_split_at, slice_split_none}
 use Rattle.acpc_text.specs.Parts.{parts_of}
 use Rattle.acpc_line.specs.Seats.{bar_before, for_seats}
+use Rattle.list_laws.proofs.Entries.{never_at}
+use Rattle.list_laws.proofs.Tests.{both_true}
 
 -- the signs of a text pass a test
 pub record Passes (p : ℕ → Bool) (text : List ℕ) : Type 0 where
   pub all : list_all p text ≡ true
 
-and_is : (a b : Bool) → a ≡ true → b ≡ true → (a && b) ≡ true
-and_is a b one other = rw (one, other) refl
-
 pub passes_none : (p : ℕ → Bool) → Passes p []
 passes_none p = record { all = refl }
 
 pub passes_more : (p : ℕ → Bool) (sign : ℕ) (text : List ℕ) → p sign ≡ true → Passes p text → Passes p (sign ∷ text)
-passes_more p sign text one rest = record { all = and_is (p sign) (list_all p text) one rest.all }
+passes_more p sign text one rest = record { all = both_true (p sign) (list_all p text) one rest.all }
 
 pub passes_both : (p : ℕ → Bool) (text more : List ℕ) → Passes p text → Passes p more → Passes p (text ++ more)
 passes_both p [] more one other = other
@@ -33,18 +32,9 @@ passes_wider p q (sign ∷ text) wider one =
     let parts = and_parts (p sign) (list_all p text) one.all in
     passes_more q sign text (wider sign parts.0) (passes_wider p q text wider (record { all = parts.1 }))
 
-differs : (p : ℕ → Bool) (b sign : ℕ) (same : Bool) → eqb b sign ≡ same → p sign ≡ false → p b ≡ true → same ≡ false
-differs p b sign true is fails holds = absurd (true≢false (sym holds ∙ ap p (eqb-true b sign is) ∙ fails))
-differs p b sign false is fails holds = refl
-
-free_at : (p : ℕ → Bool) (sign : ℕ) (text : List ℕ) → p sign ≡ false → list_all p text ≡ true → (k d : ℕ) → k < length text → eqb (get_or text k d) sign ≡ false
-free_at p sign [] fails all k d within = absurd (omega (arith, within))
-free_at p sign (b ∷ rest) fails all zero d within = differs p b sign (eqb b sign) refl fails (and_parts (p b) (list_all p rest) all).0
-free_at p sign (b ∷ rest) fails all (suc k) d within = free_at p sign rest fails (and_parts (p b) (list_all p rest) all).1 k d (omega (arith, within))
-
 -- a sign that fails the test stands nowhere in a text that passes it
 pub free : (p : ℕ → Bool) (sign : ℕ) (text : List ℕ) → p sign ≡ false → Passes p text → All (λ b. eqb b sign ≡ false) text
-free p sign text fails passes = λ k d within. free_at p sign text fails passes.all k d within
+free p sign text fails passes = λ k d within. never_at p sign text fails passes.all k d within
 
 pub cut : (p : ℕ → Bool) (sign : ℕ) (text rest : List ℕ) → p sign ≡ false → Passes p text → parts_of sign (text ++ sign ∷ rest) ≡ text ∷ parts_of sign rest
 cut p sign text rest fails passes = slice_split_at (λ b. eqb b sign) text sign rest (free p sign text fails passes) (eq-eqb sign sign refl)

@@ -1,9 +1,7 @@
 -- The values that a line states are those of the trace, so nothing that is stated differs.
-use Rattle.std.proofs.Common.{◌≡◌, ℕ, zero, suc, ◌+◌, ◌-◌, ◌≤◌, ◌<◌, ℤ, pos, true, false, not, List, [], ◌++◌, map, find, get_or, length, if◌then◌else◌, Option, Some, None, is_some, refl, sym, ap, ◌∙◌, arith, true≢false}
+use Rattle.std.proofs.Common.{◌≡◌, ℕ, zero, suc, ◌+◌, ◌-◌, ◌≤◌, ◌<◌, ℤ, pos, true, false, List, [], ◌++◌, map, find, get_or, length, if◌then◌else◌, Option, Some, None, is_some, refl, sym, ap, ◌∙◌, arith, true≢false}
 use Rattle.std.specs.List.{range_with_len}
 use Rattle.std.specs.Option.{option_map_or}
-use Rattle.std.specs.Ordering.{int_eq}
-use Rattle.std.proofs.lemmas.Bool.Decides.{Decides-int_eq}
 use Rattle.std.proofs.lemmas.List.{get_or-take, length-map, length-take-le}
 use Rattle.std.proofs.lemmas.List.FromFn.{length-range_with_len}
 use Rattle.play_event.specs.Seats.{all_seats}
@@ -14,16 +12,13 @@ use Rattle.hand_records.specs.declared.trace.Trace.{Trace}
 use Rattle.hand_canon.specs.Agreement.{Comparison, finish_compared, first_difference, is_different, row_compared, total_compared, value_compared, value_of, win_compared}
 use Rattle.acpc_reading.specs.RecordView.{StatesValues}
 use Rattle.acpc_reading.specs.Views.{nets_in}
+use Rattle.list_laws.proofs.Integers.{not_different}
 
 -- a number of a list that is made for each seat
 at_seat : (f : ℕ → ℤ) (first count k : ℕ) → k < count → get_or (map f (range_with_len first count)) k (pos 0) ≡ f (first + k)
 at_seat f first zero k within = absurd (omega (arith, within))
 at_seat f first (suc count) zero within = ap f (omega arith)
 at_seat f first (suc count) (suc k) within = at_seat f (first + 1) count k (omega (arith, within)) ∙ ap f (omega arith)
-
--- a number is itself
-same_number : (a b : ℤ) → a ≡ b → not (int_eq a b) ≡ false
-same_number a b same = ap not ((Decides-int_eq a b).1 same)
 
 -- where no number differs nothing is found
 none_differ : (compared : ℕ → Comparison) (first count : ℕ) → ((seat : ℕ) → first ≤ seat → seat < first + count → is_different (compared seat) ≡ false) → find is_different (map compared (range_with_len first count)) ≡ None
@@ -40,7 +35,7 @@ row_agrees trace row same =
     let within : seat - 1 < seats = omega (arith, from, to) in
     let here : seat - 1 < row.seats = inside seat within in
     let number : 1 + (seat - 1) ≡ seat = omega (arith, from) in
-    same_number (net_of row seat) (value_of trace seat)
+    not_different (net_of row seat) (value_of trace seat)
     (sym (get_or-take row.seats row.nets (seat - 1) (pos 0) here)
     ∙ ap (λ (l : List ℤ). get_or l (seat - 1) (pos 0)) same
     ∙ at_seat (value_of trace) 1 seats (seat - 1) within

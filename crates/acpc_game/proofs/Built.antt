@@ -11,9 +11,7 @@ use Rattle.acpc_game.specs.Games.{are_chips, is_size, has_fitting_sizes}
 use Rattle.acpc_game.proofs.Bounds.{chips_within}
 use Rattle.acpc_game.specs.Playable.{IsPlayable}
 use Rattle.chip_ledger.specs.declared.numbers.TheConstants.{MOST_CHIPS}
-
-are_equal : (m n : ℕ) → eqb m n ≡ true → m ≡ n
-are_equal m n same = grind (arith, nat_tests, same)
+use Rattle.list_laws.proofs.Numbers.{equal_by_test}
 
 -- as many blinds as players
 blinds_counted : (entries : List EntrySaid) → is_whole entries ≡ true → length (numbers_at keys.Blind entries) ≡ number_at keys.NumPlayers entries
@@ -22,10 +20,10 @@ blinds_counted entries whole =
     let first = and_parts (list_all (λ key. has_key key entries) needed) _ whole in
     let second = and_parts (has_key (if has_no_limit entries then keys.Stack else keys.RaiseSize) entries) _ first.1 in
     let third = and_parts (is_for_all keys.Blind entries) (not (has_key keys.Stack entries) || is_for_all keys.Stack entries) second.1 in
-    are_equal (length (numbers_at keys.Blind entries)) (number_at keys.NumPlayers entries) third.0
+    equal_by_test (length (numbers_at keys.Blind entries)) (number_at keys.NumPlayers entries) third.0
 
 stacks_by : (stand : Bool) (stacks blinds : List ℕ) (stack players : ℕ) → (not stand || eqb (length stacks) players) ≡ true → length blinds ≡ players → length (if stand then stacks else replicate (length blinds) stack) ≡ players
-stacks_by true stacks blinds stack players same is = are_equal (length stacks) players same
+stacks_by true stacks blinds stack players same is = equal_by_test (length stacks) players same
 stacks_by false stacks blinds stack players same is = length-replicate (length blinds) stack ∙ is
 
 stacks_counted : (entries : List EntrySaid) → is_whole entries ≡ true → length (stacks_at entries) ≡ number_at keys.NumPlayers entries

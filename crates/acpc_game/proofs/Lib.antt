@@ -1,5 +1,4 @@
 -- Laws of words, lines and games.
-pub mod Words
 pub mod Steps
 pub mod Bounds
 pub mod Played

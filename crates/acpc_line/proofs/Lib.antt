@@ -1,5 +1,4 @@
 -- Laws of what is written.
-pub mod Same
 pub mod SeatTexts
 pub mod Totals
 pub mod Making

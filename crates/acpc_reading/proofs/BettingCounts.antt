@@ -13,7 +13,8 @@ use Rattle.acpc_text.specs.Letters.{Letter, scan}
 use Rattle.acpc_reading.specs.declared.step.Step.{Step}
 use Rattle.acpc_reading.specs.declared.step.Step.TheVariants as steps
 use Rattle.acpc_reading.specs.Betting.{Bets, no_bets, with_move, bare_said, raise_said, stroke_said, letter_said, bets_after, betting_said}
-use Rattle.acpc_reading.proofs.Checked.{either, where_some, after}
+use Rattle.acpc_reading.proofs.Checked.{after}
+use Rattle.list_laws.proofs.Results.{ok_either, ok_where_some}
 
 -- a step is a move
 abbrev pub is_letter : Step → Bool
@@ -44,8 +45,8 @@ module _ (earlier : ℕ) where
       let strokes = count_by-push is_stroke bets.steps step in
       let one : ◌≡◌ {A = ℕ} (cond (is_letter step) 1 0) 1 = rw is refl in
       let none : ◌≡◌ {A = ℕ} (cond (is_stroke step) 1 0) 0 = rw is refl in
-      either (nat_le MOST_MOVES bets.moves) (wrong (whats.TooMany quantities.Moves) at) _ (AreCounted earlier) (λ _. tt)
-      (λ room. either (nat_le MOST_FILE_MOVES bets.file_moves) (wrong (whats.TooMany quantities.FileMoves) at) _ (AreCounted earlier) (λ _. tt)
+      ok_either (nat_le MOST_MOVES bets.moves) (wrong (whats.TooMany quantities.Moves) at) _ (AreCounted earlier) (λ _. tt)
+      (λ room. ok_either (nat_le MOST_FILE_MOVES bets.file_moves) (wrong (whats.TooMany quantities.FileMoves) at) _ (AreCounted earlier) (λ _. tt)
       (λ file_room. record {
         moves = omega (arith, moves, one, counted.moves);
         rounds = omega (arith, strokes, none, counted.rounds);
@@ -57,13 +58,13 @@ module _ (earlier : ℕ) where
 
   bare : (bets : Bets) (at : ℕ) (digits : List ℕ) (step : Step) → is_letter step ≡ true → AreCounted earlier bets → IfOk (bare_said bets at digits step) (AreCounted earlier)
   unfolding bare_said
-  bare bets at digits step is counted = either (eqb (length digits) 0) (with_move bets at step) (wrong whats.BadBetting (at + 1)) (AreCounted earlier) (λ _. one_move bets at step is counted) (λ _. tt)
+  bare bets at digits step is counted = ok_either (eqb (length digits) 0) (with_move bets at step) (wrong whats.BadBetting (at + 1)) (AreCounted earlier) (λ _. one_move bets at step is counted) (λ _. tt)
 
   raise : (bets : Bets) (at : ℕ) (digits : List ℕ) → AreCounted earlier bets → IfOk (raise_said bets at digits) (AreCounted earlier)
   unfolding raise_said
   raise bets at digits counted =
-      either (eqb (length digits) 0) (wrong whats.BadBetting (at + 1)) _ (AreCounted earlier) (λ _. tt)
-      (λ _. where_some (number_of MOST_CHIPS digits) (λ total. with_move bets at (steps.RaiseTo total)) (wrong whats.AmountLimit (at + 1)) (AreCounted earlier)
+      ok_either (eqb (length digits) 0) (wrong whats.BadBetting (at + 1)) _ (AreCounted earlier) (λ _. tt)
+      (λ _. ok_where_some (number_of MOST_CHIPS digits) (λ total. with_move bets at (steps.RaiseTo total)) (wrong whats.AmountLimit (at + 1)) (AreCounted earlier)
       (λ total. one_move bets at (steps.RaiseTo total) refl counted) tt)
 
   stroke : (bets : Bets) (at : ℕ) (digits : List ℕ) → AreCounted earlier bets → IfOk (stroke_said bets at digits) (AreCounted earlier)
@@ -71,8 +72,8 @@ module _ (earlier : ℕ) where
   stroke bets at digits counted =
       let moves = count_by-push is_letter bets.steps steps.NextRound in
       let strokes = count_by-push is_stroke bets.steps steps.NextRound in
-      either (nat_le 4 bets.round) (wrong whats.BadBetting at) _ (AreCounted earlier) (λ _. tt)
-      (λ room. either (eqb (length digits) 0) _ (wrong whats.BadBetting (at + 1)) (AreCounted earlier)
+      ok_either (nat_le 4 bets.round) (wrong whats.BadBetting at) _ (AreCounted earlier) (λ _. tt)
+      (λ room. ok_either (eqb (length digits) 0) _ (wrong whats.BadBetting (at + 1)) (AreCounted earlier)
       (λ _. record {
         moves = omega (arith, moves, counted.moves);
         rounds = omega (arith, strokes, counted.rounds);
@@ -86,11 +87,11 @@ module _ (earlier : ℕ) where
   one_letter : (no_limit : Bool) (bets : Bets) (at : ℕ) (letter : Letter) → AreCounted earlier bets → IfOk (letter_said no_limit bets at letter) (AreCounted earlier)
   unfolding letter_said
   one_letter no_limit bets at (letter, digits) counted =
-      either (eqb letter 102) (bare_said bets at digits steps.Fold) _ (AreCounted earlier) (λ _. bare bets at digits steps.Fold refl counted)
-      (λ _. either (eqb letter 99) (bare_said bets at digits steps.Call) _ (AreCounted earlier) (λ _. bare bets at digits steps.Call refl counted)
-      (λ _. either (eqb letter 114) _ _ (AreCounted earlier)
-      (λ _. either no_limit (raise_said bets at digits) (bare_said bets at digits steps.Raise) (AreCounted earlier) (λ _. raise bets at digits counted) (λ _. bare bets at digits steps.Raise refl counted))
-      (λ _. either (eqb letter 47) (stroke_said bets at digits) (wrong whats.BadBetting at) (AreCounted earlier) (λ _. stroke bets at digits counted) (λ _. tt))))
+      ok_either (eqb letter 102) (bare_said bets at digits steps.Fold) _ (AreCounted earlier) (λ _. bare bets at digits steps.Fold refl counted)
+      (λ _. ok_either (eqb letter 99) (bare_said bets at digits steps.Call) _ (AreCounted earlier) (λ _. bare bets at digits steps.Call refl counted)
+      (λ _. ok_either (eqb letter 114) _ _ (AreCounted earlier)
+      (λ _. ok_either no_limit (raise_said bets at digits) (bare_said bets at digits steps.Raise) (AreCounted earlier) (λ _. raise bets at digits counted) (λ _. bare bets at digits steps.Raise refl counted))
+      (λ _. ok_either (eqb letter 47) (stroke_said bets at digits) (wrong whats.BadBetting at) (AreCounted earlier) (λ _. stroke bets at digits counted) (λ _. tt))))
 
   more_letters : (no_limit : Bool) (bets : Bets) (at : ℕ) (letters : List Letter) → AreCounted earlier bets → IfOk (bets_after no_limit bets at letters) (AreCounted earlier)
   unfolding bets_after
@@ -103,7 +104,7 @@ module _ (earlier : ℕ) where
 pub betting_counted : (no_limit : Bool) (earlier at : ℕ) (text : List ℕ) → earlier ≤ MOST_FILE_MOVES → IfOk (betting_said no_limit earlier at text) (AreCounted earlier)
 unfolding betting_said
 betting_counted no_limit earlier at text few =
-    either (nat_lt 0 (length (scan text).0)) (wrong whats.BadBetting at) _ (AreCounted earlier) (λ _. tt)
+    ok_either (nat_lt 0 (length (scan text).0)) (wrong whats.BadBetting at) _ (AreCounted earlier) (λ _. tt)
     (λ _. more_letters earlier no_limit (no_bets earlier) at (scan text).1 (record {
       moves = refl;
       rounds = refl;

@@ -7,7 +7,6 @@ pub mod SeatLaws
 pub mod Rows
 pub mod Dealing
 pub mod Lines
-pub mod Texts
 pub mod SixFields
 pub mod Checked
 pub mod BettingCounts

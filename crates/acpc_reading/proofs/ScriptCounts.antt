@@ -17,8 +17,9 @@ use Rattle.acpc_reading.specs.declared.step.Step.{Step}
 use Rattle.acpc_reading.specs.declared.step.Step.TheVariants as steps
 use Rattle.acpc_reading.specs.Betting.{Bets, betting_said}
 use Rattle.acpc_reading.specs.Cards.{Written, bad_cards, board_said, dealt, hole_said, hole_after, holes_after, next_round, script_said, step_after, steps_after, steps_said, without_rest}
-use Rattle.acpc_reading.proofs.Checked.{either, where_some, after}
+use Rattle.acpc_reading.proofs.Checked.{after}
 use Rattle.acpc_reading.proofs.BettingCounts.{AreCounted, betting_counted, is_letter, is_stroke}
+use Rattle.list_laws.proofs.Results.{ok_either, ok_where_some}
 
 -- how many moves events have
 abbrev pub moves_in : List Numbered → ℕ
@@ -57,7 +58,7 @@ unfolding holes_after hole_after
 holes_counted at events seat [] = record { moves_are = omega arith; others_are = omega arith }
 holes_counted at events seat (part ∷ parts) =
     after (hole_after at events seat part) (λ more. holes_after at more (seat + 1) parts) (Adds 0 1 events) (Adds 0 (length (part ∷ parts)) events)
-    (where_some (hole_said part) (λ cards. Ok (events ++ (0, said.Hole seat cards) ∷ [])) (bad_cards at) (Adds 0 1 events) (λ cards. one_other events 0 (said.Hole seat cards) refl) tt)
+    (ok_where_some (hole_said part) (λ cards. Ok (events ++ (0, said.Hole seat cards) ∷ [])) (bad_cards at) (Adds 0 1 events) (λ cards. one_other events 0 (said.Hole seat cards) refl) tt)
     (λ more one. along (holes_after at more (seat + 1) parts) (λ all others. record {
       moves_are = omega (arith, one.moves_are, others.moves_are);
       others_are = omega (arith, one.others_are, others.others_are);
@@ -71,7 +72,7 @@ board_counted : (at : ℕ) (so_far : Written) (boards : List (List ℕ)) → IfO
 unfolding next_round
 board_counted at so_far [] = tt
 board_counted at so_far (board ∷ boards) =
-    where_some (board_said so_far.size board) (λ cards. Ok (record { events = so_far.events ++ (0, said.Board cards) ∷ []; number = so_far.number; size = 1; boards = boards })) (bad_cards at) (AddsStep steps.NextRound so_far)
+    ok_where_some (board_said so_far.size board) (λ cards. Ok (record { events = so_far.events ++ (0, said.Board cards) ∷ []; number = so_far.number; size = 1; boards = boards })) (bad_cards at) (AddsStep steps.NextRound so_far)
     (λ cards. one_other so_far.events 0 (said.Board cards) refl) tt
 
 step_counted : (at : ℕ) (so_far : Written) (step : Step) → IfOk (step_after at so_far step) (AddsStep step so_far)
@@ -97,7 +98,7 @@ steps_counted at so_far (step ∷ rest) =
     }) (steps_counted at more rest))
 
 ending : (at : ℕ) (before : List Numbered) (moves others : ℕ) (written : Written) → Adds moves others before written.events → IfOk (without_rest at written) (Adds moves others before)
-ending at before moves others written adds = either (eqb (length written.boards) 0) (Ok written.events) (bad_cards at) (Adds moves others before) (λ _. adds) (λ _. tt)
+ending at before moves others written adds = ok_either (eqb (length written.boards) 0) (Ok written.events) (bad_cards at) (Adds moves others before) (λ _. adds) (λ _. tt)
 
 all_steps : (at : ℕ) (so_far : Written) (all : List Step) → IfOk (steps_said at so_far all) (Adds (count_by is_letter all) (count_by is_stroke all) so_far.events)
 unfolding steps_said
@@ -110,7 +111,7 @@ script_counted : (players : ℕ) (all : List Step) (at : ℕ) (parts : List (Lis
 unfolding script_said
 script_counted players all at [] = tt
 script_counted players all at (holes ∷ boards) =
-    either (eqb (length (parts_of 124 holes)) players) _ (wrong whats.SeatCount at) _
+    ok_either (eqb (length (parts_of 124 holes)) players) _ (wrong whats.SeatCount at) _
     (λ same. after (holes_after at [] 1 (parts_of 124 holes)) (λ events. steps_said at (dealt events boards) all) (Adds 0 (length (parts_of 124 holes)) []) _
     (holes_counted at [] 1 (parts_of 124 holes))
     (λ events deals. along (steps_said at (dealt events boards) all) (λ script more.

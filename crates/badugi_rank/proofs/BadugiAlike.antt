@@ -1,5 +1,5 @@
 -- The points of a choice do not depend on the order of its cards.
-use Rattle.std.proofs.Common.{◌≡◌, ◌-◌, ◌^◌, ◌&&◌, ◌||◌, ◌==◌, ℕ, not, Bool, true, false, cond, List, [], ◌∷◌, length, Some, None, ◌⊎◌, inl, inr, refl, sym, ◌∙◌, ap, subst, eqb-true, eq-eqb}
+use Rattle.std.proofs.Common.{◌≡◌, ◌-◌, ◌^◌, ◌||◌, ◌==◌, ℕ, not, Bool, true, false, cond, List, [], ◌∷◌, length, Some, None, ◌⊎◌, inl, inr, refl, sym, ◌∙◌, ap, subst, eqb-true, eq-eqb}
 use Rattle.std.specs.List.{list_all}
 use Rattle.std.proofs.lemmas.Bool.{and_parts, or_cases}
 use Rattle.card_set.specs.declared.card.Card.{Card}
@@ -14,15 +14,11 @@ use Rattle.hand_order.specs.Digits.{class_above}
 use Rattle.hand_order.proofs.Alike.{Passes, all_every, every_all, every_map}
 use Rattle.hand_order.proofs.SameChoices.{every_one_of, one_of_every}
 use Rattle.badugi_rank.specs.Badugi.{choice_points, has_in_common, has_nothing_in_common}
-use Rattle.list_laws.proofs.Tests.{or_right, passes_or_not, same_test}
+use Rattle.list_laws.proofs.Tests.{or_right, passes_or_not, same_test, both_true, not_and_is}
 
 -- cards that have something in common are one
 abbrev AreApart : List Card → Type 0
 AreApart cards = (a b : Card) → is_one_of a cards ≡ true → is_one_of b cards ≡ true → has_in_common a b ≡ true → a ≡ b
-
-not_is : (b : Bool) → not b ≡ true → b ≡ true → ⊥
-not_is true off on = absurd (cc)
-not_is false off on = absurd (cc)
 
 common_sym : (a b : Card) → has_in_common a b ≡ true → has_in_common b a ≡ true
 common_sym a b is =
@@ -49,24 +45,20 @@ apart_from (card ∷ rest) nothing a b one other common =
         | inl second ↦ sym (is_same_card-true card a first) ∙ is_same_card-true card b second
         | inr later ↦
             let apart = one_of_every (Passes (λ next. not (has_in_common card next))) b rest every later in
-            absurd (not_is (has_in_common card b) apart (subst (λ (c : Card). has_in_common c b ≡ true) (sym (is_same_card-true card a first)) common))
+            absurd (not_and_is (has_in_common card b) apart (subst (λ (c : Card). has_in_common c b ≡ true) (sym (is_same_card-true card a first)) common))
       ]
       | inr early ↦ elim (or_cases (is_same_card card b) (is_one_of b rest) other) [
         | inl second ↦
             let apart = one_of_every (Passes (λ next. not (has_in_common card next))) a rest every early in
-            absurd (not_is (has_in_common card a) apart (common_sym a card (subst (λ (c : Card). has_in_common a c ≡ true) (sym (is_same_card-true card b second)) common)))
+            absurd (not_and_is (has_in_common card a) apart (common_sym a card (subst (λ (c : Card). has_in_common a c ≡ true) (sym (is_same_card-true card b second)) common)))
         | inr later ↦ apart_from rest parts.1 a b early later common
       ]
     ]
 
-and_both : (p q : Bool) → p ≡ true → q ≡ true → (p && q) ≡ true
-and_both true q one other = other
-and_both false q one other = one
-
 nothing_from : (cards : List Card) → AllDifferent cards → AreApart cards → has_nothing_in_common cards ≡ true
 nothing_from [] different apart = refl
 nothing_from (card ∷ rest) different apart =
-    and_both (list_all (λ next. not (has_in_common card next)) rest) (has_nothing_in_common rest)
+    both_true (list_all (λ next. not (has_in_common card next)) rest) (has_nothing_in_common rest)
     (all_every (λ next. not (has_in_common card next)) rest (every_map (λ next. is_one_of next rest ≡ true) (Passes (λ next. not (has_in_common card next))) (λ next is. by_test next is (passes_or_not (has_in_common card next))) rest (every_one_of rest)))
     (nothing_from rest different.1 (λ a b one other common. apart a b (or_right (is_same_card card a) (is_one_of a rest) one) (or_right (is_same_card card b) (is_one_of b rest) other) common))
   where

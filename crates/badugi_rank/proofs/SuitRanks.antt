@@ -2,12 +2,13 @@
 use lib.Bits.{bit_and}
 use Rattle.std.proofs.Common.{◌≡◌, ℕ, ◌+◌, ◌-◌, ◌*◌, ◌^◌, ◌%◌, ◌<◌, ◌≤◌, ◌==◌, min, Bool, true, false, cond, [], ◌∷◌, ◌⊎◌, inl, inr, refl, sym, ◌∙◌, ap, subst, arith, eqb-true, eq-eqb, w16}
 use Rattle.std.specs.Int.{bit_at, bit_not}
-use Rattle.std.proofs.lemmas.Bool.{cases_lt, eqb-false}
+use Rattle.std.proofs.lemmas.Bool.{eqb-false}
 use Rattle.std.proofs.lemmas.Nat.{and_le_l, or_lt}
-use Rattle.std.proofs.lemmas.Nat.Bits.{bit_at_above, bit_at_and, bit_at-lt, bit_at_not, bit_at_set_other, bit_at_set_same, bit_at-zero}
+use Rattle.std.proofs.lemmas.Nat.Bits.{bit_at_and, bit_at-lt, bit_at_not, bit_at_set_other, bit_at_set_same, bit_at-zero}
 use Rattle.badugi_rank.specs.Rainbow.{CanTake, TakesOne}
 use Rattle.badugi_rank.proofs.Taking.{with_rank}
 use Rattle.list_laws.proofs.Tests.{passes_or_not}
+use Rattle.list_laws.proofs.Bits.{place_within}
 
 -- the bits of a mask
 pub record AreBits (mask : ℕ) (f : ℕ → ℕ) : Type 0 where
@@ -20,11 +21,6 @@ bits_same mask f g same bits = record { small = bits.small; each = λ k. bits.ea
 -- at most one rank is counted, once, and the mask has it
 abbrev pub IsOneOf : ℕ → (ℕ → ℕ) → Type 0
 IsOneOf mask g = ((k : ℕ) → g k ≡ 0) ⊎ ((place : ℕ) × (bit_at mask place ≡ 1) × ((k : ℕ) → g k ≡ cond (place == k) 1 0))
-
--- only small places are set
-place_within : (mask place : ℕ) → mask < 2 ^ 16 → bit_at mask place ≡ 1 → place < 16
-place_within mask place small set =
-    elim (cases_lt place 16) [ inl within ↦ within | inr past ↦ absurd (omega (arith, bit_at_above mask 16 place small past)) ]
 
 here_one : (place : ℕ) → cond {A = ℕ} (place == place) 1 0 ≡ 1
 here_one place = ap (λ (b : Bool). cond {A = ℕ} b 1 0) (eq-eqb place place refl)

@@ -1,5 +1,5 @@
 -- What a live seat holds at the end is the same in the canonical past as in the script's.
-use Rattle.std.proofs.Common.{◌≡◌, ℕ, ◌≤◌, Bool, true, false, ◌&&◌, ◌||◌, ◌==◌, not, nat_lt, nat_le, inl, inr, Option, Some, None, is_some, is_none, List, [], ◌∷◌, map, filter, refl, sym, ◌∙◌, ap, arith, if◌then◌else◌}
+use Rattle.std.proofs.Common.{◌≡◌, ℕ, ◌≤◌, Bool, true, false, ◌&&◌, ◌||◌, ◌==◌, not, nat_lt, nat_le, inl, inr, Option, Some, is_some, is_none, List, [], ◌∷◌, map, filter, refl, sym, ◌∙◌, ap, arith, if◌then◌else◌}
 use Rattle.std.specs.List.{list_any}
 use Rattle.std.proofs.lemmas.Bool.{and_parts, and_from, cases_lt, eq-eqb, ne_eqb, lt-ltb, le-ltb, le-leb, not_from_true, false_from_ne_true, both_ways}
 use Rattle.card_set.specs.declared.card.Slot.{Slot}
@@ -29,6 +29,7 @@ use Rattle.play_laws.proofs.PlaceLists.{rising}
 use Rattle.canon_blocks.proofs.CleanShow.{HoldsKnown}
 use Rattle.play_event.proofs.OwnerLaws.{is_same_owner-true}
 use Rattle.play_event.proofs.ClashLaws.{not_at}
+use Rattle.list_laws.proofs.Options.{none_by_test}
 
 -- the slots of what a seat holds
 abbrev pub slots_held : ℕ → List Place → List Slot
@@ -48,13 +49,6 @@ slots_mirrored list out p q (mine ∷ mines) [] same mirrored = absurd mirrored
 slots_mirrored list out p q (mine ∷ mines) (final ∷ finals) same mirrored =
     slots_step p q mine final mines finals (p mine) (q final) (same mine final (inl refl) mirrored.0) mirrored.0.slot (slots_mirrored list out p q mines finals (λ a b among. same a b (inr among)) mirrored.1)
 
--- a card is held where it is not gone
-none_is : (gone : Option ℕ) (b : Bool) → is_some gone ≡ b → is_none gone ≡ not b
-none_is None true is = false_true is
-none_is None false is = refl
-none_is (Some count) true is = refl
-none_is (Some count) false is = false_true (sym is)
-
 zero_is : (n : ℕ) → not (nat_lt 0 n) ≡ (n == 0)
 zero_is n = elim (cases_lt 0 n) [
   | inl some ↦ ap not (lt-ltb 0 n some) ∙ sym (ne_eqb n 0 (λ is. omega (arith, is, some)))
@@ -67,7 +61,7 @@ held_by seat list owner when discarded out false live own is has = refl
 held_by seat list owner when discarded out true live own is has =
     let mine : owner ≡ Some seat = is_same_owner-true owner (Some seat) own in
     let stays : has_owner_folded list owner ≡ false = ap (has_owner_folded list) mine ∙ not_from_true (is_live list seat) live in
-    none_is when (nat_lt 0 discarded) (has ∙ (ap (λ b. out || b) stays ∙ (or_none out ∙ is))) ∙ zero_is discarded
+    none_by_test when (nat_lt 0 discarded) (has ∙ (ap (λ b. out || b) stays ∙ (or_none out ∙ is))) ∙ zero_is discarded
   where
     or_none : (b : Bool) → (b || false) ≡ b
     or_none true = refl

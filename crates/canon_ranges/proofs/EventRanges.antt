@@ -3,7 +3,6 @@ use Rattle.std.proofs.Common.{◌≡◌, ℕ, zero, suc, ◌+◌, ◌≤◌, ◌
 use Rattle.std.specs.List.{AllByRecursion, list_any, range_with_len}
 use Rattle.std.proofs.lemmas.Bool.{and_parts}
 use Rattle.std.proofs.Math.Seq.{take-length}
-use Rattle.std.proofs.lemmas.List.{reverse-append}
 use Rattle.card_set.specs.declared.card.Slot.{Slot}
 use Rattle.card_set.specs.Known.{known_cards}
 use Rattle.play_event.specs.declared.setup.Rules.{Rules}
@@ -28,31 +27,7 @@ use Rattle.canon_ranges.specs.Ranges.{IsInRange, IsSeatOf}
 use Rattle.canon_ranges.proofs.CardRanges.{board_few, board_known, discard_few, shown_whole}
 use Rattle.canon_ranges.proofs.GameSizes.{hand_seven, hand_some}
 use Rattle.canon_ranges.proofs.MoveRanges.{IsMoveInRange, moves_in_range}
-
--- what holds of each element of lists holds of both together, of those that are kept, and in the reverse order
-both : {X : Type 0} (P : X → Type 0) (xs ys : List X) → AllByRecursion P xs → AllByRecursion P ys → AllByRecursion P (xs ++ ys)
-both P [] ys one other = other
-both P (x ∷ xs) ys one other = (one.0, both P xs ys one.1 other)
-
-kept : {X : Type 0} (P : X → Type 0) (p : X → Bool) (xs : List X) → AllByRecursion P xs → AllByRecursion P (filter p xs)
-kept P p [] each = tt
-kept P p (x ∷ xs) each = by_first (p x) (kept P p xs each.1)
-  where
-    by_first : (keep : Bool) → AllByRecursion P (filter p xs) → AllByRecursion P (if keep then (x ∷ filter p xs) else filter p xs)
-    by_first true rest = (each.0, rest)
-    by_first false rest = rest
-
-turned : {X : Type 0} (P : X → Type 0) (xs : List X) → AllByRecursion P xs → AllByRecursion P (reverse xs)
-turned P [] each = tt
-turned P (x ∷ xs) each = subst (AllByRecursion P) (sym (reverse-append (x ∷ []) xs)) (both P (reverse xs) (x ∷ []) (turned P xs each.1) (each.0, tt))
-
-mapped : {X Y : Type 0} (P : X → Type 0) (Q : Y → Type 0) (f : X → Y) → ((x : X) → P x → Q (f x)) → (xs : List X) → AllByRecursion P xs → AllByRecursion Q (map f xs)
-mapped P Q f step [] each = tt
-mapped P Q f step (x ∷ xs) each = (step x each.0, mapped P Q f step xs each.1)
-
-flat : {X Y : Type 0} (P : X → Type 0) (Q : Y → Type 0) (f : X → List Y) → ((x : X) → P x → AllByRecursion Q (f x)) → (xs : List X) → AllByRecursion P xs → AllByRecursion Q (flat_map f xs)
-flat P Q f step [] each = tt
-flat P Q f step (x ∷ xs) each = both Q (f x) (flat_map f xs) (step x each.0) (flat P Q f step xs each.1)
+use Rattle.list_laws.proofs.Each.{each_flat, each_joined, each_kept, each_mapped, each_reversed}
 
 -- numbers in a row lie between the first and the last
 abbrev IsBetween : ℕ → ℕ → ℕ → Type 0
@@ -69,7 +44,7 @@ row first count behind few = from first count first (omega arith) few
 hand_seats : (setup : Setup) → AllByRecursion (IsSeatOf setup.stacks.seats) (all_seats setup)
 hand_seats setup =
     subst (AllByRecursion (IsSeatOf setup.stacks.seats)) (map_same (all_seats setup))
-    (mapped (IsBetween 1 (setup.stacks.seats + 1)) (IsSeatOf setup.stacks.seats) (λ seat. seat) (λ seat within. (within.0, omega (arith, within.1))) (all_seats setup) (row 1 setup.stacks.seats (setup.stacks.seats + 1) (omega arith)))
+    (each_mapped (IsBetween 1 (setup.stacks.seats + 1)) (IsSeatOf setup.stacks.seats) (λ seat. seat) (λ seat within. (within.0, omega (arith, within.1))) (all_seats setup) (row 1 setup.stacks.seats (setup.stacks.seats + 1) (omega arith)))
   where
     map_same : (xs : List ℕ) → map (λ seat. seat) xs ≡ xs
     map_same [] = refl
@@ -112,13 +87,13 @@ module _ (setup : Setup) (rules : Rules) (events : List Said) (valid : IsValid s
 
   holes : (street : ℕ) → InRange (flat_map (λ seat. deal_said seat (dealt_slots core.places (Some seat) street)) (all_seats setup))
   holes street =
-      flat (IsSeatOf seats) (IsInRange seats) (λ seat. deal_said seat (dealt_slots core.places (Some seat) street))
+      each_flat (IsSeatOf seats) (IsInRange seats) (λ seat. deal_said seat (dealt_slots core.places (Some seat) street))
       (λ seat in_hand. deal_in_range seats seat (dealt_slots core.places (Some seat) street) in_hand ((tidy_cards setup rules events legal).dealt_few (Some seat) street))
       (all_seats setup) (hand_seats setup)
 
   deals : (street : ℕ) → IsStreetOf setup street → InRange (deals_said setup core.places street)
   deals street of_game =
-      both (IsInRange seats) (flat_map (λ seat. deal_said seat (dealt_slots core.places (Some seat) street)) (all_seats setup)) (board_said (dealt_slots core.places None street))
+      each_joined (IsInRange seats) (flat_map (λ seat. deal_said seat (dealt_slots core.places (Some seat) street)) (all_seats setup)) (board_said (dealt_slots core.places None street))
       (holes street)
       (board_in_range seats (dealt_slots core.places None street) (board_few setup rules events legal street of_game.0 (omega (arith, of_game.1))) (board_known setup rules events legal street))
 
@@ -128,21 +103,21 @@ module _ (setup : Setup) (rules : Rules) (events : List Said) (valid : IsValid s
       by_draw : (some : Bool) → (has_draw setup.code street && is_reached setup moves street) ≡ some
           → InRange (if some then map (λ seat. Discard seat (discarded_slots core.places seat street)) (drawing_seats setup moves street) else [])
       by_draw true is =
-          mapped (IsSeatOf seats) (IsInRange seats) (λ seat. Discard seat (discarded_slots core.places seat street))
+          each_mapped (IsSeatOf seats) (IsInRange seats) (λ seat. Discard seat (discarded_slots core.places seat street))
           (λ seat in_hand. (in_hand, discard_few setup rules events legal seat street in_hand of_game.0 (omega (arith, of_game.1)) (and_parts (has_draw setup.code street) (is_reached setup moves street) is).0))
-          (drawing_seats setup moves street) (kept (IsSeatOf seats) (is_live (moves_before street moves)) (all_seats setup) (hand_seats setup))
+          (drawing_seats setup moves street) (each_kept (IsSeatOf seats) (is_live (moves_before street moves)) (all_seats setup) (hand_seats setup))
       by_draw false is = tt
 
   turns : (street : ℕ) → InRange (moves_named moves street)
   turns street =
       let on : Move → Bool = λ move. move.street == street in
-      mapped (IsMoveInRange setup) (IsInRange seats) move_named (λ move within. act_in_range seats move.act move.seat move.to within.seat within.to)
-      (reverse (filter on moves)) (turned (IsMoveInRange setup) (filter on moves) (kept (IsMoveInRange setup) on moves (moves_in_range setup rules events valid legal)))
+      each_mapped (IsMoveInRange setup) (IsInRange seats) move_named (λ move within. act_in_range seats move.act move.seat move.to within.seat within.to)
+      (reverse (filter on moves)) (each_reversed (IsMoveInRange setup) (filter on moves) (each_kept (IsMoveInRange setup) on moves (moves_in_range setup rules events valid legal)))
 
   street_in_range : (street : ℕ) → IsStreetOf setup street → InRange (street_said setup core.places moves street)
   street_in_range street of_game =
-      both (IsInRange seats) (discards_said setup core.places moves street) (deals_said setup core.places street ++ moves_named moves street) (discards street of_game)
-      (both (IsInRange seats) (deals_said setup core.places street) (moves_named moves street) (deals street of_game) (turns street))
+      each_joined (IsInRange seats) (discards_said setup core.places moves street) (deals_said setup core.places street ++ moves_named moves street) (discards street of_game)
+      (each_joined (IsInRange seats) (deals_said setup core.places street) (moves_named moves street) (deals street of_game) (turns street))
 
   module _ (finished : is_unfinished (turn setup past).1 ≡ false) where
     showing : (seat : ℕ) → IsSeatOf seats seat → nat_le 2 (live_count setup moves) ≡ true → IsInRange seats (showing_said core.places core.shown seat)
@@ -159,14 +134,14 @@ module _ (setup : Setup) (rules : Rules) (events : List Said) (valid : IsValid s
       where
         by_count : (some : Bool) → nat_le 2 (live_count setup moves) ≡ some → InRange (if some then map (showing_said core.places core.shown) (filter (is_live moves) (all_seats setup)) else [])
         by_count true contested =
-            mapped (IsSeatOf seats) (IsInRange seats) (showing_said core.places core.shown) (λ seat in_hand. showing seat in_hand contested)
-            (filter (is_live moves) (all_seats setup)) (kept (IsSeatOf seats) (is_live moves) (all_seats setup) (hand_seats setup))
+            each_mapped (IsSeatOf seats) (IsInRange seats) (showing_said core.places core.shown) (λ seat in_hand. showing seat in_hand contested)
+            (filter (is_live moves) (all_seats setup)) (each_kept (IsSeatOf seats) (is_live moves) (all_seats setup) (hand_seats setup))
         by_count false is = tt
 
     all_in_range : InRange (script_of setup core.places moves core.shown)
     all_in_range =
-        both (IsInRange seats) (flat_map (street_said setup core.places moves) (streets_of setup)) (showdown_said setup core.places moves core.shown)
-        (flat (IsStreetOf setup) (IsInRange seats) (street_said setup core.places moves) street_in_range (streets_of setup) (row 1 (street_count setup.code) (street_count setup.code + 1) (omega arith)))
+        each_joined (IsInRange seats) (flat_map (street_said setup core.places moves) (streets_of setup)) (showdown_said setup core.places moves core.shown)
+        (each_flat (IsStreetOf setup) (IsInRange seats) (street_said setup core.places moves) street_in_range (streets_of setup) (row 1 (street_count setup.code) (street_count setup.code + 1) (omega arith)))
         showdown
 
 end_of : (setup : Setup) (script : List Said) → past_after setup script (length script) ≡ past_at_end setup script

@@ -1,7 +1,7 @@
 -- Each move of a legal past is of a seat of the hand, and goes to chips that may be stated.
 use Rattle.std.proofs.Common.{◌≡◌, ℕ, ◌≤◌, Bool, true, false, ◌==◌, if◌then◌else◌, List, [], ◌∷◌, ap, arith}
 use Rattle.std.specs.List.{AllByRecursion}
-use Rattle.std.proofs.Math.Nat.{min-le_left, min-le_right}
+use Rattle.std.proofs.Math.Nat.{min-le_right}
 use Rattle.std.proofs.lemmas.Bool.{ltb-false}
 use Rattle.chip_ledger.specs.SeatRow.{amount_of}
 use Rattle.chip_ledger.specs.declared.numbers.TheConstants.{MOST_CHIPS}
@@ -16,14 +16,11 @@ use Rattle.play_event.specs.Said.{Said}
 use Rattle.play_event.specs.Scripts.{past_of, resolved_by}
 use Rattle.play_event.specs.Streets.{limit_of}
 use Rattle.play_event.specs.Table.{places_of}
-use Rattle.play_event.specs.Targets.{full_targets, greatest_target, greatest_target_in, pot_ceiling}
-use Rattle.play_event.specs.declared.limit.Limit.{Limit}
-use Rattle.play_event.specs.declared.limit.Limit.TheVariants as limits
-use Rattle.chip_ledger.specs.Greatest.{greatest}
+use Rattle.play_event.specs.Targets.{greatest_target}
 use Rattle.play_event.specs.ValidSetup.{IsValid}
 use Rattle.play_event.specs.declared.setup.Rules.{Rules}
 use Rattle.play_event.specs.declared.setup.Setup.{Setup}
-use Rattle.play_event.proofs.ChipLaws.{WithinStacks, puts_within}
+use Rattle.play_event.proofs.ChipLaws.{WithinStacks, greatest_within, puts_within}
 use Rattle.play_event.specs.Places.{Place}
 use Rattle.play_laws.proofs.FittingPasts.{legal_moves}
 use Rattle.play_laws.proofs.MoveKinds.{IsMoveSaid, bring_said, call_said, fold_said, raise_said}
@@ -66,12 +63,6 @@ within_before setup move older within seat = omega (arith, within seat)
 in_turn_in_hand : (setup : Setup) (placed : List Place) (older : List Move) (street seat : ℕ) → IsMover setup placed older street seat → IsSeatOf setup.stacks.seats seat
 in_turn_in_hand setup placed older street seat (free by) = mover_in_hand setup (λ _. []) older street seat (by (λ _. []))
 in_turn_in_hand setup placed older street seat (shown known by) = mover_in_hand setup _ older street seat by
-
--- the greatest legal target is within all-in
-greatest_within : (limit : Limit) (setup : Setup) (moves : List Move) (street seat : ℕ) → greatest_target_in limit setup moves street seat ≤ all_in setup moves street seat
-greatest_within limits.No setup moves street seat = omega arith
-greatest_within limits.Pot setup moves street seat = min-le_left (all_in setup moves street seat) (pot_ceiling setup moves street seat)
-greatest_within limits.Fixed setup moves street seat = min-le_left (all_in setup moves street seat) (greatest (full_targets setup moves street))
 
 -- the target of a move
 target_of : Resolved → ℕ

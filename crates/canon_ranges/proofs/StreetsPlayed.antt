@@ -120,8 +120,3 @@ board_known placed street known =
         let outer = and_parts (is_dealt_to None street place) (is_unknown place.slot) both in
         let inner = and_parts (is_same_owner place.owner None) (place.street == street) outer.0 in
         rw (inner.0, outer.1) refl
-
--- no cards are there where their count is none
-pub no_cards : {A : Type 0} (cards : List A) → length cards ≤ 0 → cards ≡ []
-no_cards [] none = refl
-no_cards (card ∷ cards) none = absurd (omega (arith, none))

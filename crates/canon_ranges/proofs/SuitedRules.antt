@@ -4,7 +4,7 @@ use Rattle.std.proofs.Common.{◌≡◌, ℕ, ◌+◌, ◌-◌, ◌≤◌, Bool,
 use Rattle.std.specs.List.{list_any}
 use Rattle.std.proofs.lemmas.Bool.{and_parts, eq-eqb, eqb-true, false_from_ne_true, leb-true, ltb-false, ltb-true, not-false, or_cases}
 use Rattle.list_laws.proofs.Finding.{list_any-push}
-use Rattle.list_laws.proofs.Tests.{false_true}
+use Rattle.list_laws.proofs.Tests.{false_true, holds_by_both}
 use Rattle.play_event.proofs.TargetLaws.{greatest_is_legal}
 use Rattle.play_event.specs.Amounts.{raise_target}
 use Rattle.play_event.specs.Chips.{all_in, street_chips}
@@ -48,11 +48,6 @@ may_parts opponent above cap free may =
     let all = and_parts (opponent && above && cap) free (not-false (opponent && above && cap && free) may) in
     ((and_parts (opponent && above) cap all.0).1, all.1)
 
--- a target that is neither too small nor too big is legal
-legal_by : (legal below above : Bool) → (not legal && below) ≡ false → (below ≡ false → above ≡ false → legal ≡ true) → above ≡ false → legal ≡ true
-legal_by true below above small even big = refl
-legal_by false below above small even big = even small big
-
 fits_target : (reopen : Reopen) (setup : Setup) (moves : List Move) (street seat target : ℕ) → nat_lt target (greatest_target setup moves street seat) ≡ false → nat_lt (greatest_target setup moves street seat) target ≡ false → is_legal_target reopen setup moves street seat target ≡ true
 fits_target reopen setup moves street seat target small big =
     let same : target ≡ greatest_target setup moves street seat = omega (arith, ltb-false target (greatest_target setup moves street seat) small, ltb-false (greatest_target setup moves street seat) target big) in
@@ -94,7 +89,7 @@ module _ (setup : Setup) (rules : Rules) (older : List Move) (street seat : ℕ)
       let target = raise_target setup older street actor amount in
       let late = none.1.1.1.1.1.1.1.1 in
       let may = may_parts (has_able_opponent setup older actor) (nat_lt (price setup older street) (all_in setup older street actor)) (is_within_cap rules.caps older street) (is_reopened rules.reopen setup older street actor) late.0 in
-      let legal = legal_by (is_legal_target rules.reopen setup older street actor target) (nat_lt target (greatest_target setup older street actor)) (nat_lt (greatest_target setup older street actor) target) late.1.0 (fits_target rules.reopen setup older street actor target) late.1.1.0 in
+      let legal = holds_by_both (is_legal_target rules.reopen setup older street actor target) (nat_lt target (greatest_target setup older street actor)) (nat_lt (greatest_target setup older street actor) target) late.1.0 (fits_target rules.reopen setup older street actor target) late.1.1.0 in
       let reopened : rules.reopen ≡ reopens.Full → is_closed setup older street actor target ≡ false =
       λ full.
       open_both (is_reopened reopens.Full setup older street actor) (is_legal_target reopens.Full setup older street actor target)

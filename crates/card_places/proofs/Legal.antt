@@ -1,7 +1,6 @@
 -- What holds where a discard has no reason against it.
-use Rattle.std.proofs.Common.{◌≡◌, ℕ, ◌+◌, ◌≤◌, Bool, true, false, ◌==◌, not, nat_le, filter, if◌then◌else◌, Option, Some, None, List, length, count_by, refl, sym, ap, subst, arith}
-use Rattle.std.specs.Option.{option_map_or}
-use Rattle.std.proofs.lemmas.Bool.{and_from, and_parts, eqb-true, le-leb, not-true}
+use Rattle.std.proofs.Common.{◌≡◌, ℕ, ◌+◌, ◌≤◌, Bool, true, false, not, nat_le, filter, if◌then◌else◌, Some, None, List, length, count_by, refl, sym, subst, arith}
+use Rattle.std.proofs.lemmas.Bool.{and_from, and_parts, le-leb, not-true}
 use Rattle.card_set.specs.declared.card.Slot.{Slot}
 use Rattle.chip_ledger.specs.declared.rows.LiveRow.{LiveRow}
 use Rattle.chip_ledger.specs.LiveRow.{flag_of}
@@ -19,6 +18,7 @@ use Rattle.card_places.specs.Refusals.{has_to_draw, next_to_draw_in, is_next_in,
 use Rattle.card_places.specs.Room.{is_seat_of}
 use Rattle.card_places.proofs.HeldCards.{discard_takes}
 use Rattle.list_laws.proofs.NumbersOfRange.{found_in_range}
+use Rattle.list_laws.proofs.Options.{found_number}
 
 chain_parts : (next over taken lacking : Bool) → (if not next then Some reasons.WrongSeat else if over then Some reasons.WrongCount else if taken then Some reasons.CardTaken else if lacking then Some reasons.NotHeld else None) ≡ None → (next ≡ true) × (lacking ≡ false)
 chain_parts false over taken lacking is = absurd cc
@@ -26,10 +26,6 @@ chain_parts true true taken lacking is = absurd cc
 chain_parts true false true lacking is = absurd cc
 chain_parts true false false true is = absurd cc
 chain_parts true false false false is = (refl, refl)
-
-by_found : (o : Option ℕ) (seat : ℕ) → option_map_or (λ next. next == seat) o false ≡ true → o ≡ Some seat
-by_found None seat is = absurd cc
-by_found (Some next) seat is = ap Some (eqb-true next seat is)
 
 -- the seat that discards is one of the hand and did not draw, and its names find their places
 pub record IsDrawer (t : CardState) (on seat : ℕ) (cards : List Slot) : Type 0 where
@@ -41,7 +37,7 @@ pub record IsDrawer (t : CardState) (on seat : ℕ) (cards : List Slot) : Type 0
 pub drawer_is : (t : CardState) (live : LiveRow) (on seat : ℕ) (cards : List Slot) → discard_why_on t live on seat cards ≡ None → IsDrawer t on seat cards
 drawer_is t live on seat cards is =
     let parts = chain_parts (is_next_in t live on seat) _ _ (has_no_place (filter (is_held_by seat) (placed t.places)) (known_cards cards) (blanks_in cards)) is in
-    let found = found_in_range (has_to_draw t live on) 1 t.seats seat (by_found (next_to_draw_in t live on) seat parts.0) in
+    let found = found_in_range (has_to_draw t live on) 1 t.seats seat (found_number (next_to_draw_in t live on) seat parts.0) in
     record {
       first = found.1.0;
       last = omega (arith, found.1.1);

@@ -13,6 +13,7 @@ use Rattle.play_event.specs.Laws.{IsAmong}
 use Rattle.card_places.specs.Room.{is_seat_of, is_street, hole_most, most_of, IsWithin, sum_from, is_owner}
 use Rattle.street_laws.proofs.Groups.{deal_group}
 use Rattle.card_places.proofs.Sums.{sum_least, sum_more, sum_most}
+use Rattle.list_laws.proofs.Tests.{if_most}
 
 -- all cards of a street, by owner
 abbrev pub on_street : ℕ → List Place → ℕ → ℕ
@@ -101,10 +102,6 @@ all_counted code seats placed within = length_total code seats placed (inside co
 -- the most cards of a street
 abbrev street_most : Code → ℕ → ℕ → ℕ
 street_most code seats street = board_cards_on code street + seats * hole_most code street
-
-if_most : (b : Bool) (n : ℕ) → (if b then n else 0) ≤ n
-if_most true n = omega arith
-if_most false n = omega arith
 
 on_street_most : (code : Code) (seats : ℕ) (placed : List Place) → IsWithin code seats placed → (street : ℕ) → on_street seats placed street ≤ street_most code seats street
 on_street_most code seats placed within street =

@@ -1,13 +1,8 @@
 -- Sums over the numbers of a range.
 use Rattle.std.proofs.Common.{◌≡◌, ◌≢◌, ℕ, zero, suc, ◌+◌, ◌*◌, ◌<◌, ◌≤◌, Bool, true, false, nat_eq, refl, sym, subst, arith}
-use Rattle.std.proofs.lemmas.Bool.{eqb-true, eq-eqb}
+use Rattle.std.proofs.lemmas.Bool.{eqb-true}
 use Rattle.card_places.specs.Room.{sum_from}
-
-apart : (a b : ℕ) → a ≤ b → nat_eq a b ≡ false → a + 1 ≤ b
-apart a b below differ = grind arith
-
-differ : (a b : ℕ) → nat_eq a b ≡ false → a ≢ b
-differ a b is same = let yes_is : nat_eq a b ≡ true = eq-eqb a b same in absurd cc
+use Rattle.list_laws.proofs.Numbers.{next_above, unequal}
 
 pub sum_least : (f g : ℕ → ℕ) (first n : ℕ) → ((k : ℕ) → first ≤ k → g k ≤ f k) → sum_from g first n ≤ sum_from f first n
 sum_least f g first zero less = omega arith
@@ -23,7 +18,7 @@ sum_more f g first (suc n) k c less low high more = by_first (nat_eq first k) re
     by_first true is later =
         let here : g first + c ≤ f first = subst (λ (j : ℕ). g j + c ≤ f j) (sym (eqb-true first k is)) more in
         omega (arith, here, sum_least f g (first + 1) n (λ j from. less j))
-    by_first false is later = omega (arith, less first, later (apart first k low is))
+    by_first false is later = omega (arith, less first, later (next_above first k low is))
 
 -- at most one summand is greater, and by no more than so much
 pub sum_most_more : (f g : ℕ → ℕ) (first n k c : ℕ) → ((j : ℕ) → j ≢ k → f j ≤ g j) → f k ≤ g k + c → sum_from f first n ≤ sum_from g first n + c
@@ -35,7 +30,7 @@ sum_most_more f g first (suc n) k c less more = by_first (nat_eq first k) refl (
         let same : first ≡ k = eqb-true first k is in
         let here : f first ≤ g first + c = subst (λ (j : ℕ). f j ≤ g j + c) (sym same) more in
         omega (arith, here, sum_least g f (first + 1) n (λ j from. less j (λ is_k. absurd (omega (arith, from, is_k, same)))))
-    by_first false is later = omega (arith, less first (differ first k is), later)
+    by_first false is later = omega (arith, less first (unequal first k is), later)
 
 pub sum_most : (f : ℕ → ℕ) (c first n : ℕ) → ((k : ℕ) → f k ≤ c) → sum_from f first n ≤ n * c
 sum_most f c first zero less = omega arith

@@ -1,8 +1,8 @@
 -- Laws of the spelling of slots: it has one reading, and its first fault is one.
-use Rattle.std.proofs.Common.{◌≡◌, ℕ, ◌+◌, ◌*◌, ◌%◌, ◌<◌, ◌≤◌, ◌==◌, Bool, true, false, ◌&&◌, ◌⊎◌, List, [], ◌∷◌, ◌++◌, length, take, drop, get_or, take-append-drop, Option, Some, None, refl, sym, ◌∙◌, ap, subst, arith, append_assoc, length-append, inl, inr, find, option_and_then, cond, eqb-true}
+use Rattle.std.proofs.Common.{◌≡◌, ℕ, ◌+◌, ◌*◌, ◌%◌, ◌<◌, ◌≤◌, ◌==◌, Bool, true, false, ◌&&◌, List, [], ◌∷◌, ◌++◌, length, take, drop, get_or, take-append-drop, Option, Some, None, refl, sym, ◌∙◌, ap, subst, arith, append_assoc, length-append, inl, inr, find, option_and_then, eqb-true}
 use Rattle.std.specs.Option.{option_map}
 use Rattle.std.proofs.lemmas.Bool.{and_parts}
-use Rattle.std.proofs.lemmas.List.{take_more, drop_more}
+use Rattle.std.proofs.lemmas.List.{drop_more}
 use Rattle.card_set.specs.declared.card.Rank.{Rank}
 use Rattle.card_set.specs.declared.card.Rank.TheVariants as ranks
 use Rattle.card_set.specs.declared.card.Suit.{Suit}
@@ -13,6 +13,8 @@ use Rattle.card_set.specs.declared.spelling.CardFault.{CardFault}
 use Rattle.card_set.specs.declared.spelling.CardFault.TheVariants as faults
 use Rattle.card_set.specs.Deck.{all_ranks, all_suits}
 use Rattle.card_set.specs.Spelling.{rank_letter, suit_letter, slot_spelling, spelling, rank_lettered, suit_lettered, slot_spelled, slots_spelled, HasFault, PairFault, BeginsSlot, SpellsSlot, FirstBadPair}
+use Rattle.list_laws.proofs.Lists.{pair_more}
+use Rattle.list_laws.proofs.Tests.{chosen_either}
 
 -- one slot more is its two letters more
 pub spelling-push : (row : List Slot) (slot : Slot) → spelling (row ++ slot ∷ []) ≡ spelling row ++ slot_spelling slot
@@ -29,15 +31,6 @@ length-slot_spelling slots.Unknown = refl
 pub length-spelling : (row : List Slot) → length (spelling row) ≡ 2 * length row
 length-spelling [] = refl
 length-spelling (s ∷ row) = omega (arith, length-append (slot_spelling s) (spelling row), length-slot_spelling s, length-spelling row)
-
--- one pair more of the letters
-pub pair_more : (bytes : List ℕ) (index : ℕ) → 2 * index + 1 < length bytes → take (2 * (index + 1)) bytes ≡ take (2 * index) bytes ++ get_or bytes (2 * index) 0 ∷ get_or bytes (2 * index + 1) 0 ∷ []
-pair_more bytes index within =
-    let two : 2 * (index + 1) ≡ 2 * index + 1 + 1 = omega arith in
-    ap (λ (n : ℕ). take n bytes) two
-    ∙ take_more bytes (2 * index + 1) 0 within
-    ∙ ap (λ (l : List ℕ). l ++ get_or bytes (2 * index + 1) 0 ∷ []) (take_more bytes (2 * index) 0 (omega arith))
-    ∙ append_assoc (take (2 * index) bytes) (get_or bytes (2 * index) 0 ∷ []) (get_or bytes (2 * index + 1) 0 ∷ [])
 
 -- the letter of a rank is read as that rank
 pub rank_lettered-rank_letter : (rank : Rank) → rank_lettered (rank_letter rank) ≡ Some rank
@@ -64,16 +57,11 @@ suit_lettered-suit_letter suits.D = refl
 suit_lettered-suit_letter suits.H = refl
 suit_lettered-suit_letter suits.S = refl
 
--- which way a choice went
-chosen : {A : Type 0} (b : Bool) (x y z : A) → cond b x y ≡ z → ((b ≡ true) × (x ≡ z)) ⊎ ((b ≡ false) × (y ≡ z))
-chosen true x y z is = inl (refl, is)
-chosen false x y z is = inr (refl, is)
-
 -- what a search finds passes its test
 found : {A : Type 0} (test : A → Bool) (xs : List A) (x : A) → find test xs ≡ Some x → test x ≡ true
 found test [] x is = absurd (cc)
 found {A} test (y ∷ xs) x is =
-    elim (chosen (test y) (Some y) (find test xs) (Some x) is) [
+    elim (chosen_either (test y) (Some y) (find test xs) (Some x) is) [
       | inl here ↦ let same : y ≡ x = cc in ap test (sym same) ∙ here.0
       | inr there ↦ found test xs x there.1
     ]
@@ -129,7 +117,7 @@ card_letters first second (Some r) (Some s) slot ranked suited is =
 pub slot_spelling-slot_spelled : (first second : ℕ) (slot : Slot) → slot_spelled first second ≡ Some slot → slot_spelling slot ≡ first ∷ second ∷ []
 unfolding slot_spelled
 slot_spelling-slot_spelled first second slot is =
-    elim (chosen (first == 63 && second == 63) (Some slots.Unknown) (option_and_then (λ r. option_map (λ s. slots.Known (record { rank = r; suit = s })) (suit_lettered second)) (rank_lettered first)) (Some slot) is) [
+    elim (chosen_either (first == 63 && second == 63) (Some slots.Unknown) (option_and_then (λ r. option_map (λ s. slots.Known (record { rank = r; suit = s })) (suit_lettered second)) (rank_lettered first)) (Some slot) is) [
       | inl both ↦
           let parts = and_parts (first == 63) (second == 63) both.0 in
           let same : slots.Unknown ≡ slot = cc in

@@ -1,8 +1,7 @@
 -- Values with the same parts are one value.
-use Rattle.std.proofs.Common.{◌≡◌, ℕ, ◌+◌, ◌-◌, ◌<◌, ◌≤◌, Bool, false, List, length, get_or, slice_index, slice_index_or, sym, ap, ◌∙◌, subst, ⊎_elim, arith}
+use Rattle.std.proofs.Common.{◌≡◌, ℕ, ◌≤◌, Bool, false, List, length, slice_index, slice_index_or, sym, ap, ◌∙◌, subst, ⊎_elim, arith}
 use Rattle.std.specs.Coded.{le_prop}
 use Rattle.std.proofs.Props.{props}
-use Rattle.std.proofs.lemmas.Bool.{cases_lt}
 use Rattle.std.proofs.lemmas.List.{ext_get_or}
 use Rattle.chip_ledger.specs.declared.numbers.Seat.{Seat}
 use Rattle.chip_ledger.specs.declared.rows.SeatRow.{SeatRow}
@@ -10,6 +9,7 @@ use Rattle.chip_ledger.specs.declared.rows.LiveRow.{LiveRow}
 use Rattle.chip_ledger.specs.declared.rows.TheConstants.{MOST_AMOUNT}
 use Rattle.chip_ledger.specs.SeatRow.{amount_of}
 use Rattle.chip_ledger.specs.LiveRow.{flag_of}
+use Rattle.list_laws.proofs.Entries.{same_entries}
 
 pub seat_same : (a b : Seat) → a.number ≡ b.number → a ≡ b
 seat_same a b e =
@@ -63,21 +63,6 @@ seat_row_same a b s e =
     ap (amounts_row a.seats a.amounts) (KeptAmounts-prop a.seats a.amounts (kept_amounts a) k) in
     subst (λ xs. P b.seats xs) e (subst (λ n. P n a.amounts) s here) (kept_amounts b)
 
--- an index is that of a seat, and the entry there is the seat's, or it is past the last seat
-by_seats : {X : Type 0} (d : X) (xs ys : List X) (seats : ℕ)
-    → ((n : ℕ) → 1 ≤ n → n ≤ seats → get_or xs (n - 1) d ≡ get_or ys (n - 1) d)
-    → ((k : ℕ) → seats ≤ k → get_or xs k d ≡ d)
-    → ((k : ℕ) → seats ≤ k → get_or ys k d ≡ d)
-    → (k : ℕ)
-    → get_or xs k d ≡ get_or ys k d
-by_seats {X} d xs ys seats h f g k =
-    ⊎_elim
-    (λ (l : k < seats).
-    let P : ℕ → Type 0 = λ i. get_or xs i d ≡ get_or ys i d in
-    subst P (omega arith) (h (k + 1) (omega arith) (omega arith)))
-    (λ (l : seats ≤ k). f k l ∙ sym (g k l))
-    (cases_lt k seats)
-
 -- rows of one number of seats are equal where each seat has the same amount in both
 pub seat_row_same_by_seats : (a b : SeatRow)
     → a.seats ≡ b.seats
@@ -86,7 +71,7 @@ pub seat_row_same_by_seats : (a b : SeatRow)
 seat_row_same_by_seats a b s h =
     let filler : (k : ℕ) → a.seats ≤ k → slice_index b.amounts k ≡ 0 = λ k l. b.filler k (omega arith) in
     seat_row_same a b s
-    (ext_get_or 0 a.amounts b.amounts (a.full ∙ sym b.full) (λ k _. by_seats 0 a.amounts b.amounts a.seats h a.filler filler k))
+    (ext_get_or 0 a.amounts b.amounts (a.full ∙ sym b.full) (λ k _. same_entries 0 a.amounts b.amounts a.seats h a.filler filler k))
 
 -- what a row of flags keeps
 record KeptFlags (n : ℕ) (bs : List Bool) : Type 0 where
@@ -130,4 +115,4 @@ live_row_same_by_seats a b s h =
     let filler : (k : ℕ) → a.seats ≤ k → slice_index_or b.flags k false ≡ false =
     λ k l. b.filler k (omega arith) in
     live_row_same a b s
-    (ext_get_or false a.flags b.flags (a.full ∙ sym b.full) (λ k _. by_seats false a.flags b.flags a.seats h a.filler filler k))
+    (ext_get_or false a.flags b.flags (a.full ∙ sym b.full) (λ k _. same_entries false a.flags b.flags a.seats h a.filler filler k))

@@ -16,6 +16,7 @@ use Rattle.command_words.specs.Requests.{flag_text}
 use Rattle.command_words.specs.Words.{Options, is_complete, is_flag, no_options, options_said, with_flag, with_option, with_word}
 use Rattle.command_words.proofs.Finds.{Hold, Named, at_row-end, given, hold_given, row_named}
 use Rattle.command_words.proofs.Walking.{IsBetween, IsFlag, IsOption, alone, apart, first, joined}
+use Rattle.list_laws.proofs.Options.{followed, none_from_not}
 
 -- the parser: a word for the command, the options, and the flag
 abbrev pub option_rule : Text → Rule
@@ -147,10 +148,6 @@ hands_given options value none = record {
   same = λ first. refl;
 }
 
-is_none : {A : Type 0} (x : Option A) → not (is_some x) ≡ true → x ≡ None
-is_none None e = refl
-is_none (Some x) e = cc
-
 some-same : {A : Type 0} {x y : A} → Some x ≡ Some y → x ≡ y
 some-same e = cc
 
@@ -188,7 +185,7 @@ is_given options more name value e =
         → (others ≡ Some more → IsGiven options name value more)
         → (if bytes_eq name own && not (is_some kept) then Some taken else others) ≡ Some more → IsGiven options name value more
     by own kept taken others here there =
-        either options more taken name own value kept others (bytes_eq name own) (not (is_some kept)) (bytes_eq-Decides name own) (is_none kept) here there
+        either options more taken name own value kept others (bytes_eq name own) (not (is_some kept)) (bytes_eq-Decides name own) (none_from_not kept) here there
 
 -- a walk over words
 abbrev over : Walk → List Text → Walk
@@ -268,12 +265,6 @@ last walk first word options more (Some (name, None)) at is e = go (is_flag name
         → IsAt (over walk (word ∷ [])) first more
     go true decides e = one_flag walk first word options more at (at_flag word name is (decides.0 refl)) e
     go false decides e = cc
-
--- where an option was taken, the others follow
-followed : {A : Type 0} (x : Option A) {B : Type 0} (f : A → Option B) (more : B) → option_and_then f x ≡ Some more
-    → (some : A) × ((x ≡ Some some) × (f some ≡ Some more))
-followed None f more e = cc
-followed (Some some) f more e = (some, (refl, e))
 
 next : (walk : Walk) (first word value : Text) (words : List Text) (options more : Options) (found : Option (Text × Option Text))
     → Reaches (value ∷ words) first more → Reaches words first more → IsAt walk first options → long_of word ≡ found

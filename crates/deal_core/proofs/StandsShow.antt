@@ -1,6 +1,6 @@
 -- After a show or a muck the state stands for the past with it.
 use Rattle.std.proofs.Common.{◌≡◌, ◌≢◌, ℕ, Bool, true, false, ◌||◌, ◌==◌, List, ◌∷◌, refl, sym, ap, ◌∙◌}
-use Rattle.std.proofs.lemmas.Bool.{eqb-true, eq-eqb}
+use Rattle.std.proofs.lemmas.Bool.{eqb-true}
 use Rattle.card_set.specs.declared.card.Card.{Card}
 use Rattle.chip_ledger.specs.declared.rows.LiveRow.{LiveRow}
 use Rattle.chip_ledger.specs.LiveRow.{flag_of}
@@ -18,14 +18,12 @@ use Rattle.card_places.specs.Placed.{placed}
 use Rattle.card_places.specs.Shown.{IsShown, IsMucked}
 use Rattle.deal_core.proofs.Same.{back, same_places}
 use Rattle.deal_core.specs.Standing.{StandsFor}
-
-another : (seat n : ℕ) → (seat == n) ≡ false → n ≢ seat
-another seat n differ same = let yes_is : (seat == n) ≡ true = eq-eqb seat n (sym same) in absurd cc
+use Rattle.list_laws.proofs.Numbers.{unequal_other}
 
 -- a flag that is set for one seat
 flag_is : (old new : LiveRow) (seat n : ℕ) (before b : Bool) → (seat == n) ≡ b → flag_of new seat ≡ true → (n ≢ seat → flag_of new n ≡ flag_of old n) → flag_of old n ≡ before → flag_of new n ≡ (b || before)
 flag_is old new seat n before true is now others was = ap (flag_of new) (sym (eqb-true seat n is)) ∙ now
-flag_is old new seat n before false is now others was = others (another seat n is) ∙ was
+flag_is old new seat n before false is now others was = others (unequal_other seat n is) ∙ was
 
 pub show_stands : (t next : CardState) (setup : Setup) (past : Past) (seat : ℕ) (cards : List Card) → StandsFor t past → IsShown t next seat cards → StandsFor next (with_event setup (said.Show seat cards) past)
 unfolding with_event

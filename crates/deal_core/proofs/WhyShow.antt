@@ -26,10 +26,7 @@ use Rattle.deal_core.specs.Standing.{IsNow}
 use Rattle.card_places.specs.Refusals.{may_show_in, may_show_many, show_chain, show_why_on, show_why, muck_why}
 use Rattle.card_places.specs.Room.{is_seat_of}
 use Rattle.deal_core.proofs.WhyDeal.{seat_in}
-
-and_same : (b x y : Bool) → (b ≡ true → x ≡ y) → (b && x) ≡ (b && y)
-and_same true x y same = same refl
-and_same false x y same = refl
+use Rattle.list_laws.proofs.Tests.{and_same}
 
 at_over : (may : Bool) (rest : Option Illegal) → (if not may then Some reasons.HandOver else rest) ≡ (if may then rest else Some reasons.HandOver)
 at_over true rest = refl

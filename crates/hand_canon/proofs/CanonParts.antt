@@ -1,8 +1,6 @@
 -- The parts of the canonical script are what the rows of the trace give.
-use Rattle.std.proofs.Common.{◌≡◌, ℕ, ◌≤◌, ◌<◌, ◌==◌, true, false, nat_le, if◌then◌else◌, List, [], ◌∷◌, ◌++◌, map, filter, Some, None, sym, ap, ◌∙◌, arith}
+use Rattle.std.proofs.Common.{◌≡◌, ℕ, ◌≤◌, ◌<◌, ◌==◌, true, nat_le, if◌then◌else◌, List, [], ◌∷◌, ◌++◌, map, filter, Some, None, sym, ap, ◌∙◌, arith}
 use Rattle.std.specs.List.{flat_map, list_any}
-use Rattle.std.proofs.lemmas.Bool.{le-leb}
-use Rattle.std.proofs.lemmas.Bool.Decides.{nat_tests}
 use Rattle.card_set.specs.declared.card.Slot.{Slot}
 use Rattle.card_set.specs.Known.{known_cards}
 use Rattle.chip_ledger.specs.declared.rows.LiveRow.{LiveRow}
@@ -23,19 +21,14 @@ use Rattle.hand_canon.specs.RowTests.{discards_from, showings_from, unfolded_cou
 use Rattle.hand_canon.proofs.OneByOne.{flat_agree}
 use Rattle.hand_canon.proofs.MoveRows.{AreFolded, live_are}
 use Rattle.list_laws.proofs.FlatMaps.{kept_flat}
-
-two : (n : ℕ) → 2 ≤ n → nat_le 2 n ≡ true
-two n few = le-leb 2 n few
-
-fewer : (n : ℕ) → n < 2 → nat_le 2 n ≡ false
-fewer n few = grind (arith, nat_tests)
+use Rattle.list_laws.proofs.Numbers.{few_by_test, many_by_test}
 
 -- nor where fewer than two seats are live
 pub not_reached : (setup : Setup) (placed : List TracedPlace) (moves : List Move) (street : ℕ) (folded : LiveRow) → AreFolded (moves_before street moves) folded
     → unfolded_count folded setup.stacks.seats < 2 → discards_said setup placed moves street ≡ []
 not_reached setup placed moves street folded marked few =
     not_both (has_draw setup.code street) (nat_le 2 (live_count setup (moves_before street moves))) _ _
-    (fewer (live_count setup (moves_before street moves)) (omega (arith, few, live_are setup (moves_before street moves) folded marked)))
+    (few_by_test (live_count setup (moves_before street moves)) (omega (arith, few, live_are setup (moves_before street moves) folded marked)))
 
 -- else those of each seat that has not folded
 pub discards_are : (setup : Setup) (placed : List TracedPlace) (moves : List Move) (street : ℕ) (folded : LiveRow) (discards : HandRow)
@@ -47,7 +40,7 @@ pub discards_are : (setup : Setup) (placed : List TracedPlace) (moves : List Mov
 discards_are setup placed moves street folded discards draws marked some slots =
     let before = moves_before street moves in
     let said : ℕ → Said = λ seat. Discard seat (discarded_slots placed seat street) in
-    if_both (has_draw setup.code street) (nat_le 2 (live_count setup before)) _ _ draws (two (live_count setup before) (omega (arith, some, live_are setup before folded marked)))
+    if_both (has_draw setup.code street) (nat_le 2 (live_count setup before)) _ _ draws (many_by_test (live_count setup before) (omega (arith, some, live_are setup before folded marked)))
     ∙ kept_flat (is_live before) said (all_seats setup)
     ∙ flat_agree (λ seat. if is_live before seat then said seat ∷ [] else []) (discards_from folded discards) 1 setup.stacks.seats
     (λ k from.
@@ -70,7 +63,7 @@ pub no_showdown : (setup : Setup) (placed : List TracedPlace) (moves : List Move
     → unfolded_count folded setup.stacks.seats < 2 → showdown_said setup placed moves shown ≡ []
 no_showdown setup placed moves shown folded marked few =
     ap (λ b. if b then map (showing_said placed shown) (filter (is_live moves) (all_seats setup)) else [])
-    (fewer (live_count setup moves) (omega (arith, few, live_are setup moves folded marked)))
+    (few_by_test (live_count setup moves) (omega (arith, few, live_are setup moves folded marked)))
 
 -- a seat is among the shown ones where it has their flag
 is_flagged : (row : LiveRow) (n : ℕ) → 1 ≤ n → list_any (λ m. m == n) (flagged row) ≡ flag_of row n
@@ -84,7 +77,7 @@ pub showdown_are : (setup : Setup) (placed : List TracedPlace) (moves : List Mov
     → showdown_said setup placed moves (flagged shown) ≡ flat_map (showings_from folded shown held) (seats_of setup.stacks.seats)
 showdown_are setup placed moves shown folded held marked some slots =
     let said : ℕ → Said = showing_said placed (flagged shown) in
-    ap (λ b. if b then map said (filter (is_live moves) (all_seats setup)) else []) (two (live_count setup moves) (omega (arith, some, live_are setup moves folded marked)))
+    ap (λ b. if b then map said (filter (is_live moves) (all_seats setup)) else []) (many_by_test (live_count setup moves) (omega (arith, some, live_are setup moves folded marked)))
     ∙ kept_flat (is_live moves) said (all_seats setup)
     ∙ flat_agree (λ seat. if is_live moves seat then said seat ∷ [] else []) (showings_from folded shown held) 1 setup.stacks.seats
     (λ k from.

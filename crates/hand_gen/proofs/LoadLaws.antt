@@ -1,6 +1,5 @@
 -- One play more is counted.
 use Rattle.std.proofs.Common.{◌≡◌, ℕ, ◌+◌, List, [], ◌∷◌, ◌++◌, length, sum_by, sym, subst, ap, ◌∙◌, arith, length-append}
-use Rattle.std.specs.List.{AllZip}
 use Rattle.std.proofs.lemmas.List.{length-map, map-append}
 use Rattle.std.proofs.lemmas.List.Elements.{All-push}
 use Rattle.std.proofs.lemmas.List.Sums.{sum_by_push}
@@ -13,13 +12,7 @@ use Rattle.hand_gen.specs.Load.{AreCountsOf, IsLoadTo, IsSummaryOf, hands_of}
 use Rattle.hand_gen.specs.Loaded.{IsWithCounts}
 use Rattle.hand_gen.specs.Made.{AreMadeFrom, IsMade, number_behind, number_behind_all}
 use Rattle.hand_gen.proofs.MadeLaws.{number_more, one_hand_more}
-
--- pairs that are pushed
-zip_push : {A B : Type 0} (R : A → B → Type 0) (xs : List A) (ys : List B) (x : A) (y : B) → AllZip R xs ys → R x y → AllZip R (xs ++ x ∷ []) (ys ++ y ∷ [])
-zip_push R [] [] x y all more = (more, tt)
-zip_push R [] (z ∷ ys) x y all more = absurd all
-zip_push R (z ∷ xs) [] x y all more = absurd all
-zip_push R (first ∷ xs) (second ∷ ys) x y all more = (all.0, zip_push R xs ys x y all.1 more)
+use Rattle.list_laws.proofs.Entries.{zip_push}
 
 -- one more summand
 one_sum : (f : Counts → ℕ) (counts : List Counts) (more : Counts) (before after : ℕ) → before ≡ sum_by f counts → after ≡ before + f more → after ≡ sum_by f (counts ++ more ∷ [])

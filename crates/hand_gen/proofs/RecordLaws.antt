@@ -1,6 +1,5 @@
 -- A script that is counted is within the limits; and what states and notes nothing is sound.
-use Rattle.std.proofs.Common.{◌≡◌, ℕ, ◌-◌, ◌≤◌, List, ◌++◌, length, map, find, count_by, slice_index_or, Option, None, IfSome, sym, ap, subst, ◌∙◌, arith}
-use Rattle.std.specs.Option.{ForSome}
+use Rattle.std.proofs.Common.{◌≡◌, ℕ, ◌-◌, ◌≤◌, List, ◌++◌, length, map, find, count_by, slice_index_or, None, ap, ◌∙◌, arith}
 use Rattle.std.proofs.lemmas.List.{length-map}
 use Rattle.canonical_play.specs.PlayedScript.{IsWithinLimits, is_move}
 use Rattle.card_set.specs.declared.card.Card.{Card}
@@ -21,6 +20,7 @@ use Rattle.play_event.specs.Said.{said_of}
 use Rattle.hand_gen.specs.Made.{AreNoNotes, IsNothingStated, backward}
 use Rattle.hand_gen.specs.Sound.{IsSoundHand}
 use Rattle.hand_gen.specs.Stock.{Stock}
+use Rattle.list_laws.proofs.Options.{for_none, if_none}
 
 -- a script with so many events, so many of them moves, is within the limits
 pub within_limits : (script : List Event) (moves events : ℕ) → count_by is_move (backward script) ≡ moves → length script ≡ events → moves ≤ 4096 → events - moves ≤ 256 → IsWithinLimits (map said_of script)
@@ -32,13 +32,6 @@ within_limits script moves events counted long few others =
       moves = omega (arith, same, counted, few);
       others = omega (arith, same, counted, both, length_is, long, others);
     }
-
--- of nothing something holds
-for_none : {A : Type 0} (P : A → Type 0) (found : Option A) → found ≡ None → ForSome found P
-for_none P found is = λ value some. absurd (cc (is, some))
-
-if_none : {A : Type 0} (P : A → Type 0) (found : Option A) → found ≡ None → IfSome found P
-if_none P found is = subst (λ o. IfSome o P) (sym is) tt
 
 -- where nothing is stated, it fits
 pub nothing_fits : (seats : ℕ) (stated : Stated) → IsNothingStated stated → IsStatedFor seats stated

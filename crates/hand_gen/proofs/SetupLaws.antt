@@ -14,6 +14,7 @@ use Rattle.play_event.specs.Streets.{is_stud, limit_of}
 use Rattle.play_event.specs.ValidSetup.{IsSizeWhere, IsValid, is_fixed}
 use Rattle.hand_gen.specs.Draws.{number_after}
 use Rattle.hand_gen.specs.Setups.{IsMadeSetup, blind_in, blind_of, seats_drawn, stack_drawn}
+use Rattle.list_laws.proofs.Tests.{if_most}
 
 -- each game has four seats or more
 four_seats : (code : Code) → 4 ≤ (game_of code).seats
@@ -37,10 +38,6 @@ size_where false chips some few = refl
 size_else : (used : Bool) (chips : ℕ) → 1 ≤ chips → chips ≤ 4 → IsSizeWhere (not used) (if used then 0 else chips)
 size_else true chips some few = refl
 size_else false chips some few = (some, omega (arith, few))
-
-few_where : (used : Bool) (chips : ℕ) → (if used then chips else 0) ≤ chips
-few_where true chips = omega arith
-few_where false chips = omega arith
 
 -- few seats and chips are drawn
 few_drawn : (number : ℕ) → seats_drawn number ≤ 4
@@ -121,13 +118,13 @@ made_valid place number setup made =
     each_ante zero = each_ante_at 1 (omega arith) (omega (arith, setup.stacks.least))
       where
         each_ante_at : (seat : ℕ) → 1 ≤ seat → seat ≤ setup.stacks.seats → amount_of setup.antes seat ≤ amount_of setup.stacks seat
-        each_ante_at seat first last = omega (arith, made.antes seat first last, few_where (is_stud setup.code) 1, made.stacks seat first last, some_stack number seat)
+        each_ante_at seat first last = omega (arith, made.antes seat first last, if_most (is_stud setup.code) 1, made.stacks seat first last, some_stack number seat)
     each_ante (suc n) =
         elim (cases_lt n setup.stacks.seats) [
           | inl inside ↦
               let first : 1 ≤ suc n = omega arith in
               let last : suc n ≤ setup.stacks.seats = omega (arith, inside) in
-              omega (arith, made.antes (suc n) first last, few_where (is_stud setup.code) 1, made.stacks (suc n) first last, some_stack number (suc n))
+              omega (arith, made.antes (suc n) first last, if_most (is_stud setup.code) 1, made.stacks (suc n) first last, some_stack number (suc n))
           | inr past ↦ let none = setup.antes.filler n (omega (arith, past, made.same_antes)) in omega (arith, none)
         ]
 
@@ -142,8 +139,3 @@ made_valid place number setup made =
 -- the number behind one draw and then more
 pub behind_one : (count number : ℕ) → number_after (1 + count) number ≡ number_after count (number_after 1 number)
 behind_one count number = let same : 1 + count ≡ suc count = omega arith in ap (λ n. number_after n number) same
-
--- the least bet is used where the limit is not fixed
-pub in_other_is : (fixed : Bool) (chips : ℕ) → (if not fixed then chips else 0) ≡ (if fixed then 0 else chips)
-in_other_is true chips = refl
-in_other_is false chips = refl

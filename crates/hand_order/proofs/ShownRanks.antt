@@ -4,7 +4,6 @@ use Rattle.std.specs.Int.{bit_at, bit_not}
 use Rattle.std.proofs.lemmas.Bool.{cases_lt, eqb-false, ne_eqb}
 use Rattle.std.proofs.lemmas.Nat.{and_le_l}
 use Rattle.std.proofs.lemmas.Nat.Bits.{bit_at-zero}
-use Rattle.std.proofs.lemmas.List.Sums.{sum_by-cons}
 use Rattle.card_set.specs.declared.card.Rank.{Rank}
 use Rattle.card_set.specs.Ranks.{falling_heights}
 use Rattle.card_set.proofs.Counted.{IsHeight}
@@ -14,7 +13,7 @@ use Rattle.hand_order.proofs.OwnRanks.{several}
 use Rattle.hand_order.specs.Picks.{without, IsPicked, IsOfRank, OfRanks}
 use Rattle.list_laws.proofs.Bits.{cleared, top_highest, top_set}
 use Rattle.list_laws.proofs.Numbers.{one_less}
-use Rattle.list_laws.proofs.Sums.{sum_by-same}
+use Rattle.list_laws.proofs.Sums.{sum_by-same, none_occur}
 
 -- the highest bit that is shown
 pub top_shown : (mask n : ℕ) (T : ℕ → ℕ) → Shows mask n T → 0 < mask → (n ≤ T (highest mask + 2)) × ((h : ℕ) → n ≤ T h → h ≤ highest mask + 2)
@@ -52,10 +51,6 @@ lowered_shows mask n T positive some within shows = record {
 -- the number of different heights
 abbrev pub different_heights : (ℕ → ℕ) → ℕ
 different_heights T = sum_by (λ h. min 1 (T h)) falling_heights
-
-none_occur : (T : ℕ → ℕ) (hs : List ℕ) → ((h : ℕ) → T h ≡ 0) → sum_by (λ h. min 1 (T h)) hs ≡ 0
-none_occur T [] none = refl
-none_occur T (h ∷ hs) none = omega (arith, sum_by-cons (λ h. min 1 (T h)) h hs, none h, none_occur T hs none)
 
 -- one height fewer
 pub different_without : (height : Rank → ℕ) → IsHeight height → (T : ℕ → ℕ) (h : ℕ) → IsOfRank height h → different_heights T ≡ min 1 (T h) + different_heights (without T h)

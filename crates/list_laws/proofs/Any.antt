@@ -1,9 +1,10 @@
 -- Lemmas on a test that passes at some element of a list, or at none.
-use Rattle.std.proofs.Common.{Bool, List, [], ap, arith, cond, false, filter, get_or, if◌then◌else◌, length, map, refl, subst, true, ℕ, ⊎_elim, ◌&&◌, ◌==◌, ◌||◌, ◌∙◌, ◌∷◌, ◌≡◌, ◌≢◌, ◌≤◌}
-use Rattle.std.proofs.lemmas.Bool.{and_parts, eq-eqb, eqb-true, or_cases, or_from, or_left, or_parts, or_right}
+use Rattle.std.proofs.Common.{Bool, List, [], ap, arith, cond, false, filter, get_or, if◌then◌else◌, length, map, refl, subst, true, ℕ, ⊎_elim, ◌&&◌, ◌==◌, ◌||◌, ◌∙◌, ◌∷◌, ◌≡◌, ◌≢◌, ◌≤◌, inl, inr, ltb-false, nat_lt, not, slice_index, suc, sym, take, zero, ◌<◌, true≢false}
+use Rattle.std.proofs.lemmas.Bool.{and_parts, eq-eqb, eqb-true, or_cases, or_from, or_left, or_parts, or_right, cases_lt, false_from_ne_true, lt-ltb}
 use Rattle.std.proofs.lemmas.List.{get_or_default}
 use Rattle.std.proofs.lemmas.List.Folds.{Any-from_list_any, list_any_at}
 use Rattle.std.specs.List.{Contains, list_any}
+use Rattle.list_laws.proofs.Tests.{neither}
 
 -- over a list that was mapped or filtered
 pub list_any-map : {X Y : Type 0} (p : Y → Bool) (f : X → Y) (xs : List X)
@@ -112,3 +113,47 @@ any_from_length p (first ∷ rest) some = by_first (p first) some (any_from_leng
     by_first : (b : Bool) → 1 ≤ length (if b then (first ∷ filter p rest) else filter p rest) → (1 ≤ length (filter p rest) → list_any p rest ≡ true) → (b || list_any p rest) ≡ true
     by_first true it later = refl
     by_first false it later = later it
+
+-- numbers of which none is above 0
+pub zero_from_none : (amounts : List ℕ) (k : ℕ) → list_any (nat_lt 0) amounts ≡ false → slice_index amounts k ≡ 0
+zero_from_none [] k none = refl
+zero_from_none (amount ∷ amounts) zero none = omega (arith, ltb-false 0 amount (neither (nat_lt 0 amount) (list_any (nat_lt 0) amounts) none).0)
+zero_from_none (amount ∷ amounts) (suc k) none = zero_from_none amounts k (neither (nat_lt 0 amount) (list_any (nat_lt 0) amounts) none).1
+
+-- numbers that are all 0
+pub none_from_zeros : (numbers : List ℕ) → ((index : ℕ) → slice_index numbers index ≡ 0) → list_any (nat_lt 0) numbers ≡ false
+none_from_zeros [] zeros = refl
+none_from_zeros (number ∷ numbers) zeros = ap (λ n. nat_lt 0 n || list_any (nat_lt 0) numbers) (zeros zero) ∙ none_from_zeros numbers (λ index. zeros (suc index))
+
+pub none_taken_from_zeros : (count : ℕ) (numbers : List ℕ) → ((index : ℕ) → slice_index numbers index ≡ 0) → list_any (nat_lt 0) (take count numbers) ≡ false
+none_taken_from_zeros zero numbers zeros = refl
+none_taken_from_zeros (suc count) [] zeros = refl
+none_taken_from_zeros (suc count) (number ∷ numbers) zeros = ap (λ n. nat_lt 0 n || list_any (nat_lt 0) (take count numbers)) (zeros zero) ∙ none_taken_from_zeros count numbers (λ index. zeros (suc index))
+
+pub zero_from_none_taken : (n : ℕ) (all : List ℕ) → list_any (nat_lt 0) (take n all) ≡ false → (k : ℕ) → k < n → get_or all k 0 ≡ 0
+zero_from_none_taken zero all none k within = absurd (omega (arith, within))
+zero_from_none_taken (suc n) [] none k within = refl
+zero_from_none_taken (suc n) (x ∷ all) none zero within =
+    elim (cases_lt 0 x) [
+      | inl some ↦ absurd (true≢false (sym (rw (lt-ltb 0 x some) refl) ∙ none))
+      | inr least ↦ omega (arith, least)
+    ]
+zero_from_none_taken (suc n) (x ∷ all) none (suc k) within = zero_from_none_taken n all (or_parts (nat_lt 0 x) (list_any (nat_lt 0) (take n all)) none) k (omega (arith, within))
+  where
+    or_parts : (a b : Bool) → (a || b) ≡ false → b ≡ false
+    or_parts true b holds = absurd (true≢false holds)
+    or_parts false b holds = holds
+
+pub not_among : (x : ℕ) (rest : List ℕ) → not (list_any (λ other. other == x) rest) ≡ true → (k : ℕ) → k < length rest → x ≢ get_or rest k 0
+not_among x [] none k within = absurd (omega (arith, within))
+not_among x (y ∷ rest) none zero within = λ same. absurd (true≢false (sym none ∙ rw (eq-eqb y x (sym same)) refl))
+not_among x (y ∷ rest) none (suc k) within = not_among x rest (later (y == x) none) k (omega (arith, within))
+  where
+    later : (b : Bool) → not (b || list_any (λ other. other == x) rest) ≡ true → not (list_any (λ other. other == x) rest) ≡ true
+    later false is = is
+    later true is = absurd (true≢false (sym is))
+
+-- a seat that fails a test is not among those that pass it
+pub not_among_kept : (f : ℕ → Bool) (seat : ℕ) (seats : List ℕ) → f seat ≡ false → list_any (λ n. f n && (n == seat)) seats ≡ false
+not_among_kept f seat seats off =
+    false_from_ne_true (list_any (λ n. f n && (n == seat)) seats) (λ is. true≢false (sym (any_found f seat seats is) ∙ off))

@@ -1,10 +1,10 @@
 -- Lemmas on the bits of numbers: how many are set, bits that several numbers have, the highest bit, and a bit that is cleared.
 use lib.Bits.{bit_or}
 use lib.Count.{count_leading_zeros, ones}
-use Rattle.std.proofs.Common.{◌≡◌, ◌↔◌, ℕ, zero, suc, ◌+◌, ◌-◌, ◌*◌, ◌/◌, ◌%◌, ◌^◌, ◌<◌, ◌≤◌, ◌==◌, Bool, true, false, cond, inl, inr, refl, sym, ◌∙◌, ap, arith, eqb-true, bit_and, count_ones, w16}
+use Rattle.std.proofs.Common.{◌≡◌, ◌↔◌, ℕ, zero, suc, ◌+◌, ◌-◌, ◌*◌, ◌/◌, ◌%◌, ◌^◌, ◌<◌, ◌≤◌, ◌==◌, Bool, true, false, cond, inl, inr, refl, sym, ◌∙◌, ap, arith, eqb-true, bit_and, count_ones, w16, bit_or}
 use Rattle.std.specs.Int.{bit_at, bit_not}
 use Rattle.std.proofs.lemmas.Bool.{cases_lt, eqb-false}
-use Rattle.std.proofs.lemmas.Nat.{leading_top, ones_cat, ones-le, shr-shr}
+use Rattle.std.proofs.lemmas.Nat.{leading_top, ones_cat, ones-le, shr-shr, or_lt}
 use Rattle.std.proofs.lemmas.Nat.Bits.{bit_at_above, bit_at_and, bit_at_cat_high, bit_at_clear_other, bit_at_clear_same, bit_at-lt, bit_at_lowest, bit_at_or, bit_at-suc, bit_at-zero}
 
 -- the sum of the first values of a function
@@ -111,3 +111,13 @@ moved mask j k = ap (λ (n : ℕ). n % 2) (shr-shr mask j k) ∙ ap (bit_at mask
 -- a mask without bits has no bit set
 pub no_bit : {P : Type 0} (mask k : ℕ) → mask ≡ 0 → bit_at mask k ≡ 1 → P
 no_bit mask k none set = let off = ap (λ (m : ℕ). bit_at m k) none ∙ bit_at-zero k in absurd (omega arith)
+
+-- masks of thirteen bits joined
+pub or_four : (c d h s : ℕ) → c < 2 ^ 13 → d < 2 ^ 13 → h < 2 ^ 13 → s < 2 ^ 13 → bit_or (bit_or (bit_or c d) h) s < 2 ^ 16
+or_four c d h s small_c small_d small_h small_s =
+    omega (arith, or_lt 13 (bit_or (bit_or c d) h) s (or_lt 13 (bit_or c d) h (or_lt 13 c d small_c small_d) small_h) small_s)
+
+-- only small places are set
+pub place_within : (mask place : ℕ) → mask < 2 ^ 16 → bit_at mask place ≡ 1 → place < 16
+place_within mask place small set =
+    elim (cases_lt place 16) [ inl within ↦ within | inr past ↦ absurd (omega (arith, bit_at_above mask 16 place small past)) ]

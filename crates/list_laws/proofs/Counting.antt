@@ -1,5 +1,5 @@
 -- Lemmas on how many elements of a list pass a test.
-use Rattle.std.proofs.Common.{Bool, List, [], ap, arith, cond, count_by, eqb-true, false, inl, inr, length, map, not, refl, suc, sum_by, sym, true, zero, ℕ, ◌*◌, ◌++◌, ◌+◌, ◌<◌, ◌==◌, ◌||◌, ◌∙◌, ◌∷◌, ◌≡◌, ◌≤◌, ◌⊎◌}
+use Rattle.std.proofs.Common.{Bool, List, [], ap, arith, cond, count_by, eqb-true, false, inl, inr, length, map, not, refl, suc, sum_by, sym, true, zero, ℕ, ◌*◌, ◌++◌, ◌+◌, ◌<◌, ◌==◌, ◌||◌, ◌∙◌, ◌∷◌, ◌≡◌, ◌≤◌, ◌⊎◌, filter, if◌then◌else◌}
 use Rattle.std.proofs.lemmas.Bool.{true≢false, eqb-true, eq-eqb, ne_eqb, cases_lt}
 use Rattle.std.specs.List.{range_with_len, list_any}
 use Rattle.std.proofs.lemmas.List.Sums.{sum_by-cons}
@@ -161,3 +161,18 @@ count_both p (x ∷ rest) = omega (arith, count_by-cons p x rest, count_by-cons 
     here : (b : Bool) → cond b 1 0 + cond (not b) 1 0 ≡ 1
     here true = refl
     here false = refl
+
+pub count_by-joined : {X : Type 0} (p : X → Bool) (xs ys : List X) → count_by p (xs ++ ys) ≡ count_by p xs + count_by p ys
+count_by-joined p [] ys = omega arith
+count_by-joined p (x ∷ xs) ys = omega (arith, count_by-cons p x (xs ++ ys), count_by-cons p x xs, count_by-joined p xs ys)
+
+-- a seat that was live before, and is not now
+pub some_gone : (p q : ℕ → Bool) (start count : ℕ) → length (filter q (range_with_len start count)) < length (filter p (range_with_len start count)) → (seat : ℕ) × ((p seat ≡ true) × (q seat ≡ false))
+some_gone p q start zero less = absurd (omega (arith, less))
+some_gone p q start (suc count) less = by_both (p start) (q start) refl refl less (some_gone p q (start + 1) count)
+  where
+    by_both : (a b : Bool) → p start ≡ a → q start ≡ b → length (if b then (start ∷ filter q (range_with_len (start + 1) count)) else filter q (range_with_len (start + 1) count)) < length (if a then (start ∷ filter p (range_with_len (start + 1) count)) else filter p (range_with_len (start + 1) count)) → (length (filter q (range_with_len (start + 1) count)) < length (filter p (range_with_len (start + 1) count)) → (seat : ℕ) × ((p seat ≡ true) × (q seat ≡ false))) → (seat : ℕ) × ((p seat ≡ true) × (q seat ≡ false))
+    by_both true false is_p is_q it later = (start, (is_p, is_q))
+    by_both true true is_p is_q it later = later (omega (arith, it))
+    by_both false true is_p is_q it later = later (omega (arith, it))
+    by_both false false is_p is_q it later = later it

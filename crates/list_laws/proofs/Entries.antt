@@ -1,7 +1,10 @@
 -- Lemmas on the entries of a list: the one at an index, each of them, and the list where one is set.
-use Rattle.std.proofs.Common.{List, None, Some, [], ap, arith, drop, get_or, length, refl, replicate, set, slice_get, suc, take, zero, ℕ, ◌++◌, ◌+◌, ◌-◌, ◌<◌, ◌∙◌, ◌∷◌, ◌≡◌, ◌≤◌}
-use Rattle.std.specs.List.{AllByRecursion}
+use Rattle.std.proofs.Common.{List, None, Some, [], ap, arith, drop, get_or, length, refl, replicate, set, slice_get, suc, take, zero, ℕ, ◌++◌, ◌+◌, ◌-◌, ◌<◌, ◌∙◌, ◌∷◌, ◌≡◌, ◌≤◌, Bool, eqb, false, map, slice_index, slice_index_or, subst, sym, true, ◌≢◌, ⊎_elim, true≢false}
+use Rattle.std.specs.List.{AllByRecursion, AllZip, list_all}
 use Rattle.std.specs.Prelude.{All}
+use Rattle.std.proofs.lemmas.Bool.{and_parts, cases_lt, eqb-true}
+use Rattle.std.proofs.lemmas.Grind.{common_steps}
+use Rattle.std.proofs.lemmas.List.{map_push, take_all, take_more, take_more_set}
 
 -- what holds of each entry holds when one of them is set to an entry of which it holds
 pub set_each : {A : Type 0} (d : A) (P : ℕ → A → Type 0) (xs : List A) (i : ℕ) (x : A) → i < length xs → ((k : ℕ) → (k ≡ i → ⊥) → P k (get_or xs k d)) → P i x → (k : ℕ) → P k (get_or (set xs i x) k d)
@@ -90,3 +93,148 @@ drop_first (y ∷ ys) rest (suc index) x is =
 pub only : {X : Type 0} (P : X → Type 0) (x : X) → P x → All P (x ∷ [])
 only P x is zero d inside = is
 only P x is (suc k) d inside = absurd (omega (arith, inside))
+
+-- pairs that are pushed
+pub zip_push : {A B : Type 0} (R : A → B → Type 0) (xs : List A) (ys : List B) (x : A) (y : B) → AllZip R xs ys → R x y → AllZip R (xs ++ x ∷ []) (ys ++ y ∷ [])
+zip_push R [] [] x y all more = (more, tt)
+zip_push R [] (z ∷ ys) x y all more = absurd all
+zip_push R (z ∷ xs) [] x y all more = absurd all
+zip_push R (first ∷ xs) (second ∷ ys) x y all more = (all.0, zip_push R xs ys x y all.1 more)
+
+-- an index is that of a seat, and the entry there is the seat's, or it is past the last seat
+pub same_entries : {X : Type 0} (d : X) (xs ys : List X) (seats : ℕ)
+    → ((n : ℕ) → 1 ≤ n → n ≤ seats → get_or xs (n - 1) d ≡ get_or ys (n - 1) d)
+    → ((k : ℕ) → seats ≤ k → get_or xs k d ≡ d)
+    → ((k : ℕ) → seats ≤ k → get_or ys k d ≡ d)
+    → (k : ℕ)
+    → get_or xs k d ≡ get_or ys k d
+same_entries {X} d xs ys seats h f g k =
+    ⊎_elim
+    (λ (l : k < seats).
+    let P : ℕ → Type 0 = λ i. get_or xs i d ≡ get_or ys i d in
+    subst P (omega arith) (h (k + 1) (omega arith) (omega arith)))
+    (λ (l : seats ≤ k). f k l ∙ sym (g k l))
+    (cases_lt k seats)
+
+pub only_false : (n k : ℕ) → slice_index_or (replicate n false) k false ≡ false
+only_false zero k = refl
+only_false (suc n) zero = refl
+only_false (suc n) (suc k) = only_false n k
+
+-- the first of the zeros behind a list is set
+pub set_behind : (front : List ℕ) (n x z : ℕ) → set (front ++ replicate (suc n) z) (length front) x ≡ front ++ x ∷ replicate n z
+set_behind [] n x z = refl
+set_behind (y ∷ front) n x z = ap (λ rest. y ∷ rest) (set_behind front n x z)
+
+pub set_at : (front : List ℕ) (i n x z : ℕ) → length front ≡ i → set (front ++ replicate (suc n) z) i x ≡ front ++ x ∷ replicate n z
+set_at front i n x z is = rw (sym is) (set_behind front n x z)
+
+-- what holds of each number holds at each index, where it holds of 0
+pub each_at : (most : ℕ) (xs : List ℕ) → AllByRecursion (λ x. x ≤ most) xs → (k : ℕ) → get_or xs k 0 ≤ most
+each_at most [] all k = omega arith
+each_at most (x ∷ xs) all zero = all.0
+each_at most (x ∷ xs) all (suc k) = each_at most xs all.1 k
+
+pub any_default : (xs : List ℕ) (k d e : ℕ) → k < length xs → get_or xs k d ≡ get_or xs k e
+any_default [] k d e within = absurd (omega (arith, within))
+any_default (x ∷ rest) zero d e within = refl
+any_default (x ∷ rest) (suc k) d e within = any_default rest k d e (omega (arith, within))
+
+pub past_default : (xs : List ℕ) (k d : ℕ) → length xs ≤ k → get_or xs k d ≡ d
+past_default [] k d past = refl
+past_default (x ∷ rest) zero d past = absurd (omega (arith, past))
+past_default (x ∷ rest) (suc k) d past = past_default rest k d (omega (arith, past))
+
+pub zero_taken_at : (n : ℕ) (xs : List ℕ) (k : ℕ) → k < n → get_or (take n xs) k 0 ≡ get_or xs k 0
+zero_taken_at zero xs k within = absurd (omega (arith, within))
+zero_taken_at (suc n) [] k within = refl
+zero_taken_at (suc n) (x ∷ xs) zero within = refl
+zero_taken_at (suc n) (x ∷ xs) (suc k) within = zero_taken_at n xs k (omega (arith, within))
+
+pub taken_at : {X : Type 0} (n : ℕ) (xs : List X) (k : ℕ) (d : X) → k < n → get_or (take n xs) k d ≡ get_or xs k d
+taken_at zero xs k d within = absurd (omega (arith, within))
+taken_at (suc n) [] k d within = refl
+taken_at (suc n) (x ∷ xs) zero d within = refl
+taken_at (suc n) (x ∷ xs) (suc k) d within = taken_at n xs k d (omega (arith, within))
+
+pub there : {X : Type 0} (xs : List X) (k : ℕ) (d : X) → k < length xs → slice_get xs k ≡ Some (get_or xs k d)
+there [] k d within = absurd (omega (arith, within))
+there (x ∷ xs) zero d within = refl
+there (x ∷ xs) (suc k) d within = there xs k d (omega (arith, within))
+
+-- the item at an index within
+pub at_index : {X : Type 0} (xs : List X) (i : ℕ) (x : X) → i < length xs → x ≡ get_or xs i x → slice_get xs i ≡ Some x
+at_index [] i x within is = absurd (omega (arith, within))
+at_index (y ∷ xs) zero x within is = ap Some (sym is)
+at_index (y ∷ xs) (suc i) x within is = at_index xs i x (omega (arith, within)) is
+
+-- another item
+pub at_other : {X : Type 0} (xs : List X) (i j : ℕ) (y : X) → j ≢ i → slice_get (set xs i y) j ≡ slice_get xs j
+at_other [] i j y apart = refl
+at_other (z ∷ xs) zero zero y apart = absurd (apart refl)
+at_other (z ∷ xs) zero (suc j) y apart = refl
+at_other (z ∷ xs) (suc i) zero y apart = refl
+at_other (z ∷ xs) (suc i) (suc j) y apart = at_other xs i j y (λ same. apart (ap suc same))
+
+-- the item that was set
+pub at_set : {X : Type 0} (xs : List X) (i : ℕ) (x y : X) → slice_get (set xs i y) i ≡ Some x → x ≡ y
+at_set [] i x y is = absurd (cc)
+at_set (z ∷ xs) zero x y is = cc
+at_set (z ∷ xs) (suc i) x y is = at_set xs i x y is
+
+-- all numbers
+pub all_taken : {P Q : Type 0} (see : P → Q) (f : Q → ℕ) (xs : List ℕ) (ps : List P) (i : ℕ)
+    → i ≡ length ps → take i xs ≡ map f (map see (take i ps)) → take (length ps) xs ≡ map f (map see ps)
+all_taken see f xs ps i whole so_far =
+    ap (λ n. take n xs) (sym whole) ∙ so_far ∙ ap (λ n. map f (map see (take n ps))) whole ∙ ap (λ rest. map f (map see rest)) (take_all (length ps) ps (omega arith))
+
+-- one more number
+pub one_more_taken : {P Q : Type 0} (see : P → Q) (f : Q → ℕ) (xs : List ℕ) (ps : List P) (i : ℕ) (p : P)
+    → i < length xs → i < length ps → get_or ps i p ≡ p → take i xs ≡ map f (map see (take i ps))
+    → take (i + 1) (set xs i (f (see p))) ≡ map f (map see (take (i + 1) ps))
+one_more_taken see f xs ps i p within inside at so_far =
+    let whole : map f (map see (take (i + 1) ps)) ≡ map f (map see (take i ps)) ++ f (see p) ∷ [] =
+    rw (take_more ps i p inside, at, map_push see (take i ps) p) (map_push f (map see (take i ps)) (see p)) in
+    take_more_set xs i (f (see p)) within ∙ ap (λ front. front ++ f (see p) ∷ []) so_far ∙ sym whole
+
+-- the numbers of a row, where it has nothing but zeros behind its seats
+pub at_taken : (amounts : List ℕ) (seats k : ℕ) → ((j : ℕ) → seats ≤ j → slice_index amounts j ≡ 0) → slice_index (take seats amounts) k ≡ slice_index amounts k
+at_taken amounts seats k zeros = grind (arith, common_steps, zeros k)
+
+pub taken_within : (n : ℕ) (all : List ℕ) (P : ℕ → Type 0) → n ≤ length all → ((k : ℕ) → k < n → P (get_or all k 0)) → (k : ℕ) → k < length (take n all) → P (get_or (take n all) k 0)
+taken_within zero all P few each k within = absurd (omega (arith, within))
+taken_within (suc n) [] P few each k within = absurd (omega (arith, few))
+taken_within (suc n) (x ∷ all) P few each zero within = each 0 (omega arith)
+taken_within (suc n) (x ∷ all) P few each (suc k) within = taken_within n all P (omega (arith, few)) (λ j h. each (suc j) (omega (arith, h))) k (omega (arith, within))
+
+pub less_taken : (n : ℕ) (xs ys : List ℕ) → n ≤ length xs → n ≤ length ys → ((k : ℕ) → get_or xs k 0 ≤ get_or ys k 0) → (k : ℕ) → get_or (take n xs) k 0 ≤ get_or (take n ys) k 0
+less_taken zero xs ys few many less k = omega arith
+less_taken (suc n) [] ys few many less k = absurd (omega (arith, few))
+less_taken (suc n) (x ∷ xs) [] few many less k = absurd (omega (arith, many))
+less_taken (suc n) (x ∷ xs) (y ∷ ys) few many less zero = less zero
+less_taken (suc n) (x ∷ xs) (y ∷ ys) few many less (suc k) = less_taken n xs ys (omega (arith, few)) (omega (arith, many)) (λ j. less (suc j)) k
+
+pub taken_zeros : (n : ℕ) (all : List ℕ) → n ≤ length all → ((k : ℕ) → get_or all k 0 ≡ 0) → take n all ≡ replicate n 0
+taken_zeros zero all few none = refl
+taken_zeros (suc n) [] few none = absurd (omega (arith, few))
+taken_zeros (suc n) (x ∷ rest) few none = ap (λ y. y ∷ take n rest) (none 0) ∙ ap (λ (zeros : List ℕ). 0 ∷ zeros) (taken_zeros n rest (omega (arith, few)) (λ k. none (suc k)))
+
+pub at_length : {A : Type 0} (front : List A) (x : A) (rest : List A) → slice_get (front ++ x ∷ rest) (length front) ≡ Some x
+at_length [] x rest = refl
+at_length (y ∷ front) x rest = at_length front x rest
+
+pub differs : (p : ℕ → Bool) (b sign : ℕ) (same : Bool) → eqb b sign ≡ same → p sign ≡ false → p b ≡ true → same ≡ false
+differs p b sign true is fails holds = absurd (true≢false (sym holds ∙ ap p (eqb-true b sign is) ∙ fails))
+differs p b sign false is fails holds = refl
+
+pub never_at : (p : ℕ → Bool) (sign : ℕ) (text : List ℕ) → p sign ≡ false → list_all p text ≡ true → (k d : ℕ) → k < length text → eqb (get_or text k d) sign ≡ false
+never_at p sign [] fails all k d within = absurd (omega (arith, within))
+never_at p sign (b ∷ rest) fails all zero d within = differs p b sign (eqb b sign) refl fails (and_parts (p b) (list_all p rest) all).0
+never_at p sign (b ∷ rest) fails all (suc k) d within = never_at p sign rest fails (and_parts (p b) (list_all p rest) all).1 k d (omega (arith, within))
+
+-- an amount of the first so many
+pub index_taken_at : (amounts : List ℕ) (count k : ℕ) → k < count → slice_index (take count amounts) k ≡ slice_index amounts k
+index_taken_at amounts zero k within = absurd (omega (arith, within))
+index_taken_at [] (suc count) k within = refl
+index_taken_at (amount ∷ amounts) (suc count) zero within = refl
+index_taken_at (amount ∷ amounts) (suc count) (suc k) within = index_taken_at amounts count k (omega (arith, within))

@@ -1,5 +1,5 @@
 -- Lemmas on the first element of a list that passes a test.
-use Rattle.std.proofs.Common.{Bool, List, Some, [], ap, arith, cond, false, filter, find, if◌then◌else◌, is_some, refl, suc, sym, true, zero, ℕ, ◌&&◌, ◌++◌, ◌+◌, ◌-◌, ◌<◌, ◌||◌, ◌∙◌, ◌∷◌, ◌≡◌, ◌≤◌}
+use Rattle.std.proofs.Common.{Bool, List, Some, [], ap, arith, cond, false, filter, find, if◌then◌else◌, is_some, refl, suc, sym, true, zero, ℕ, ◌&&◌, ◌++◌, ◌+◌, ◌-◌, ◌<◌, ◌||◌, ◌∙◌, ◌∷◌, ◌≡◌, ◌≤◌, None}
 use Rattle.std.proofs.lemmas.Bool.{false_from_ne_true, true≢false}
 use Rattle.std.specs.List.{list_any, range_with_len}
 use Rattle.std.proofs.lemmas.List.Folds.{list_any-append}
@@ -84,3 +84,12 @@ found_less p q first rest false false less later is = later is
 pub none_found_still : (p q : ℕ → Bool) (numbers : List ℕ) → ((number : ℕ) → q number ≡ true → p number ≡ true) → is_some (find p numbers) ≡ false → is_some (find q numbers) ≡ false
 none_found_still p q [] less is = refl
 none_found_still p q (number ∷ rest) less is = found_less p q number rest (p number) (q number) (less number) (none_found_still p q rest less) is
+
+-- a seat that is found among seats going round, and one that has to be found
+pub found_among : (p : ℕ → Bool) (xs : List ℕ) → list_any p xs ≡ true → find p xs ≡ None → ⊥
+found_among p [] any none = false_true any
+found_among p (x ∷ xs) any none = by_first (p x) any none (found_among p xs)
+  where
+    by_first : (b : Bool) → (b || list_any p xs) ≡ true → (cond b (Some x) (find p xs)) ≡ None → (list_any p xs ≡ true → find p xs ≡ None → ⊥) → ⊥
+    by_first true any none later = absurd (some_is_none none)
+    by_first false any none later = later any none

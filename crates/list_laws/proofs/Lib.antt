@@ -17,3 +17,8 @@ pub mod Bits
 pub mod NumbersOfRange
 pub mod Reversed
 pub mod Words
+pub mod Each
+pub mod Integers
+pub mod Digits
+pub mod Bytes
+pub mod Orderings

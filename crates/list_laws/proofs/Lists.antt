@@ -1,6 +1,6 @@
 -- Lemmas on lists without elements, first elements and fronts.
-use Rattle.std.proofs.Common.{Bool, List, None, Some, [], ap, arith, cond, drop, false, filter, if◌then◌else◌, length, length-append, map, refl, slice_get, sym, take, true, ℕ, ◌++◌, ◌+◌, ◌-◌, ◌∙◌, ◌∷◌, ◌≡◌, ◌≢◌, ◌≤◌}
-use Rattle.std.proofs.lemmas.List.{append-nil, append_assoc, drop-drop, take-append-drop, take_at, take_rest}
+use Rattle.std.proofs.Common.{Bool, List, None, Some, [], ap, arith, cond, drop, false, filter, if◌then◌else◌, length, length-append, map, refl, slice_get, sym, take, true, ℕ, ◌++◌, ◌+◌, ◌-◌, ◌∙◌, ◌∷◌, ◌≡◌, ◌≢◌, ◌≤◌, append_assoc, get_or, ◌*◌, ◌<◌}
+use Rattle.std.proofs.lemmas.List.{append-nil, append_assoc, drop-drop, take-append-drop, take_at, take_rest, length-drop, take_more}
 use Rattle.std.proofs.lemmas.List.Sums.{count_by-le-length, length-filter}
 
 -- what is mapped to nothing is nothing
@@ -71,3 +71,54 @@ lists_same f apart (x ∷ xs) (y ∷ ys) same =
     let head : x ≡ y = apart x y (cc) in
     let tail : xs ≡ ys = lists_same f apart xs ys (cc) in
     ap (λ z. z ∷ xs) head ∙ ap (λ zs. y ∷ zs) tail
+
+-- no cards are there where their count is none
+pub none_from_length : {A : Type 0} (cards : List A) → length cards ≤ 0 → cards ≡ []
+none_from_length [] none = refl
+none_from_length (card ∷ cards) none = absurd (omega (arith, none))
+
+-- one pair more of the letters
+pub pair_more : (bytes : List ℕ) (index : ℕ) → 2 * index + 1 < length bytes → take (2 * (index + 1)) bytes ≡ take (2 * index) bytes ++ get_or bytes (2 * index) 0 ∷ get_or bytes (2 * index + 1) 0 ∷ []
+pair_more bytes index within =
+    let two : 2 * (index + 1) ≡ 2 * index + 1 + 1 = omega arith in
+    ap (λ (n : ℕ). take n bytes) two
+    ∙ take_more bytes (2 * index + 1) 0 within
+    ∙ ap (λ (l : List ℕ). l ++ get_or bytes (2 * index + 1) 0 ∷ []) (take_more bytes (2 * index) 0 (omega arith))
+    ∙ append_assoc (take (2 * index) bytes) (get_or bytes (2 * index) 0 ∷ []) (get_or bytes (2 * index + 1) 0 ∷ [])
+
+pub take_front : (digits rest : List ℕ) → take (length digits) (digits ++ rest) ≡ digits
+take_front [] rest = refl
+take_front (digit ∷ digits) rest = ap (λ (l : List ℕ). digit ∷ l) (take_front digits rest)
+
+pub either_few : {X : Type 0} (test : Bool) (xs ys : List X) → length xs ≤ 1 → length ys ≤ 1 → length (cond test xs ys) ≤ 1
+either_few true xs ys few all = few
+either_few false xs ys few all = all
+
+pub one_at_most : {X : Type 0} (test : Bool) (x : X) → length (cond test (x ∷ []) []) ≤ 1
+one_at_most true x = omega arith
+one_at_most false x = omega arith
+
+pub where_few : {X : Type 0} (test : Bool) (xs : List X) → length xs ≤ 1 → length (cond test xs []) ≤ 1
+where_few true xs few = few
+where_few false xs few = omega arith
+
+pub not_past : {A : Type 0} (xs : List A) (index : ℕ) (here : List A) → index < length xs → here ≡ drop index xs → here ≡ [] → ⊥
+not_past xs index here within is none = omega (arith, ap length (sym is ∙ none), length-drop index xs)
+
+pub longer_either : (b : Bool) (name : List ℕ) (names other : List (List ℕ)) → name ∷ cond b names other ≡ cond b (name ∷ names) (name ∷ other)
+longer_either true name names other = refl
+longer_either false name names other = refl
+
+pub mapped_either : {X Y : Type 0} (f : X → Y) (b : Bool) (xs ys : List X) → map f (cond b xs ys) ≡ cond b (map f xs) (map f ys)
+mapped_either f true xs ys = refl
+mapped_either f false xs ys = refl
+
+pub filter_none : {X : Type 0} (test : X → Bool) (xs : List X) → ((x : X) → test x ≡ false) → filter test xs ≡ []
+filter_none test [] none = refl
+filter_none test (x ∷ xs) none = rw (none x) (filter_none test xs none)
+
+pub same_first : (a b : ℕ) (xs ys : List ℕ) → a ∷ xs ≡ b ∷ ys → a ≡ b
+same_first a b xs ys is = cc
+
+pub same_rest : (a b : ℕ) (xs ys : List ℕ) → a ∷ xs ≡ b ∷ ys → xs ≡ ys
+same_rest a b xs ys is = cc

@@ -1,6 +1,6 @@
 -- Lemmas on numbers and their comparisons.
-use Rattle.std.proofs.Common.{Bool, List, [], arith, false, inl, inr, max, nat_le, nat_lt, refl, suc, sym, true, ℕ, ◌&&◌, ◌*◌, ◌+◌, ◌-◌, ◌<◌, ◌==◌, ◌∙◌, ◌∷◌, ◌≡◌, ◌≢◌, ◌≤◌}
-use Rattle.std.proofs.lemmas.Bool.{cases_lt, eq-eqb, eqb-true, le-leb, leb-false, leb-true, lt-leb}
+use Rattle.std.proofs.Common.{Bool, List, [], arith, false, inl, inr, max, nat_le, nat_lt, refl, suc, sym, true, ℕ, ◌&&◌, ◌*◌, ◌+◌, ◌-◌, ◌<◌, ◌==◌, ◌∙◌, ◌∷◌, ◌≡◌, ◌≢◌, ◌≤◌, eqb, nat_eq, not}
+use Rattle.std.proofs.lemmas.Bool.{cases_lt, eq-eqb, eqb-true, le-leb, leb-false, leb-true, lt-leb, le-ltb, lt-ltb, ltb-false, ltb-true, not_from_true}
 use Rattle.std.proofs.lemmas.Bool.Decides.{nat_tests}
 use Rattle.std.specs.Char.{digit_value}
 use Rattle.std.specs.Str.Parse.{digits_value_after}
@@ -74,3 +74,35 @@ by_three P first second third (suc zero) least most = first
 by_three P first second third (suc (suc zero)) least most = second
 by_three P first second third (suc (suc (suc zero))) least most = third
 by_three P first second third (suc (suc (suc (suc number)))) least most = absurd (omega (arith, most))
+
+pub next_above : (a b : ℕ) → a ≤ b → nat_eq a b ≡ false → a + 1 ≤ b
+next_above a b below unequal = grind arith
+
+pub unequal : (a b : ℕ) → nat_eq a b ≡ false → a ≢ b
+unequal a b is same = let yes_is : nat_eq a b ≡ true = eq-eqb a b same in absurd cc
+
+pub unequal_other : (seat n : ℕ) → (seat == n) ≡ false → n ≢ seat
+unequal_other seat n differ same = let yes_is : (seat == n) ≡ true = eq-eqb seat n (sym same) in absurd cc
+
+pub few_by_test : (n : ℕ) → n < 2 → nat_le 2 n ≡ false
+few_by_test n few = grind (arith, nat_tests)
+
+pub many_by_test : (n : ℕ) → 2 ≤ n → nat_le 2 n ≡ true
+many_by_test n few = le-leb 2 n few
+
+pub less_trans : (x y z : ℕ) → nat_lt x y ≡ true → nat_lt y z ≡ true → nat_lt x z ≡ true
+less_trans x y z p q = lt-ltb x z (let one : x < y = ltb-true x y p in let two : y < z = ltb-true y z q in omega (arith, one, two))
+
+-- who has to move had to
+pub two_still : (less more : ℕ) → less ≤ more → nat_le 2 less ≡ true → nat_le 2 more ≡ true
+two_still less more on is = le-leb 2 more (omega (arith, on, leb-true 2 less is))
+
+pub none_below : (a b : ℕ) → b ≤ a → nat_lt 0 a ≡ false → nat_lt 0 b ≡ false
+none_below a b less is = le-ltb 0 b (omega (arith, less, ltb-false 0 a is))
+
+-- a seat is no other one
+pub not_other : (seat : ℕ) → not (seat == seat) ≡ false
+not_other seat = not_from_true (seat == seat) (eq-eqb seat seat refl)
+
+pub equal_by_test : (m n : ℕ) → eqb m n ≡ true → m ≡ n
+equal_by_test m n same = grind (arith, nat_tests, same)

@@ -1,12 +1,13 @@
 -- What holds for each number of a range holds of the lists that are made over it.
-use Rattle.std.proofs.lemmas.Bool.{cases_eq, cases_lt, eq-eqb, ne_eqb, or_cases, or_from, or_left, or_parts, or_right}
-use Rattle.std.proofs.Common.{Bool, List, Some, [], ap, arith, false, filter, find, if◌then◌else◌, inl, inr, is_some, map, refl, suc, sum, sum_by, sym, true, zero, ℕ, ⊎_elim, ◌++◌, ◌+◌, ◌<◌, ◌==◌, ◌||◌, ◌∙◌, ◌∷◌, ◌≡◌, ◌≤◌}
-use Rattle.std.specs.List.{flat_map, list_any, range_with_len}
+use Rattle.std.proofs.lemmas.Bool.{cases_eq, cases_lt, eq-eqb, ne_eqb, or_cases, or_from, or_left, or_parts, or_right, and_parts, eqb-true}
+use Rattle.std.proofs.Common.{Bool, List, Some, [], ap, arith, false, filter, find, if◌then◌else◌, inl, inr, is_some, map, refl, suc, sum, sum_by, sym, true, zero, ℕ, ⊎_elim, ◌++◌, ◌+◌, ◌<◌, ◌==◌, ◌||◌, ◌∙◌, ◌∷◌, ◌≡◌, ◌≤◌, None, ap₂, cond, get_or, length, slice_index, take, ◌&&◌, ◌-◌, true≢false}
+use Rattle.std.specs.List.{flat_map, list_any, range_with_len, list_all}
 use Rattle.std.proofs.lemmas.Option.{same_Some}
 use Rattle.list_laws.proofs.Options.{some_is_none}
 use Rattle.list_laws.proofs.Tests.{false_true}
 use Rattle.std.proofs.lemmas.List.Sums.{sum-map, sum_by-cons}
 use Rattle.std.proofs.lemmas.List.{append-nil, append_assoc}
+use Rattle.std.proofs.lemmas.Bool.Decides.{nat_tests}
 
 -- lists that agree for each number, one after another
 pub flat_same : {B : Type 0} (f g : ℕ → List B) (first count : ℕ) → ((number : ℕ) → first ≤ number → number < first + count → f number ≡ g number) → flat_map f (range_with_len first count) ≡ flat_map g (range_with_len first count)
@@ -226,3 +227,84 @@ flat_more f start (suc count) =
   where
     next : (a b : ℕ) → (a + 1) + b ≡ a + suc b
     next a b = omega arith
+
+pub taken_along : (f : ℕ → ℕ) (xs : List ℕ) (start n : ℕ) → n ≤ length xs → ((k : ℕ) → k < n → get_or xs k 0 ≡ f (start + k)) → take n xs ≡ map f (range_with_len start n)
+taken_along f xs start zero few same = refl
+taken_along f [] start (suc n) few same = absurd (omega (arith, few))
+taken_along f (x ∷ xs) start (suc n) few same =
+    let here : x ≡ f start = same zero (omega arith) ∙ ap f (omega arith) in
+    let rest : take n xs ≡ map f (range_with_len (start + 1) n) =
+    taken_along f xs (start + 1) n (omega (arith, few)) (λ k within. same (suc k) (omega (arith, within)) ∙ ap f (omega arith)) in
+    ap (λ y. y ∷ take n xs) here ∙ ap (λ more. f start ∷ more) rest
+
+-- a row whose amounts are told by seat
+pub taken_from_one : (f : ℕ → ℕ) (xs : List ℕ) (n : ℕ) → n ≤ length xs → ((seat : ℕ) → 1 ≤ seat → get_or xs (seat - 1) 0 ≡ f seat) → take n xs ≡ map f (range_with_len 1 n)
+taken_from_one f xs n few same =
+    taken_along f xs 1 n few (λ k within. ap (λ j. get_or xs j 0) (omega arith) ∙ same (1 + k) (omega arith))
+
+pub all_at : (p : ℕ → Bool) (first many number : ℕ) → list_all p (range_with_len first many) ≡ true → first ≤ number → number < first + many → p number ≡ true
+all_at p first zero number all from within = absurd (omega (arith, from, within))
+all_at p first (suc many) number all from within =
+    let parts = and_parts (p first) (list_all p (range_with_len (first + 1) many)) all in
+    by_first (first == number) refl parts.0 (λ past. all_at p (first + 1) many number parts.1 past (omega (arith, within)))
+  where
+    by_first : (same : Bool) → (first == number) ≡ same → p first ≡ true → (first + 1 ≤ number → p number ≡ true) → p number ≡ true
+    by_first true e holds later = ap p (sym (eqb-true first number e)) ∙ holds
+    by_first false e holds later = later (grind (arith, nat_tests, from))
+
+pub all_of : (p : ℕ → Bool) (first count : ℕ) → ((number : ℕ) → first ≤ number → number < first + count → p number ≡ true) → list_all p (range_with_len first count) ≡ true
+all_of p first zero each = refl
+all_of p first (suc count) each = rw (each first (omega arith) (omega arith)) (all_of p (first + 1) count (λ number from within. each number (omega (arith, from)) (omega (arith, within))))
+
+-- where not all pass a test, some pass another one that all others pass
+pub some_other : (p q : ℕ → Bool) (first count : ℕ) → ((number : ℕ) → first ≤ number → number < first + count → p number ≡ false → q number ≡ true) → list_all p (range_with_len first count) ≡ false → list_any q (range_with_len first count) ≡ true
+some_other p q first zero each fails = absurd (true≢false fails)
+some_other p q first (suc count) each fails = by_first (p first) refl fails (some_other p q (first + 1) count (λ number low high. each number (omega (arith, low)) (omega (arith, high))))
+  where
+    by_first : (passes : Bool) → p first ≡ passes → (passes && list_all p (range_with_len (first + 1) count)) ≡ false
+        → (list_all p (range_with_len (first + 1) count) ≡ false → list_any q (range_with_len (first + 1) count) ≡ true) → (q first || list_any q (range_with_len (first + 1) count)) ≡ true
+    by_first true is fails later = or_right (q first) (list_any q (range_with_len (first + 1) count)) (later fails)
+    by_first false is fails later = or_left (q first) (list_any q (range_with_len (first + 1) count)) (each first (omega arith) (omega arith) is)
+
+pub any_taken_from : (p : ℕ → Bool) (row xs : List ℕ) (start n : ℕ) → n ≤ length xs → ((k : ℕ) → get_or row (start + k) 0 ≡ get_or xs k 0) → list_any p (take n xs) ≡ list_any (λ seat. p (get_or row (seat - 1) 0)) (range_with_len (start + 1) n)
+any_taken_from p row xs start zero few same = refl
+any_taken_from p row [] start (suc n) few same = absurd (omega (arith, few))
+any_taken_from p row (x ∷ xs) start (suc n) few same =
+    let here : x ≡ get_or row (start + 1 - 1) 0 = sym (ap (λ k. get_or row k 0) (omega arith) ∙ same zero) in
+    let rest : list_any p (take n xs) ≡ list_any (λ seat. p (get_or row (seat - 1) 0)) (range_with_len (start + 1 + 1) n) =
+    any_taken_from p row xs (start + 1) n (omega (arith, few)) (λ k. ap (λ j. get_or row j 0) (omega arith) ∙ same (suc k)) in
+    ap (λ y. p y || list_any p (take n xs)) here ∙ ap (λ more. p (get_or row (start + 1 - 1) 0) || more) rest
+
+-- some amount of the first seats passes a test where some seat's does
+pub any_taken : (p : ℕ → Bool) (row : List ℕ) (n : ℕ) → n ≤ length row → list_any p (take n row) ≡ list_any (λ seat. p (get_or row (seat - 1) 0)) (range_with_len 1 n)
+any_taken p row n few = any_taken_from p row row 0 n few (λ k. ap (λ j. get_or row j 0) (omega arith))
+
+pub taken_index_along : (f : ℕ → ℕ) (amounts : List ℕ) (first count : ℕ) → count ≤ length amounts
+    → ((k : ℕ) → k < count → slice_index amounts k ≡ f (first + k))
+    → take count amounts ≡ map f (range_with_len first count)
+taken_index_along f amounts first zero few each = refl
+taken_index_along f [] first (suc count) few each = absurd (omega (arith, few))
+taken_index_along f (amount ∷ others) first (suc count) few each =
+    ap₂ (λ x xs. x ∷ xs) (each 0 (omega arith) ∙ ap f (omega arith))
+    (taken_index_along f others (first + 1) count (omega (arith, few)) (λ k within. each (suc k) (omega (arith, within)) ∙ ap f (omega arith)))
+
+-- what is not found passes nowhere
+pub find_nothing : (test : ℕ → Bool) (first count : ℕ)
+    → find test (range_with_len first count) ≡ None
+    → (k : ℕ)
+    → first ≤ k
+    → k < first + count
+    → test k ≡ false
+find_nothing test first zero none k low high = absurd (omega (arith, low, high))
+find_nothing test first (suc count) none k low high = by (test first) refl none (λ rest l. find_nothing test (first + 1) count rest k (omega (arith, l)) (omega (arith, high)))
+  where
+    by : (b : Bool)
+        → test first ≡ b
+        → cond b (Some first) (find test (range_with_len (first + 1) count)) ≡ None
+        → (find test (range_with_len (first + 1) count) ≡ None → first < k → test k ≡ false)
+        → test k ≡ false
+    by true is none later = absurd (cc (none))
+    by false is none later =
+        ⊎_elim (λ (l : first < k). later none l)
+        (λ (l : k ≤ first). let here : k ≡ first = omega (arith, l, low) in ap test here ∙ is)
+        (cases_lt first k)

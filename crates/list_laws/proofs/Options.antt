@@ -1,9 +1,10 @@
 -- Lemmas on values that may be there, and on results.
-use Rattle.std.proofs.Common.{Bool, Err, IfOk, IfSome, IsSome, None, Ok, Option, Result, Some, ap, cond, false, is_none, is_some, not, refl, sym, true, ℕ, ◌↔◌, ◌≡◌}
+use Rattle.std.proofs.Common.{Bool, Err, IfOk, IfSome, IsSome, None, Ok, Option, Result, Some, ap, cond, false, is_none, is_some, not, refl, sym, true, ℕ, ◌↔◌, ◌≡◌, List, option_map, subst, ◌==◌, ◌||◌, true≢false}
 use Rattle.list_laws.proofs.Tests.{false_true}
-use Rattle.std.specs.Prelude.{IfNone}
-use Rattle.std.specs.Option.{option_map}
+use Rattle.std.specs.Prelude.{IfNone, option_and_then}
+use Rattle.std.specs.Option.{option_map, ForSome, option_map_or, option_or}
 use Rattle.std.proofs.lemmas.Option.{same_Some}
+use Rattle.std.proofs.lemmas.Bool.{eqb-true, not-false}
 
 -- what is not there
 pub is_none_none : {A : Type 0} (gone : Option A) → is_none gone ≡ true → gone ≡ None
@@ -59,3 +60,63 @@ options_same f apart (Some a) (Some b) same = ap Some (apart a b (same_Some (f a
 pub some_where : (test : Bool) (value : ℕ) → IsSome (cond test (Some value) None) ↔ (test ≡ true)
 some_where true value = (λ some. refl, λ is. refl)
 some_where false value = (λ some. some, λ is. is)
+
+pub or_nothing : (found : Option ℕ) → option_or found None ≡ found
+or_nothing (Some x) = refl
+or_nothing None = refl
+
+pub from_some_none : {A : Type 0} {P : Type 0} {x : A} → Some x ≡ None → P
+from_some_none e = absurd (true≢false (ap is_some e))
+
+pub from_none_some : {A : Type 0} {P : Type 0} {x : A} → None ≡ Some x → P
+from_none_some e = absurd (true≢false (ap is_some (sym e)))
+
+-- where an option was taken, the others follow
+pub followed : {A : Type 0} (x : Option A) {B : Type 0} (f : A → Option B) (more : B) → option_and_then f x ≡ Some more
+    → (some : A) × ((x ≡ Some some) × (f some ≡ Some more))
+followed None f more e = cc
+followed (Some some) f more e = (some, (refl, e))
+
+pub none_from_not : {A : Type 0} (x : Option A) → not (is_some x) ≡ true → x ≡ None
+none_from_not None e = refl
+none_from_not (Some x) e = cc
+
+-- a card is held where it is not gone
+pub none_by_test : (gone : Option ℕ) (b : Bool) → is_some gone ≡ b → is_none gone ≡ not b
+none_by_test None true is = false_true is
+none_by_test None false is = refl
+none_by_test (Some count) true is = refl
+none_by_test (Some count) false is = false_true (sym is)
+
+-- a way is found where hands are read, and no game is asked for, or one is given
+pub some_mapped : {A B : Type 0} (f : A → B) (found : Option A) → is_some found ≡ true → is_some (option_map f found) ≡ true
+some_mapped f (Some x) some = refl
+some_mapped f None some = cc
+
+pub some_always : {A : Type 0} (told : Option A) (P : A → Type 0) → ((x : A) → P x) → IfSome told P
+some_always (Some x) P each = each x
+some_always None P each = tt
+
+pub is_some-map : {X Y : Type 0} (f : X → Y) (x : Option X) → is_some (option_map f x) ≡ is_some x
+is_some-map f (Some x) = refl
+is_some-map f None = refl
+
+-- of nothing something holds
+pub for_none : {A : Type 0} (P : A → Type 0) (found : Option A) → found ≡ None → ForSome found P
+for_none P found is = λ value some. absurd (cc (is, some))
+
+pub if_none : {A : Type 0} (P : A → Type 0) (found : Option A) → found ≡ None → IfSome found P
+if_none P found is = subst (λ o. IfSome o P) (sym is) tt
+
+pub found_number : (o : Option ℕ) (seat : ℕ) → option_map_or (λ next. next == seat) o false ≡ true → o ≡ Some seat
+found_number None seat is = absurd cc
+found_number (Some next) seat is = ap Some (eqb-true next seat is)
+
+-- who draws next
+pub next_number : (seat : ℕ) (next : Option ℕ) → not (option_map_or (λ n. n == seat) next false) ≡ false → next ≡ Some seat
+next_number seat None is = false_true (sym is)
+next_number seat (Some other) is = ap Some (eqb-true other seat (not-false (other == seat) is))
+
+pub none_anyway : (empty : Bool) (text : List ℕ) → cond (empty || true) None (Some text) ≡ None
+none_anyway true text = refl
+none_anyway false text = refl

@@ -1,7 +1,7 @@
 -- Lemmas on numbers in a row, and on the first of them that passes a test.
-use Rattle.std.proofs.Common.{Bool, Some, [], ap, arith, cond, false, find, suc, true, zero, ℕ, ⊎_elim, ◌&&◌, ◌++◌, ◌+◌, ◌-◌, ◌<◌, ◌==◌, ◌∙◌, ◌∷◌, ◌≡◌, ◌≤◌}
+use Rattle.std.proofs.Common.{Bool, Some, [], ap, arith, cond, false, find, suc, true, zero, ℕ, ⊎_elim, ◌&&◌, ◌++◌, ◌+◌, ◌-◌, ◌<◌, ◌==◌, ◌∙◌, ◌∷◌, ◌≡◌, ◌≤◌, List, refl, sym, take, ◌||◌}
 use Rattle.std.proofs.lemmas.Bool.{and_parts, eqb-true, or_cases}
-use Rattle.std.specs.List.{list_any, range_with_len}
+use Rattle.std.specs.List.{list_any, range_with_len, list_all}
 
 -- one number more at the end
 pub range_more : (a n : ℕ) → range_with_len a (suc n) ≡ range_with_len a n ++ (a + n) ∷ []
@@ -28,3 +28,61 @@ find_next test first (suc count) some other = rw other (ap (λ n. find test (ran
 pub find_here : (test : ℕ → Bool) (first count : ℕ) → 0 < count → test first ≡ true → find test (range_with_len first count) ≡ Some first
 find_here test first zero some passes = absurd (omega (arith, some))
 find_here test first (suc count) some passes = ap (λ b. cond b (Some first) (find test (range_with_len (first + 1) count))) passes
+
+pub front_of_range : (start n : ℕ) (back : List ℕ) → take n (range_with_len start n ++ back) ≡ range_with_len start n
+front_of_range start zero back = refl
+front_of_range start (suc n) back = ap (λ rest. start ∷ rest) (front_of_range (start + 1) n back)
+
+-- the first numbers of a range
+pub take_range : (start n m : ℕ) → n ≤ m → take n (range_with_len start m) ≡ range_with_len start n
+take_range start zero m few = refl
+take_range start (suc n) zero few = absurd (omega (arith, few))
+take_range start (suc n) (suc m) few = ap (λ rest. start ∷ rest) (take_range (start + 1) n m (omega (arith, few)))
+
+-- the first number of a range, and the others
+pub range_step : (first count : ℕ) → 1 ≤ count → range_with_len first count ≡ first ∷ range_with_len (first + 1) (count - 1)
+range_step first zero some = absurd (omega (arith, some))
+range_step first (suc count) some = let less : suc count - 1 ≡ count = omega arith in rw less refl
+
+pub range_left : (index count : ℕ) → index < count → range_with_len (index + 1) (count - index) ≡ (index + 1) ∷ range_with_len (index + 1 + 1) (count - (index + 1))
+range_left index count within =
+    let less : (count - index) - 1 ≡ count - (index + 1) = omega (arith, within) in
+    range_step (index + 1) (count - index) (omega (arith, within)) ∙ ap (λ n. (index + 1) ∷ range_with_len (index + 1 + 1) n) less
+
+-- a seat that does not pass decides
+pub all_fails : (test : ℕ → Bool) (index count : ℕ) (all : Bool) → index < count → test (index + 1) ≡ false
+    → list_all test (range_with_len (index + 1) (count - index)) ≡ all → false ≡ all
+all_fails test index count all within fails is =
+    let first : list_all test ((index + 1) ∷ range_with_len (index + 1 + 1) (count - (index + 1))) ≡ false = rw fails refl in
+    sym first ∙ ap (list_all test) (sym (range_left index count within)) ∙ is
+
+-- a seat that passes is followed by the others
+pub all_goes_on : (test : ℕ → Bool) (index count : ℕ) (all : Bool) → index < count → test (index + 1) ≡ true
+    → list_all test (range_with_len (index + 1) (count - index)) ≡ all → list_all test (range_with_len (index + 1 + 1) (count - (index + 1))) ≡ all
+all_goes_on test index count all within passes is =
+    let first : list_all test ((index + 1) ∷ range_with_len (index + 1 + 1) (count - (index + 1))) ≡ list_all test (range_with_len (index + 1 + 1) (count - (index + 1))) = rw passes refl in
+    sym first ∙ ap (list_all test) (sym (range_left index count within)) ∙ is
+
+-- a seat that passes decides
+pub any_found : (test : ℕ → Bool) (index count : ℕ) (all : Bool) → index < count → test (index + 1) ≡ true
+    → list_any test (range_with_len (index + 1) (count - index)) ≡ all → true ≡ all
+any_found test index count all within passes is =
+    let first : list_any test ((index + 1) ∷ range_with_len (index + 1 + 1) (count - (index + 1))) ≡ true = rw passes refl in
+    sym first ∙ ap (list_any test) (sym (range_left index count within)) ∙ is
+
+-- a seat that does not pass is followed by the others
+pub any_goes_on : (test : ℕ → Bool) (index count : ℕ) (all : Bool) → index < count → test (index + 1) ≡ false
+    → list_any test (range_with_len (index + 1) (count - index)) ≡ all → list_any test (range_with_len (index + 1 + 1) (count - (index + 1))) ≡ all
+any_goes_on test index count all within fails is =
+    let first : list_any test ((index + 1) ∷ range_with_len (index + 1 + 1) (count - (index + 1))) ≡ list_any test (range_with_len (index + 1 + 1) (count - (index + 1))) = rw fails refl in
+    sym first ∙ ap (list_any test) (sym (range_left index count within)) ∙ is
+
+-- the first of the numbers that are left, and the others
+pub all_next : (p : ℕ → Bool) (first count : ℕ) → 0 < count → list_all p (range_with_len first count) ≡ (p first && list_all p (range_with_len (first + 1) (count - 1)))
+all_next p first zero some = absurd (omega (arith, some))
+all_next p first (suc count) some = ap (λ n. p first && list_all p (range_with_len (first + 1) n)) (omega arith)
+
+-- the first of the numbers that are left, and the others
+pub any_next : (p : ℕ → Bool) (first count : ℕ) → 0 < count → list_any p (range_with_len first count) ≡ (p first || list_any p (range_with_len (first + 1) (count - 1)))
+any_next p first zero some = absurd (omega (arith, some))
+any_next p first (suc count) some = let fewer : count ≡ suc count - 1 = omega arith in ap (λ n. p first || list_any p (range_with_len (first + 1) n)) fewer

@@ -1,8 +1,9 @@
 -- Lemmas on sums over a list that was mapped or filtered, and on terms that agree.
-use Rattle.std.proofs.Common.{Bool, List, [], ap, arith, cond, false, filter, map, refl, sum_by, sym, true, ℕ, ◌+◌, ◌∙◌, ◌∷◌, ◌≡◌, ◌==◌, ◌≤◌, ◌*◌, min}
+use Rattle.std.proofs.Common.{Bool, List, [], ap, arith, cond, false, filter, map, refl, sum_by, sym, true, ℕ, ◌+◌, ◌∙◌, ◌∷◌, ◌≡◌, ◌==◌, ◌≤◌, ◌*◌, min, count_by}
 use Rattle.std.proofs.lemmas.Bool.{or_parts}
 use Rattle.std.proofs.lemmas.List.Sums.{sum_by-cons}
 use Rattle.std.specs.List.{list_any}
+use Rattle.list_laws.proofs.Counting.{count_by-cons}
 
 -- over a list that was mapped
 pub sum_by-map : {X Y : Type 0} (f : Y → ℕ) (g : X → Y) (xs : List X)
@@ -84,3 +85,15 @@ once_sum T (h ∷ hs) once = omega (arith, sum_by-cons T h hs, sum_by-cons (λ k
 pub some_sum : (T : ℕ → ℕ) (hs : List ℕ) → ((h : ℕ) → T h ≤ 4) → sum_by T hs ≤ 4 * sum_by (λ h. min 1 (T h)) hs
 some_sum T [] few = omega arith
 some_sum T (h ∷ hs) few = omega (arith, sum_by-cons T h hs, sum_by-cons (λ k. min 1 (T k)) h hs, few h, some_sum T hs few)
+
+pub none_occur : (T : ℕ → ℕ) (hs : List ℕ) → ((h : ℕ) → T h ≡ 0) → sum_by (λ h. min 1 (T h)) hs ≡ 0
+none_occur T [] none = refl
+none_occur T (h ∷ hs) none = omega (arith, sum_by-cons (λ h. min 1 (T h)) h hs, none h, none_occur T hs none)
+
+pub sum_by-cond : (n : ℕ) (p : ℕ → Bool) (ks : List ℕ) → sum_by (λ k. cond (p k) n 0) ks ≡ n * count_by p ks
+sum_by-cond n p [] = omega arith
+sum_by-cond n p (k ∷ ks) = omega (arith, sum_by-cons (λ k. cond (p k) n 0) k ks, ap (λ (m : ℕ). n * m) (count_by-cons p k ks), sum_by-cond n p ks, here (p k))
+  where
+    here : (b : Bool) → cond b n 0 + n * count_by p ks ≡ n * (cond b 1 0 + count_by p ks)
+    here true = grind arith
+    here false = grind arith

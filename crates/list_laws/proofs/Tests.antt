@@ -1,5 +1,5 @@
 -- Lemmas on tests that are joined by and, or and not.
-use Rattle.std.proofs.Common.{Bool, ap, arith, false, if◌then◌else◌, inl, inr, not, refl, sym, true, ℕ, ◌&&◌, ◌+◌, ◌<◌, ◌||◌, ◌↔◌, ◌∙◌, ◌≡◌, ◌≤◌, ◌⊎◌}
+use Rattle.std.proofs.Common.{Bool, ap, arith, false, if◌then◌else◌, inl, inr, not, refl, sym, true, ℕ, ◌&&◌, ◌+◌, ◌<◌, ◌||◌, ◌↔◌, ◌∙◌, ◌≡◌, ◌≤◌, ◌⊎◌, T, cond, true≢false}
 
 -- what never holds proves anything
 pub false_true : {A : Type 0} → false ≡ true → A
@@ -158,3 +158,91 @@ not_both false b x y second = refl
 pub none_added : (b : Bool) (n rest : ℕ) → b ≡ false → rest ≡ 0 → (if b then n else 0) + rest ≡ 0
 none_added true n rest is none = absurd (cc)
 none_added false n rest is none = omega (arith, none)
+
+-- which way a choice went
+pub chosen_either : {A : Type 0} (b : Bool) (x y z : A) → cond b x y ≡ z → ((b ≡ true) × (x ≡ z)) ⊎ ((b ≡ false) × (y ≡ z))
+chosen_either true x y z is = inl (refl, is)
+chosen_either false x y z is = inr (refl, is)
+
+pub if_most : (b : Bool) (n : ℕ) → (if b then n else 0) ≤ n
+if_most true n = omega arith
+if_most false n = omega arith
+
+-- the least bet is used where the limit is not fixed
+pub if_not_none : (fixed : Bool) (chips : ℕ) → (if not fixed then chips else 0) ≡ (if fixed then 0 else chips)
+if_not_none true chips = refl
+if_not_none false chips = refl
+
+pub first_of_both : (a b : Bool) → (a && b) ≡ true → a ≡ true
+first_of_both true b is = refl
+first_of_both false b is = false_true is
+
+pub and_same : (b x y : Bool) → (b ≡ true → x ≡ y) → (b && x) ≡ (b && y)
+and_same true x y same = same refl
+and_same false x y same = refl
+
+pub is_true : (b : Bool) → T b → b ≡ true
+is_true true holds = refl
+is_true false holds = absurd holds
+
+pub if_same : (b : Bool) (n : ℕ) → cond b n n ≡ n
+if_same true n = refl
+if_same false n = refl
+
+-- a legal target goes above the price
+pub holds_by_both : (legal below above : Bool) → (not legal && below) ≡ false → (below ≡ false → above ≡ false → legal ≡ true) → above ≡ false → legal ≡ true
+holds_by_both true below above small even big = refl
+holds_by_both false below above small even big = even small big
+
+pub if_and_swap : (a b : Bool) (n : ℕ) → (if a && b then n else 0) ≡ (if b && a then n else 0)
+if_and_swap true true n = refl
+if_and_swap true false n = refl
+if_and_swap false true n = refl
+if_and_swap false false n = refl
+
+pub if_and_swap_added : (a b : Bool) (n m : ℕ) → (if a && b then n else 0) + m ≡ (if b && a then n else 0) + m
+if_and_swap_added true true n m = refl
+if_and_swap_added true false n m = refl
+if_and_swap_added false true n m = refl
+if_and_swap_added false false n m = refl
+
+pub if_same_added : (b : Bool) (n m k : ℕ) → n ≡ m → (if b then n else 0) + k ≡ (if b then m else 0) + k
+if_same_added true n m k same = ap (λ x. x + k) same
+if_same_added false n m k same = refl
+
+pub if_not_both : (b c : Bool) (n : ℕ) → b ≡ false → (if b && c then n else 0) ≡ 0
+if_not_both b c n is = ap (λ x. if x && c then n else 0) is
+
+pub and_off : (a b : Bool) → b ≡ false → a && b ≡ false
+and_off true b is = is
+and_off false b is = refl
+
+pub second_fails : (e l : Bool) → e ≡ true → (e && l) ≡ false → l ≡ false
+second_fails true l is none = none
+second_fails false l is none = absurd cc
+
+-- what is true is not false
+pub not_true : (b : Bool) → b ≡ true → not b ≡ false
+not_true true is = refl
+not_true false is = absurd (true≢false (sym is))
+
+pub not_not : (b : Bool) → not b ≡ false → b ≡ true
+not_not true is = refl
+not_not false is = absurd (true≢false is)
+
+pub both_true : (a b : Bool) → a ≡ true → b ≡ true → (a && b) ≡ true
+both_true a b one other = rw (one, other) refl
+
+pub neither : (first rest : Bool) → (first || rest) ≡ false → (first ≡ false) × (rest ≡ false)
+neither true rest none = absurd (true≢false none)
+neither false rest none = (refl, none)
+
+pub not_and_is : (b : Bool) → not b ≡ true → b ≡ true → ⊥
+not_and_is true off on = absurd (cc)
+not_and_is false off on = absurd (cc)
+
+-- not both, where not both of two that follow
+pub not_both_still : (a b c d : Bool) → (a ≡ true → c ≡ true) → (b ≡ true → d ≡ true) → (c && d) ≡ false → (a && b) ≡ false
+not_both_still false b c d one two none = refl
+not_both_still true false c d one two none = refl
+not_both_still true true c d one two none = absurd (true≢false (sym (ap (λ x. x && d) (one refl) ∙ two refl) ∙ none))

@@ -1,8 +1,7 @@
 -- The mask of the ranks that a set has tells which low heights occur.
-use Rattle.std.proofs.Common.{◌≡◌, ◌+◌, ◌-◌, ◌^◌, ◌<◌, ◌≤◌, ◌==◌, ℕ, Bool, true, false, cond, List, [], ◌∷◌, filter, inl, inr, refl, sym, ◌∙◌, ap, arith, eqb-true, eq-eqb, bit_or}
+use Rattle.std.proofs.Common.{◌≡◌, ◌+◌, ◌-◌, ◌<◌, ◌≤◌, ◌==◌, ℕ, Bool, true, false, cond, List, [], ◌∷◌, filter, inl, inr, refl, sym, ◌∙◌, ap, arith, eqb-true, eq-eqb}
 use Rattle.std.specs.Int.{bit_at}
 use Rattle.std.proofs.lemmas.Bool.{cases_lt, le-leb, ne_eqb}
-use Rattle.std.proofs.lemmas.Nat.{or_lt}
 use Rattle.card_set.specs.declared.card.Card.{Card}
 use Rattle.card_set.specs.Ranks.{high_ace, low_ace, times}
 use Rattle.card_set.proofs.Counted.{times-cons}
@@ -46,8 +45,3 @@ mask_tells cards all shows h some few =
           let says = bit_tells cards all 12 h shows few (ap (times low_ace cards) is_one ∙ aces cards) in
           ((λ is. says.0 (sym off ∙ is)), (λ occurs. off ∙ says.1 occurs))
     ]
-
--- masks of thirteen bits joined
-pub or_four : (c d h s : ℕ) → c < 2 ^ 13 → d < 2 ^ 13 → h < 2 ^ 13 → s < 2 ^ 13 → bit_or (bit_or (bit_or c d) h) s < 2 ^ 16
-or_four c d h s small_c small_d small_h small_s =
-    omega (arith, or_lt 13 (bit_or (bit_or c d) h) s (or_lt 13 (bit_or c d) h (or_lt 13 c d small_c small_d) small_h) small_s)

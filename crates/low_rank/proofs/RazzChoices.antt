@@ -2,7 +2,7 @@
 use Rattle.std.proofs.Common.{◌≡◌, ℕ, zero, suc, ◌+◌, ◌-◌, ◌*◌, ◌^◌, ◌<◌, ◌≤◌, ◌==◌, ◌&&◌, ◌||◌, ◌⊎◌, not, Bool, true, false, cond, List, [], ◌∷◌, ◌++◌, length, filter, sum_by, count_by, Option, Some, None, inl, inr, refl, sym, ◌∙◌, ap, subst, arith, eqb-true, eq-eqb, length-append, append-nil}
 use Rattle.std.specs.Prelude.{nat_le}
 use Rattle.std.proofs.lemmas.Bool.{and_parts, cases_lt, eqb-false, le-leb, leb-true, ne_eqb}
-use Rattle.std.proofs.lemmas.List.Sums.{length-filter, sum_by-cons}
+use Rattle.std.proofs.lemmas.List.Sums.{length-filter}
 use Rattle.std.proofs.lemmas.Option.{same_Some}
 use Rattle.card_set.specs.declared.card.Card.{Card}
 use Rattle.card_set.specs.declared.card.Rank.{Rank}
@@ -27,8 +27,7 @@ use Rattle.hand_order.proofs.PlainHands.{choice_within}
 use Rattle.hand_order.proofs.SameChoices.{none_chosen, with_first}
 use Rattle.hand_order.proofs.Shapes.{by_counts}
 use Rattle.hand_order.proofs.Wanted.{wanted_chosen}
-use Rattle.list_laws.proofs.Counting.{count_by-cons}
-use Rattle.list_laws.proofs.Sums.{sum_by-plus, sum_by-same}
+use Rattle.list_laws.proofs.Sums.{sum_by-plus, sum_by-same, sum_by-cond}
 use Rattle.list_laws.proofs.Tests.{passes_or_not}
 use Rattle.low_rank.specs.Low.{low_points, low_table}
 use Rattle.low_rank.specs.Razz.{points}
@@ -182,14 +181,6 @@ one_passes has bound h (x ∷ xs) falling pass is =
           (rest.0, rest.1, omega (arith, rest.2, falling.0))
     ]
 
-sum_cond : (n : ℕ) (p : ℕ → Bool) (ks : List ℕ) → sum_by (λ k. cond (p k) n 0) ks ≡ n * count_by p ks
-sum_cond n p [] = omega arith
-sum_cond n p (k ∷ ks) = omega (arith, sum_by-cons (λ k. cond (p k) n 0) k ks, ap (λ (m : ℕ). n * m) (count_by-cons p k ks), sum_cond n p ks, here (p k))
-  where
-    here : (b : Bool) → cond b n 0 + n * count_by p ks ≡ n * (cond b 1 0 + count_by p ks)
-    here true = grind arith
-    here false = grind arith
-
 -- of each height as many cards as the two groups need
 abbrev wanted : ℕ → List ℕ → ℕ → List ℕ → ℕ → ℕ
 wanted m a o b h = cond (is_height_of a h) m (cond (is_height_of b h) o 0)
@@ -212,7 +203,7 @@ sum_wanted : (m o : ℕ) (a b : List ℕ) → AreApart a b → sum_by (wanted m 
 sum_wanted m o a b is =
     sum_by-same (wanted m a o b) (λ h. cond (is_height_of a h) m 0 + cond (is_height_of b h) o 0) (λ h. by_tests h (is_height_of a h) refl (is_height_of b h) refl) falling_heights
     ∙ sum_by-plus (λ h. cond (is_height_of a h) m 0) (λ h. cond (is_height_of b h) o 0) falling_heights
-    ∙ omega (arith, sum_cond m (is_height_of a) falling_heights, sum_cond o (is_height_of b) falling_heights, ap (λ (n : ℕ). m * n) (all_found a is.falls is.pass), ap (λ (n : ℕ). o * n) (all_found b is.others_fall is.others_pass))
+    ∙ omega (arith, sum_by-cond m (is_height_of a) falling_heights, sum_by-cond o (is_height_of b) falling_heights, ap (λ (n : ℕ). m * n) (all_found a is.falls is.pass), ap (λ (n : ℕ). o * n) (all_found b is.others_fall is.others_pass))
   where
     by_tests : (h : ℕ) (s : Bool) → is_height_of a h ≡ s → (t : Bool) → is_height_of b h ≡ t → cond s m (cond t o 0) ≡ cond s m 0 + cond t o 0
     by_tests h true here true there = let clash = sym here ∙ is.apart h there in absurd (cc)

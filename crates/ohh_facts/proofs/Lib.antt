@@ -3,6 +3,5 @@ pub mod Calendar
 pub mod Nine
 pub mod Usual
 pub mod NamesFrom
-pub mod Sums
 pub mod Dated
 pub mod PaidSame

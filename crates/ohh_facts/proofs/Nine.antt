@@ -1,14 +1,7 @@
 -- Nine digits, of which the last are zeros, and one more of the first.
-use Rattle.std.proofs.Common.{◌≡◌, ℕ, zero, suc, ◌+◌, ◌-◌, ◌<◌, ◌≤◌, List, [], ◌∷◌, ◌++◌, length, take, set, get_or, replicate, refl, sym, ap, ◌∙◌, append_assoc, arith}
+use Rattle.std.proofs.Common.{◌≡◌, ℕ, zero, suc, ◌+◌, ◌-◌, ◌<◌, ◌≤◌, List, [], ◌∷◌, ◌++◌, length, take, set, get_or, replicate, sym, ap, ◌∙◌, append_assoc, arith}
 use Rattle.std.proofs.lemmas.List.{take_more, length-take-le}
-
--- the first of the zeros behind a list is set
-set_behind : (front : List ℕ) (n x z : ℕ) → set (front ++ replicate (suc n) z) (length front) x ≡ front ++ x ∷ replicate n z
-set_behind [] n x z = refl
-set_behind (y ∷ front) n x z = ap (λ rest. y ∷ rest) (set_behind front n x z)
-
-set_at : (front : List ℕ) (i n x z : ℕ) → length front ≡ i → set (front ++ replicate (suc n) z) i x ≡ front ++ x ∷ replicate n z
-set_at front i n x z is = rw (sym is) (set_behind front n x z)
+use Rattle.list_laws.proofs.Entries.{set_at}
 
 -- one more digit
 pub one_more : (digits nine : List ℕ) (i x : ℕ) → i < length digits → length digits ≤ 9 → x ≡ get_or digits i 0 → nine ≡ take i digits ++ replicate (9 - i) 48 → set nine i x ≡ take (i + 1) digits ++ replicate (9 - (i + 1)) 48

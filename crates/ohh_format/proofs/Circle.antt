@@ -1,11 +1,13 @@
 -- Numbers of seats that go round the table once: from one seat to the next they rise, but at one place.
-use Rattle.std.proofs.Common.{◌≡◌, ◌≢◌, ℕ, zero, suc, ◌+◌, ◌-◌, ◌<◌, ◌≤◌, ◌==◌, Bool, true, false, not, ◌||◌, nat_lt, if◌then◌else◌, List, [], ◌∷◌, length, take, get_or, Some, None, inl, inr, refl, sym, ap, ◌∙◌, arith, true≢false}
+use Rattle.std.proofs.Common.{◌≡◌, ◌≢◌, ℕ, zero, suc, ◌+◌, ◌-◌, ◌<◌, ◌≤◌, ◌==◌, Bool, true, false, not, nat_lt, if◌then◌else◌, List, [], ◌∷◌, length, take, get_or, Some, None, inl, inr, refl, sym, ap, ◌∙◌, arith, true≢false}
 use Rattle.std.specs.List.{list_any}
-use Rattle.std.proofs.lemmas.Bool.{and_parts, cases_lt, eq-eqb, eqb-true, ltb-false}
+use Rattle.std.proofs.lemmas.Bool.{and_parts, cases_lt, eqb-true, ltb-false}
 use Rattle.std.proofs.lemmas.Bool.Decides.{nat_tests}
 use Rattle.std.proofs.lemmas.List.{length-take-le}
 use Rattle.hand_records.specs.AllowedNotes.{AreSeatNumbers, IsWithin}
 use Rattle.ohh_line.specs.Seating.{fall, falls, first_or, has_no_repeat, is_circular, number_among}
+use Rattle.list_laws.proofs.Any.{not_among}
+use Rattle.list_laws.proofs.Entries.{any_default, past_default, zero_taken_at}
 
 -- the numbers of so many seats go round: they differ, and rise but behind one seat
 pub record IsCircle (count : ℕ) (number : ℕ → ℕ) : Type 0 where
@@ -62,37 +64,12 @@ one_falls back (x ∷ rest) one = by_first (nat_lt (first_or back rest) x) refl 
         others behind zero within other = let first = first_is back rest in omega (arith, ltb-false (first_or back rest) x e, first)
         others behind (suc k) within other = behind.others k (omega (arith, within)) (λ same. other (ap suc same))
 
-not_among : (x : ℕ) (rest : List ℕ) → not (list_any (λ other. other == x) rest) ≡ true → (k : ℕ) → k < length rest → x ≢ get_or rest k 0
-not_among x [] none k within = absurd (omega (arith, within))
-not_among x (y ∷ rest) none zero within = λ same. absurd (true≢false (sym none ∙ rw (eq-eqb y x (sym same)) refl))
-not_among x (y ∷ rest) none (suc k) within = not_among x rest (later (y == x) none) k (omega (arith, within))
-  where
-    later : (b : Bool) → not (b || list_any (λ other. other == x) rest) ≡ true → not (list_any (λ other. other == x) rest) ≡ true
-    later false is = is
-    later true is = absurd (true≢false (sym is))
-
 differ_at : (xs : List ℕ) → has_no_repeat xs ≡ true → (i j : ℕ) → i < j → j < length xs → get_or xs i 0 ≢ get_or xs j 0
 differ_at [] differ i j before within = absurd (omega (arith, within))
 differ_at (x ∷ rest) differ zero zero before within = absurd (omega (arith, before))
 differ_at (x ∷ rest) differ zero (suc j) before within = not_among x rest (and_parts (not (list_any (λ other. other == x) rest)) (has_no_repeat rest) differ).0 j (omega (arith, within))
 differ_at (x ∷ rest) differ (suc i) zero before within = absurd (omega (arith, before))
 differ_at (x ∷ rest) differ (suc i) (suc j) before within = differ_at rest (and_parts (not (list_any (λ other. other == x) rest)) (has_no_repeat rest) differ).1 i j (omega (arith, before)) (omega (arith, within))
-
-any_default : (xs : List ℕ) (k d e : ℕ) → k < length xs → get_or xs k d ≡ get_or xs k e
-any_default [] k d e within = absurd (omega (arith, within))
-any_default (x ∷ rest) zero d e within = refl
-any_default (x ∷ rest) (suc k) d e within = any_default rest k d e (omega (arith, within))
-
-past_default : (xs : List ℕ) (k d : ℕ) → length xs ≤ k → get_or xs k d ≡ d
-past_default [] k d past = refl
-past_default (x ∷ rest) zero d past = absurd (omega (arith, past))
-past_default (x ∷ rest) (suc k) d past = past_default rest k d (omega (arith, past))
-
-pub taken_at : (n : ℕ) (xs : List ℕ) (k : ℕ) → k < n → get_or (take n xs) k 0 ≡ get_or xs k 0
-taken_at zero xs k within = absurd (omega (arith, within))
-taken_at (suc n) [] k within = refl
-taken_at (suc n) (x ∷ xs) zero within = refl
-taken_at (suc n) (x ∷ xs) (suc k) within = taken_at n xs k (omega (arith, within))
 
 -- ---- of seats
 
@@ -128,7 +105,7 @@ module _ (count : ℕ) (numbers : List ℕ) (some : 2 ≤ count) (are : AreSeatN
 
   -- the number of a seat
   number : (seat : ℕ) → 1 ≤ seat → seat ≤ count → number_among (Some numbers) seat ≡ get_or xs (seat - 1) 0
-  number seat low high = sym (taken_at count numbers (seat - 1) (omega (arith, low, high)))
+  number seat low high = sym (zero_taken_at count numbers (seat - 1) (omega (arith, low, high)))
 
   parts : (has_no_repeat xs ≡ true) × ((falls (get_or xs 0 0) xs == 1) ≡ true)
   parts = and_parts (has_no_repeat xs) (falls (get_or xs 0 0) xs == 1) goes

@@ -1,8 +1,7 @@
 -- The game, the players and the blinds of a hand that was written read as those of its setup.
-use Rattle.std.proofs.Common.{◌≡◌, ℕ, zero, suc, ◌+◌, ◌-◌, ◌*◌, ◌<◌, ◌≤◌, ◌==◌, Bool, true, false, not, ◌&&◌, ◌||◌, nat_le, nat_lt, min, if◌then◌else◌, List, ◌∷◌, map, Option, Some, pos, ℤ, Ok, refl, sym, ap, subst, ◌∙◌, arith, inl, inr, true≢false}
+use Rattle.std.proofs.Common.{◌≡◌, ℕ, zero, suc, ◌+◌, ◌-◌, ◌*◌, ◌≤◌, ◌==◌, Bool, true, false, not, ◌&&◌, ◌||◌, nat_le, nat_lt, min, if◌then◌else◌, List, ◌∷◌, map, Option, Some, pos, ℤ, Ok, refl, sym, ap, subst, ◌∙◌, arith, inl, inr, true≢false}
 use Rattle.std.specs.List.{list_all, list_any, range_with_len}
 use Rattle.std.proofs.lemmas.Bool.{and_parts, cases_lt, eqb-true, le-leb, le-ltb, leb-true, lt-leb, ltb-true, ne_eqb}
-use Rattle.std.proofs.lemmas.Bool.Decides.{nat_tests}
 use Rattle.serde_json.specs.Data.{Data}
 use Rattle.chip_ledger.specs.Greatest.{greatest}
 use Rattle.chip_ledger.specs.SeatRow.{amount_of}
@@ -26,11 +25,13 @@ use Rattle.ohh_line.specs.Spelled.{big_blind, greatest_ante, has_no_ante, has_sp
 use Rattle.ohh_line.specs.Tree.{whole}
 use Rattle.ohh_posts.specs.Table.{PlainTable}
 use Rattle.ohh_posts.proofs.SeatBySeat.{row_listed}
-use Rattle.ohh_posts.proofs.Stacks.{seats_in, stack_in}
+use Rattle.ohh_posts.proofs.Stacks.{seats_in}
 use Rattle.ohh_reading.specs.Sizes.{sizes_of}
 use Rattle.ohh_format.proofs.PostsAgain.{IsTableOf}
 use Rattle.ohh_format.proofs.SeatingAgain.{players_from}
 use Rattle.ohh_format.proofs.WinsAgain.{ids_written}
+use Rattle.list_laws.proofs.Entries.{at_taken}
+use Rattle.list_laws.proofs.NumbersOfRange.{all_at}
 
 -- what holds of a setup that has a spelling
 pub record IsSpelledSetup (setup : Setup) : Type 0 where
@@ -42,16 +43,6 @@ pub record IsSpelledSetup (setup : Setup) : Type 0 where
 -- the blinds of a setup, as they are named
 abbrev pub blinds_of : Setup → Blinds
 blinds_of setup = record { small = amount_of setup.blinds (small_blind_seat setup); big = big_blind setup }
-
-all_at : (p : ℕ → Bool) (first many number : ℕ) → list_all p (range_with_len first many) ≡ true → first ≤ number → number < first + many → p number ≡ true
-all_at p first zero number all from within = absurd (omega (arith, from, within))
-all_at p first (suc many) number all from within =
-    let parts = and_parts (p first) (list_all p (range_with_len (first + 1) many)) all in
-    by_first (first == number) refl parts.0 (λ past. all_at p (first + 1) many number parts.1 past (omega (arith, within)))
-  where
-    by_first : (same : Bool) → (first == number) ≡ same → p first ≡ true → (first + 1 ≤ number → p number ≡ true) → p number ≡ true
-    by_first true e holds later = ap p (sym (eqb-true first number e)) ∙ holds
-    by_first false e holds later = later (grind (arith, nat_tests, from))
 
 greatest_few : (f : ℕ → ℕ) (most first many : ℕ) → ((number : ℕ) → f number ≤ most) → greatest (map f (range_with_len first many)) ≤ most
 greatest_few f most first zero each = omega arith
@@ -177,7 +168,7 @@ module _ (setup : Setup) (valid : IsValid setup) (is : IsSpelledSetup setup) whe
   table_is =
       record {
         count = seats_in setup.stacks.amounts count setup.stacks.full setup.stacks.greatest;
-        stacks = λ seat. stack_in setup.stacks.amounts count (seat - 1) setup.stacks.filler;
+        stacks = λ seat. at_taken setup.stacks.amounts count (seat - 1) setup.stacks.filler;
         small = refl;
         big = refl;
         same_antes = valid.same_antes;

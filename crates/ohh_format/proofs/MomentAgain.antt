@@ -1,8 +1,8 @@
 -- The moment of a hand that was written reads as that moment.
 use Rattle.std.proofs.Common.{◌≡◌, ℕ, zero, suc, ◌+◌, ◌-◌, ◌*◌, ◌/◌, ◌%◌, ◌^◌, ◌<◌, ◌≤◌, ◌==◌, Bool, true, false, nat_le, cond, List, [], ◌∷◌, ◌++◌, codes, length, take, drop, replicate, Ok, refl, sym, ap, ◌∙◌, arith}
-use Rattle.std.specs.Char.{is_digit, digit_value}
+use Rattle.std.specs.Char.{is_digit}
 use Rattle.std.specs.List.{list_all}
-use Rattle.std.specs.Str.Parse.{digits_value, digits_value_after}
+use Rattle.std.specs.Str.Parse.{digits_value}
 use Rattle.std.proofs.lemmas.Bool.{and_parts, eqb-true, le-leb, lt-ltb}
 use Rattle.std.proofs.lemmas.Grind.{pow_more}
 use Rattle.std.proofs.lemmas.List.{append-nil, length-append}
@@ -13,22 +13,14 @@ use Rattle.ohh_facts.specs.declared.moment.Moment as read
 use Rattle.ohh_facts.specs.Moments.{clock_said, day_said, digits_in_front, digits_said, fraction_of, fraction_said, moment_in, nine_of, parts_said, zoned}
 use Rattle.ohh_line.specs.declared.moment.Moment.{Moment}
 use Rattle.ohh_line.specs.Moment.{by_digits, moment_text}
+use Rattle.list_laws.proofs.Digits.{digit_good, digit_is, value_more}
+use Rattle.list_laws.proofs.Lists.{take_front}
 
 -- ---- digits
-
-digit_is : (x : ℕ) → x < 10 → digit_value (48 + x) ≡ x
-digit_is x small = grind (arith, small)
-
-value_more : (before : ℕ) (digits : List ℕ) (digit : ℕ) → digits_value_after 10 before (digits ++ digit ∷ []) ≡ digits_value_after 10 before digits * 10 + digit_value digit
-value_more before [] digit = omega arith
-value_more before (first ∷ digits) digit = value_more (before * 10 + digit_value first) digits digit
 
 digits_count : (count n : ℕ) → length (by_digits count n) ≡ count
 digits_count zero n = refl
 digits_count (suc count) n = length-append (by_digits count (n / 10)) ((48 + n % 10) ∷ []) ∙ ap (λ k. k + 1) (digits_count count (n / 10)) ∙ omega arith
-
-digit_good : (n : ℕ) → is_digit (48 + n % 10) 10 ≡ true
-digit_good n = let small : n % 10 < 10 = omega arith in lt-ltb (digit_value (48 + n % 10)) 10 (omega (arith, digit_is (n % 10) small))
 
 all_digits : (count n : ℕ) → list_all (λ sign. is_digit sign 10) (by_digits count n) ≡ true
 all_digits zero n = refl
@@ -63,10 +55,6 @@ in_front [] rest all = omega arith
 in_front (digit ∷ digits) rest all =
     let parts = and_parts (is_digit digit 10) (list_all (λ sign. is_digit sign 10) digits) all in
     rw parts.0 (omega (arith, in_front digits rest parts.1))
-
-take_front : (digits rest : List ℕ) → take (length digits) (digits ++ rest) ≡ digits
-take_front [] rest = refl
-take_front (digit ∷ digits) rest = ap (λ (l : List ℕ). digit ∷ l) (take_front digits rest)
 
 -- ---- behind the seconds
 

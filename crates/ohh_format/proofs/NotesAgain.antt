@@ -1,5 +1,5 @@
 -- The notes of a hand that were written read as the kept notes.
-use Rattle.std.proofs.Common.{◌≡◌, ℕ, zero, suc, ◌+◌, ◌-◌, ◌<◌, ◌≤◌, ◌==◌, Bool, true, false, ◌||◌, cond, bytes_eq, codes, decimal, List, [], ◌∷◌, length, map, take, get_or, Option, Some, None, IfSome, option_map, option_and_then, unwrap_or, is_some, Result, Ok, refl, sym, ap, ap₂, subst, ◌∙◌, arith, true≢false}
+use Rattle.std.proofs.Common.{◌≡◌, ℕ, zero, suc, ◌+◌, ◌-◌, ◌<◌, ◌≤◌, ◌==◌, Bool, true, false, ◌||◌, cond, bytes_eq, codes, decimal, List, [], ◌∷◌, length, map, take, get_or, Option, Some, None, IfSome, option_map, option_and_then, unwrap_or, Result, Ok, refl, sym, ap, ap₂, subst, ◌∙◌, arith, true≢false}
 use Rattle.std.specs.List.{range_with_len}
 use Rattle.std.proofs.lemmas.Bool.{eq-eqb, eqb-true, le-leb, ne_eqb}
 use Rattle.std.proofs.lemmas.Fmt.{length-decimal-le}
@@ -28,9 +28,11 @@ use Rattle.ohh_line.specs.Moment.{moment_of, moment_said, moment_text}
 use Rattle.ohh_line.specs.Seating.{number_among, numbers_spelled}
 use Rattle.ohh_line.specs.Tree.{whole}
 use Rattle.ohh_format.specs.Again.{kept_label, notes_again}
-use Rattle.ohh_format.proofs.Circle.{taken_at}
 use Rattle.ohh_format.proofs.MomentAgain.{IsGood, moment_again, moment_read}
 use Rattle.ohh_format.proofs.SeatingAgain.{players_from}
+use Rattle.list_laws.proofs.Bytes.{same_bytes}
+use Rattle.list_laws.proofs.Entries.{zero_taken_at}
+use Rattle.list_laws.proofs.Options.{from_none_some, none_anyway}
 
 -- ---- texts
 
@@ -45,16 +47,9 @@ note_again : (default text : List ℕ) (path : Path) → IsNoteText text → byt
 unfolding note_said
 note_again default text path is other = rw (le-leb (length text) MOST_TEXT_BYTES is.1) (ap (λ (found : Option (List ℕ)). Ok found) (noted_again default text is other))
 
-usual_none : (empty : Bool) (text : List ℕ) → cond (empty || true) None (Some text) ≡ None
-usual_none true text = refl
-usual_none false text = refl
-
 -- a text that equals its default is none
 same_none : (default text : List ℕ) → bytes_eq text default ≡ true → noted default text ≡ None
-same_none default text same = ap (λ (b : Bool). cond ((length text == 0) || b) None (Some text)) same ∙ usual_none (length text == 0) text
-
-bytes_same : (text : List ℕ) → bytes_eq text text ≡ true
-bytes_same text = (bytes_eq-Decides text text).1 refl
+same_none default text same = ap (λ (b : Bool). cond ((length text == 0) || b) None (Some text)) same ∙ none_anyway (length text == 0) text
 
 not_empty : (text : List ℕ) → IsNoteText text → bytes_eq text [] ≡ false
 not_empty [] is = absurd (omega (arith, is.0))
@@ -70,7 +65,7 @@ label_again : (place : ℕ) (path : Path) (said : Option (List ℕ)) → place <
 unfolding label_said note_said
 label_again place path None few is =
     let short : length (decimal place) ≤ 20 = length-decimal-le 20 place (omega arith) (omega (arith, few)) (omega (arith, few)) in
-    rw (le-leb (length (decimal place)) MOST_TEXT_BYTES (omega (arith, short))) (ap (λ (found : Option (List ℕ)). Ok found) (same_none (decimal place) (decimal place) (bytes_same (decimal place))))
+    rw (le-leb (length (decimal place)) MOST_TEXT_BYTES (omega (arith, short))) (ap (λ (found : Option (List ℕ)). Ok found) (same_none (decimal place) (decimal place) (same_bytes (decimal place))))
 label_again place path (Some text) few is = rw (le-leb (length text) MOST_TEXT_BYTES is.1) (by_usual (bytes_eq text (decimal place)) refl)
   where
     found : Option (List ℕ) → Result (Option (List ℕ)) Fault
@@ -87,21 +82,18 @@ count_again count (Some number) some few is = rw (le-leb 1 number is.range.0, le
 
 -- ---- the moment
 
-none_some : {A : Type 0} {P : Type 0} {x : A} → None ≡ Some x → P
-none_some e = absurd (true≢false (ap is_some (sym e)))
-
 -- a moment that is said of allowed notes is one of the calendar
 moment_good : (year month day : Option ℕ) (time : Option Clock) (area : Option (List ℕ)) (moment : Moment) → moment_said year month day time area ≡ Some moment
     → IfSome year (IsWithin 1 9999) → IfSome month (IsWithin 1 12) → IfSome day (IsWithin 1 31) → IfSome year (λ year. IfSome month (λ month. IfSome day (IsDayOf year month))) → IfSome time IsTime → IsGood moment
-moment_good None month day time area moment is a b c d e = none_some is
-moment_good (Some year) None day time area moment is a b c d e = none_some is
-moment_good (Some year) (Some month) None time area moment is a b c d e = none_some is
-moment_good (Some year) (Some month) (Some day) None area moment is a b c d e = none_some is
-moment_good (Some year) (Some month) (Some day) (Some time) None moment is a b c d e = none_some is
+moment_good None month day time area moment is a b c d e = from_none_some is
+moment_good (Some year) None day time area moment is a b c d e = from_none_some is
+moment_good (Some year) (Some month) None time area moment is a b c d e = from_none_some is
+moment_good (Some year) (Some month) (Some day) None area moment is a b c d e = from_none_some is
+moment_good (Some year) (Some month) (Some day) (Some time) None moment is a b c d e = from_none_some is
 moment_good (Some year) (Some month) (Some day) (Some time) (Some area) moment is a b c d e = by_area (bytes_eq area (codes "UTC")) is
   where
     by_area : (utc : Bool) → cond utc (Some (record { year = year; month = month; day = day; time = time })) None ≡ Some moment → IsGood moment
-    by_area false is = none_some is
+    by_area false is = from_none_some is
     by_area true is =
         let same : ◌≡◌ {A = Moment} (record { year = year; month = month; day = day; time = time }) moment = same_Some (record { year = year; month = month; day = day; time = time }) moment is in
         subst IsGood same (record { year = a; month = b; day = c; date = d; time = e })
@@ -154,7 +146,7 @@ module _ (place count : ℕ) (stacks : SeatRow) (notes : Notes) (ohh : Data) (fe
       ) refl
 
   one_name : (seat : ℕ) (said : Option (List ℕ)) → IfSome said (IsName seat) → noted (default_name seat) (unwrap_or said (default_name seat)) ≡ said
-  one_name seat None is = same_none (default_name seat) (default_name seat) (bytes_same (default_name seat))
+  one_name seat None is = same_none (default_name seat) (default_name seat) (same_bytes (default_name seat))
   one_name seat (Some name) is = noted_again (default_name seat) name is.text (differs name (default_name seat) is.said)
     where
       differs : (text default : List ℕ) → (text ≡ default → ⊥) → bytes_eq text default ≡ false
@@ -191,10 +183,10 @@ module _ (place count : ℕ) (stacks : SeatRow) (notes : Notes) (ohh : Data) (fe
       let usual : map (λ (player : PlainPlayer). player.seat) (players_from count stacks notes None 1 count) ≡ range_with_len 1 count = seats_from None 1 count ∙ same_numbers 1 count in
       ap unless_usual usual
       ∙ ap (λ (n : ℕ). cond (bytes_eq (range_with_len 1 count) (range_with_len 1 n)) None (Some (range_with_len 1 count))) (length-range_with_len 1 count)
-      ∙ ap (λ (b : Bool). cond b None (Some (range_with_len 1 count))) (bytes_same (range_with_len 1 count))
+      ∙ ap (λ (b : Bool). cond b None (Some (range_with_len 1 count))) (same_bytes (range_with_len 1 count))
   seats_again (Some all) long =
       ap unless_usual (seats_from (Some all) 1 count
-      ∙ said_numbers all 1 count (take count all) (omega arith) (length-take-le count all long) (λ k within. taken_at count all k within ∙ ap (λ j. get_or all j 0) (omega arith)))
+      ∙ said_numbers all 1 count (take count all) (omega arith) (length-take-le count all long) (λ k within. zero_taken_at count all k within ∙ ap (λ j. get_or all j 0) (omega arith)))
 
   -- the notes
   pub notes_read : (long : IfSome numbers (λ all. count ≤ length all)) (many : ℕ) → many ≡ count → length (players_from count stacks notes numbers 1 count) ≡ many

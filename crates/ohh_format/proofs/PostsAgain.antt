@@ -6,7 +6,7 @@ use Rattle.std.proofs.lemmas.Bool.{and_parts, eq-eqb, eqb-true, le-ltb, lt-leb, 
 use Rattle.std.proofs.lemmas.Bool.Decides.{nat_tests}
 use Rattle.std.proofs.lemmas.List.{length-append}
 use Rattle.list_laws.proofs.Finding.{any_agree}
-use Rattle.list_laws.proofs.NumbersOfRange.{map_agree, some_in_range}
+use Rattle.list_laws.proofs.NumbersOfRange.{map_agree, some_in_range, all_of, any_none}
 use Rattle.chip_ledger.specs.Greatest.{greatest}
 use Rattle.chip_ledger.specs.Seat.{seats_of}
 use Rattle.chip_ledger.specs.SeatRow.{amount_of}
@@ -26,7 +26,8 @@ use Rattle.ohh_posts.specs.Stakes.{are_dead, held_ante, named_blind, stakes_said
 use Rattle.ohh_posts.specs.Table as tables
 use Rattle.ohh_posts.specs.Table.{PlainTable, amounts_in, seat_count, stack_of}
 use Rattle.ohh_posts.proofs.SeatBySeat.{row_listed}
-use Rattle.ohh_format.proofs.PutsAgain.{Put, first_both, first_is, first_put, has_both, has_is, has_no, has_put, no_kind, of_seat, or_nothing, other_put, post_at, posts_at, posts_both, puts_of}
+use Rattle.ohh_format.proofs.PutsAgain.{Put, first_both, first_is, first_put, has_both, has_is, has_no, has_put, no_kind, of_seat, other_put, post_at, posts_at, posts_both, puts_of}
+use Rattle.list_laws.proofs.Options.{or_nothing}
 
 -- a seat has an ante, and a straddle
 abbrev pub posts_ante : Setup → ℕ → Bool
@@ -76,14 +77,6 @@ not_all p first (suc count) number from within fails = by_first (p first) refl (
     by_first false is same e behind = refl
     by_first true is true e behind = absurd (true≢false (sym is ∙ ap p (eqb-true first number e) ∙ fails))
     by_first true is false e behind = behind (grind (arith, nat_tests, from))
-
-none_any : (p : ℕ → Bool) (first count : ℕ) → ((number : ℕ) → first ≤ number → number < first + count → p number ≡ false) → list_any p (range_with_len first count) ≡ false
-none_any p first zero none = refl
-none_any p first (suc count) none = rw (none first (omega arith) (omega arith)) (none_any p (first + 1) count (λ number from within. none number (omega (arith, from)) (omega (arith, within))))
-
-pub all_of : (p : ℕ → Bool) (first count : ℕ) → ((number : ℕ) → first ≤ number → number < first + count → p number ≡ true) → list_all p (range_with_len first count) ≡ true
-all_of p first zero each = refl
-all_of p first (suc count) each = rw (each first (omega arith) (omega arith)) (all_of p (first + 1) count (λ number from within. each number (omega (arith, from)) (omega (arith, within))))
 
 module _ (setup : Setup) (table : PlainTable) (is : IsTableOf setup table) where
   abbrev count : ℕ
@@ -420,7 +413,7 @@ module _ (setup : Setup) (table : PlainTable) (is : IsTableOf setup table) where
       by_greatest false g =
           let none : list_any (λ seat. nat_lt 0 (held_ante table posts seat)) (seats_of (seat_count table)) ≡ false =
           ap (λ (n : ℕ). list_any (λ seat. nat_lt 0 (held_ante table posts seat)) (seats_of n)) is.count
-          ∙ none_any (λ seat. nat_lt 0 (held_ante table posts seat)) 1 count (λ seat low within.
+          ∙ any_none (λ seat. nat_lt 0 (held_ante table posts seat)) 1 count (λ seat low within.
           le-ltb 0 (held_ante table posts seat) (omega (arith, ante_held seat low (omega (arith, within)), is.whole e seat low (omega (arith, within)), ltb-false 0 (greatest_ante setup) g))) in
           rw none refl
 

@@ -7,6 +7,7 @@ use Rattle.std.proofs.lemmas.List.Folds.{find-append}
 use Rattle.list_laws.proofs.Tests.{and_false}
 use Rattle.ohh_posts.specs.declared.post.PostKind.{PostKind}
 use Rattle.ohh_posts.specs.Posts.{PlainPost, first_post}
+use Rattle.list_laws.proofs.Options.{or_nothing}
 
 -- a post: what it is, its seat and its chips
 pub record Put : Type 0 where
@@ -67,10 +68,6 @@ pub first_both : (is_kind : PostKind → Bool) (seat : ℕ) (some more : List Pu
 first_both is_kind seat some more =
     ap (option_map (λ (put : Put). put.amount)) (find-append (is_of is_kind seat) some more)
     ∙ amounts_or (find (is_of is_kind seat) some) (find (is_of is_kind seat) more)
-
-pub or_nothing : (found : Option ℕ) → option_or found None ≡ found
-or_nothing (Some x) = refl
-or_nothing None = refl
 
 -- one post more of another kind or another seat
 pub other_put : (is_kind : PostKind → Bool) (seat : ℕ) (puts : List Put) (put : Put) → is_of is_kind seat put ≡ false → first_put is_kind seat (puts ++ put ∷ []) ≡ first_put is_kind seat puts

@@ -7,9 +7,6 @@ magnitude : ℤ → ℕ
 magnitude (pos n) = n
 magnitude (negsuc n) = n
 
-pub same_number : (a b : ℕ) → a ≡ b → int_eq (pos a) (pos b) ≡ true
-same_number a b same = (Decides-int_eq (pos a) (pos b)).1 (ap pos same)
-
 pub other_number : (a b : ℕ) → a ≢ b → int_eq (pos a) (pos b) ≡ false
 unfolding magnitude
 other_number a b other = by_test (int_eq (pos a) (pos b)) refl

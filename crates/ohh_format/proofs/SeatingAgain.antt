@@ -22,8 +22,9 @@ use Rattle.ohh_members.specs.Values.{added_from, field, integer_said, list_said,
 use Rattle.ohh_line.specs.Seating.{name_written, number_among}
 use Rattle.ohh_line.specs.Tree.{player_tree, players, whole}
 use Rattle.ohh_format.proofs.CardLists.{listed_again}
-use Rattle.ohh_format.proofs.SameNumbers.{other_number, same_number}
+use Rattle.ohh_format.proofs.SameNumbers.{other_number}
 use Rattle.ohh_format.proofs.Circle.{IsCircle, after_top, next_higher, one_seat, top_is}
+use Rattle.list_laws.proofs.Integers.{same_whole}
 
 module _ (count : ℕ) (stacks : SeatRow) (notes : Notes) (numbers : Option (List ℕ)) where
   abbrev number : ℕ → ℕ
@@ -177,7 +178,7 @@ module _ (count : ℕ) (stacks : SeatRow) (notes : Notes) (numbers : Option (Lis
             → player_at (pos (number target)) (players_from first (suc many)) ≡ Some (player_of target)
         by_first true e later =
             let at : first ≡ target = eqb-true first target e in
-            rw (same_number (number first) (number target) (ap number at)) (ap (λ (n : ℕ). Some (player_of n)) at)
+            rw (same_whole (number first) (number target) (ap number at)) (ap (λ (n : ℕ). Some (player_of n)) at)
         by_first false e later =
             let apart : first ≢ target = λ at. absurd (true≢false (sym (eq-eqb first target at) ∙ e)) in
             let numbers_apart : number first ≢ number target = λ same. apart (one_seat count number is first target low (omega (arith, from, high)) (omega (arith, low, from)) high same) in

@@ -1,5 +1,5 @@
 -- Sound plays that the format spells read back when they were written.
-use Rattle.std.proofs.Common.{◌≡◌, ℕ, zero, suc, ◌+◌, ◌-◌, ◌≤◌, Bool, true, false, ◌&&◌, ◌==◌, nat_lt, if◌then◌else◌, sum_by, List, [], ◌∷◌, ◌++◌, length, reverse, take, pos, Option, Some, None, is_some, Ok, refl, sym, ap, subst, ◌∙◌, arith, true≢false}
+use Rattle.std.proofs.Common.{◌≡◌, ℕ, zero, suc, ◌+◌, ◌-◌, ◌≤◌, Bool, true, false, ◌&&◌, ◌==◌, nat_lt, if◌then◌else◌, sum_by, List, [], ◌∷◌, ◌++◌, length, reverse, take, pos, Option, Some, None, Ok, refl, sym, ap, subst, ◌∙◌, arith, true≢false}
 use Rattle.std.specs.List.{AllByRecursion, flat_map, list_any, range_with_len}
 use Rattle.std.proofs.lemmas.List.Sums.{sum_by-cons}
 use Rattle.canon_laws.proofs.MoveCounts.{move_count, tidy_within}
@@ -62,22 +62,21 @@ use Rattle.ohh_format.proofs.PlayAgain.{CanBePlayed}
 use Rattle.ohh_format.proofs.SoundMoves.{live_folds, no_moves_on, written_moves}
 use Rattle.ohh_format.proofs.SoundPots.{has_pots}
 use Rattle.ohh_format.proofs.SoundShows.{mucked_live, showdown_is}
-use Rattle.canon_ranges.proofs.StreetsPlayed.{HasStreet, board_known, came_before, first_holes, four_streets, is_passed, no_cards}
+use Rattle.canon_ranges.proofs.StreetsPlayed.{HasStreet, board_known, came_before, first_holes, four_streets, is_passed}
 use Rattle.ohh_format.proofs.ToldDeeds.{IsGoodPost}
 use Rattle.ohh_format.proofs.WinsAgain.{seat_again}
+use Rattle.list_laws.proofs.Lists.{none_from_length}
+use Rattle.list_laws.proofs.Options.{from_some_none}
 
 -- ---- the facts that are spelled
 
-pub none_some : {A : Type 0} {P : Type 0} {x : A} → Some x ≡ None → P
-none_some e = absurd (true≢false (ap is_some e))
-
 pub first_none : (one behind : Option Unspelled) → or_behind one behind ≡ None → one ≡ None
 first_none None behind none = refl
-first_none (Some fact) behind none = none_some none
+first_none (Some fact) behind none = from_some_none none
 
 pub fact_holds : (holds : Bool) (fact : Unspelled) (rest : Option Unspelled) → (if holds then rest else Some fact) ≡ None → (holds ≡ true) × (rest ≡ None)
 fact_holds true fact rest none = (refl, none)
-fact_holds false fact rest none = none_some none
+fact_holds false fact rest none = from_some_none none
 
 pub spelled_setup : (keep : Keep) (play : Play) → unspelled keep play ≡ None → IsSpelledSetup play.trace.setup
 unfolding unspelled
@@ -174,7 +173,7 @@ passed_there setup events street is low high has false e none = absurd (omega (a
 -- and then a later one was not come to either
 none_later : (setup : Setup) (events : List Said) (early late : ℕ) → early ≤ late → HasStreet setup events late → is_passed setup (moves_of (past_of setup events)) early ≡ true → (passed : Bool) → is_passed setup (moves_of (past_of setup events)) late ≡ passed
     → dealt_slots (traced_places setup (past_of setup events)) None late ≡ []
-none_later setup events early late order has over true e = no_cards (dealt_slots (traced_places setup (past_of setup events)) None late) (omega (arith, has.no_board e))
+none_later setup events early late order has over true e = none_from_length (dealt_slots (traced_places setup (past_of setup events)) None late) (omega (arith, has.no_board e))
 none_later setup events early late order has over false e = absurd (true≢false (sym over ∙ came_before setup (moves_of (past_of setup events)) early late order e))
 
 take_whole : (l : List Said) → take (length l) l ≡ l
@@ -196,8 +195,8 @@ core_reads setup rules script valid played tidy is =
     λ street low high none. passed_there setup events street is low high (streets street (omega (arith, low)) high) (is_passed setup list street) refl none in
     record {
       holes = λ seat low high. first_holes setup rules events seat played.legal complete (is.no_draw 1) (omega (arith, is.streets)) low high ∙ is.holes;
-      no_more = λ seat street low high from to. no_cards (dealt_slots placed (Some seat) street) (omega (arith, (streets street (omega (arith, from)) to).holes seat low high, is.later_holes street from));
-      no_board = no_cards (dealt_slots placed None 1) (omega (arith, at_most setup events 1 (streets 1 (omega arith) (omega arith)) (is_passed setup list 1) refl, is.no_board));
+      no_more = λ seat street low high from to. none_from_length (dealt_slots placed (Some seat) street) (omega (arith, (streets street (omega (arith, from)) to).holes seat low high, is.later_holes street from));
+      no_board = none_from_length (dealt_slots placed None 1) (omega (arith, at_most setup events 1 (streets 1 (omega arith) (omega arith)) (is_passed setup list 1) refl, is.no_board));
       boards_few = λ street. tidy.cards.dealt_few None street;
       known = λ street. board_known placed street tidy.cards.board_known;
       turn_follows = λ none. none_later setup events 2 3 (omega arith) (streets 3 (omega arith) (omega arith)) (passed 2 (omega arith) (omega arith) none) (is_passed setup list 3) refl;
@@ -302,7 +301,7 @@ module _ (keep : Keep) (play : Play) (sound : IsSound play) (spelled : unspelled
 
 pub none_refused : (number : ℕ) (found : Option Unspelled) (behind : Option WriteRefusal) → refused_at number found behind ≡ None → (found ≡ None) × (behind ≡ None)
 none_refused number None behind none = (refl, none)
-none_refused number (Some fact) behind none = none_some none
+none_refused number (Some fact) behind none = from_some_none none
 
 all_readable : (keep : Keep) (number : ℕ) (plays : List Play) → AllByRecursion IsSound plays → refusal_from keep number plays ≡ None → AllByRecursion IsReadable plays
 all_readable keep number [] each none = tt

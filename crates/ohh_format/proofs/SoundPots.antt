@@ -1,5 +1,5 @@
 -- The pots of a sound play can be stated.
-use Rattle.std.proofs.Common.{◌≡◌, ℕ, zero, suc, ◌+◌, ◌-◌, ◌*◌, ◌<◌, ◌≤◌, List, [], ◌∷◌, length, map, sum_by, take, drop, get_or, slice_get, Option, Some, inl, inr, refl, sym, ap, subst, ◌∙◌, arith}
+use Rattle.std.proofs.Common.{◌≡◌, ℕ, zero, suc, ◌+◌, ◌-◌, ◌*◌, ◌<◌, ◌≤◌, List, [], ◌∷◌, length, map, sum_by, drop, slice_get, Option, inl, inr, refl, sym, ap, subst, ◌∙◌, arith}
 use Rattle.std.specs.List.{range_with_len}
 use Rattle.std.specs.Option.{option_map_or}
 use Rattle.std.proofs.lemmas.Bool.{cases_lt}
@@ -33,6 +33,7 @@ use Rattle.trace_laws.proofs.TraceChips.{pots_and_returns}
 use Rattle.variant_table.specs.Shares.{AllShared, Showdown}
 use Rattle.ohh_line.specs.Tree.{share_at}
 use Rattle.ohh_format.proofs.PotsAgain.{HasPots, SharesFit, chips_of}
+use Rattle.list_laws.proofs.Entries.{taken_at, there}
 
 -- ---- the chips together
 
@@ -62,17 +63,6 @@ seat_less row (suc seat) = elim (cases_lt row.seats (suc seat)) [
   | inl beyond ↦ let none = row.filler (suc seat - 1) (omega (arith, beyond)) in omega (arith, none)
   | inr within ↦ one_of_sum (amount_of row) 1 row.seats (suc seat) (omega arith) (omega (arith, within))
 ]
-
-there : {X : Type 0} (xs : List X) (k : ℕ) (d : X) → k < length xs → slice_get xs k ≡ Some (get_or xs k d)
-there [] k d within = absurd (omega (arith, within))
-there (x ∷ xs) zero d within = refl
-there (x ∷ xs) (suc k) d within = there xs k d (omega (arith, within))
-
-taken : {X : Type 0} (n : ℕ) (xs : List X) (k : ℕ) (d : X) → k < n → get_or (take n xs) k d ≡ get_or xs k d
-taken zero xs k d within = absurd (omega (arith, within))
-taken (suc n) [] k d within = refl
-taken (suc n) (x ∷ xs) zero d within = refl
-taken (suc n) (x ∷ xs) (suc k) d within = taken n xs k d (omega (arith, within))
 
 past_end : (pots : List PlainPot) (index : ℕ) → length pots ≤ index → option_map_or (λ pot. pot.chips) (slice_get pots index) 0 ≡ 0
 past_end [] index late = refl
@@ -126,7 +116,7 @@ module _ (setup : Setup) (past : Past) (trace : Trace) (valid : IsValid setup) (
       let share : shared_in trace.shares (place + 1) ≡ total_of (share_at trace place) =
       ap (λ (k : ℕ). option_map_or total_of (slice_get (shares_in trace.shares) k) 0) index
       ∙ ap (λ (found : Option SeatRow). option_map_or total_of found 0) (there (shares_in trace.shares) place no_amounts in_row)
-      ∙ ap total_of (taken trace.shares.count trace.shares.shares place no_amounts (omega (arith, in_row, share_count))) in
+      ∙ ap total_of (taken_at trace.shares.count trace.shares.shares place no_amounts (omega (arith, in_row, share_count))) in
       let chips : chips_in (plain_pots trace.pots) (place + 1) ≡ pot.chips =
       ap (λ (k : ℕ). option_map_or (λ (p : PlainPot). p.chips) (slice_get (plain_pots trace.pots) k) 0) index ∙ chips_at (pots_in trace.pots) place pot rest at in
       omega (arith, shares_and_rakes setup past trace shareable is (place + 1), share, chips, seat_less (share_at trace place) seat)

@@ -1,8 +1,6 @@
 -- The wins and the total of the pots that are stated again are those of the trace, so nothing that is stated differs.
-use Rattle.std.proofs.Common.{◌≡◌, ℕ, zero, suc, ◌+◌, ◌-◌, ◌<◌, ◌≤◌, pos, false, not, List, [], ◌++◌, map, find, get_or, length, if◌then◌else◌, Option, Some, None, option_map, refl, sym, ap, ◌∙◌, arith}
+use Rattle.std.proofs.Common.{◌≡◌, ℕ, zero, suc, ◌+◌, ◌-◌, ◌<◌, ◌≤◌, false, List, [], ◌++◌, map, find, get_or, length, if◌then◌else◌, Option, Some, None, option_map, refl, sym, ap, ◌∙◌, arith}
 use Rattle.std.specs.List.{range_with_len}
-use Rattle.std.specs.Ordering.{int_eq}
-use Rattle.std.proofs.lemmas.Bool.Decides.{Decides-int_eq}
 use Rattle.std.proofs.lemmas.List.{get_or-take, length-map, length-take-le}
 use Rattle.std.proofs.lemmas.List.FromFn.{length-range_with_len}
 use Rattle.chip_ledger.specs.SeatRow.{amount_of}
@@ -13,16 +11,13 @@ use Rattle.hand_records.specs.declared.record.Stated.{Stated}
 use Rattle.hand_records.specs.declared.trace.Trace.{Trace}
 use Rattle.hand_canon.specs.Agreement.{Comparison, finish_compared, first_difference, is_different, pot_total_of, pots_compared, row_compared, total_compared, value_compared, win_compared, win_of}
 use Rattle.ohh_members.specs.Front.{amounts_in}
+use Rattle.list_laws.proofs.Integers.{not_different_whole}
 
 -- a number of a list that is made for each seat
 pub at_seat : (f : ℕ → ℕ) (first count k : ℕ) → k < count → get_or (map f (range_with_len first count)) k 0 ≡ f (first + k)
 at_seat f first zero k within = absurd (omega (arith, within))
 at_seat f first (suc count) zero within = ap f (omega arith)
 at_seat f first (suc count) (suc k) within = at_seat f (first + 1) count k (omega (arith, within)) ∙ ap f (omega arith)
-
--- a number is itself
-same_number : (a b : ℕ) → a ≡ b → not (int_eq (pos a) (pos b)) ≡ false
-same_number a b same = ap not ((Decides-int_eq (pos a) (pos b)).1 (ap pos same))
 
 -- where no number differs nothing is found but behind
 none_differ : (compared : ℕ → Comparison) (first count : ℕ) (rest : List Comparison) → ((seat : ℕ) → first ≤ seat → seat < first + count → is_different (compared seat) ≡ false)
@@ -54,12 +49,12 @@ module _ (trace : Trace) (row : SeatRow) (same : amounts_in row ≡ map (win_of 
       ∙ ap (win_of trace) number
 
   wins_agree : (rest : List Comparison) → find is_different (row_compared trace win_compared (Some row) ++ rest) ≡ find is_different rest
-  wins_agree rest = none_differ (win_compared trace row) 1 seats rest (λ seat from to. same_number (amount_of row seat) (win_of trace seat) (win_is seat from to))
+  wins_agree rest = none_differ (win_compared trace row) 1 seats rest (λ seat from to. not_different_whole (amount_of row seat) (win_of trace seat) (win_is seat from to))
 
 -- the total
 total_agrees : (trace : Trace) → find is_different (total_compared trace (Some (pot_total_of trace)) ++ []) ≡ None
 total_agrees trace =
-    ap (λ b. if b then Some (pots_compared trace (pot_total_of trace)) else None) (same_number (pot_total_of trace) (pot_total_of trace) refl)
+    ap (λ b. if b then Some (pots_compared trace (pot_total_of trace)) else None) (not_different_whole (pot_total_of trace) (pot_total_of trace) refl)
 
 -- what is read of what is stated
 some_wins : (trace : Trace) (wins : Option SeatRow) (rest : List Comparison) → option_map amounts_in wins ≡ Some (map (win_of trace) (all_seats trace.setup))

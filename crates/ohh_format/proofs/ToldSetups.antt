@@ -1,9 +1,9 @@
 -- A setup that is told by posts has a spelling: its game, sizes of bets, antes and blinds.
-use Rattle.std.proofs.Common.{◌≡◌, ℕ, zero, suc, ◌+◌, ◌-◌, ◌*◌, ◌<◌, ◌≤◌, Bool, true, false, not, ◌&&◌, ◌||◌, ◌==◌, nat_le, nat_lt, min, inl, inr, if◌then◌else◌, List, length, map, slice_index, Option, Some, None, is_some, refl, sym, ap, subst, ◌∙◌, arith, true≢false}
+use Rattle.std.proofs.Common.{◌≡◌, ℕ, zero, suc, ◌+◌, ◌-◌, ◌*◌, ◌<◌, ◌≤◌, Bool, true, false, not, ◌&&◌, ◌||◌, ◌==◌, nat_le, nat_lt, min, if◌then◌else◌, List, length, map, slice_index, Option, Some, None, is_some, refl, sym, ap, ◌∙◌, arith, true≢false}
 use Rattle.std.specs.List.{list_all, list_any, range_with_len}
 use Rattle.std.specs.Option.{option_map_or}
-use Rattle.std.proofs.lemmas.Bool.{and_from, and_parts, cases_lt, eq-eqb, le-leb, leb-false, lt-ltb, ltb-false, ne_eqb, or_left, or_right}
-use Rattle.list_laws.proofs.NumbersOfRange.{at_range, map_agree}
+use Rattle.std.proofs.lemmas.Bool.{and_from, eq-eqb, le-leb, leb-false, lt-ltb, ltb-false, ne_eqb}
+use Rattle.list_laws.proofs.NumbersOfRange.{at_range, map_agree, all_at, all_of, some_other}
 use Rattle.chip_ledger.specs.Greatest.{greatest}
 use Rattle.chip_ledger.specs.Seat.{seats_of}
 use Rattle.chip_ledger.specs.SeatRow.{amount_of}
@@ -13,7 +13,7 @@ use Rattle.play_event.specs.Streets.{limit_of}
 use Rattle.play_event.specs.ValidSetup.{is_fixed}
 use Rattle.play_event.specs.declared.setup.Setup.{Setup}
 use Rattle.ohh_line.specs.Spelled.{big_blind, greatest_ante, has_no_ante, has_spelled_antes, has_spelled_blinds, has_spelled_sizes, has_spelled_straddles, has_two_blinds, is_covered_straddle, is_whole_ante}
-use Rattle.ohh_posts.proofs.Stacks.{seats_in, stack_in}
+use Rattle.ohh_posts.proofs.Stacks.{seats_in}
 use Rattle.ohh_posts.specs.Conditions as conditions_of
 use Rattle.ohh_posts.specs.Conditions.{has_all_antes}
 use Rattle.ohh_posts.specs.Posts.{PlainPost, ante_of, first_ante, first_straddle}
@@ -21,10 +21,10 @@ use Rattle.ohh_posts.specs.Stakes.{PlainStakes, are_dead, held_ante, named_blind
 use Rattle.ohh_posts.specs.Table.{PlainTable, amounts_in, seat_count, stack_of}
 use Rattle.ohh_reading.specs.Hand.{plain_setup}
 use Rattle.ohh_reading.specs.declared.sizes.Sizes.{Sizes}
-use Rattle.ohh_format.proofs.PostsAgain.{all_of}
 use Rattle.ohh_format.proofs.StatedAgrees.{at_seat}
 use Rattle.ohh_format.proofs.ToldHands.{IsToldSetup}
 use Rattle.ohh_format.proofs.ToldPosts.{ante_even, ante_within, straddle_few}
+use Rattle.list_laws.proofs.Entries.{at_taken}
 
 -- ---- ranges
 
@@ -33,29 +33,11 @@ row_at : (row : SeatRow) (f : ℕ → ℕ) (count : ℕ) → amounts_in row ≡ 
 row_at row f count same seat low high =
     let within : seat - 1 < count = omega (arith, low, high) in
     let number : 1 + (seat - 1) ≡ seat = omega (arith, low) in
-    sym (stack_in row.amounts row.seats (seat - 1) row.filler)
+    sym (at_taken row.amounts row.seats (seat - 1) row.filler)
     ∙ ap (λ (l : List ℕ). slice_index l (seat - 1)) same
     ∙ at_seat f 1 count (seat - 1) within
     ∙ ap f number
 
--- where not all pass a test, some pass another one that all others pass
-some_other : (p q : ℕ → Bool) (first count : ℕ) → ((number : ℕ) → first ≤ number → number < first + count → p number ≡ false → q number ≡ true) → list_all p (range_with_len first count) ≡ false → list_any q (range_with_len first count) ≡ true
-some_other p q first zero each fails = absurd (true≢false fails)
-some_other p q first (suc count) each fails = by_first (p first) refl fails (some_other p q (first + 1) count (λ number low high. each number (omega (arith, low)) (omega (arith, high))))
-  where
-    by_first : (passes : Bool) → p first ≡ passes → (passes && list_all p (range_with_len (first + 1) count)) ≡ false
-        → (list_all p (range_with_len (first + 1) count) ≡ false → list_any q (range_with_len (first + 1) count) ≡ true) → (q first || list_any q (range_with_len (first + 1) count)) ≡ true
-    by_first true is fails later = or_right (q first) (list_any q (range_with_len (first + 1) count)) (later fails)
-    by_first false is fails later = or_left (q first) (list_any q (range_with_len (first + 1) count)) (each first (omega arith) (omega arith) is)
-
--- what all pass, each passes
-each_of : (p : ℕ → Bool) (first count number : ℕ) → list_all p (range_with_len first count) ≡ true → first ≤ number → number < first + count → p number ≡ true
-each_of p first zero number all low high = absurd (omega (arith, low, high))
-each_of p first (suc count) number all low high = elim (cases_lt first number) [
-  | inl later ↦ each_of p (first + 1) count number (and_parts (p first) (list_all p (range_with_len (first + 1) count)) all).1 (omega (arith, later)) (omega (arith, high))
-  | inr same ↦
-      let is : first ≡ number = omega (arith, low, same) in
-      subst (λ (n : ℕ). p n ≡ true) is (and_parts (p first) (list_all p (range_with_len (first + 1) count)) all).0
 ]
 
 greatest_none : (f : ℕ → ℕ) (first count : ℕ) → ((number : ℕ) → first ≤ number → number < first + count → f number ≡ 0) → greatest (map f (range_with_len first count)) ≡ 0
@@ -85,7 +67,7 @@ module _ (setup : Setup) (is : IsToldSetup (plain_setup setup)) where
   count_is = ap (λ (l : List ℕ). length l) (sym is.stacks) ∙ seats_in setup.stacks.amounts count setup.stacks.full setup.stacks.greatest
 
   stack_is : (seat : ℕ) → stack_of table seat ≡ amount_of setup.stacks seat
-  stack_is seat = ap (λ (l : List ℕ). slice_index l (seat - 1)) (sym is.stacks) ∙ stack_in setup.stacks.amounts count (seat - 1) setup.stacks.filler
+  stack_is seat = ap (λ (l : List ℕ). slice_index l (seat - 1)) (sym is.stacks) ∙ at_taken setup.stacks.amounts count (seat - 1) setup.stacks.filler
 
   held_is : (seat : ℕ) → 1 ≤ seat → seat ≤ count → amount_of setup.antes seat ≡ held_ante table posts seat
   unfolding stakes_said
@@ -207,7 +189,7 @@ module _ (setup : Setup) (is : IsToldSetup (plain_setup setup)) where
   even_ante : has_all_antes table posts ≡ true → (seat : ℕ) → 1 ≤ seat → seat < 1 + count → ante_of posts seat ≡ min (conditions_of.greatest_ante table posts) (stack_of table seat)
   even_ante all seat low high =
       by_first (first_ante seat posts) refl
-      (each_of (λ n. is_some (first_ante n posts)) 1 count seat (sym (ap (λ n. list_all (λ seat. is_some (first_ante seat posts)) (seats_of n)) count_is) ∙ all) low high)
+      (all_at (λ n. is_some (first_ante n posts)) 1 count seat (sym (ap (λ n. list_all (λ seat. is_some (first_ante seat posts)) (seats_of n)) count_is) ∙ all) low high)
     where
       by_first : (found : Option ℕ) → first_ante seat posts ≡ found → is_some found ≡ true → option_map_or (λ ante. ante) found 0 ≡ min (conditions_of.greatest_ante table posts) (stack_of table seat)
       by_first None e some = absurd (true≢false (sym some))

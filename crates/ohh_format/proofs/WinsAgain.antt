@@ -13,8 +13,9 @@ use Rattle.chip_ledger.specs.SeatRow.{amount_of}
 use Rattle.ohh_members.specs.Values.{added_from, needed, number_said, integer_said, object_said, player_said, seat_from, seat_of}
 use Rattle.ohh_facts.specs.Pots.{summed, win_added, win_said}
 use Rattle.ohh_facts.specs.Won.{PlainWin, won_by}
-use Rattle.ohh_format.proofs.SameNumbers.{other_number, same_number}
+use Rattle.ohh_format.proofs.SameNumbers.{other_number}
 use Rattle.ohh_line.specs.Tree.{win_object, win_tree}
+use Rattle.list_laws.proofs.Integers.{same_whole}
 
 -- the ids that are written: 1, 2 and so on
 abbrev pub ids_written : ℕ → List ℤ
@@ -22,7 +23,7 @@ ids_written count = map pos (seats_of count)
 
 seat_again_from : (seat first count : ℕ) (same : Bool) → (seat == first) ≡ same → first ≤ seat → seat < first + count → seat_from first (pos seat) (map pos (range_with_len first count)) ≡ Some seat
 seat_again_from seat first zero same is from below = absurd (omega (arith, from, below))
-seat_again_from seat first (suc count) true is from below = let e : first ≡ seat = grind (arith, nat_tests) in rw (same_number seat first (sym e)) (ap Some e)
+seat_again_from seat first (suc count) true is from below = let e : first ≡ seat = grind (arith, nat_tests) in rw (same_whole seat first (sym e)) (ap Some e)
 seat_again_from seat first (suc count) false is from below =
     let later : first + 1 ≤ seat = grind (arith, nat_tests, from) in
     rw (other_number seat first (λ same. omega (arith, same, later))) (seat_again_from seat (first + 1) count (seat == first + 1) refl later (omega (arith, below)))

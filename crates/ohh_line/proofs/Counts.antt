@@ -1,5 +1,5 @@
 -- A hand has few actions, so each of them has its number.
-use Rattle.std.proofs.Common.{◌≡◌, ℕ, ◌+◌, ◌-◌, ◌≤◌, ◌^◌, Bool, true, false, cond, ◌==◌, ◌&&◌, nat_lt, List, [], ◌∷◌, ◌++◌, length, map, sum_by, Some, None, refl, sym, ap, ◌∙◌, arith, length-append}
+use Rattle.std.proofs.Common.{◌≡◌, ℕ, ◌+◌, ◌-◌, ◌≤◌, ◌^◌, cond, ◌==◌, ◌&&◌, nat_lt, List, [], ◌∷◌, ◌++◌, length, map, sum_by, Some, None, refl, sym, ap, ◌∙◌, arith, length-append}
 use Rattle.std.proofs.lemmas.List.{length-map}
 use Rattle.std.proofs.lemmas.List.FromFn.{length-range_with_len}
 use Rattle.std.proofs.lemmas.List.Sums.{sum_by-append, sum_by-cons}
@@ -25,14 +25,7 @@ use Rattle.ohh_line.specs.declared.action.Street.TheVariants as streets
 use Rattle.ohh_line.specs.declared.action.Word.TheVariants as words
 use Rattle.ohh_line.specs.Actions.{PlainAction, act_written, action_said, alone, ante_post, big_blind_seat, blind_post, deal_written, deals, has_known, move_written, moves_written, posts, showing, showings, small_blind_seat, straddle_post, with_cards, with_chips}
 use Rattle.ohh_line.specs.Rounds.{PlainRound, board_round, board_round_on, round, first_actions, hand_rounds, moves_on, round_said, showdown_round}
-
-one_at_most : {X : Type 0} (test : Bool) (x : X) → length (cond test (x ∷ []) []) ≤ 1
-one_at_most true x = omega arith
-one_at_most false x = omega arith
-
-either_few : {X : Type 0} (test : Bool) (xs ys : List X) → length xs ≤ 1 → length ys ≤ 1 → length (cond test xs ys) ≤ 1
-either_few true xs ys few all = few
-either_few false xs ys few all = all
+use Rattle.list_laws.proofs.Lists.{either_few, one_at_most, where_few}
 
 seats_few : {X : Type 0} (made : ℕ → List X) (setup : Setup) → ((seat : ℕ) → length (made seat) ≤ 1) → length (flat_map made (all_seats setup)) ≤ 10
 seats_few made setup few =
@@ -67,10 +60,6 @@ act_few dialect Folded move left = omega arith
 act_few dialect Called move left = omega arith
 act_few dialect Raised move left = omega arith
 act_few dialect BroughtIn move left = omega arith
-
-where_few : {X : Type 0} (test : Bool) (xs : List X) → length xs ≤ 1 → length (cond test xs []) ≤ 1
-where_few true xs few = few
-where_few false xs few = omega arith
 
 moves_few : (dialect : Dialect) (setup : Setup) (street : ℕ) (before : List Move) (moves : List TracedMove) → length (moves_written dialect setup street before moves) ≤ length moves
 moves_few dialect setup street before [] = omega arith

@@ -4,5 +4,4 @@ pub mod Lefts
 pub mod Letters
 pub mod Plain
 pub mod Sorted
-pub mod Steps
 pub mod Tidied

@@ -3,5 +3,4 @@ pub mod Lists
 pub mod Cards
 pub mod EachIndex
 pub mod Added
-pub mod Taken
 pub mod Round

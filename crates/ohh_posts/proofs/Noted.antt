@@ -12,6 +12,7 @@ use Rattle.list_laws.proofs.Tests.{or_false}
 use Rattle.chip_ledger.specs.declared.numbers.Chips.{Chips}
 use Rattle.ohh_posts.specs.declared.post.PostKind.{PostKind}
 use Rattle.ohh_posts.specs.Posts.{PlainPost, chips_in, first_post}
+use Rattle.list_laws.proofs.Options.{or_nothing}
 
 either : (found : Option PlainPost) (post : PlainPost) (is_one : Bool) → option_map (λ x. x.amount) (option_or found (cond is_one (Some post) None)) ≡ option_or (option_map (λ x. x.amount) found) (cond is_one (Some post.amount) None)
 either (Some x) post is_one = refl
@@ -22,10 +23,6 @@ one_more : (is_kind : PostKind → Bool) (seat : ℕ) (posts : List PlainPost) (
 one_more is_kind seat posts post =
     ap (option_map (λ x. x.amount)) (find-append (λ x. is_kind x.kind && (x.seat == seat)) posts (post ∷ []))
     ∙ either (find (λ x. is_kind x.kind && (x.seat == seat)) posts) post (is_kind post.kind && (post.seat == seat))
-
-or_nothing : (found : Option ℕ) → option_or found None ≡ found
-or_nothing (Some x) = refl
-or_nothing None = refl
 
 -- a post of another kind
 pub other_kind : (is_kind : PostKind → Bool) (seat : ℕ) (posts : List PlainPost) (post : PlainPost) → is_kind post.kind ≡ false → first_post is_kind seat (posts ++ post ∷ []) ≡ first_post is_kind seat posts

@@ -2,17 +2,13 @@
 use Rattle.std.proofs.Common.{◌≡◌, ℕ, ◌+◌, Bool, not, cond, List, [], ◌∷◌, ◌++◌, length, map, count_by, refl, ap, ◌∙◌, arith}
 use Rattle.std.proofs.lemmas.List.{map-append}
 use Rattle.std.proofs.lemmas.List.FromFn.{length-range_with_len}
-use Rattle.list_laws.proofs.Counting.{count_by-cons}
+use Rattle.list_laws.proofs.Counting.{count_by-cons, count_by-joined}
 use Rattle.canonical_play.specs.PlayedScript.{is_move}
 use Rattle.chip_ledger.specs.Seat.{seats_of}
 use Rattle.play_event.specs.declared.event.Event.{Event}
 use Rattle.play_event.specs.Said.{Said, Numbered, numbered, said_of}
 use Rattle.ohh_rounds.specs.Steps.{PlainDeed, PlainStep, Posted, Dealt, Happened, Passed, is_move_deed, is_other_deed, moves_in, others_in}
 use Rattle.ohh_rounds.specs.Play.{event_in, events_in, hole_deal, script_said}
-
-parts : {X : Type 0} (p : X → Bool) (xs ys : List X) → count_by p (xs ++ ys) ≡ count_by p xs + count_by p ys
-parts p [] ys = omega arith
-parts p (x ∷ xs) ys = omega (arith, count_by-cons p x (xs ++ ys), count_by-cons p x xs, parts p xs ys)
 
 -- what numbered events say
 abbrev pub said_in : List Numbered → List Said
@@ -36,7 +32,7 @@ other_in step (Dealt seat slots) = refl
 other_in step Passed = refl
 
 two_parts : (p : Said → Bool) (xs ys : List Numbered) → count_by p (said_in (xs ++ ys)) ≡ count_by p (said_in xs) + count_by p (said_in ys)
-two_parts p xs ys = ap (count_by p) (map-append (λ (event : Numbered). event.1) xs ys) ∙ parts p (said_in xs) (said_in ys)
+two_parts p xs ys = ap (count_by p) (map-append (λ (event : Numbered). event.1) xs ys) ∙ count_by-joined p (said_in xs) (said_in ys)
 
 moves_of_events : (steps : List PlainStep) → count_by is_move (said_in (events_in steps)) ≡ moves_in steps
 moves_of_events [] = refl

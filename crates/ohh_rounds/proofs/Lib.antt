@@ -1,6 +1,5 @@
 -- Laws of rounds.
 pub mod Lengths
-pub mod Indexed
 pub mod OneMore
 pub mod OneStep
 pub mod Adding

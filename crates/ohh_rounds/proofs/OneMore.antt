@@ -1,21 +1,23 @@
 -- What is told of a seat, with one step more.
-use Rattle.std.proofs.Common.{◌≡◌, ◌≢◌, ℕ, ◌-◌, ◌≤◌, ◌==◌, Bool, T, true, false, ◌||◌, cond, List, [], ◌∷◌, ◌++◌, length, find, set, inl, inr, subst, slice_get, Option, Some, None, option_map, refl, sym, ap, ◌∙◌, arith}
+use Rattle.std.proofs.Common.{◌≡◌, ◌≢◌, ℕ, ◌-◌, ◌≤◌, ◌==◌, Bool, true, false, ◌||◌, cond, List, [], ◌∷◌, ◌++◌, length, find, set, inl, inr, subst, slice_get, Option, Some, None, option_map, refl, sym, ap, ◌∙◌, arith}
 use Rattle.std.specs.Option.{option_or}
 use Rattle.std.proofs.Math.Bool.{or-true}
 use Rattle.std.proofs.Math.Dec.{eqb_refl}
-use Rattle.std.proofs.lemmas.Bool.{cases_lt, eqb-true}
+use Rattle.std.proofs.lemmas.Bool.{cases_lt}
 use Rattle.std.proofs.lemmas.Grind.{flat_map-append}
 use Rattle.std.proofs.lemmas.List.{append-nil, length-take}
 use Rattle.std.proofs.lemmas.List.Folds.{find-append}
 use Rattle.list_laws.proofs.Finding.{list_any-push}
-use Rattle.list_laws.proofs.Tests.{or_false}
+use Rattle.list_laws.proofs.Tests.{or_false, is_true}
 use Rattle.card_set.specs.declared.card.Slot.{Slot}
 use Rattle.card_set.specs.declared.row.SlotRow.{SlotRow}
 use Rattle.card_set.specs.Row.{slots_of}
 use Rattle.ohh_rounds.specs.declared.seat_told.SeatTold.{SeatTold}
 use Rattle.ohh_rounds.specs.Kept.{IsToldOf}
 use Rattle.ohh_rounds.specs.Steps.{PlainDeed, PlainStep, Posted, Dealt, Happened, Passed, IsFoldBy, dealt_in, dealt_to, first_deal, has_folded, is_deal_to, is_fold_of, is_seat}
-use Rattle.ohh_rounds.proofs.Indexed.{at_other, at_set}
+use Rattle.list_laws.proofs.Entries.{at_other, at_set}
+use Rattle.list_laws.proofs.Numbers.{different_number}
+use Rattle.list_laws.proofs.Options.{or_nothing}
 
 -- one step more folds the seat, or does not
 pub folds : (seat : ℕ) (steps : List PlainStep) (step : PlainStep) → has_folded seat (steps ++ step ∷ []) ≡ (has_folded seat steps || is_fold_of seat step.deed)
@@ -38,10 +40,6 @@ pub first_deals : (seat : ℕ) (steps : List PlainStep) (step : PlainStep) → f
 first_deals seat steps step =
     ap (option_map (λ x. x.number)) (find-append (λ x. is_deal_to seat x.deed) steps (step ∷ []))
     ∙ either (find (λ x. is_deal_to seat x.deed) steps) step (is_deal_to seat step.deed)
-
-or_nothing : (found : Option ℕ) → option_or found None ≡ found
-or_nothing (Some x) = refl
-or_nothing None = refl
 
 -- a step that tells nothing of the seat
 pub untold : (seat : ℕ) (steps : List PlainStep) (step : PlainStep) (kept : SeatTold) → is_fold_of seat step.deed ≡ false → dealt_in seat step.deed ≡ [] → is_deal_to seat step.deed ≡ false → IsToldOf seat steps kept → IsToldOf seat (steps ++ step ∷ []) kept
@@ -72,19 +70,8 @@ dealt seat steps step before after more no_fold cards deal same_fold joined firs
       first_deal = first ∙ ap (λ found. option_or found (Some step.number)) told.first_deal ∙ sym (first_deals seat steps step ∙ ap (λ b. option_or (first_deal seat steps) (cond b (Some step.number) None)) deal);
     }
 
-is_true : (b : Bool) → T b → b ≡ true
-is_true true holds = refl
-is_true false holds = absurd holds
-
 same_seat : (seat : ℕ) → (seat == seat) ≡ true
 same_seat seat = is_true (seat == seat) (eqb_refl seat)
-
-other_seat : (at seat : ℕ) → seat ≢ at → (at == seat) ≡ false
-other_seat at seat apart = by_test (at == seat) refl
-  where
-    by_test : (same : Bool) → (at == seat) ≡ same → (at == seat) ≡ false
-    by_test true e = absurd (apart (sym (eqb-true at seat e)))
-    by_test false e = e
 
 -- what a fold tells
 pub fold_here : (seat : ℕ) (deed : PlainDeed) → IsFoldBy seat deed → is_fold_of seat deed ≡ true
@@ -94,7 +81,7 @@ fold_here seat (Dealt other slots) is = absurd is
 fold_here seat Passed is = absurd is
 
 pub fold_elsewhere : (at seat : ℕ) (deed : PlainDeed) → IsFoldBy at deed → seat ≢ at → is_fold_of seat deed ≡ false
-fold_elsewhere at seat (Happened event) is apart = ap (is_seat seat) is ∙ other_seat at seat apart
+fold_elsewhere at seat (Happened event) is apart = ap (is_seat seat) is ∙ different_number at seat apart
 fold_elsewhere at seat (Posted post) is apart = absurd is
 fold_elsewhere at seat (Dealt other slots) is apart = absurd is
 fold_elsewhere at seat Passed is apart = absurd is
@@ -119,10 +106,10 @@ pub is_here : (seat : ℕ) (slots : List Slot) → is_deal_to seat (Dealt seat s
 is_here seat slots = same_seat seat
 
 pub deal_elsewhere : (at seat : ℕ) (slots : List Slot) → seat ≢ at → dealt_in seat (Dealt at slots) ≡ []
-deal_elsewhere at seat slots apart = ap (λ b. cond b slots []) (other_seat at seat apart)
+deal_elsewhere at seat slots apart = ap (λ b. cond b slots []) (different_number at seat apart)
 
 pub is_elsewhere : (at seat : ℕ) (slots : List Slot) → seat ≢ at → is_deal_to seat (Dealt at slots) ≡ false
-is_elsewhere at seat slots apart = other_seat at seat apart
+is_elsewhere at seat slots apart = different_number at seat apart
 
 -- what holds of each seat, where one seat has something else
 pub each_seat : (P : ℕ → SeatTold → Type 0) (seats : List SeatTold) (at : ℕ) (new : SeatTold) → 1 ≤ at → P at new

@@ -1,7 +1,6 @@
 -- Laws of what the fields of a hand say.
 pub mod Lists
 pub mod Zeros
-pub mod Taken
 pub mod Games
 pub mod Calendar
 pub mod Usual

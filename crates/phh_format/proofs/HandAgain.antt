@@ -1,7 +1,7 @@
 -- A hand that was written reads back as that hand.
-use Rattle.std.proofs.Common.{◌≡◌, ℕ, zero, suc, ◌+◌, ◌-◌, ◌≤◌, ◌<◌, Bool, true, false, ◌||◌, nat_lt, cond, List, [], ◌∷◌, length, map, take, replicate, get_or, pos, Option, Some, None, option_map, Result, Ok, refl, sym, ap, subst, ◌∙◌, arith, inl, inr, true≢false}
+use Rattle.std.proofs.Common.{◌≡◌, ℕ, ◌+◌, ◌-◌, ◌≤◌, ◌<◌, Bool, true, false, nat_lt, cond, List, [], length, map, take, replicate, get_or, pos, Option, Some, None, option_map, Result, Ok, refl, sym, ap, subst, ◌∙◌, arith, inl, inr, true≢false}
 use Rattle.std.specs.List.{list_any}
-use Rattle.std.proofs.lemmas.Bool.{cases_lt, le-leb, lt-ltb}
+use Rattle.std.proofs.lemmas.Bool.{cases_lt, le-leb}
 use Rattle.std.proofs.lemmas.List.{length-map, length-take-le}
 use Rattle.toml.specs.Data.{Data, string, integer, Members}
 use Rattle.chip_ledger.specs.declared.rows.TheConstants.{MOST_AMOUNT}
@@ -29,20 +29,7 @@ use Rattle.phh_format.proofs.NotesAgain.{calendar_again, name_again, said_again,
 use Rattle.phh_format.proofs.SeatingAgain.{names_again, seat_count_again, seats_again}
 use Rattle.phh_format.proofs.EventsAgain.{HaveRoom, counts_with, events_again}
 use Rattle.list_laws.proofs.Entries.{cut_zeros, each_taken}
-
-zero_taken : (n : ℕ) (all : List ℕ) → list_any (nat_lt 0) (take n all) ≡ false → (k : ℕ) → k < n → get_or all k 0 ≡ 0
-zero_taken zero all none k within = absurd (omega (arith, within))
-zero_taken (suc n) [] none k within = refl
-zero_taken (suc n) (x ∷ all) none zero within =
-    elim (cases_lt 0 x) [
-      | inl some ↦ absurd (true≢false (sym (rw (lt-ltb 0 x some) refl) ∙ none))
-      | inr least ↦ omega (arith, least)
-    ]
-zero_taken (suc n) (x ∷ all) none (suc k) within = zero_taken n all (or_parts (nat_lt 0 x) (list_any (nat_lt 0) (take n all)) none) k (omega (arith, within))
-  where
-    or_parts : (a b : Bool) → (a || b) ≡ false → b ≡ false
-    or_parts true b holds = absurd (true≢false holds)
-    or_parts false b holds = holds
+use Rattle.list_laws.proofs.Any.{zero_from_none_taken}
 
 all_zero : (all : List ℕ) → length all ≡ 11 → ((k : ℕ) → get_or all k 0 ≡ 0) → all ≡ replicate 11 0
 all_zero all eleven none =
@@ -173,7 +160,7 @@ module _ (place : ℕ) (play : Play) (is : IsReadable play) where
     where
       every : (k : ℕ) → get_or setup.rakes.rakes k 0 ≡ 0
       every k = elim (cases_lt k play.trace.pots.count) [
-        | inl within ↦ zero_taken play.trace.pots.count setup.rakes.rakes found k within
+        | inl within ↦ zero_from_none_taken play.trace.pots.count setup.rakes.rakes found k within
         | inr late ↦ none_behind k late
       ]
 

@@ -1,11 +1,10 @@
 -- The notes of a hand that were written read back as the kept notes.
-use Rattle.std.proofs.Common.{◌≡◌, ℕ, ◌≤◌, ◌<◌, ◌^◌, Bool, true, false, ◌&&◌, ◌||◌, ◌==◌, not, nat_le, nat_lt, cond, bytes_eq, decimal, List, [], ◌∷◌, length, slice_index, pos, Option, Some, None, IfSome, option_map, is_some, unwrap_or, Ok, refl, sym, ap, ◌∙◌, arith, true≢false}
+use Rattle.std.proofs.Common.{◌≡◌, ℕ, ◌≤◌, ◌<◌, ◌^◌, Bool, true, false, ◌&&◌, ◌||◌, ◌==◌, not, nat_le, nat_lt, cond, bytes_eq, decimal, List, [], ◌∷◌, length, slice_index, pos, Option, Some, None, IfSome, option_map, unwrap_or, Ok, refl, sym, ap, ◌∙◌, arith, true≢false}
 use Rattle.std.specs.List.{list_all}
-use Rattle.std.specs.Char.{is_digit, digit_value}
-use Rattle.std.specs.Str.Parse.{AllDigits, digits_value}
+use Rattle.std.specs.Char.{is_digit}
+use Rattle.std.specs.Str.Parse.{digits_value}
 use Rattle.std.proofs.lemmas.Bool.{and_parts, eqb-true, eq-eqb, le-leb, leb-true, ltb-true}
 use Rattle.std.proofs.lemmas.Fmt.{decimal-digits_value}
-use Rattle.std.proofs.lemmas.Str.Parse.{IsNumeralModel}
 use Rattle.toml.specs.Data.{string, integer}
 use Rattle.first_fault.specs.Digits.{are_digits, number_of}
 use Rattle.first_fault.specs.Reading.{read_if}
@@ -18,6 +17,8 @@ use Rattle.phh_fields.specs.NoteFields.{clock_said, is_in_calendar, label_said, 
 use Rattle.phh_table.specs.HandFields.{hand_field, label, local_time, number_field, number_written}
 use Rattle.phh_format.specs.Again.{kept_name}
 use Rattle.list_laws.proofs.Tests.{implied}
+use Rattle.list_laws.proofs.Digits.{all_digits, own_digits}
+use Rattle.list_laws.proofs.Options.{from_none_some}
 
 -- a text of a note that is not the default stays
 noted_again : (default text : List ℕ) → IsNoteText text → bytes_eq text default ≡ false → noted default text ≡ Some text
@@ -41,19 +42,6 @@ unfolding text_note_said text_said
 text_note_again place None is = refl
 text_note_again place (Some text) is = note_again [] text place is (not_empty text is)
 
--- one's own words for digits
-all_digits : (digits : List ℕ) → list_all (λ sign. is_digit sign 10) digits ≡ true → AllDigits 10 digits
-all_digits [] all = tt
-all_digits (digit ∷ digits) all =
-    let parts = and_parts (is_digit digit 10) (list_all (λ sign. is_digit sign 10) digits) all in
-    (ltb-true (digit_value digit) 10 parts.0, all_digits digits parts.1)
-
-own_digits : IsNumeralModel (AllDigits 10) (digits_value 10)
-own_digits = record { to = λ digits all. all; from = λ digits all. all; same = λ digits all. refl }
-
-none_is_some : {A : Type 0} {P : Type 0} {x : A} → None ≡ Some x → P
-none_is_some e = absurd (true≢false (ap is_some (sym e)))
-
 -- a number within the greatest is what its digits say
 of_number : (most : ℕ) (digits : List ℕ) (number : ℕ) → number_of most digits ≡ Some number → (digits_value 10 digits ≡ number) × (number ≤ most)
 unfolding number_of
@@ -63,7 +51,7 @@ of_number most digits number is = go (nat_le (digits_value 10 digits) most) refl
     go true few found =
         let same : digits_value 10 digits ≡ number = ap (λ (found : Option ℕ). unwrap_or found 0) found in
         (same, omega (arith, same, leb-true (digits_value 10 digits) most few))
-    go false few found = none_is_some found
+    go false few found = from_none_some found
 
 -- a text that is written as a number is that number in decimal digits
 number_is : (text : List ℕ) (number : ℕ) → number_written text ≡ Some number → decimal number ≡ text
@@ -71,7 +59,7 @@ unfolding number_written are_digits
 number_is text number is = go (are_digits text && (not (slice_index text 0 == 48) || (length text == 1))) refl is
   where
     go : (short : Bool) → (are_digits text && (not (slice_index text 0 == 48) || (length text == 1))) ≡ short → cond short (number_of 999999999999999999 text) None ≡ Some number → decimal number ≡ text
-    go false test found = none_is_some found
+    go false test found = from_none_some found
     go true test found =
         let parts = and_parts (are_digits text) (not (slice_index text 0 == 48) || (length text == 1)) test in
         let digits = and_parts (nat_lt 0 (length text)) (list_all (λ sign. is_digit sign 10) text) parts.0 in

@@ -18,6 +18,8 @@ use Rattle.hand_records.specs.declared.trace.Play.{Play}
 use Rattle.phh_reading.specs.Order.{Entry, are_hands, in_order, is_table, key_cmp, placed, placed_all, tables_among}
 use Rattle.phh_table.specs.Members.{put, table_of}
 use Rattle.phh_table.specs.Document.{hand_table, numbered_hands}
+use Rattle.list_laws.proofs.Digits.{number_said}
+use Rattle.list_laws.proofs.Orderings.{less_not_equal}
 
 number_total : IsTotalOrder (λ (k l : List ℕ). nat_cmp (digits_value 10 k) (digits_value 10 l))
 number_total =
@@ -139,18 +141,10 @@ new_put : (q k : List ℕ) (v : Data) (members : Members) → (key_cmp q k ≡ E
 new_put q k v no_members other new = (other, tt)
 new_put q k v (member l w rest) other new = new_at (slice_cmp nat_cmp k l) q k l v w rest (put k v rest) other new (new_put q k v rest other new.1)
 
-number_said : (n : ℕ) → n < 2 ^ 64 → digits_value 10 (decimal n) ≡ n
-number_said n small = (decimal_is_IsNumeral n small).1
-
 -- the keys of numbers compare as the numbers
 lower_key : (n m : ℕ) → n < m → m < 2 ^ 64 → key_cmp (decimal n) (decimal m) ≡ Less
 lower_key n m lower small =
     rw (sym (nat_cmp_is (digits_value 10 (decimal n)) (digits_value 10 (decimal m)) Less (omega (arith, lower, number_said n (omega (arith, lower, small)), number_said m small)))) refl
-
-less_not_equal : (o : Ordering) → o ≡ Less → o ≡ Equal → ⊥
-less_not_equal Less is equal = true≢false (sym (ap is_eq equal))
-less_not_equal Equal is equal = true≢false (ap is_eq is)
-less_not_equal Greater is equal = true≢false (sym (ap is_eq equal))
 
 -- the hands of plays with their keys, of which the first is at this place
 abbrev pub hands_from : ℕ → List Play → List Entry

@@ -1,5 +1,5 @@
 -- Who sat where reads back as it was written.
-use Rattle.std.proofs.Common.{◌≡◌, ℕ, zero, suc, ◌+◌, ◌-◌, ◌≤◌, ◌<◌, Bool, true, false, ◌||◌, ◌==◌, cond, bytes_eq, decimal, List, [], ◌∷◌, length, map, take, get_or, replicate, Option, Some, None, IfSome, option_map, option_and_then, is_some, unwrap_or, Ok, refl, ap, subst, ◌∙◌, arith, inl, inr, true≢false}
+use Rattle.std.proofs.Common.{◌≡◌, ℕ, zero, suc, ◌+◌, ◌-◌, ◌≤◌, ◌<◌, Bool, true, false, ◌==◌, cond, bytes_eq, decimal, List, [], ◌∷◌, length, map, take, get_or, replicate, Option, Some, None, IfSome, option_map, option_and_then, is_some, unwrap_or, Ok, refl, ap, subst, ◌∙◌, arith, inl, inr, true≢false}
 use Rattle.std.specs.List.{list_any, range_with_len}
 use Rattle.std.proofs.lemmas.Bool.{cases_lt, eq-eqb, le-leb, ne_eqb}
 use Rattle.std.proofs.lemmas.Fmt.{length-decimal-le}
@@ -18,14 +18,13 @@ use Rattle.phh_fields.specs.NoteFields.{names_said, note_said, or_none, seat_cou
 use Rattle.phh_table.specs.HandFields.{name_written, names_field, number_field, numbers, texts}
 use Rattle.phh_format.proofs.RowsAgain.{items_again, listed_again, number_data}
 use Rattle.phh_format.proofs.NotesAgain.{note_again, number_again}
+use Rattle.list_laws.proofs.Bytes.{different_bytes}
+use Rattle.list_laws.proofs.Entries.{taken_within}
+use Rattle.list_laws.proofs.Options.{none_anyway}
 
 -- the name that a seat has, if it has one
 abbrev pub name_at : Notes → ℕ → Option (List ℕ)
 name_at notes seat = get_or notes.names (seat - 1) None
-
-usual_none : (empty : Bool) (text : List ℕ) → cond (empty || true) None (Some text) ≡ None
-usual_none true text = refl
-usual_none false text = refl
 
 -- a name that is the default is none
 default_again : (seat : ℕ) (place : Place) → seat ≤ 10 → note_said (default_name seat) place (default_name seat) ≡ Ok None
@@ -33,19 +32,12 @@ unfolding note_said
 default_again seat place few =
     let short : length (decimal seat) ≤ 20 = length-decimal-le 20 seat (omega arith) (omega (arith, few)) (omega (arith, few)) in
     let usual : bytes_eq (default_name seat) (default_name seat) ≡ true = (bytes_eq-Decides (default_name seat) (default_name seat)).1 refl in
-    rw (le-leb (length (default_name seat)) MOST_TEXT_BYTES (omega (arith, short)), usual) (ap (λ (found : Option (List ℕ)). Ok found) (usual_none (length (default_name seat) == 0) (default_name seat)))
-
-differs : (text default : List ℕ) → (text ≡ default → ⊥) → bytes_eq text default ≡ false
-differs text default other = go (bytes_eq text default) refl
-  where
-    go : (same : Bool) → bytes_eq text default ≡ same → same ≡ false
-    go true is = absurd (other ((bytes_eq-Decides text default).0 is))
-    go false is = refl
+    rw (le-leb (length (default_name seat)) MOST_TEXT_BYTES (omega (arith, short)), usual) (ap (λ (found : Option (List ℕ)). Ok found) (none_anyway (length (default_name seat) == 0) (default_name seat)))
 
 one_name : (seat : ℕ) (place : Place) (said : Option (List ℕ)) → seat ≤ 10 → IfSome said (IsName seat) → text_note_said (default_name seat) place (string (unwrap_or said (default_name seat))) ≡ Ok said
 unfolding text_note_said text_said
 one_name seat place None few is = default_again seat place few
-one_name seat place (Some name) few is = note_again (default_name seat) name place is.text (differs name (default_name seat) is.said)
+one_name seat place (Some name) few is = note_again (default_name seat) name place is.text (different_bytes name (default_name seat) is.said)
 
 module _ (notes : Notes) (count : ℕ) (few : count ≤ 10) (named : (seat : ℕ) → 1 ≤ seat → seat ≤ count → IfSome (name_at notes seat) (IsName seat)) where
   each_name : (n c : ℕ) → n + c ≤ count
@@ -93,12 +85,6 @@ unfolding each_from
 each_number n [] each = refl
 each_number n (number ∷ rest) each =
     rw (number_again 1 255 number (at_item keys.Seats n) (each 0 (omega arith)), each_number (n + 1) rest (λ k within. each (suc k) (omega (arith, within)))) refl
-
-taken_within : (n : ℕ) (all : List ℕ) (P : ℕ → Type 0) → n ≤ length all → ((k : ℕ) → k < n → P (get_or all k 0)) → (k : ℕ) → k < length (take n all) → P (get_or (take n all) k 0)
-taken_within zero all P few each k within = absurd (omega (arith, within))
-taken_within (suc n) [] P few each k within = absurd (omega (arith, few))
-taken_within (suc n) (x ∷ all) P few each zero within = each 0 (omega arith)
-taken_within (suc n) (x ∷ all) P few each (suc k) within = taken_within n all P (omega (arith, few)) (λ j h. each (suc j) (omega (arith, h))) k (omega (arith, within))
 
 pub seats_again : (count : ℕ) (said : Option (List ℕ)) → 1 ≤ count → IfSome said (AreSeatNumbers count) → or_none (seats_said count) (option_map (λ seats. numbers (take count seats)) said) ≡ Ok (option_and_then (λ seats. unless_usual count (take count seats)) said)
 unfolding seats_said

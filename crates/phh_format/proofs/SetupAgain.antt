@@ -1,5 +1,5 @@
 -- The setup of a hand that was written reads back as that setup.
-use Rattle.std.proofs.Common.{◌≡◌, ℕ, zero, suc, ◌+◌, ◌-◌, ◌≤◌, Bool, true, false, not, nat_lt, min, max, List, [], ◌∷◌, length, take, get_or, replicate, pos, Option, Some, None, Ok, refl, sym, ap, subst, ◌∙◌, arith}
+use Rattle.std.proofs.Common.{◌≡◌, ℕ, suc, ◌+◌, ◌-◌, ◌≤◌, Bool, true, false, not, nat_lt, min, max, List, [], ◌∷◌, length, take, get_or, replicate, pos, Option, Some, None, Ok, refl, sym, ap, subst, ◌∙◌, arith}
 use Rattle.std.specs.List.{AllByRecursion, list_any, range_with_len}
 use Rattle.std.proofs.lemmas.Bool.{le-leb}
 use Rattle.std.proofs.lemmas.List.{length-map}
@@ -20,9 +20,10 @@ use Rattle.phh_fields.specs.SetupFields.{are_dead, blinds_said, plain_setup, set
 use Rattle.phh_table.specs.Document.{hand_table}
 use Rattle.phh_table.specs.HandFields.{blinds_written, hand_fields, numbers, size_field}
 use Rattle.phh_table.proofs.Puts.{field_at, get_member-table_of, or_later}
-use Rattle.phh_fields.proofs.Taken.{any_seat}
 use Rattle.phh_format.proofs.RowsAgain.{IsBetween, amount_again, amount_count, amounts_again, each_amount, items_again, list_again, number_data, row_again}
 use Rattle.phh_fields.proofs.Games.{own_code}
+use Rattle.list_laws.proofs.Entries.{less_taken, taken_zeros}
+use Rattle.list_laws.proofs.NumbersOfRange.{any_taken}
 
 -- an ante that is no more than the stack stands as it is
 ante_again : (stack ante n : ℕ) → ante ≤ stack → ante ≤ MOST_CHIPS → ante_said stack (at_item keys.Antes n) (integer (pos ante)) ≡ Ok ante
@@ -69,22 +70,10 @@ blinds_between most (first ∷ second ∷ []) each =
     ((omega arith, omega (arith, each.0.1, each.1.0.1)), ((omega arith, omega (arith, each.0.1, each.1.0.1)), tt))
 blinds_between most (first ∷ second ∷ third ∷ rest) each = each
 
-no_blinds : (n : ℕ) (all : List ℕ) → n ≤ length all → ((k : ℕ) → get_or all k 0 ≡ 0) → take n all ≡ replicate n 0
-no_blinds zero all few none = refl
-no_blinds (suc n) [] few none = absurd (omega (arith, few))
-no_blinds (suc n) (x ∷ rest) few none = ap (λ y. y ∷ take n rest) (none 0) ∙ ap (λ (zeros : List ℕ). 0 ∷ zeros) (no_blinds n rest (omega (arith, few)) (λ k. none (suc k)))
-
 two_taken : (all : List ℕ) → get_or all 1 0 ≤ get_or all 0 0 → get_or (take 2 all) 1 0 ≤ get_or (take 2 all) 0 0
 two_taken [] less = omega arith
 two_taken (x ∷ []) less = omega arith
 two_taken (x ∷ y ∷ rest) less = less
-
-less_taken : (n : ℕ) (xs ys : List ℕ) → n ≤ length xs → n ≤ length ys → ((k : ℕ) → get_or xs k 0 ≤ get_or ys k 0) → (k : ℕ) → get_or (take n xs) k 0 ≤ get_or (take n ys) k 0
-less_taken zero xs ys few many less k = omega arith
-less_taken (suc n) [] ys few many less k = absurd (omega (arith, few))
-less_taken (suc n) (x ∷ xs) [] few many less k = absurd (omega (arith, many))
-less_taken (suc n) (x ∷ xs) (y ∷ ys) few many less zero = less zero
-less_taken (suc n) (x ∷ xs) (y ∷ ys) few many less (suc k) = less_taken n xs ys (omega (arith, few)) (omega (arith, many)) (λ j. less (suc j)) k
 
 pub field_alone : (found : Option Data) → or_later found None ≡ found
 field_alone None = refl
@@ -148,7 +137,7 @@ module _ (place : ℕ) (play : Play) (valid : IsValid play.trace.setup) where
     where
       some_ante : setup.dead_antes ≡ true → list_any (λ ante. nat_lt 0 ante) (amounts_in setup.antes) ≡ true
       some_ante dead =
-          any_seat (λ ante. nat_lt 0 ante) setup.antes.amounts setup.antes.seats (omega (arith, setup.antes.full, setup.antes.greatest))
+          any_taken (λ ante. nat_lt 0 ante) setup.antes.amounts setup.antes.seats (omega (arith, setup.antes.full, setup.antes.greatest))
           ∙ ap (λ (n : ℕ). list_any (λ seat. nat_lt 0 (amount_of setup.antes seat)) (range_with_len 1 n)) valid.same_antes
           ∙ valid.dead_antes dead
 
@@ -167,7 +156,7 @@ module _ (place : ℕ) (play : Play) (valid : IsValid play.trace.setup) where
   blinds_by : (stud : Bool) → is_stud setup.code ≡ stud → blinds_said setup.code (length (amounts_in setup.stacks)) members ≡ Ok (amounts_in setup.blinds)
   unfolding blinds_said needed
   blinds_by true is =
-      let zeros = no_blinds setup.blinds.seats setup.blinds.amounts (omega (arith, setup.blinds.full, setup.blinds.greatest))
+      let zeros = taken_zeros setup.blinds.seats setup.blinds.amounts (omega (arith, setup.blinds.full, setup.blinds.greatest))
       (λ k. subst (λ (n : ℕ). get_or setup.blinds.amounts n 0 ≡ 0) (omega arith) (valid.stud is (k + 1))) in
       rw is (ap (λ blinds. Ok blinds) (ap (λ (n : ℕ). replicate n 0) (sym blinds_seats) ∙ sym zeros))
   blinds_by false is =

@@ -1,36 +1,17 @@
 -- Numbers compare as the digits of their texts do once zeros in front are dropped: the longer is the greater, and of equal
 -- length the greater digits.
-use Rattle.std.proofs.Common.{◌≡◌, ℕ, zero, suc, ◌+◌, ◌-◌, ◌*◌, ◌<◌, ◌≤◌, ◌==◌, true, false, List, [], ◌∷◌, ◌++◌, length, replicate, Ordering, Less, Equal, Greater, nat_cmp, nat_lt, refl, sym, subst, ap, ◌∙◌, inl, inr, arith, length-append}
+use Rattle.std.proofs.Common.{◌≡◌, ℕ, zero, suc, ◌+◌, ◌-◌, ◌*◌, ◌<◌, ◌≤◌, ◌==◌, true, false, List, [], ◌∷◌, ◌++◌, length, replicate, Less, Greater, nat_cmp, nat_lt, refl, sym, subst, ap, ◌∙◌, inl, inr, arith, length-append}
 use Rattle.std.proofs.lemmas.Bool.{cases_Bool, cases_lt, and_parts, eqb-true}
 use Rattle.std.proofs.lemmas.List.{length-replicate}
 use Rattle.std.specs.Char.{digit_value, is_digit}
-use Rattle.std.specs.Cmp.{nat_cmp_is}
 use Rattle.std.specs.Cmp.Lexicographic.{slice_cmp}
 use Rattle.std.specs.List.{AllByRecursion, list_all, prefix_len}
 use Rattle.std.specs.Ordering.{ordering_then}
 use Rattle.std.specs.Str.Parse.{digits_value, digits_value_after}
 use Rattle.first_fault.specs.Digits.{are_digits}
 use Rattle.phh_reading.specs.Stripped.{number_digits}
-
--- what two numbers compare as
-less : (x y : ℕ) → x < y → nat_cmp x y ≡ Less
-less x y lt = sym (nat_cmp_is x y Less lt)
-
-equal : (x y : ℕ) → x ≡ y → nat_cmp x y ≡ Equal
-equal x y same = sym (nat_cmp_is x y Equal same)
-
-greater : (x y : ℕ) → y < x → nat_cmp x y ≡ Greater
-greater x y lt = sym (nat_cmp_is x y Greater lt)
-
-then_equal : (a : Ordering) → a ≡ ordering_then a Equal
-then_equal Less = refl
-then_equal Equal = refl
-then_equal Greater = refl
-
-then_assoc : (a b c : Ordering) → ordering_then (ordering_then a b) c ≡ ordering_then a (ordering_then b c)
-then_assoc Less b c = refl
-then_assoc Equal b c = refl
-then_assoc Greater b c = refl
+use Rattle.list_laws.proofs.Digits.{digit_least, digit_most, zeros_say}
+use Rattle.list_laws.proofs.Orderings.{equal, greater, less, then_assoc, then_equal}
 
 -- a digit
 abbrev IsDigit : ℕ → Type 0
@@ -38,12 +19,6 @@ IsDigit sign = (48 ≤ sign) × (sign ≤ 57)
 
 abbrev pub AreDigits : List ℕ → Type 0
 AreDigits text = AllByRecursion IsDigit text
-
-digit_least : (sign : ℕ) → is_digit sign 10 ≡ true → 48 ≤ sign
-digit_least sign is = grind (arith, is)
-
-digit_most : (sign : ℕ) → is_digit sign 10 ≡ true → sign ≤ 57
-digit_most sign is = grind (arith, is)
 
 digit_is : (sign : ℕ) → IsDigit sign → digit_value sign ≡ sign - 48
 digit_is sign is = grind (arith, is.0, is.1)
@@ -82,11 +57,6 @@ same_length (x ∷ xs) (y ∷ ys) n m dx dy same =
     same_length xs ys (n * 10 + digit_value x) (m * 10 + digit_value y) dx.1 dy.1 (omega (arith, same))
     ∙ ap (λ first. ordering_then first (slice_cmp nat_cmp xs ys)) (next n m x y dx.0 dy.0)
     ∙ then_assoc (nat_cmp n m) (nat_cmp x y) (slice_cmp nat_cmp xs ys)
-
--- zeros in front say nothing
-zeros_say : (k : ℕ) (xs : List ℕ) → digits_value_after 10 0 (replicate k 48 ++ xs) ≡ digits_value_after 10 0 xs
-zeros_say zero xs = refl
-zeros_say (suc k) xs = zeros_say k xs
 
 zeros_are : (k : ℕ) (xs : List ℕ) → AreDigits xs → AreDigits (replicate k 48 ++ xs)
 zeros_are zero xs all = all

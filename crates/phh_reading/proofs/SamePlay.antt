@@ -1,5 +1,5 @@
 -- Records that say the same plain hand say the same play.
-use Rattle.std.proofs.Common.{◌≡◌, ℕ, ◌-◌, ◌<◌, List, [], ◌∷◌, map, get_or, slice_index_or, Option, None, refl, sym, ap, ap₂, ◌∙◌, arith}
+use Rattle.std.proofs.Common.{◌≡◌, ℕ, ◌-◌, ◌<◌, [], get_or, slice_index_or, Option, None, sym, ap, ap₂, ◌∙◌, arith}
 use Rattle.std.proofs.lemmas.List.{get_or-take}
 use Rattle.card_set.proofs.RowLaws.{cards_same, slots_same}
 use Rattle.chip_ledger.specs.declared.numbers.Seat.{Seat}
@@ -17,14 +17,7 @@ use Rattle.play_event.specs.declared.setup.Setup.{Setup}
 use Rattle.play_event.specs.Said.{Numbered, kind_said, numbered, seat_named}
 use Rattle.phh_fields.specs.Rows.{amounts_in}
 use Rattle.phh_reading.specs.Hand.{PlainHand, plain}
-
--- a map that tells all values apart tells all lists apart
-lists_same : {A B : Type 0} (f : A → B) → ((a b : A) → f a ≡ f b → a ≡ b) → (xs ys : List A) → map f xs ≡ map f ys → xs ≡ ys
-lists_same f apart [] [] same = refl
-lists_same f apart [] (y ∷ ys) same = absurd (cc)
-lists_same f apart (x ∷ xs) [] same = absurd (cc)
-lists_same f apart (x ∷ xs) (y ∷ ys) same =
-    ap₂ (λ z zs. z ∷ zs) (apart x y (cc)) (lists_same f apart xs ys (cc))
+use Rattle.list_laws.proofs.Lists.{lists_same}
 
 actor_same : (a b : Option Seat) → seat_named a ≡ seat_named b → a ≡ b
 actor_same a b same = options_same (λ (seat : Seat). seat.number) seat_same a b same

@@ -1,6 +1,5 @@
 -- Laws of members that are put one after the other, and of the table of fields.
 use Rattle.std.proofs.Common.{◌≡◌, ℕ, ◌≤◌, List, [], ◌∷◌, Option, Some, None, String, Global, Ordering, Less, Equal, Greater, string_bytes, string_cmp, nat_cmp, is_eq, cond, Bool, true, false, bytes_eq, true≢false, refl, sym, ap, ◌∙◌, arith}
-use Rattle.std.proofs.lemmas.Cmp.{nat_list_cmp_total, tied_itself}
 use Rattle.std.proofs.lemmas.Map.Text.{is_eq-slice_cmp}
 use Rattle.std.proofs.lemmas.Slice.Eq.{bytes_eq-Decides}
 use Rattle.std.specs.Cmp.Lexicographic.{slice_cmp}
@@ -11,6 +10,8 @@ use Rattle.toml.specs.Data.{Data, Members, no_members, member, get_member, depth
 use Rattle.toml.specs.View.{view, members_view}
 use Rattle.toml.specs.declared.value.Value.{Value}
 use Rattle.phh_table.specs.Members.{put, Field, table_of}
+use Rattle.list_laws.proofs.Bytes.{different_by_test}
+use Rattle.list_laws.proofs.Orderings.{same_text}
 
 abbrev pub Entry : Type 0
 Entry = String Global × Value
@@ -24,9 +25,6 @@ members_view-match_ordering Greater a b c = refl
 pub members_view-insert_entry : (es : List Entry) (k : String Global) (v : Value) → members_view (insert_entry string_cmp es k v) ≡ put (string_bytes k) (view v) (members_view es)
 members_view-insert_entry [] k v = refl
 members_view-insert_entry (e ∷ es) k v = members_view-match_ordering (string_cmp k e.0) _ _ _ ∙ rw (members_view-insert_entry es k v)
-
-same_text : (xs : List ℕ) → slice_cmp nat_cmp xs xs ≡ Equal
-same_text xs = tied_itself nat_list_cmp_total xs
 
 get_member-put_at : (o : Ordering) (k l : List ℕ) (d e : Data) (ms : Members) → slice_cmp nat_cmp k l ≡ o → get_member k (put k d ms) ≡ Some d
     → get_member k (match_ordering o (member k d (member l e ms)) (member l d ms) (member l e (put k d ms))) ≡ Some d
@@ -44,12 +42,8 @@ either Less a b e = refl
 either Equal a b e = absurd (true≢false e)
 either Greater a b e = refl
 
-differ : (xs ys : List ℕ) (b : Bool) → bytes_eq xs ys ≡ b → (xs ≡ ys → ⊥) → b ≡ false
-differ xs ys true e other = absurd (other ((bytes_eq-Decides xs ys).0 e))
-differ xs ys false e other = refl
-
 skips : (q k : List ℕ) (d : Data) (ms : Members) → (q ≡ k → ⊥) → get_member q (member k d ms) ≡ get_member q ms
-skips q k d ms other = either (slice_cmp nat_cmp q k) _ _ (is_eq-slice_cmp q k ∙ differ q k _ refl other)
+skips q k d ms other = either (slice_cmp nat_cmp q k) _ _ (is_eq-slice_cmp q k ∙ different_by_test q k _ refl other)
 
 get_member-put_other_at : (o : Ordering) (q k l : List ℕ) (d e : Data) (ms : Members) → slice_cmp nat_cmp k l ≡ o → (q ≡ k → ⊥) → get_member q (put k d ms) ≡ get_member q ms
     → get_member q (match_ordering o (member k d (member l e ms)) (member l d ms) (member l e (put k d ms))) ≡ get_member q (member l e ms)

@@ -1,6 +1,6 @@
 -- The parts of an action read back as what they were written for: the name of a seat, an amount, and cards.
 use Rattle.std.proofs.Common.{◌≡◌, ℕ, zero, suc, ◌+◌, ◌<◌, ◌≤◌, ◌^◌, Bool, true, false, bytes_eq, List, [], ◌∷◌, length, drop, find, decimal, Some, Ok, refl, ap, ◌∙◌, arith, inl, inr}
-use Rattle.std.specs.Char.{digit_value, is_digit}
+use Rattle.std.specs.Char.{digit_value}
 use Rattle.std.specs.List.{list_all, list_any, range_with_len}
 use Rattle.std.specs.Str.Parse.{AllDigits}
 use Rattle.std.proofs.lemmas.Bool.{cases_Bool, cases_lt, le-leb, lt-ltb}
@@ -23,6 +23,7 @@ use Rattle.phh_words.specs.Words.{seat_name}
 use Rattle.phh_words.proofs.CardLaws.{slots_read}
 use Rattle.phh_words.proofs.WordsAgain.{IsWord, is_plain}
 use Rattle.card_set.proofs.KnownCards.{all_known}
+use Rattle.list_laws.proofs.Digits.{of_digits}
 
 -- digits are bytes of a word
 digit_plain : (sign : ℕ) → digit_value sign < 10 → is_plain sign ≡ true
@@ -110,16 +111,12 @@ seat_again seats seat few from within =
     (λ other _ below. names_differ seat other (omega (arith, few, within)) below) ((bytes_eq-Decides (seat_name seat) (seat_name seat)).1 refl) in
     rw found refl
 
-all_digits : (digits : List ℕ) → AllDigits 10 digits → list_all (λ sign. is_digit sign 10) digits ≡ true
-all_digits [] each = refl
-all_digits (digit ∷ digits) each = rw (lt-ltb (digit_value digit) 10 each.0, all_digits digits each.1) refl
-
 -- an amount that is written says that amount
 pub amount_again : (amount : ℕ) → amount ≤ MOST_CHIPS → amount_said (decimal amount) ≡ Ok amount
 unfolding amount_said are_digits number_of
 amount_again amount most =
     let is = decimal_is_IsNumeral amount (omega (arith, most)) in
-    rw (lt-ltb 0 (length (decimal amount)) is.0.0, all_digits (decimal amount) is.0.1, is.1, le-leb amount MOST_CHIPS most) refl
+    rw (lt-ltb 0 (length (decimal amount)) is.0.0, of_digits (decimal amount) is.0.1, is.1, le-leb amount MOST_CHIPS most) refl
 
 -- slots that are spelled are those slots
 pub slots_again : (most : ℕ) (cards : List Slot) → 1 ≤ length cards → length cards ≤ most → slots_said most (spelling cards) ≡ Ok cards

@@ -48,7 +48,7 @@ moved_within setup moves street seat act target within most other =
     added_within setup moves street seat other target (seat == other) within (λ is. eqb-true seat other is) most
 
 -- the greatest legal target is no more than all-in
-greatest_within : (limit : Limit) (setup : Setup) (moves : List Move) (street seat : ℕ) → greatest_target_in limit setup moves street seat ≤ all_in setup moves street seat
+pub greatest_within : (limit : Limit) (setup : Setup) (moves : List Move) (street seat : ℕ) → greatest_target_in limit setup moves street seat ≤ all_in setup moves street seat
 greatest_within limits.No setup moves street seat = omega arith
 greatest_within limits.Pot setup moves street seat = min-le_left (all_in setup moves street seat) (pot_ceiling setup moves street seat)
 greatest_within limits.Fixed setup moves street seat = min-le_left (all_in setup moves street seat) (greatest (full_targets setup moves street))

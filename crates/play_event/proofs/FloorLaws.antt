@@ -5,7 +5,7 @@ use Rattle.std.proofs.lemmas.Bool.{and_parts, cases_lt, eq-eqb, eqb-true, le-leb
 use Rattle.std.proofs.lemmas.List.Folds.{list_any-append}
 use Rattle.std.proofs.lemmas.Option.{same_Some}
 use Rattle.list_laws.proofs.Options.{some_is_none}
-use Rattle.list_laws.proofs.Tests.{false_true}
+use Rattle.list_laws.proofs.Tests.{false_true, holds_by_both}
 use Rattle.chip_ledger.specs.Greatest.{greatest}
 use Rattle.play_event.specs.declared.code.Code.{Code}
 use Rattle.play_event.specs.declared.code.Code.TheVariants as games
@@ -46,6 +46,7 @@ use Rattle.play_event.proofs.ReasonLaws.{no_reason_holds}
 use Rattle.play_event.proofs.StreetLaws.{due_is_first}
 use Rattle.play_event.proofs.TargetLaws.{greatest_is_legal}
 use Rattle.list_laws.proofs.NumbersOfRange.{any_in_range}
+use Rattle.list_laws.proofs.Finding.{found_among}
 
 -- the greatest of some numbers, each of which is bounded by another or by one bound
 greatest_within : (f g : ℕ → ℕ) (bound : ℕ) → ((x : ℕ) → g x ≤ max (f x) bound) → (xs : List ℕ) → greatest (map g xs) ≤ max (greatest (map f xs)) bound
@@ -227,15 +228,6 @@ floor_above : (reopens : Reopen) (setup : Setup) (moves : List Move) (street : �
 floor_above reopen.Full setup moves street some fits = omega (arith, some, bet_below setup moves street)
 floor_above reopen.Always setup moves street some fits = above_start setup moves street some fits
 
--- a seat that is found among seats going round, and one that has to be found
-found_among : (p : ℕ → Bool) (xs : List ℕ) → list_any p xs ≡ true → find p xs ≡ None → ⊥
-found_among p [] any none = false_true any
-found_among p (x ∷ xs) any none = by_first (p x) any none (found_among p xs)
-  where
-    by_first : (b : Bool) → (b || list_any p xs) ≡ true → (cond b (Some x) (find p xs)) ≡ None → (list_any p xs ≡ true → find p xs ≡ None → ⊥) → ⊥
-    by_first true any none later = absurd (some_is_none none)
-    by_first false any none later = later any none
-
 AllFromOne : List ℕ → Type 0
 AllFromOne [] = Unit {0}
 AllFromOne (x ∷ xs) = (1 ≤ x) × AllFromOne xs
@@ -413,11 +405,6 @@ mover_of setup moves None NoSeat own known = inr refl
 mover_of setup moves None (TheSeat other) own known = inl refl
 mover_of setup moves (Some seat) (TheSeat other) own known = inl (ap TheSeat (sym (eqb-true seat other (not-false (seat == other) own))))
 
--- a legal target goes above the price
-legal_by : (legal below above : Bool) → (not legal && below) ≡ false → (below ≡ false → above ≡ false → legal ≡ true) → above ≡ false → legal ≡ true
-legal_by true below above small even big = refl
-legal_by false below above small even big = even small big
-
 target_above : (limit : Limit) (reopens : Reopen) (setup : Setup) (moves : List Move) (street seat target : ℕ) → is_fixed limit ≡ false → price setup moves street < floor reopens setup moves street → 1 ≤ setup.min_bet → price setup moves street < all_in setup moves street seat → is_target_in limit reopens setup moves street seat target ≡ true → price setup moves street < target
 target_above limits.Fixed reopens setup moves street seat target bounded low some chips legal = false_true (sym bounded)
 target_above limits.No reopens setup moves street seat target bounded low some chips legal = elim (or_cases (nat_le (floor reopens setup moves street) target && nat_le target (all_in setup moves street seat)) (target == all_in setup moves street seat) legal) [
@@ -453,7 +440,7 @@ module _ (setup : Setup) (rules : Rules) (blinds : is_stud setup.code ≡ false)
       let due_move = move_is_due setup before blinds bet in
       let may = not-false (may_raise setup rules moves street seat) reasons.1.1.1.1.1.1.1.1.0 in
       let chips = ltb-true (price setup moves street) (all_in setup moves street seat) (and_parts (has_able_opponent setup moves seat) (nat_lt (price setup moves street) (all_in setup moves street seat)) (and_parts (has_able_opponent setup moves seat && nat_lt (price setup moves street) (all_in setup moves street seat)) (is_within_cap rules.caps moves street) (and_parts (has_able_opponent setup moves seat && nat_lt (price setup moves street) (all_in setup moves street seat) && is_within_cap rules.caps moves street) (is_reopened rules.reopen setup moves street seat) may).0).0).1 in
-      let target_legal = legal_by (is_legal_target rules.reopen setup moves street seat target) (nat_lt target (greatest_target setup moves street seat)) (nat_lt (greatest_target setup moves street seat) target) reasons.1.1.1.1.1.1.1.1.1.0 (is_legal_by rules.reopen setup moves street seat target) reasons.1.1.1.1.1.1.1.1.1.1.0 in (
+      let target_legal = holds_by_both (is_legal_target rules.reopen setup moves street seat target) (nat_lt target (greatest_target setup moves street seat)) (nat_lt (greatest_target setup moves street seat) target) reasons.1.1.1.1.1.1.1.1.1.0 (is_legal_by rules.reopen setup moves street seat target) reasons.1.1.1.1.1.1.1.1.1.1.0 in (
         target_above (limit_of setup.code) rules.reopen setup moves street seat target bounded (floor_above rules.reopen setup moves street some fits) some chips target_legal,
         elim (mover_of setup moves named in_turn_now reasons.1.1.0 reasons.1.1.1.1.1.1.0) [
           | inl is ↦ (mover_from_one setup moves street blinds ups seat is, mover_in_hand setup moves street blinds ups seat is)

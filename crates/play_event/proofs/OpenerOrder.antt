@@ -8,6 +8,7 @@ use Rattle.card_set.specs.UpCards.{up_high_class, low_class}
 use Rattle.play_event.specs.declared.limit.Opener.{Opener}
 use Rattle.play_event.specs.declared.limit.Opener.TheVariants.{Blinds, LowUp, HighUp}
 use Rattle.play_event.specs.Openers.{is_lower, is_opener_before, card_stands, razz_place}
+use Rattle.list_laws.proofs.Numbers.{less_trans}
 
 -- lists of heights
 lower_not : (xs : List ℕ) → is_lower xs xs ≡ false
@@ -29,9 +30,6 @@ lower_trans (x ∷ xs) [] c p q = absurd (true≢false (sym p))
 lower_trans (x ∷ xs) (y ∷ ys) [] p q = absurd (true≢false (sym q))
 lower_trans (x ∷ xs) (y ∷ ys) (z ∷ zs) p q =
     lower_step x y z (is_lower xs ys) (is_lower ys zs) (is_lower xs zs) (lower_trans xs ys zs) (or_cases (nat_lt x y) ((x == y) && is_lower xs ys) p) (or_cases (nat_lt y z) ((y == z) && is_lower ys zs) q)
-
-less_trans : (x y z : ℕ) → nat_lt x y ≡ true → nat_lt y z ≡ true → nat_lt x z ≡ true
-less_trans x y z p q = lt-ltb x z (let one : x < y = ltb-true x y p in let two : y < z = ltb-true y z q in omega (arith, one, two))
 
 -- no seat opens before itself
 pub opens_not : (opener : Opener) (first : Bool) (a : List Card) → is_opener_before opener first a a ≡ false

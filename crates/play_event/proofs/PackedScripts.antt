@@ -2,7 +2,7 @@
 use Rattle.std.proofs.Common.{◌≡◌, ℕ, ◌+◌, ◌<◌, ◌≤◌, List, [], ◌∷◌, ◌++◌, length, drop, slice_get, Option, Some, None, refl, sym, ◌∙◌, ap, arith, append_assoc, length-append}
 use Rattle.std.specs.Prelude.{IfNone, IfSome}
 use Rattle.std.proofs.lemmas.Option.{some_pair_parts}
-use Rattle.std.proofs.lemmas.List.{append-nil, length-drop}
+use Rattle.std.proofs.lemmas.List.{append-nil}
 use Rattle.play_event.specs.declared.event.Event.{Event}
 use Rattle.play_event.specs.EventNumbers.{IsEvent, AreEvents}
 use Rattle.play_event.specs.PackedForm.{packed_event, packed_events}
@@ -11,6 +11,7 @@ use Rattle.play_event.specs.Said.{Numbered, numbered}
 use Rattle.play_event.specs.PackedScript.{PackedScript}
 use Rattle.play_event.specs.PackedOnce.{event_again, event_same, events_same}
 use Rattle.list_laws.proofs.Entries.{drop_first}
+use Rattle.list_laws.proofs.Lists.{not_past}
 
 -- where bytes are the packed form of events, they are the events of the bytes
 pub events_are : (bytes : List ℕ) (script : PackedScript bytes) (events : List Event) → AreEvents events → bytes ≡ packed_events events → script.events ≡ events
@@ -111,9 +112,6 @@ pub record Stands {A : Type 0} (xs : List A) (index : ℕ) (found : Option A) (h
   pub stands : here ≡ drop index xs
   pub first : IfSome found (λ x. here ≡ x ∷ rest)
   pub end : IfNone found ((here ≡ []) × (rest ≡ []))
-
-not_past : {A : Type 0} (xs : List A) (index : ℕ) (here : List A) → index < length xs → here ≡ drop index xs → here ≡ [] → ⊥
-not_past xs index here within is none = omega (arith, ap length (sym is ∙ none), length-drop index xs)
 
 pub passes : {A : Type 0} (xs : List A) (index : ℕ) (found : Option A) (here rest : List A) → index < length xs → Stands xs index found here rest → rest ≡ drop (index + 1) xs
 passes xs index (Some x) here rest within before = sym (drop_first xs rest index x (sym before.stands ∙ before.first)).1

@@ -1,7 +1,7 @@
 -- What each seat ends with where one seat at most is live.
-use Rattle.std.proofs.Common.{◌≡◌, ℕ, ◌+◌, ◌-◌, ◌≤◌, ◌==◌, Bool, true, false, ◌&&◌, cond, if◌then◌else◌, List, [], ◌∷◌, refl, sym, ap, ◌∙◌, subst, arith, get_or, nat_lt, map, sum, sum_by}
+use Rattle.std.proofs.Common.{◌≡◌, ℕ, ◌+◌, ◌-◌, ◌≤◌, ◌==◌, Bool, true, false, ◌&&◌, cond, if◌then◌else◌, List, [], ◌∷◌, refl, ap, ◌∙◌, subst, arith, get_or, nat_lt, map, sum, sum_by}
 use Rattle.std.specs.List.{list_any}
-use Rattle.std.proofs.lemmas.Bool.{and_from, eq-eqb, false_from_ne_true, ltb-false, true≢false}
+use Rattle.std.proofs.lemmas.Bool.{and_from, eq-eqb, ltb-false, true≢false}
 use Rattle.std.proofs.lemmas.List.Folds.{list_any_at}
 use Rattle.std.proofs.lemmas.List.FromFn.{get_or-range_with_len, length-range_with_len}
 use Rattle.std.proofs.lemmas.List.Sums.{sum-map, sum_by-cons}
@@ -11,7 +11,7 @@ use Rattle.chip_ledger.specs.RakeRow.{rake_of}
 use Rattle.chip_ledger.specs.Rakes.{HaveRakes, chips_in, less_rake, nets_of}
 use Rattle.chip_ledger.specs.Seat.{seats_of}
 use Rattle.chip_ledger.specs.SeatRow.{amount_of}
-use Rattle.list_laws.proofs.Any.{any_found, list_any-map}
+use Rattle.list_laws.proofs.Any.{list_any-map, not_among_kept}
 use Rattle.list_laws.proofs.Sums.{sum_by-map, sum_by-plus, sum_by-same}
 use Rattle.chip_ledger.proofs.OneSeat.{passes_once, sum_of_one}
 use Rattle.chip_ledger.proofs.PotSums.{after_return_sum, stake_chips}
@@ -22,6 +22,7 @@ use Rattle.play_event.specs.Chips.{chips_left, chips_put}
 use Rattle.play_event.specs.Price.{all_chips_put}
 use Rattle.play_event.specs.Seats.{all_seats, is_live, live_count}
 use Rattle.play_event.specs.Stakes.{counted_put, dead_antes_of, pots_after, returned_after, shares_by_folds, stack_by_folds, stake_after, stakes_after}
+use Rattle.list_laws.proofs.Tests.{if_same}
 
 -- as many stakes are live as seats
 live_stakes-after : (setup : Setup) (moves : List Move) → live_stakes (stakes_after setup moves) ≡ live_count setup moves
@@ -35,11 +36,6 @@ pots_are : (setup : Setup) (moves : List Move)
     → live_count setup moves ≤ 1
     → pots_after setup moves ≡ with_chips (last_pot setup moves ∷ [])
 pots_are setup moves few = sole_pot (stakes_after setup moves) (dead_antes_of setup) (omega (arith, few, live_stakes-after setup moves))
-
--- a seat that fails a test is not among those that pass it
-not_among : (f : ℕ → Bool) (seat : ℕ) (seats : List ℕ) → f seat ≡ false → list_any (λ n. f n && (n == seat)) seats ≡ false
-not_among f seat seats off =
-    false_from_ne_true (list_any (λ n. f n && (n == seat)) seats) (λ is. true≢false (sym (any_found f seat seats is) ∙ off))
 
 -- a seat that passes a test is
 among : (f : ℕ → Bool) (n seat : ℕ) → 1 ≤ seat → seat ≤ n → f seat ≡ true → list_any (λ m. f m && (m == seat)) (seats_of n) ≡ true
@@ -105,10 +101,6 @@ shares_are setup moves seat few =
     ap (λ pots. sum_by (λ share. share seat) (map whole_share (nets_of setup.rakes pots))) (pots_are setup moves few)
     ∙ shares_of_pot setup.rakes (last_pot setup moves) seat (nat_lt 0 (last_pot setup moves).chips)
 
-same_either : (b : Bool) (n : ℕ) → cond b n n ≡ n
-same_either true n = refl
-same_either false n = refl
-
 -- a seat that has folded ends with what it has left
 pub folded_stack : (setup : Setup) (moves : List Move) (seat : ℕ)
     → live_count setup moves ≤ 1
@@ -118,11 +110,11 @@ folded_stack setup moves seat few folded =
     let pot = last_pot setup moves in
     let back : returned_after setup moves seat ≡ 0 =
     ap (λ b. if b then (stake_after setup moves seat).chips - greatest_other (stakes_after setup moves) seat else 0) folded in
-    let wins : may_win pot seat ≡ false = may_win_last setup moves seat ∙ not_among (is_live moves) seat (all_seats setup) folded in
+    let wins : may_win pot seat ≡ false = may_win_last setup moves seat ∙ not_among_kept (is_live moves) seat (all_seats setup) folded in
     let share : sum_by (λ share. share seat) (shares_by_folds setup moves) ≡ 0 =
     shares_are setup moves seat few
     ∙ ap (λ b. cond (nat_lt 0 pot.chips) (if b then pot.chips - rake_of setup.rakes 1 else 0) 0) wins
-    ∙ same_either (nat_lt 0 pot.chips) 0 in
+    ∙ if_same (nat_lt 0 pot.chips) 0 in
     omega (arith, back, share)
 
 taken : (has : Bool) (chips rake : ℕ) → nat_lt 0 chips ≡ has → rake ≤ cond has chips 0 → cond has (chips - rake) 0 + rake ≡ chips

@@ -1,7 +1,7 @@
 -- Betting that is closed on a street stays closed there under moves of other streets.
-use Rattle.std.proofs.Common.{◌≡◌, ◌≢◌, ℕ, ◌+◌, ◌-◌, ◌≤◌, Bool, true, false, ◌&&◌, ◌||◌, ◌==◌, not, nat_lt, nat_le, inl, inr, List, ◌∷◌, map, refl, sym, ◌∙◌, ap, arith, if◌then◌else◌}
+use Rattle.std.proofs.Common.{◌≡◌, ◌≢◌, ℕ, ◌+◌, ◌-◌, ◌≤◌, Bool, true, false, ◌&&◌, ◌||◌, ◌==◌, not, nat_lt, nat_le, inl, inr, List, ◌∷◌, map, refl, sym, ◌∙◌, ap, if◌then◌else◌}
 use Rattle.std.specs.List.{list_any}
-use Rattle.std.proofs.lemmas.Bool.{and_parts, and_from, and_right, ne_eqb, le-leb, leb-true, false_from_ne_true, both_ways, or_left, or_cases, or_right}
+use Rattle.std.proofs.lemmas.Bool.{and_parts, and_from, and_right, ne_eqb, false_from_ne_true, both_ways, or_left, or_cases, or_right}
 use Rattle.play_event.specs.declared.setup.Setup.{Setup}
 use Rattle.play_event.specs.Streets.{is_stud}
 use Rattle.play_event.specs.Past.{Past, Resolved, Move, Dealt, Boarded, Moved, Discarded, Shown, Mucked, moves_of, moves_on, street_of}
@@ -16,6 +16,7 @@ use Rattle.play_laws.proofs.SettledStreets.{deal_still, draw_still, is_discard_o
 use Rattle.list_laws.proofs.Any.{none_still}
 use Rattle.play_event.proofs.StillAble.{able_still}
 use Rattle.list_laws.proofs.Counting.{counts_fewer}
+use Rattle.list_laws.proofs.Numbers.{two_still}
 
 -- no move makes more seats able
 pub able_fewer : (setup : Setup) (move : Move) (moves : List Move) → able_count setup (move ∷ moves) ≤ able_count setup moves
@@ -33,10 +34,6 @@ owed_same setup move moves street seat differ =
 moved_same : (setup : Setup) (move : Move) (moves : List Move) (street seat : ℕ) → move.street ≢ street → has_moved_since_rise setup (move ∷ moves) street seat ≡ has_moved_since_rise setup moves street seat
 moved_same setup move moves street seat differ =
     ap (λ b. if b then ((move.seat == seat) || (nat_le move.to (price setup moves street) && has_moved_since_rise setup moves street seat)) else has_moved_since_rise setup moves street seat) (ne_eqb move.street street differ)
-
--- who has to move had to
-two_still : (less more : ℕ) → less ≤ more → nat_le 2 less ≡ true → nat_le 2 more ≡ true
-two_still less more on is = le-leb 2 more (omega (arith, on, leb-true 2 less is))
 
 has_to_by : (able before_able moved : Bool) (owes : ℕ) (less more : ℕ) → (able ≡ true → before_able ≡ true) → less ≤ more → (able && (if moved then false else (nat_lt 0 owes || nat_le 2 less))) ≡ true → (before_able && (if moved then false else (nat_lt 0 owes || nat_le 2 more))) ≡ true
 has_to_by false before_able moved owes less more both on is = false_true is

@@ -1,7 +1,6 @@
 -- What a legal event tells of the past before it.
-use Rattle.std.proofs.Common.{◌≡◌, ℕ, zero, suc, ◌≤◌, Bool, true, false, ◌==◌, not, nat_lt, inl, inr, ◌⊎◌, Option, Some, None, List, map, length, refl, sym, ap, arith}
-use Rattle.std.specs.Option.{option_map_or}
-use Rattle.std.proofs.lemmas.Bool.{or_parts, not-false, eqb-true, ltb-false}
+use Rattle.std.proofs.Common.{◌≡◌, ℕ, zero, suc, ◌≤◌, Bool, true, false, ◌==◌, nat_lt, inl, inr, ◌⊎◌, Option, Some, None, List, map, length, refl, sym, arith}
+use Rattle.std.proofs.lemmas.Bool.{or_parts, not-false, ltb-false}
 use Rattle.card_set.specs.declared.card.Slot.{Slot}
 use Rattle.card_set.specs.declared.card.Slot.TheVariants as slots
 use Rattle.card_set.specs.declared.card.Card.{Card}
@@ -25,6 +24,7 @@ use Rattle.play_event.proofs.ReasonLaws.{no_reason_holds}
 use Rattle.list_laws.proofs.Tests.{false_true, first_holds}
 use Rattle.play_laws.proofs.DueAtEvents.{IsDue, deal, draw, bring, move, unfinished_due}
 use Rattle.play_event.proofs.FloorLaws.{may_come_by}
+use Rattle.list_laws.proofs.Options.{next_number}
 
 -- what an event tells, by its kind
 pub data Stepped (setup : Setup) (before : Past) (street : ℕ) : Resolved → Type 0 where
@@ -147,11 +147,6 @@ bring_kind setup named (dues.Draw street) is = false_true is
 bring_kind setup named dues.Show is = false_true is
 bring_kind setup named dues.Over is = false_true is
 
--- who draws next
-next_by : (seat : ℕ) (next : Option ℕ) → not (option_map_or (λ n. n == seat) next false) ≡ false → next ≡ Some seat
-next_by seat None is = false_true (sym is)
-next_by seat (Some other) is = ap Some (eqb-true other seat (not-false (other == seat) is))
-
 -- how many cards
 count_by : (owed count : ℕ) → is_wrong_deal owed count ≡ false → (1 ≤ count) × (count ≤ owed)
 count_by owed count is =
@@ -176,7 +171,7 @@ stepped setup rules before (said.Board cards) legal =
 stepped setup rules before (said.Discard seat cards) legal =
     let none = no_reason_holds setup rules before (said.Discard seat cards) legal in
     let due = draw_by setup before seat cards (turn setup before).1 refl (may_come_by (is_due_kind setup.code (turn setup before).1 (said.Discard seat cards)) false none.1.0) in
-    discards seat cards due.0 due.1 (next_by seat (next_to_draw setup before (turn setup before).0) none.1.1.0) (ltb-false (held_count (places_of setup.code before) seat) (length cards) none.1.1.1.0) none.1.1.1.1.0 none.1.1.1.1.1.0
+    discards seat cards due.0 due.1 (next_number seat (next_to_draw setup before (turn setup before).0) none.1.1.0) (ltb-false (held_count (places_of setup.code before) seat) (length cards) none.1.1.1.0) none.1.1.1.1.0 none.1.1.1.1.1.0
 stepped setup rules before (said.Show seat cards) legal =
     let none = no_reason_holds setup rules before (said.Show seat cards) legal in
     shows seat cards (not-false (may_show setup before seat) none.1.1.0) none.1.1.1.1.0

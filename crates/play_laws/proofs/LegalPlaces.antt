@@ -22,7 +22,7 @@ use Rattle.play_event.specs.Table.{places_of}
 use Rattle.play_event.specs.CardReasons.{is_seat}
 use Rattle.play_event.specs.Scripts.{with_event, past_of}
 use Rattle.play_event.specs.Laws.{IsAmong, AreLegal}
-use Rattle.list_laws.proofs.Tests.{false_true}
+use Rattle.list_laws.proofs.Tests.{false_true, if_and_swap}
 use Rattle.play_laws.specs.LegalPlaces.{has_owner_folded, PlacesLaw}
 use Rattle.play_laws.proofs.PlaceChanges.{IsChange, AreChanged}
 use Rattle.play_laws.specs.PastLaws.{AreReached, has_move, PastLaw}
@@ -58,18 +58,12 @@ deal_group code owner to street on cards placed =
     let news : List Place = places_dealt to on (is_past_deck code placed on) (count_by (is_in_group to on) placed) (length placed) cards in
     omega (arith, ap (λ (l : List Place). length l) (filter-append (is_in_group owner street) placed news), length-append (filter (is_in_group owner street) placed) (filter (is_in_group owner street) news), dealt_group owner to street on (is_past_deck code placed on) (count_by (is_in_group to on) placed) (length placed) cards)
 
-and_swap : (a b : Bool) (n : ℕ) → (if a && b then n else 0) ≡ (if b && a then n else 0)
-and_swap true true n = refl
-and_swap true false n = refl
-and_swap false true n = refl
-and_swap false false n = refl
-
 -- a seat has as many places of a street as cards were dealt to it there
 pub group_count : (code : Code) (before : Past) (street seat : ℕ) → length (filter (is_in_group (Some seat) street) (places_of code before)) ≡ hole_cards_dealt before street seat
 group_count code [] street seat = refl
 group_count code (Dealt on owner cards ∷ before) street seat =
     deal_group code (Some seat) (Some owner) street on cards (places_of code before)
-    ∙ ap (λ n. n + length (filter (is_in_group (Some seat) street) (places_of code before))) (and_swap (owner == seat) (on == street) (length cards))
+    ∙ ap (λ n. n + length (filter (is_in_group (Some seat) street) (places_of code before))) (if_and_swap (owner == seat) (on == street) (length cards))
     ∙ ap (λ n. (if (on == street) && (owner == seat) then length cards else 0) + n) (group_count code before street seat)
 group_count code (Boarded on cards ∷ before) street seat =
     omega (arith, deal_group code (Some seat) None street on (map (λ card. slots.Known card) cards) (places_of code before), group_count code before street seat)

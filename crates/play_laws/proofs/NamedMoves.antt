@@ -1,6 +1,6 @@
 -- A move that is legal is legal as the canonical script says it, after each past with the same moves, turn and mover.
 use Rattle.std.proofs.Common.{◌≡◌, ℕ, Bool, true, false, ◌&&◌, ◌||◌, not, Option, Some, None, List, [], ◌∷◌, refl, sym, ◌∙◌, ap, ◌==◌}
-use Rattle.std.proofs.lemmas.Bool.{eq-eqb, eqb-true, not-false, not_from_true}
+use Rattle.std.proofs.lemmas.Bool.{eqb-true, not-false}
 use Rattle.play_event.specs.declared.code.Code.{Code}
 use Rattle.play_event.specs.declared.event.Spelled.TheVariants as spelled
 use Rattle.play_event.specs.declared.reason.Due.{Due}
@@ -23,6 +23,7 @@ use Rattle.play_event.specs.Reasons.{why, first_reason, is_over, is_due_kind}
 use Rattle.play_event.specs.Scripts.{resolved_by}
 use Rattle.play_event.specs.Laws.{NoneHold}
 use Rattle.play_laws.proofs.MoveKinds.{IsMoveSaid, alike_kind, bring_said, brings, call_said, calls, fold_said, folds, raise_said, raises}
+use Rattle.list_laws.proofs.Numbers.{not_other}
 
 -- the seat that a move names
 abbrev pub named_in : Said → Option ℕ
@@ -76,10 +77,6 @@ same_kind code due setup moves street seat _ (bring_said named) = alike_kind cod
 pub same_actor : (setup : Setup) (moves : List Move) (named : Option ℕ) (seat : ℕ) → is_other_seat setup moves named (TheSeat seat) ≡ false → actor_of named (TheSeat seat) ≡ seat
 same_actor setup moves None seat is = refl
 same_actor setup moves (Some other) seat is = eqb-true other seat (not-false (other == seat) is)
-
--- a seat is no other one
-pub not_other : (seat : ℕ) → not (seat == seat) ≡ false
-not_other seat = not_from_true (seat == seat) (eq-eqb seat seat refl)
 
 named_kind : (setup : Setup) (moves : List Move) (now : ℕ × Due) (seat : ℕ) (event : Said) → IsMoveSaid event → not (is_due_kind setup.code now.1 event || false) ≡ false → not (is_due_kind setup.code now.1 (named_move setup moves now.0 seat event) || false) ≡ false
 named_kind setup moves now seat event is kind = ap (λ b. not (b || false)) (same_kind setup.code now.1 setup moves now.0 seat event is) ∙ kind

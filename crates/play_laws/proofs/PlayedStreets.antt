@@ -1,7 +1,7 @@
 -- What a legal and complete past guarantees of the streets that it came to: their cards are dealt and drawn in full, and
 -- their betting was closed before the next street.
-use Rattle.std.proofs.Common.{◌≡◌, ℕ, zero, suc, ◌+◌, ◌-◌, ◌≤◌, ◌<◌, Bool, true, false, ◌==◌, nat_lt, nat_le, inl, inr, ◌⊎◌, Option, Some, None, List, [], ◌∷◌, map, filter, length, refl, sym, ◌∙◌, ap, subst, arith, if◌then◌else◌}
-use Rattle.std.specs.List.{list_any, range_with_len}
+use Rattle.std.proofs.Common.{◌≡◌, ℕ, ◌+◌, ◌-◌, ◌≤◌, ◌<◌, Bool, true, false, ◌==◌, nat_lt, nat_le, inl, inr, ◌⊎◌, Option, Some, None, List, [], ◌∷◌, map, filter, length, refl, sym, ◌∙◌, ap, subst, arith, if◌then◌else◌}
+use Rattle.std.specs.List.{list_any}
 use Rattle.std.proofs.lemmas.Bool.{or_parts, or_cases, and_parts, both_ways, cases_Bool, cases_lt, ltb-false, leb-true, leb-false, eqb-true, not_from_false}
 use Rattle.std.proofs.lemmas.List.Sums.{length-filter}
 use Rattle.card_set.specs.declared.card.Slot.TheVariants as slots
@@ -33,6 +33,7 @@ use Rattle.play_laws.proofs.DiscardCounts.{is_out_of}
 use Rattle.play_event.proofs.OwnerLaws.{is_same_owner-true}
 use Rattle.std.proofs.lemmas.List.{length-map}
 use Rattle.play_event.proofs.DueStreets.{none_found}
+use Rattle.list_laws.proofs.Counting.{some_gone}
 
 -- what is due on a street leaves a script unfinished
 due_open : (setup : Setup) (before : Past) (street : ℕ) (due : Due) → IsDue setup before street due → is_unfinished due ≡ true
@@ -59,22 +60,11 @@ contested_end setup before several finished within =
 abbrev pub IsReached : Setup → List Move → ℕ → Type 0
 IsReached setup list street = nat_le (live_count setup (moves_before street list)) 1 ≡ false
 
--- a seat that was live before, and is not now
-gone_seat : (p q : ℕ → Bool) (start count : ℕ) → length (filter q (range_with_len start count)) < length (filter p (range_with_len start count)) → (seat : ℕ) × ((p seat ≡ true) × (q seat ≡ false))
-gone_seat p q start zero less = absurd (omega (arith, less))
-gone_seat p q start (suc count) less = by_both (p start) (q start) refl refl less (gone_seat p q (start + 1) count)
-  where
-    by_both : (a b : Bool) → p start ≡ a → q start ≡ b → length (if b then (start ∷ filter q (range_with_len (start + 1) count)) else filter q (range_with_len (start + 1) count)) < length (if a then (start ∷ filter p (range_with_len (start + 1) count)) else filter p (range_with_len (start + 1) count)) → (length (filter q (range_with_len (start + 1) count)) < length (filter p (range_with_len (start + 1) count)) → (seat : ℕ) × ((p seat ≡ true) × (q seat ≡ false))) → (seat : ℕ) × ((p seat ≡ true) × (q seat ≡ false))
-    by_both true false is_p is_q it later = (start, (is_p, is_q))
-    by_both true true is_p is_q it later = later (omega (arith, it))
-    by_both false true is_p is_q it later = later (omega (arith, it))
-    by_both false false is_p is_q it later = later it
-
 reached_or_move : (setup : Setup) (before : Past) (street : ℕ) → PastLaw setup before → nat_le (live_count setup (moves_of before)) 1 ≡ true → IsReached setup (moves_of before) street → (street < newest_street before) ⊎ (has_move street (moves_of before) ≡ true)
 reached_or_move setup before street past one reached =
     let few : live_count setup (moves_of before) ≤ 1 = leb-true (live_count setup (moves_of before)) 1 one in
     let many : 1 < live_count setup (moves_before street (moves_of before)) = leb-false (live_count setup (moves_before street (moves_of before))) 1 reached in
-    let it = gone_seat (is_live (moves_before street (moves_of before))) (is_live (moves_of before)) 1 setup.stacks.seats
+    let it = some_gone (is_live (moves_before street (moves_of before))) (is_live (moves_of before)) 1 setup.stacks.seats
     (omega (arith, few, many, length-filter (is_live (moves_of before)) (all_seats setup), length-filter (is_live (moves_before street (moves_of before))) (all_seats setup))) in
     late_fold (newest_street before) street it.0 (moves_of before) past.moved it.1.0 it.1.1
 

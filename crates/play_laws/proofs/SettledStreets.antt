@@ -1,17 +1,18 @@
 -- What is not due on a street does not come due there by later events.
 use Rattle.std.proofs.Common.{◌≡◌, ℕ, ◌+◌, ◌-◌, ◌≤◌, Bool, true, false, ◌&&◌, ◌||◌, ◌==◌, not, nat_lt, is_some, ◌∷◌, length, refl, sym, ◌∙◌, ap, arith, if◌then◌else◌}
 use Rattle.std.specs.List.{list_any}
-use Rattle.std.proofs.lemmas.Bool.{or_parts, or_from, ltb-false, le-ltb}
+use Rattle.std.proofs.lemmas.Bool.{or_parts, or_from, ltb-false}
 use Rattle.play_event.specs.declared.setup.Setup.{Setup}
 use Rattle.play_event.specs.Games.{hole_cards_on}
 use Rattle.play_event.specs.Streets.{has_draw}
 use Rattle.play_event.specs.Past.{Past, Resolved, Move, Dealt, Boarded, Moved, Discarded, Shown, Mucked, moves_of, is_fold}
 use Rattle.play_event.specs.Seats.{is_live, all_seats}
 use Rattle.play_event.specs.Dealing.{is_deal_due, is_draw_due, hole_cards_dealt, has_drawn, hole_cards_owed, board_cards_owed, replacements_owed, next_to_draw}
-use Rattle.list_laws.proofs.Tests.{false_true}
+use Rattle.list_laws.proofs.Tests.{false_true, if_not_both}
 use Rattle.list_laws.proofs.Any.{none_still}
 use Rattle.list_laws.proofs.Finding.{none_found_still}
 use Rattle.list_laws.proofs.NumbersOfRange.{at_range}
+use Rattle.list_laws.proofs.Numbers.{none_below}
 
 -- hole cards owed do not grow
 owed_less : (folded before : Bool) (owed : ℕ) → (if not (folded || before) then owed else 0) ≤ (if not before then owed else 0)
@@ -42,16 +43,13 @@ board_owed_still setup before (Discarded on owner cards) street = omega arith
 board_owed_still setup before (Shown on owner cards) street = omega arith
 board_owed_still setup before (Mucked on owner) street = omega arith
 
-less_than : (a b : ℕ) → b ≤ a → nat_lt 0 a ≡ false → nat_lt 0 b ≡ false
-less_than a b less is = le-ltb 0 b (omega (arith, less, ltb-false 0 a is))
-
 -- a deal that is not due does not come due
 pub deal_still : (setup : Setup) (before : Past) (event : Resolved) (street : ℕ) → is_deal_due setup before street ≡ false → is_deal_due setup (event ∷ before) street ≡ false
 deal_still setup before event street is =
     let parts = or_parts (list_any (λ seat. nat_lt 0 (hole_cards_owed setup before street seat)) (all_seats setup)) (nat_lt 0 (board_cards_owed setup before street)) is in
     or_from (list_any (λ seat. nat_lt 0 (hole_cards_owed setup (event ∷ before) street seat)) (all_seats setup)) (nat_lt 0 (board_cards_owed setup (event ∷ before) street))
-    (none_still (λ seat. nat_lt 0 (hole_cards_owed setup before street seat)) (λ seat. nat_lt 0 (hole_cards_owed setup (event ∷ before) street seat)) (all_seats setup) (λ seat. less_than (hole_cards_owed setup before street seat) (hole_cards_owed setup (event ∷ before) street seat) (hole_owed_still setup before event street seat)) parts.0)
-    (less_than (board_cards_owed setup before street) (board_cards_owed setup (event ∷ before) street) (board_owed_still setup before event street) parts.1)
+    (none_still (λ seat. nat_lt 0 (hole_cards_owed setup before street seat)) (λ seat. nat_lt 0 (hole_cards_owed setup (event ∷ before) street seat)) (all_seats setup) (λ seat. none_below (hole_cards_owed setup before street seat) (hole_cards_owed setup (event ∷ before) street seat) (hole_owed_still setup before event street seat)) parts.0)
+    (none_below (board_cards_owed setup before street) (board_cards_owed setup (event ∷ before) street) (board_owed_still setup before event street) parts.1)
 
 -- an event is a discard on a street
 abbrev pub is_discard_on : ℕ → Resolved → Bool
@@ -62,15 +60,12 @@ is_discard_on street (Moved move) = false
 is_discard_on street (Shown on owner cards) = false
 is_discard_on street (Mucked on owner) = false
 
-not_here : (b c : Bool) (n : ℕ) → b ≡ false → (if b && c then n else 0) ≡ 0
-not_here b c n is = ap (λ x. if x && c then n else 0) is
-
 -- without a discard no seat is owed more replacements
 pub replaced_still : (before : Past) (event : Resolved) (street seat : ℕ) → is_discard_on street event ≡ false → replacements_owed (event ∷ before) street seat ≤ replacements_owed before street seat
 replaced_still before (Dealt on owner cards) street seat no_discard = omega arith
 replaced_still before (Boarded on cards) street seat no_discard = omega arith
 replaced_still before (Moved move) street seat no_discard = omega arith
-replaced_still before (Discarded on owner cards) street seat no_discard = omega (arith, not_here (on == street) (owner == seat) (length cards) no_discard)
+replaced_still before (Discarded on owner cards) street seat no_discard = omega (arith, if_not_both (on == street) (owner == seat) (length cards) no_discard)
 replaced_still before (Shown on owner cards) street seat no_discard = omega arith
 replaced_still before (Mucked on owner) street seat no_discard = omega arith
 
@@ -102,7 +97,7 @@ pub draw_still : (setup : Setup) (before : Past) (event : Resolved) (street : �
 draw_still setup before event street no_discard is =
     draw_by (has_draw setup.code street) (is_some (next_to_draw setup before street)) (list_any (λ seat. nat_lt 0 (replacements_owed before street seat)) (all_seats setup)) (is_some (next_to_draw setup (event ∷ before) street)) (list_any (λ seat. nat_lt 0 (replacements_owed (event ∷ before) street seat)) (all_seats setup))
     (none_found_still (λ seat. is_live (moves_of before) seat && not (has_drawn before street seat)) (λ seat. is_live (moves_of (event ∷ before)) seat && not (has_drawn (event ∷ before) street seat)) (all_seats setup) (to_draw_still before event street))
-    (none_still (λ seat. nat_lt 0 (replacements_owed before street seat)) (λ seat. nat_lt 0 (replacements_owed (event ∷ before) street seat)) (all_seats setup) (λ seat. less_than (replacements_owed before street seat) (replacements_owed (event ∷ before) street seat) (replaced_still before event street seat no_discard))) is
+    (none_still (λ seat. nat_lt 0 (replacements_owed before street seat)) (λ seat. nat_lt 0 (replacements_owed (event ∷ before) street seat)) (all_seats setup) (λ seat. none_below (replacements_owed before street seat) (replacements_owed (event ∷ before) street seat) (replaced_still before event street seat no_discard))) is
 
 -- where no draw is due no replacement is owed
 pub none_owed : (setup : Setup) (before : Past) (street seat : ℕ) → has_draw setup.code street ≡ true → is_draw_due setup before street ≡ false → 1 ≤ seat → seat ≤ setup.stacks.seats → replacements_owed before street seat ≡ 0

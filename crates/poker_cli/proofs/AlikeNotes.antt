@@ -1,8 +1,8 @@
 -- What a notation writes of notes is the same where they say the same.
-use Rattle.std.proofs.Common.{◌≡◌, ℕ, zero, suc, ◌+◌, ◌-◌, ◌<◌, ◌≤◌, Bool, true, false, if◌then◌else◌, List, [], ◌∷◌, ◌++◌, map, take, codes, get_or, slice_index, Option, Some, None, option_map, refl, sym, ap, ap₂, ◌∙◌, arith}
+use Rattle.std.proofs.Common.{◌≡◌, ℕ, ◌+◌, ◌-◌, ◌<◌, ◌≤◌, Bool, true, false, if◌then◌else◌, List, [], ◌∷◌, ◌++◌, take, codes, get_or, slice_index, Option, Some, None, option_map, refl, sym, ap, ap₂, ◌∙◌, arith}
 use Rattle.std.specs.Prelude.{is_some, unwrap_or}
 use Rattle.std.specs.Fmt.{decimal}
-use Rattle.std.specs.List.{flat_map, list_any, range_with_len}
+use Rattle.std.specs.List.{list_any}
 use Rattle.std.proofs.lemmas.List.{get_or-take}
 use Rattle.std.proofs.lemmas.Option.{same_Some}
 use Rattle.serde_json.specs.Data as json
@@ -25,21 +25,7 @@ use Rattle.phh_fields.specs.NoteFields.{PlainNotes, plain_notes}
 use Rattle.phh_table.specs.HandFields.{hand_field, label, local_time, name_written, names_field, note_fields, number_field, numbers, texts}
 use Rattle.phh_table.specs.Members.{Field}
 use Rattle.convert_core.specs.SameRecords.{NoteTheSame}
-
--- over seats
-pub same_range : {X : Type 0} (f g : ℕ → X) (first count : ℕ) → ((n : ℕ) → first ≤ n → n < first + count → f n ≡ g n)
-    → map f (range_with_len first count) ≡ map g (range_with_len first count)
-same_range f g first zero each = refl
-same_range f g first (suc count) each =
-    ap₂ (λ x xs. x ∷ xs) (each first (omega arith) (omega arith))
-    (same_range f g (first + 1) count (λ n least most. each n (omega (arith, least)) (omega (arith, most))))
-
-same_texts : {X : Type 0} (f g : ℕ → List X) (first count : ℕ) → ((n : ℕ) → first ≤ n → n < first + count → f n ≡ g n)
-    → flat_map f (range_with_len first count) ≡ flat_map g (range_with_len first count)
-same_texts f g first zero each = refl
-same_texts f g first (suc count) each =
-    ap₂ (λ x xs. x ++ xs) (each first (omega arith) (omega arith))
-    (same_texts f g (first + 1) count (λ n least most. each n (omega (arith, least)) (omega (arith, most))))
+use Rattle.list_laws.proofs.NumbersOfRange.{flat_same, map_agree}
 
 -- the plain notes of so many seats
 plain_same : (count : ℕ) (notes others : Notes) → NoteTheSame count notes others → plain_notes count notes ≡ plain_notes count others
@@ -96,7 +82,7 @@ players_same : (count : ℕ) (notes others : Notes) → NoteTheSame count notes 
 players_same count notes others alike =
     ap₂ (λ (named : Bool) (all : List (List ℕ)). if named then Some (texts all) else None)
     (ap (λ (names : List (Option (List ℕ))). list_any is_some names) alike.all_names)
-    (same_range (name_written notes) (name_written others) 1 count
+    (map_agree (name_written notes) (name_written others) 1 count
     (λ seat first last. ap (λ name. unwrap_or name (default_name seat)) (alike.names (seat - 1))))
 
 pub fields_same : (place count : ℕ) (notes others : Notes) → NoteTheSame count notes others
@@ -190,7 +176,7 @@ pub members_same : (dialect : Dialect) (place : ℕ) (trace : Trace) (notes othe
 members_same dialect place trace notes others alike =
     let all : players trace.setup.stacks notes (numbers_written trace.setup notes) ≡ players trace.setup.stacks others (numbers_written trace.setup others) =
     ap list
-    (same_range (player_tree trace.setup.stacks notes (numbers_written trace.setup notes))
+    (map_agree (player_tree trace.setup.stacks notes (numbers_written trace.setup notes))
     (player_tree trace.setup.stacks others (numbers_written trace.setup others)) 1 trace.setup.stacks.seats
     (player_same trace notes others alike)) in
     members_are dialect place trace notes
@@ -204,5 +190,5 @@ members_same dialect place trace notes others alike =
 pub line_names_same : (count : ℕ) (notes others : Notes) → NoteTheSame count notes others → names_text notes count ≡ names_text others count
 unfolding names_text
 line_names_same count notes others alike =
-    same_texts (λ seat. bar_before seat ++ name_text notes seat) (λ seat. bar_before seat ++ name_text others seat) 1 count
+    flat_same (λ seat. bar_before seat ++ name_text notes seat) (λ seat. bar_before seat ++ name_text others seat) 1 count
     (λ seat first last. ap (λ name. bar_before seat ++ name_or_default seat name) (alike.names (seat - 1)))

@@ -1,6 +1,5 @@
 -- The answer to what a source has left, where it tells that, and how a run ends with it.
 use Rattle.std.proofs.Common.{◌≡◌, ◌⊎◌, ℕ, ◌<◌, ◌≤◌, true, List, length, Option, Some, None, is_some, IfOk, IfSome, Result, Ok, Err, refl, subst, sym, ap, ◌∙◌, inl, inr}
-use Rattle.std.specs.Option.{option_map}
 use Rattle.acpc_game.specs.declared.game.Game.{Game}
 use Rattle.acpc_text.specs.declared.fault.AcpcFault.{AcpcFault}
 use Rattle.acpc_text.specs.declared.fault.AcpcFault.TheVariants as logs
@@ -43,6 +42,7 @@ use Rattle.poker_cli.specs.declared.task.Reader.TheVariants as readers
 use Rattle.poker_cli.specs.declared.task.Task.{Task}
 use Rattle.poker_cli.specs.declared.task.Task.TheVariants as tasks
 use Rattle.poker_cli.specs.declared.task.Way.{Way}
+use Rattle.list_laws.proofs.Options.{some_always, some_mapped}
 
 -- the bytes that were read are those that the source had left
 pub answer_within : (task : Task) (reader : Reader) (left : Option (List ℕ)) (bytes : List ℕ) (answer : Answer)
@@ -246,11 +246,6 @@ read_of_input statuses.ShelfFault of nothing = of
 read_of_input statuses.GameMissing of nothing = of
 read_of_input statuses.BadGame of nothing = of
 
--- a way is found where hands are read, and no game is asked for, or one is given
-some_mapped : {A B : Type 0} (f : A → B) (found : Option A) → is_some found ≡ true → is_some (option_map f found) ≡ true
-some_mapped f (Some x) some = refl
-some_mapped f None some = cc
-
 some_reader : (notation : Notation) → file_of notation ≡ None → is_some (reader_with None notation) ≡ true
 some_reader words.Phh none = refl
 some_reader words.Ohh none = refl
@@ -302,10 +297,6 @@ unfolding IsFoundAnswer
 in_way request files bytes answer (Some way) each some is = answers.OfInput way (each way refl) answer is
 in_way request files bytes answer None each some is = cc
 
-where_told : {A : Type 0} (told : Option A) (P : A → Type 0) → ((x : A) → P x) → IfSome told P
-where_told (Some x) P each = each x
-where_told None P each = tt
-
 -- the answer to a request that asks for no game asks for no file
 pub plain_reply : (request : Request) (told : Option Files) (left : Option (List ℕ)) (result : Result made.Answer NoAnswer)
     → made_by request ≡ None → game_name request ≡ None
@@ -315,7 +306,7 @@ unfolding IsFoundAnswer
 plain_reply request told None (Ok answer) reads none is = tt
 plain_reply request told left (Err why) reads none is = tt
 plain_reply request told (Some bytes) (Ok answer) reads none is =
-    where_told told (λ files. IsAnswerIn request files bytes (answer_told answer))
+    some_always told (λ files. IsAnswerIn request files bytes (answer_told answer))
     (λ files. in_way request files bytes (answer_told answer) (way_of None request) (λ way found. answers.Plain none found) (plain_way request reads none) is)
 
 -- the answer to any other is by the game that its file gives
@@ -350,8 +341,8 @@ pub load_reply : (request : Request) (told : Option Files) (left : Option (List 
     → made_by request ≡ Some (seed, hands) → IsSummed seed hands answer
     → IfSome left (λ bytes. IfSome told (λ files. IsAnswerIn request files bytes answer))
 load_reply request told left seed hands answer made is =
-    where_told left (λ bytes. IfSome told (λ files. IsAnswerIn request files bytes answer))
-    (λ bytes. where_told told (λ files. IsAnswerIn request files bytes answer) (λ files. answers.Summed seed hands made answer is))
+    some_always left (λ bytes. IfSome told (λ files. IsAnswerIn request files bytes answer))
+    (λ bytes. some_always told (λ files. IsAnswerIn request files bytes answer) (λ files. answers.Summed seed hands made answer is))
 
 -- and where none are made, it is to the bytes that the source has left
 pub reading_reply : (request : Request) (told : Option Files) (left : Option (List ℕ)) (result : Result made.Answer NoAnswer)
@@ -367,8 +358,8 @@ pub ends_unread : (said : Option Request) (left : Option (List ℕ)) (told : Opt
     → IfSome said (λ request. IfSome (bytes_told (made_by request) left) (λ bytes. IfSome (files_told (game_name request) told) (λ files. Unit {0})))
 ends_unread None left told = tt
 ends_unread (Some request) left told =
-    where_told (bytes_told (made_by request) left) (λ bytes. IfSome (files_told (game_name request) told) (λ files. Unit {0}))
-    (λ bytes. where_told (files_told (game_name request) told) (λ files. Unit {0}) (λ files. tt))
+    some_always (bytes_told (made_by request) left) (λ bytes. IfSome (files_told (game_name request) told) (λ files. Unit {0}))
+    (λ bytes. some_always (files_told (game_name request) told) (λ files. Unit {0}) (λ files. tt))
 
 pub kept_unread : {X : Type 0} (said : Option Request) (asks : Request → Type 0) (input : X) → IfSome said (λ request. asks request → input ≡ input)
 kept_unread None asks input = tt

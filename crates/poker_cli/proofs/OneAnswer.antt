@@ -53,9 +53,9 @@ use Rattle.poker_cli.specs.declared.task.Reader.TheVariants as readers
 use Rattle.poker_cli.specs.declared.task.Task.{Task}
 use Rattle.poker_cli.specs.declared.task.Task.TheVariants as tasks
 use Rattle.poker_cli.specs.declared.task.Way.{Way}
-use Rattle.poker_cli.proofs.AlikeNotes.{same_range}
 use Rattle.poker_cli.proofs.AlikeGames.{one_game}
 use Rattle.poker_cli.proofs.AlikeOutputs.{document_same, lines_same, log_same, refusal_same}
+use Rattle.list_laws.proofs.NumbersOfRange.{map_agree}
 
 -- the lines of hands with the same traces
 same_lines : (lines : ℕ → Play → List ℕ)
@@ -93,7 +93,7 @@ same_seated p q traced alike seat first last =
 same_hand : (p q : Play) → p.trace ≡ q.trace → p.trace.setup ≡ p.hand.setup → AreAlike p.hand q.hand → hand_of p ≡ hand_of q
 same_hand p q traced own alike =
     let seats : map (seated_in p) (range_with_len 1 p.trace.setup.stacks.seats) ≡ map (seated_in q) (range_with_len 1 p.trace.setup.stacks.seats) =
-    same_range (seated_in p) (seated_in q) 1 p.trace.setup.stacks.seats
+    map_agree (seated_in p) (seated_in q) 1 p.trace.setup.stacks.seats
     (λ seat first last. same_seated p q traced alike seat first (subst (λ (setup : Setup). seat < 1 + setup.stacks.seats) own last)) in
     ap (λ (all : List Seated). record (hand_of p) { seats = all }) seats
     ∙ ap (λ (trace : Trace). record (hand_of (record q { trace = trace })) { seats = map (seated_in q) (range_with_len 1 trace.setup.stacks.seats) }) traced

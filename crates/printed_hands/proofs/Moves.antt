@@ -12,6 +12,7 @@ use Rattle.play_event.specs.Trace.{TracedMove, traced_move, traced_moves}
 use Rattle.play_event.specs.declared.played.Move as rows
 use Rattle.play_event.specs.declared.setup.Setup.{Setup}
 use Rattle.printed_hands.specs.Steps.{HasPut}
+use Rattle.list_laws.proofs.Entries.{at_length}
 
 -- the chips of the seat that moves, and those of another
 pub own_more : (setup : Setup) (moves : List Move) (move : Move) (seat : ℕ) → move.seat ≡ seat → chips_put setup (move ∷ moves) seat ≡ chips_put setup moves seat + (move.to - move.from)
@@ -67,10 +68,6 @@ behind setup (move ∷ front) base =
 as_many : (setup : Setup) (moves : List Move) → length (traced_moves setup moves) ≡ length moves
 as_many setup [] = refl
 as_many setup (move ∷ before) = length-append (traced_moves setup before) (traced_move setup move before ∷ []) ∙ omega (arith, as_many setup before)
-
-at_length : {A : Type 0} (front : List A) (x : A) (rest : List A) → slice_get (front ++ x ∷ rest) (length front) ≡ Some x
-at_length [] x rest = refl
-at_length (y ∷ front) x rest = at_length front x rest
 
 -- so the trace has a move behind as many as were made before it
 pub traced_here : (setup : Setup) (front : List Move) (move : Move) (base : List Move)

@@ -1,6 +1,5 @@
 -- The amounts of a row are those of its seats, from the first on.
-use Rattle.std.proofs.Common.{◌≡◌, ℕ, zero, suc, ◌+◌, ◌-◌, ◌≤◌, ◌<◌, List, [], ◌∷◌, length, map, take, slice_index, refl, sym, ap₂, ◌∙◌, ap, append_assoc, codes, ◌++◌, arith}
-use Rattle.std.specs.List.{range_with_len}
+use Rattle.std.proofs.Common.{◌≡◌, ℕ, ◌+◌, ◌-◌, ◌≤◌, List, [], map, take, slice_index, sym, ◌∙◌, ap, append_assoc, codes, ◌++◌, arith}
 use Rattle.chip_ledger.specs.Seat.{seats_of}
 use Rattle.chip_ledger.specs.SeatRow.{amount_of}
 use Rattle.chip_ledger.specs.declared.rows.SeatRow.{SeatRow}
@@ -10,22 +9,14 @@ use Rattle.play_event.specs.Seats.{all_seats}
 use Rattle.play_event.specs.declared.setup.Setup.{Setup}
 use Rattle.printed_hands.specs.Amounts.{amounts_in, amounts_text}
 use Rattle.printed_hands.specs.Steps.{HasPut, chips_text}
-
-front_is : (f : ℕ → ℕ) (amounts : List ℕ) (first count : ℕ) → count ≤ length amounts
-    → ((k : ℕ) → k < count → slice_index amounts k ≡ f (first + k))
-    → take count amounts ≡ map f (range_with_len first count)
-front_is f amounts first zero few each = refl
-front_is f [] first (suc count) few each = absurd (omega (arith, few))
-front_is f (amount ∷ others) first (suc count) few each =
-    ap₂ (λ x xs. x ∷ xs) (each 0 (omega arith) ∙ ap f (omega arith))
-    (front_is f others (first + 1) count (omega (arith, few)) (λ k within. each (suc k) (omega (arith, within)) ∙ ap f (omega arith)))
+use Rattle.list_laws.proofs.NumbersOfRange.{taken_index_along}
 
 pub amounts_are : (f : ℕ → ℕ) (row : SeatRow) (seats : ℕ) → row.seats ≡ seats
     → ((n : ℕ) → 1 ≤ n → n ≤ seats → amount_of row n ≡ f n)
     → amounts_in row ≡ map f (seats_of seats)
 amounts_are f row seats same each =
     ap (λ count. take count row.amounts) same
-    ∙ front_is f row.amounts 1 seats (omega (arith, row.full, row.greatest, same))
+    ∙ taken_index_along f row.amounts 1 seats (omega (arith, row.full, row.greatest, same))
     (λ k within. sym (ap (slice_index row.amounts) (back k)) ∙ each (1 + k) (omega arith) (omega (arith, within)))
   where
     back : (k : ℕ) → 1 + k - 1 ≡ k

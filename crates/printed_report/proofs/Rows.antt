@@ -1,5 +1,5 @@
 -- What is put into rows and found there.
-use Rattle.std.proofs.Common.{◌≡◌, ℕ, Bool, true, false, cond, ◌||◌, List, [], ◌∷◌, ◌++◌, map, Option, Some, unwrap_or, bytes_eq, refl, sym, ap, subst, ◌∙◌, true≢false, Bor}
+use Rattle.std.proofs.Common.{◌≡◌, ℕ, Bool, true, false, cond, ◌||◌, List, [], ◌∷◌, ◌++◌, map, Option, Some, unwrap_or, bytes_eq, refl, sym, ap, ◌∙◌, true≢false, Bor}
 use Rattle.std.specs.Cmp.Lexicographic.{bytes_decides}
 use Rattle.std.specs.List.{list_any}
 use Rattle.std.specs.Map.{lookup}
@@ -7,6 +7,8 @@ use Rattle.indexmap.specs.IndexMap.{insert_entry}
 use Rattle.printed_report.specs.Report.{Seated, with_name}
 use Rattle.printed_report.specs.Tallies.{no_tally, row_names, tally_at, with_row, with_seat}
 use Rattle.printed_report.specs.declared.tally.Tally.{Tally}
+use Rattle.list_laws.proofs.Bytes.{same_key}
+use Rattle.list_laws.proofs.Lists.{longer_either, mapped_either}
 
 -- a look-up in a map is one in its rows
 pub lookup_rows : (name : List ℕ) (entries : List (Bor (List ℕ) × Tally))
@@ -14,17 +16,13 @@ pub lookup_rows : (name : List ℕ) (entries : List (Bor (List ℕ) × Tally))
 lookup_rows name [] = refl
 lookup_rows name (entry ∷ entries) = ap (λ found. cond (bytes_eq name entry.0.now) (Some entry.1) found) (lookup_rows name entries)
 
-mapped : {X Y : Type 0} (f : X → Y) (b : Bool) (xs ys : List X) → map f (cond b xs ys) ≡ cond b (map f xs) (map f ys)
-mapped f true xs ys = refl
-mapped f false xs ys = refl
-
 -- what is put into a map is put into its rows
 pub insert_rows : (entries : List (Bor (List ℕ) × Tally)) (key : Bor (List ℕ)) (tally : Tally)
     → map (λ entry. (entry.0.now, entry.1)) (insert_entry (λ x y. bytes_eq x.now y.now) entries key tally)
     ≡ insert_entry bytes_eq (map (λ entry. (entry.0.now, entry.1)) entries) key.now tally
 insert_rows [] key tally = refl
 insert_rows (entry ∷ entries) key tally =
-    mapped (λ entry. (entry.0.now, entry.1)) (bytes_eq key.now entry.0.now) ((entry.0, tally) ∷ entries) (entry ∷ insert_entry (λ x y. bytes_eq x.now y.now) entries key tally)
+    mapped_either (λ entry. (entry.0.now, entry.1)) (bytes_eq key.now entry.0.now) ((entry.0, tally) ∷ entries) (entry ∷ insert_entry (λ x y. bytes_eq x.now y.now) entries key tally)
     ∙ ap (λ rest. cond (bytes_eq key.now entry.0.now) ((entry.0.now, tally) ∷ map (λ entry. (entry.0.now, entry.1)) entries) ((entry.0.now, entry.1) ∷ rest)) (insert_rows entries key tally)
 
 found_or : (b : Bool) (tally other : Tally) (rest : Option Tally) → unwrap_or (cond b (Some tally) rest) other ≡ cond b tally (unwrap_or rest other)
@@ -45,9 +43,6 @@ swapped true true x y z same = same refl refl
 swapped true false x y z same = refl
 swapped false q x y z same = refl
 
-both_equal : (asked name key : List ℕ) → bytes_eq asked key ≡ true → bytes_eq asked name ≡ true → bytes_eq name key ≡ true
-both_equal asked name key first second = subst (λ text. bytes_eq text key ≡ true) ((bytes_decides asked name).0 second) first
-
 -- a name that got a tally has it, and the others have theirs
 pub at_insert : (rows : List (List ℕ × Tally)) (name : List ℕ) (tally : Tally) (asked : List ℕ)
     → tally_at (insert_entry bytes_eq rows name tally) asked ≡ cond (bytes_eq asked name) tally (tally_at rows asked)
@@ -66,12 +61,8 @@ at_insert (row ∷ rows) name tally asked = by (bytes_eq name row.0) refl (at_in
     by false other later =
         at_front row (insert_entry bytes_eq rows name tally) asked
         ∙ ap (λ rest. cond (bytes_eq asked row.0) row.1 rest) later
-        ∙ swapped (bytes_eq asked row.0) (bytes_eq asked name) tally row.1 (tally_at rows asked) (λ first second. absurd (true≢false (sym (both_equal asked name row.0 first second) ∙ other)))
+        ∙ swapped (bytes_eq asked row.0) (bytes_eq asked name) tally row.1 (tally_at rows asked) (λ first second. absurd (true≢false (sym (same_key asked name row.0 first second) ∙ other)))
         ∙ ap (λ rest. cond (bytes_eq asked name) tally rest) (sym (at_front row rows asked))
-
-longer : (b : Bool) (name : List ℕ) (names other : List (List ℕ)) → name ∷ cond b names other ≡ cond b (name ∷ names) (name ∷ other)
-longer true name names other = refl
-longer false name names other = refl
 
 -- a name that got a tally stands where it stood, or last
 pub names_insert : (rows : List (List ℕ × Tally)) (name : List ℕ) (tally : Tally)
@@ -86,7 +77,7 @@ names_insert (row ∷ rows) name tally = by (bytes_eq name row.0) (names_insert 
     by true later = refl
     by false later =
         ap (λ rest. row.0 ∷ rest) later
-        ∙ longer (list_any (bytes_eq name) (row_names rows)) row.0 (row_names rows) (row_names rows ++ name ∷ [])
+        ∙ longer_either (list_any (bytes_eq name) (row_names rows)) row.0 (row_names rows) (row_names rows ++ name ∷ [])
 
 -- a tally with one more seat, where the seat has the name
 abbrev pub step : ℕ → List ℕ → Tally → Seated → Tally

@@ -1,5 +1,5 @@
 -- Where blinds decide who opens, no card is dealt face up.
-use Rattle.std.proofs.Common.{◌≡◌, ℕ, zero, suc, ◌-◌, Bool, true, false, ◌&&◌, nat_lt, nat_le, List, [], ◌∷◌, map, filter, slice_get, refl, sym, ap, ◌∙◌}
+use Rattle.std.proofs.Common.{◌≡◌, ℕ, zero, suc, ◌-◌, false, ◌&&◌, nat_lt, nat_le, List, [], ◌∷◌, map, slice_get, refl, sym, ap, ◌∙◌}
 use Rattle.std.specs.Option.{option_map_or}
 use Rattle.card_set.specs.declared.card.Slot.{Slot}
 use Rattle.play_event.specs.declared.code.Code.{Code}
@@ -12,6 +12,8 @@ use Rattle.play_event.specs.Past.{Past}
 use Rattle.play_event.specs.Places.{Place, is_held_by, is_up, up_slots}
 use Rattle.play_event.specs.Streets.{down_cards_on, up_cards_on}
 use Rattle.play_event.specs.Table.{places_of, up_cards}
+use Rattle.list_laws.proofs.Lists.{filter_none}
+use Rattle.list_laws.proofs.Tests.{and_off}
 
 -- no street deals a card face up
 DealNoneUp : List Street → Type 0
@@ -43,16 +45,8 @@ none_is_up code place is =
     ap (λ n. nat_lt 0 n && nat_le (down_cards_on code place.street) place.index)
     (none_up_at (game_of code).streets (place.street - 1) (blinds_deal_none_up code is))
 
-none_passes : {X : Type 0} (test : X → Bool) (xs : List X) → ((x : X) → test x ≡ false) → filter test xs ≡ []
-none_passes test [] none = refl
-none_passes test (x ∷ xs) none = rw (none x) (none_passes test xs none)
-
-off : (a b : Bool) → b ≡ false → a && b ≡ false
-off true b is = is
-off false b is = refl
-
 pub no_up_cards : (code : Code) (past : Past) (seat : ℕ) → (game_of code).opener ≡ openers.Blinds → up_cards code past seat ≡ []
 no_up_cards code past seat is =
     ap (map (λ (place : Place). place.slot))
-    (none_passes (λ (place : Place). is_held_by seat place && is_up code place) (places_of code past)
-    (λ place. off (is_held_by seat place) (is_up code place) (none_is_up code place is)))
+    (filter_none (λ (place : Place). is_held_by seat place && is_up code place) (places_of code past)
+    (λ place. and_off (is_held_by seat place) (is_up code place) (none_is_up code place is)))

@@ -1,5 +1,5 @@
 -- The first rake above its pot, looked for pot by pot.
-use Rattle.std.proofs.Common.{◌≡◌, ◌<◌, ◌≤◌, ◌+◌, ◌-◌, ℕ, zero, suc, Bool, true, false, cond, find, List, length, get_or, slice_get, slice_index, Option, Some, None, nat_lt, refl, sym, ◌∙◌, ap, arith, ⊎_elim}
+use Rattle.std.proofs.Common.{◌≡◌, ◌<◌, ◌≤◌, ◌+◌, ◌-◌, ℕ, Bool, find, List, length, get_or, slice_get, slice_index, Option, Some, None, nat_lt, sym, ◌∙◌, ap, arith, ⊎_elim}
 use Rattle.std.specs.List.{range_with_len}
 use Rattle.std.specs.Option.{option_map, option_map_or}
 use Rattle.std.proofs.lemmas.Bool.{cases_lt, ltb-false}
@@ -12,38 +12,18 @@ use Rattle.chip_ledger.specs.PotRow.{plain, plain_pots, pots_in}
 use Rattle.chip_ledger.specs.Pots.{PlainPot}
 use Rattle.chip_ledger.specs.RakeRow.{rake_of}
 use Rattle.chip_ledger.specs.Rakes.{HaveRakes, chips_in, first_rake_above}
+use Rattle.list_laws.proofs.NumbersOfRange.{find_nothing}
 
 -- the rake of a pot is above its chips
 abbrev pub is_above : List PlainPot → RakeRow → ℕ → Bool
 is_above pots rakes number = nat_lt (chips_in pots number) (rake_of rakes number)
-
--- what is not found passes nowhere
-none_passes : (test : ℕ → Bool) (first count : ℕ)
-    → find test (range_with_len first count) ≡ None
-    → (k : ℕ)
-    → first ≤ k
-    → k < first + count
-    → test k ≡ false
-none_passes test first zero none k low high = absurd (omega (arith, low, high))
-none_passes test first (suc count) none k low high = by (test first) refl none (λ rest l. none_passes test (first + 1) count rest k (omega (arith, l)) (omega (arith, high)))
-  where
-    by : (b : Bool)
-        → test first ≡ b
-        → cond b (Some first) (find test (range_with_len (first + 1) count)) ≡ None
-        → (find test (range_with_len (first + 1) count) ≡ None → first < k → test k ≡ false)
-        → test k ≡ false
-    by true is none later = absurd (cc (none))
-    by false is none later =
-        ⊎_elim (λ (l : first < k). later none l)
-        (λ (l : k ≤ first). let here : k ≡ first = omega (arith, l, low) in ap test here ∙ is)
-        (cases_lt first k)
 
 -- where none is found each pot has the chips of its rake
 pub have_rakes : (pots : List PlainPot) (rakes : RakeRow) → first_rake_above rakes pots ≡ None → HaveRakes pots rakes
 have_rakes pots rakes none number =
     ⊎_elim
     (λ (l : number - 1 < 11).
-    let fits = none_passes (is_above pots rakes) 1 11 none (number - 1 + 1) (omega arith) (omega (arith, l)) in
+    let fits = find_nothing (is_above pots rakes) 1 11 none (number - 1 + 1) (omega arith) (omega (arith, l)) in
     let same : number - 1 + 1 - 1 ≡ number - 1 = omega arith in
     let chips : chips_in pots (number - 1 + 1) ≡ chips_in pots number = ap (λ k. option_map_or (λ (p : PlainPot). p.chips) (slice_get pots k) 0) same in
     let rake : rake_of rakes (number - 1 + 1) ≡ rake_of rakes number = ap (slice_index rakes.rakes) same in

@@ -12,6 +12,7 @@ use Rattle.chip_ledger.specs.RakeRow.{rake_of}
 use Rattle.chip_ledger.specs.Rakes.{HaveRakes, chips_in, less_rake, nets_from, nets_of}
 use Rattle.chip_ledger.specs.SeatRow.{total_of}
 use Rattle.showdown_split.proofs.Splitting.{plain_more}
+use Rattle.list_laws.proofs.Lists.{same_first, same_rest}
 
 -- one pot more
 nets_push : (number : ℕ) (rakes : RakeRow) (pots : List PlainPot) (pot : PlainPot)
@@ -72,12 +73,6 @@ totals_more rows new row nets more net pushed next total totals =
     ∙ sym (map-append (λ (p : PlainPot). p.chips) nets (net ∷ []))
     ∙ ap (map (λ (p : PlainPot). p.chips)) (sym next)
 
-first_of : (a b : ℕ) (xs ys : List ℕ) → a ∷ xs ≡ b ∷ ys → a ≡ b
-first_of a b xs ys is = cc
-
-rest_of : (a b : ℕ) (xs ys : List ℕ) → a ∷ xs ≡ b ∷ ys → xs ≡ ys
-rest_of a b xs ys is = cc
-
 -- each pot's shares and its rake are its chips, and past the last pot there is neither
 conserved_from : (first : ℕ) (rakes : RakeRow) (pots : List PlainPot) (rows : List SeatRow) (k : ℕ)
     → map total_of rows ≡ map (λ (p : PlainPot). p.chips) (nets_from first rakes pots)
@@ -88,11 +83,11 @@ conserved_from first rakes [] (r ∷ rows) k totals have = absurd (cc (totals))
 conserved_from first rakes (p ∷ pots) [] k totals have = absurd (cc (totals))
 conserved_from first rakes (p ∷ pots) (r ∷ rows) zero totals have =
     let here : first + 0 ≡ first = omega arith in
-    omega (arith, have, ap (rake_of rakes) here, first_of (total_of r) (p.chips - rake_of rakes first) (map total_of rows) (map (λ (q : PlainPot). q.chips) (nets_from (suc first) rakes pots)) totals)
+    omega (arith, have, ap (rake_of rakes) here, same_first (total_of r) (p.chips - rake_of rakes first) (map total_of rows) (map (λ (q : PlainPot). q.chips) (nets_from (suc first) rakes pots)) totals)
 conserved_from first rakes (p ∷ pots) (r ∷ rows) (suc k) totals have =
     let later : suc first + k ≡ first + suc k = omega arith in
     subst (λ (n : ℕ). option_map_or total_of (slice_get rows k) 0 + rake_of rakes n ≡ option_map_or (λ (q : PlainPot). q.chips) (slice_get pots k) 0) later
-    (conserved_from (suc first) rakes pots rows k (rest_of (total_of r) (p.chips - rake_of rakes first) (map total_of rows) (map (λ (q : PlainPot). q.chips) (nets_from (suc first) rakes pots)) totals)
+    (conserved_from (suc first) rakes pots rows k (same_rest (total_of r) (p.chips - rake_of rakes first) (map total_of rows) (map (λ (q : PlainPot). q.chips) (nets_from (suc first) rakes pots)) totals)
     (subst (λ (n : ℕ). rake_of rakes n ≤ option_map_or (λ (q : PlainPot). q.chips) (slice_get pots k) 0) (sym later) have))
 
 pub conserved : (rakes : RakeRow) (pots : List PlainPot) (rows : List SeatRow) (number : ℕ)

@@ -15,6 +15,7 @@ use Rattle.play_event.specs.Table.{places_of}
 use Rattle.play_event.specs.declared.code.Code.{Code}
 use Rattle.street_laws.specs.Groups.{IsStill, AreStill, cards_dealt}
 use Rattle.play_event.proofs.DealingLaws.{dealt_group}
+use Rattle.list_laws.proofs.Tests.{if_and_swap_added, if_same_added}
 
 pub still : (place : Place) → IsStill place place
 still place = record { owner = refl; street = refl }
@@ -65,16 +66,6 @@ deal_group owner to street on late index number cards placed =
     let news : List Place = places_dealt to on late index number cards in
     omega (arith, ap (λ (l : List Place). length l) (filter-append (is_in_group owner street) placed news), length-append (filter (is_in_group owner street) placed) (filter (is_in_group owner street) news), dealt_group owner to street on late index number cards)
 
-and_swap : (a b : Bool) (n m : ℕ) → (if a && b then n else 0) + m ≡ (if b && a then n else 0) + m
-and_swap true true n m = refl
-and_swap true false n m = refl
-and_swap false true n m = refl
-and_swap false false n m = refl
-
-same_if : (b : Bool) (n m k : ℕ) → n ≡ m → (if b then n else 0) + k ≡ (if b then m else 0) + k
-same_if true n m k same = ap (λ x. x + k) same
-same_if false n m k same = refl
-
 group_length : (code : Code) (owner : Option ℕ) (past : Past) (street : ℕ) → length (filter (is_in_group owner street) (places_of code past)) ≡ cards_dealt past street owner
 group_length code (Some seat) [] street = refl
 group_length code None [] street = refl
@@ -82,7 +73,7 @@ group_length code (Some seat) (Dealt on to cards ∷ before) street =
     let placed = places_of code before in
     deal_group (Some seat) (Some to) street on (is_past_deck code placed on) (count_by (is_in_group (Some to) on) placed) (length placed) cards placed
     ∙ ap (λ n. (if (to == seat) && (on == street) then length cards else 0) + n) (group_length code (Some seat) before street)
-    ∙ and_swap (to == seat) (on == street) (length cards) (hole_cards_dealt before street seat)
+    ∙ if_and_swap_added (to == seat) (on == street) (length cards) (hole_cards_dealt before street seat)
 group_length code None (Dealt on to cards ∷ before) street =
     let placed = places_of code before in
     omega (arith, deal_group None (Some to) street on (is_past_deck code placed on) (count_by (is_in_group (Some to) on) placed) (length placed) cards placed, group_length code None before street)
@@ -93,7 +84,7 @@ group_length code None (Boarded on cards ∷ before) street =
     let placed = places_of code before in
     deal_group None None street on (is_past_deck code placed on) (count_by (is_in_group None on) placed) (length placed) (map (λ card. slots.Known card) cards) placed
     ∙ ap (λ n. (if on == street then length (map (λ card. slots.Known card) cards) else 0) + n) (group_length code None before street)
-    ∙ same_if (on == street) (length (map (λ card. slots.Known card) cards)) (length cards) (board_cards_dealt before street) (length-map cards (λ card. slots.Known card))
+    ∙ if_same_added (on == street) (length (map (λ card. slots.Known card) cards)) (length cards) (board_cards_dealt before street) (length-map cards (λ card. slots.Known card))
 group_length code owner (Moved move ∷ before) street = by_fold (is_fold move.act) owner (group_length code owner before street)
   where
     by_fold : (b : Bool) (o : Option ℕ) → length (filter (is_in_group o street) (places_of code before)) ≡ cards_dealt before street o → length (filter (is_in_group o street) (if b then after_fold move.seat (places_of code before) else places_of code before)) ≡ cards_dealt (Moved move ∷ before) street o

@@ -10,10 +10,7 @@ use Rattle.play_event.specs.declared.limit.Opener.TheVariants.{Blinds, LowUp, Hi
 use Rattle.play_event.specs.Openers.{is_lower, is_opener_before, card_stands, razz_place}
 use Rattle.up_card_order.specs.Earliest.{is_as_high, is_as_low, is_as_early}
 use Rattle.play_event.proofs.OpenerOrder.{lower_step, worse_trans}
-
-and_false : (e l : Bool) → e ≡ true → (e && l) ≡ false → l ≡ false
-and_false true l is none = none
-and_false false l is none = absurd cc
+use Rattle.list_laws.proofs.Tests.{second_fails}
 
 -- a test by a number, and by more where the numbers are equal, that fails: the other number is less, or they are equal and more fails
 turned : (x y : ℕ) (e f l : Bool) → (x ≡ y → e ≡ true) → (x ≡ y → f ≡ true) → (nat_lt x y || (e && l)) ≡ false → (nat_lt y x || (f && not l)) ≡ true
@@ -24,7 +21,7 @@ turned x y e f l e_is f_is fails =
       | inl below ↦ or_left (nat_lt y x) (f && not l) (lt-ltb y x below)
       | inr above ↦
           let same : x ≡ y = omega (arith, most, above) in
-          or_right (nat_lt y x) (f && not l) (and_from f (not l) (f_is same) (not_from_false l (and_false e l (e_is same) parts.1)))
+          or_right (nat_lt y x) (f && not l) (and_from f (not l) (f_is same) (not_from_false l (second_fails e l (e_is same) parts.1)))
     ]
 
 -- lists of heights, where higher ones open

@@ -3,8 +3,9 @@ use Rattle.std.proofs.Common.{◌≡◌, ℕ, ◌+◌, if◌then◌else◌, refl
 use Rattle.play_event.specs.Streets.{is_stud}
 use Rattle.hand_gen.specs.Draws.{drawn, number_after}
 use Rattle.hand_gen.specs.Setups.{blind_of, seats_drawn}
-use Rattle.hand_gen.proofs.SetupLaws.{behind_one, in_other_is, no_rake}
+use Rattle.hand_gen.proofs.SetupLaws.{behind_one, no_rake}
 use Rattle.hand_gen.proofs.setups.setup_at.Goals as goal
+use Rattle.list_laws.proofs.Tests.{if_not_none}
 
 pub returns : goal.returns
 returns c =
@@ -30,6 +31,6 @@ returns c =
       bring_in = c.chips_where-2.ensures ∙ ap (λ b. if b then 1 else 0) c.is_stud-stud.ensures;
       small_bet = c.chips_where-3.ensures ∙ ap (λ b. if b then 2 else 0) c.is_fixed-fixed.ensures;
       big_bet = c.chips_where-4.ensures ∙ ap (λ b. if b then 4 else 0) c.is_fixed-fixed.ensures;
-      least_bet = c.chips_where-5.ensures ∙ in_other_is c.is_fixed-fixed.result 2 ∙ ap (λ b. if b then 0 else 2) c.is_fixed-fixed.ensures;
+      least_bet = c.chips_where-5.ensures ∙ if_not_none c.is_fixed-fixed.result 2 ∙ ap (λ b. if b then 0 else 2) c.is_fixed-fixed.ensures;
       rakes = λ pot. no_rake c.none.result c.none.ensures pot;
     }

@@ -4,9 +4,9 @@ use Rattle.hand_order.specs.Digits.{class_above}
 use Rattle.hand_order.specs.Lowest.{has_height}
 use Rattle.hand_order.proofs.SetCounts.{level_shows, mask_counts}
 use Rattle.low_rank.proofs.EightBest.{eight_best, eight_none, low_number}
-use Rattle.low_rank.proofs.EightMask.{mask_tells, or_four}
+use Rattle.low_rank.proofs.EightMask.{mask_tells}
 use Rattle.low_rank.proofs.eight.best_eight.Goals as goal
-use Rattle.list_laws.proofs.Bits.{all_level}
+use Rattle.list_laws.proofs.Bits.{all_level, or_four}
 
 pub class_above-requires-clause-below : goal.class_above-requires-clause-below
 class_above-requires-clause-below c = low_number (has_height (bit_or (bit_or (bit_or c.rank_mask-clubs.result c.rank_mask-diamonds.result) c.rank_mask-hearts.result) c.rank_mask-spades.result)) c.as_slice-2.result.now (c.as_slice-2.ensures ∙ c.lowest_ranks-ranks.ensures.list)

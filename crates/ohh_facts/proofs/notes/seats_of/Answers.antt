@@ -2,8 +2,7 @@ use Rattle.std.proofs.Common.{◌≡◌, ◌+◌, ◌<◌, ◌≤◌, sym, arith
 use Rattle.std.proofs.lemmas.List.{length-set}
 use Rattle.hand_records.specs.AllowedNotes.{IsWithin}
 use Rattle.ohh_members.specs.Players.{plain_player}
-use Rattle.list_laws.proofs.Entries.{set_each}
-use Rattle.ohh_members.proofs.Taken.{one_more_taken, all_taken}
+use Rattle.list_laws.proofs.Entries.{set_each, all_taken, one_more_taken}
 use Rattle.ohh_facts.proofs.notes.seats_of.Goals as goal
 
 pub loop-index-preserved : goal.loop-index-preserved

@@ -2,8 +2,8 @@ use Rattle.std.proofs.Common.{arith}
 use Rattle.std.specs.List.{list_all}
 use Rattle.play_event.specs.Seats.{all_seats}
 use Rattle.ohh_line.specs.Spelled.{is_covered_straddle}
-use Rattle.ohh_line.proofs.Steps.{all_goes_on}
 use Rattle.ohh_line.proofs.setup.has_covered_straddles.Goals as goal
+use Rattle.list_laws.proofs.Ranges.{all_goes_on}
 
 pub loop-index-preserved : goal.loop-index-preserved
 loop-index-preserved c =

@@ -2,8 +2,8 @@ use Rattle.std.proofs.Common.{arith}
 use Rattle.std.specs.List.{list_any}
 use Rattle.play_event.specs.Seats.{all_seats}
 use Rattle.ohh_line.specs.Spelled.{has_no_ante}
-use Rattle.ohh_line.proofs.Steps.{any_goes_on}
 use Rattle.ohh_line.proofs.setup.has_seat_without_ante.Goals as goal
+use Rattle.list_laws.proofs.Ranges.{any_goes_on}
 
 pub loop-index-preserved : goal.loop-index-preserved
 loop-index-preserved c =

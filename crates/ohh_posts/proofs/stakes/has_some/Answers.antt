@@ -1,12 +1,8 @@
-use Rattle.std.proofs.Common.{◌≡◌, ℕ, zero, suc, ◌+◌, ◌-◌, ◌<◌, Bool, false, ◌||◌, nat_lt, get_or, refl, sym, ap, ◌∙◌, arith}
+use Rattle.std.proofs.Common.{◌≡◌, ◌+◌, ◌-◌, false, nat_lt, get_or, refl, sym, ap, ◌∙◌, arith}
 use Rattle.std.specs.List.{list_any, range_with_len}
 use Rattle.chip_ledger.specs.SeatRow.{amount_of}
 use Rattle.ohh_posts.proofs.stakes.has_some.Goals as goal
-
--- the first of the numbers that are left, and the others
-any_next : (p : ℕ → Bool) (first count : ℕ) → 0 < count → list_any p (range_with_len first count) ≡ (p first || list_any p (range_with_len (first + 1) (count - 1)))
-any_next p first zero some = absurd (omega (arith, some))
-any_next p first (suc count) some = let fewer : count ≡ suc count - 1 = omega arith in ap (λ n. p first || list_any p (range_with_len (first + 1) n)) fewer
+use Rattle.list_laws.proofs.Ranges.{any_next}
 
 pub loop-index-preserved : goal.loop-index-preserved
 loop-index-preserved c =

@@ -2,9 +2,9 @@ use Rattle.std.proofs.Common.{◌-◌, ◌++◌, ◌∷◌, [], ap, arith, subst
 use Rattle.ohh_rounds.specs.Kept.{IsToldOf}
 use Rattle.ohh_rounds.specs.Steps.{plain_deed, plain_step}
 use Rattle.ohh_rounds.specs.declared.seat_told.SeatTold.{SeatTold}
-use Rattle.ohh_rounds.proofs.Indexed.{at_index}
 use Rattle.ohh_rounds.proofs.OneMore.{each_seat, fold_deals, fold_elsewhere, fold_here, fold_is_deal, folded, untold}
 use Rattle.ohh_rounds.proofs.cards.after_fold.Goals as goal
+use Rattle.list_laws.proofs.Entries.{at_index}
 
 pub returns-clause-told : goal.returns-clause-told
 returns-clause-told c =

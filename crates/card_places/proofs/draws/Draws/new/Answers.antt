@@ -1,12 +1,8 @@
 -- Before any draw nothing is named, and nobody drew.
-use Rattle.std.proofs.Common.{◌≡◌, ℕ, zero, suc, ◌+◌, ◌-◌, ◌*◌, false, replicate, slice_index_or, refl, arith}
+use Rattle.std.proofs.Common.{◌+◌, ◌-◌, ◌*◌, refl, arith}
 use Rattle.play_event.specs.Rows.{zeros}
 use Rattle.card_places.proofs.draws.Draws.new.Goals as goal
-
-falses : (n k : ℕ) → slice_index_or (replicate n false) k false ≡ false
-falses zero k = refl
-falses (suc n) zero = refl
-falses (suc n) (suc k) = falses n k
+use Rattle.list_laws.proofs.Entries.{only_false}
 
 pub invariant_of-result : goal.invariant_of-result
 invariant_of-result c =
@@ -17,7 +13,7 @@ invariant_of-result c =
     }
 
 pub returns-clause-drew : goal.returns-clause-drew
-returns-clause-drew c = λ street seat. falses 60 (10 * street + seat - 1)
+returns-clause-drew c = λ street seat. only_false 60 (10 * street + seat - 1)
 
 pub returns-clause-named : goal.returns-clause-named
 returns-clause-named c = λ street seat. zeros 60 (10 * street + seat - 1)

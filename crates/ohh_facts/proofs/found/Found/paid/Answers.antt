@@ -3,8 +3,8 @@ use Rattle.chip_ledger.specs.Seat.{seats_of}
 use Rattle.ohh_facts.specs.PotSums.{all_of, plain_pot, rakes_said}
 use Rattle.ohh_facts.specs.Won.{plain_win, won_by}
 use Rattle.ohh_facts.proofs.PaidSame.{paid_same}
-use Rattle.ohh_facts.proofs.Sums.{by_seat}
 use Rattle.ohh_facts.proofs.found.Found.paid.Goals as goal
+use Rattle.list_laws.proofs.NumbersOfRange.{taken_from_one}
 
 pub returns-clause-said : goal.returns-clause-said
 returns-clause-said c =
@@ -14,6 +14,6 @@ returns-clause-said c =
     (Some (take found.won.sums.seats found.won.sums.amounts)) (Some (map (λ seat. won_by seat wins) (seats_of found.won.sums.seats)))
     (Some found.total) (Some (all_of (map plain_pot found.pots.items)))
     c.rakes_of.result.rakes (rakes_said (map plain_pot found.pots.items))
-    (ap Some (by_seat (λ seat. won_by seat wins) found.won.sums.amounts found.won.sums.seats (omega (arith, found.won.sums.greatest, found.won.sums.full)) found.won.are_sums))
+    (ap Some (taken_from_one (λ seat. won_by seat wins) found.won.sums.amounts found.won.sums.seats (omega (arith, found.won.sums.greatest, found.won.sums.full)) found.won.are_sums))
     (ap Some found.is_total)
     (c.rakes_of.ensures.said ∙ ap (λ pots. rakes_said (map plain_pot pots)) c.deref.ensures.value)

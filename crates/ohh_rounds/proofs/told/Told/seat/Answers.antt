@@ -2,8 +2,8 @@ use Rattle.std.proofs.Common.{◌-◌, arith, subst, map}
 use Rattle.ohh_rounds.specs.Kept.{IsToldOf}
 use Rattle.ohh_rounds.specs.Steps.{plain_step}
 use Rattle.ohh_rounds.specs.declared.seat_told.SeatTold.{SeatTold}
-use Rattle.ohh_rounds.proofs.Indexed.{at_index}
 use Rattle.ohh_rounds.proofs.told.Told.seat.Goals as goal
+use Rattle.list_laws.proofs.Entries.{at_index}
 
 pub returns : goal.returns
 returns c =
