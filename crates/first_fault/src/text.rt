@@ -4,9 +4,11 @@ use std::alloc::Global;
 use std::marker::Model;
 
 /// A text of a note, or of the place of a fault.
+///
+/// It takes one word where it stands, and its bytes stand elsewhere: most records have room for many notes and few of them.
 #[derive(Debug, Drop)]
 pub struct Text {
-    text: String,
+    text: Box<String>,
 }
 
 impl Model for Text {
@@ -14,7 +16,7 @@ impl Model for Text {
 
     ghost Value = { List ℕ };
 
-    ghost view = { λ t. string_bytes t.text };
+    ghost view = { λ t. string_bytes t.text.value };
 }
 
 impl Text {
@@ -24,7 +26,7 @@ impl Text {
     pub fn new(alloc: Global, text: &str) -> Result<Self, Memory>
         ensures { IfOk result (λ copy. copy ≡ text.now) }
     {
-        let text = text.to_owned(alloc)?;
+        let text = Box::new(alloc, text.to_owned(alloc)?)?;
         Ok(Text { text })
     }
 
