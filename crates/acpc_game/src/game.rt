@@ -1,5 +1,5 @@
 //! A game is what some game file says.
-ghost use Rattle.std.specs.Prelude.{◌≡◌, Bool, true, false, map, option_map, Ok};
+ghost use Rattle.std.specs.Prelude.{◌≡◌, true, false};
 ghost use Rattle.chip_ledger.specs.Greatest.{greatest};
 ghost use Rattle.acpc_game.specs.GameFile.{has_short_stack, is_reversed};
 ghost use Rattle.acpc_game.specs.Games.{amounts_in, are_chips, has_fitting_sizes};

@@ -1,5 +1,5 @@
 //! The keys of a game file are words that are free in case.
-ghost use Rattle.std.specs.Prelude.{◌≡◌, codes};
+ghost use Rattle.std.specs.Prelude.{◌≡◌};
 ghost use Rattle.acpc_game.specs.Keys.{card_key_named as card_key_named_said, chip_key_named as chip_key_named_said, has_count as has_count_said, is_word as is_word_said, key_named as key_named_said, key_place, most_of};
 
 use chip_ledger::MOST_CHIPS;

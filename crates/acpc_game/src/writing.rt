@@ -1,5 +1,5 @@
 //! A game is written in its one spelling.
-ghost use Rattle.std.specs.Prelude.{◌≡◌, ◌++◌, codes, length, IfOk, OnOk};
+ghost use Rattle.std.specs.Prelude.{◌≡◌, ◌++◌, IfOk, OnOk};
 ghost use Rattle.acpc_game.specs.GameText.{caps_text, chips_text, counts_text, first_text, game_text, key_line, kind_text, rows_text, sizes_text, spaced, turns_text};
 ghost use Rattle.acpc_game.specs.GameView.{game_in};
 ghost use Rattle.acpc_game.specs.Games.{amounts_in};

@@ -1,5 +1,5 @@
 //! The cards of a line are those of each seat and, for each further round, those of the board.
-ghost use Rattle.std.specs.Prelude.{◌≡◌, ◌≤◌, ◌&&◌, ◌++◌, [], ◌∷◌, Some, None, if◌then◌else◌, map, not, OnOk};
+ghost use Rattle.std.specs.Prelude.{◌≡◌, ◌≤◌, ◌&&◌, ◌++◌, [], Some, None, if◌then◌else◌, map, not, OnOk};
 ghost use Rattle.std.specs.List.{list_any};
 ghost use Rattle.card_set.specs.Known.{is_unknown};
 ghost use Rattle.card_set.specs.Spelling.{slot_spelling, spelling};

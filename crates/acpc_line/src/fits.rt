@@ -1,7 +1,6 @@
 //! The setup of a hand is compared with a game, and a game is made that it fits.
-ghost use Rattle.std.specs.Prelude.{◌≡◌, ◌&&◌, ◌==◌, not, nat_lt, nat_le, Ok, Err, IfErr, IfOk, length};
+ghost use Rattle.std.specs.Prelude.{◌≡◌, ◌&&◌, ◌==◌, Ok, Err, IfErr, IfOk};
 ghost use Rattle.acpc_game.specs.GameView.{game_in};
-ghost use Rattle.acpc_game.specs.Games.{amounts_in};
 ghost use Rattle.play_event.specs.ValidSetup.{IsValid};
 ghost use Rattle.acpc_line.specs.GameOf.{MakesGame, game_of as game_of_said, game_with, is_sized_by_blind as is_sized_by_blind_said, no_limit_of};
 ghost use Rattle.acpc_line.specs.SetupFacts.{greatest_blind as greatest_blind_said, has_sizes_of, is_code_of, setup_conditions};

@@ -1,6 +1,5 @@
 //! What each seat has put, while the moves of a hand are gone through.
 ghost use Rattle.std.specs.Prelude.{◌≡◌, ◌≤◌, ◌<◌, ◌+◌, ◌-◌, [], ◌∷◌, List, slice_index};
-ghost use Rattle.chip_ledger.specs.SeatRow.{amount_of};
 ghost use Rattle.chip_ledger.specs.declared.rows.TheConstants.{MOST_AMOUNT};
 ghost use Rattle.canonical_play.specs.CanonScript.{plain_move};
 ghost use Rattle.play_event.specs.Chips.{posted as posted_said};

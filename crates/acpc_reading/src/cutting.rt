@@ -1,5 +1,5 @@
 //! A line of a hand is cut into its six fields, divided by colons.
-ghost use Rattle.std.specs.Prelude.{◌≡◌, ◌<◌, ◌^◌, length, IfOk};
+ghost use Rattle.std.specs.Prelude.{◌<◌, ◌^◌, length, IfOk};
 ghost use Rattle.first_fault.specs.Reading.{Gives};
 ghost use Rattle.acpc_text.specs.Parts.{parts_of};
 ghost use Rattle.acpc_reading.specs.Logs.{six_fields};

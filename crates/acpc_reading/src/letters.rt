@@ -1,5 +1,5 @@
 //! The betting of a line is read letter by letter, or the first byte that doesn't fit is named.
-ghost use Rattle.std.specs.Prelude.{◌≡◌, ◌<◌, ◌≤◌, ◌+◌, ◌^◌, true, [], ◌∷◌, length, Ok, OnOk, IfErr};
+ghost use Rattle.std.specs.Prelude.{◌≡◌, ◌<◌, ◌+◌, ◌^◌, true, [], length, Ok, OnOk, IfErr};
 ghost use Rattle.std.specs.List.{list_all};
 ghost use Rattle.std.specs.Char.{is_digit};
 ghost use Rattle.first_fault.specs.Reading.{Fails, Gives};

@@ -1,7 +1,6 @@
 //! The parts of a field are taken one after the other.
 ghost use Rattle.std.specs.Prelude.{◌≡◌, ◌+◌, [], ◌∷◌, length, IfSome};
 ghost use Rattle.std.specs.Option.{option_map_or};
-ghost use Rattle.acpc_text.specs.Parts.{parts_of};
 ghost use Rattle.acpc_reading.specs.Left.{len_left, parts_left};
 
 use acpc_text::cut_at;

@@ -1,6 +1,6 @@
 //! A fault of a log or a game file names its line, and the byte of it that shows the fault.
-ghost use Rattle.std.specs.Prelude.{◌≡◌, min};
-ghost use Rattle.acpc_text.specs.Faults.{fault_in_line as fault_in_line_said, fault_of, kept as kept_said};
+ghost use Rattle.std.specs.Prelude.{◌≡◌};
+ghost use Rattle.acpc_text.specs.Faults.{fault_in_line as fault_in_line_said, kept as kept_said};
 
 use first_fault::Quantity;
 

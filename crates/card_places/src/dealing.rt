@@ -1,5 +1,5 @@
 //! Cards are dealt one behind the other, and counted.
-ghost use Rattle.std.specs.Prelude.{◌≡◌, ◌≤◌, ◌<◌, ◌+◌, ◌++◌, ◌∷◌, [], length, count_by, map, take, nat_lt, ◌==◌};
+ghost use Rattle.std.specs.Prelude.{◌≡◌, ◌≤◌, ◌<◌, ◌+◌, ◌++◌, ◌∷◌, [], length, count_by, map, take};
 ghost use Rattle.play_event.specs.Places.{is_in_group, places_dealt};
 ghost use Rattle.play_event.specs.Held.{is_held};
 ghost use Rattle.card_places.specs.Placed.{placed};

@@ -1,14 +1,12 @@
 //! A discard is refused exactly by the rules, and else takes the cards that its names find.
-ghost use Rattle.std.specs.Prelude.{◌≡◌, ℕ, ◌≤◌, ◌+◌, true, filter, find, map, length, count_by, None, Some, IfOk, IfErr, OnOk, OnErr};
+ghost use Rattle.std.specs.Prelude.{◌≡◌, ◌≤◌, ◌+◌, true, filter, find, length, count_by, None, Some, IfOk, IfErr};
 ghost use Rattle.std.specs.List.{range_with_len};
 ghost use Rattle.card_set.specs.Row.{slots_of};
 ghost use Rattle.play_event.specs.CardReasons as reasons;
 ghost use Rattle.play_event.specs.Naming as naming;
 ghost use Rattle.play_event.specs.Naming.{after_discard};
-ghost use Rattle.play_event.specs.declared.reason.Due.TheVariants as dues;
 ghost use Rattle.card_set.specs.Known.{known_cards};
 ghost use Rattle.play_event.specs.Places.{is_held_by};
-ghost use Rattle.street_laws.specs.Dues.{IsDueWithin};
 ghost use Rattle.card_places.specs.Placed.{placed};
 ghost use Rattle.card_places.specs.Plain.{seat_of};
 ghost use Rattle.card_places.specs.Refusals as why;

@@ -1,5 +1,5 @@
 //! Who drew on which street, and how many cards it named, is kept for the whole hand.
-ghost use Rattle.std.specs.Prelude.{◌≡◌, ◌≢◌, ◌≤◌, ◌⊎◌, ℕ, length, slice_index, slice_index_or, true, false};
+ghost use Rattle.std.specs.Prelude.{◌≡◌, ◌≢◌, ◌≤◌, ◌⊎◌, ℕ, length, slice_index, true, false};
 
 use chip_ledger::Seat;
 

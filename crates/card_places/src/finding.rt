@@ -1,6 +1,5 @@
 //! A covered place becomes what the names make of it.
-ghost use Rattle.std.specs.Prelude.{◌≡◌, ◌≤◌, ◌∷◌, ℕ, Bool, List, if◌then◌else◌, drop, length};
-ghost use Rattle.card_set.specs.declared.card.Card.{Card};
+ghost use Rattle.std.specs.Prelude.{◌≡◌, drop};
 ghost use Rattle.card_set.specs.Row.{cards_of};
 ghost use Rattle.play_event.specs.Naming.{found_by};
 ghost use Rattle.card_places.specs.Plain.{place_of};

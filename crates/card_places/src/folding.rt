@@ -1,5 +1,5 @@
 //! A fold takes the cards of its seat off the table, and no others.
-ghost use Rattle.std.specs.Prelude.{◌≡◌, length, map};
+ghost use Rattle.std.specs.Prelude.{◌≡◌};
 ghost use Rattle.play_event.specs.Places as plain;
 ghost use Rattle.card_places.specs.Folded.{IsFolded};
 ghost use Rattle.card_places.specs.Placed.{placed};

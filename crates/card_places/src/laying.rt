@@ -1,5 +1,5 @@
 //! Cards are dealt behind those that were dealt before, and what is owed has room.
-ghost use Rattle.std.specs.Prelude.{◌≡◌, length};
+ghost use Rattle.std.specs.Prelude.{length};
 ghost use Rattle.card_places.specs.Dealt.{IsDealt};
 ghost use Rattle.card_places.specs.Placed.{placed};
 ghost use Rattle.card_places.specs.Plain.{seat_of};

@@ -1,5 +1,5 @@
 //! Names and slots are compared card by card, as the rules do.
-ghost use Rattle.std.specs.Prelude.{◌≡◌, ◌≤◌, length, map, count_by, filter, ◌&&◌, not};
+ghost use Rattle.std.specs.Prelude.{◌≡◌, ◌≤◌, length, ◌&&◌};
 ghost use Rattle.std.specs.List.{list_any};
 ghost use Rattle.card_set.specs.Deck as decks;
 ghost use Rattle.card_set.specs.declared.card.Slot.TheVariants.{Known};

@@ -1,5 +1,5 @@
 //! The names of a discard or a show are tried on the places that it covers.
-ghost use Rattle.std.specs.Prelude.{◌≡◌, ◌≤◌, ◌<◌, filter, map, length, count_by, ◌&&◌};
+ghost use Rattle.std.specs.Prelude.{◌≡◌, ◌≤◌, ◌<◌, map, length, count_by, ◌&&◌};
 ghost use Rattle.std.specs.List.{list_any};
 ghost use Rattle.card_set.specs.Row.{cards_of};
 ghost use Rattle.play_event.specs.CardReasons as reasons;

@@ -1,8 +1,6 @@
 //! The places are told by street, then by owner, then in the order of dealing, as a trace has them.
-ghost use Rattle.std.specs.Prelude.{◌≡◌, ℕ, ◌+◌, ◌<◌, ◌≤◌, Some, None, List, length, map, filter, flat_map, slice_get, IfOk, IfErr};
-ghost use Rattle.std.specs.List.{range_with_len};
-ghost use Rattle.play_event.specs.Games.{street_count};
-ghost use Rattle.play_event.specs.Places.{Place, is_in_group};
+ghost use Rattle.std.specs.Prelude.{◌≡◌, ◌+◌, ◌<◌, ◌≤◌, Some, None, length, map, slice_get, IfOk, IfErr};
+ghost use Rattle.play_event.specs.Places.{Place};
 ghost use Rattle.card_places.specs.Ordered.{IsPlaceOf, group, on_seats, on_street, on_streets, ordered};
 ghost use Rattle.card_places.specs.Placed.{placed};
 ghost use Rattle.card_places.specs.Plain.{place_of, seat_of};

@@ -1,6 +1,5 @@
 //! A deal is refused exactly by the rules.
-ghost use Rattle.std.specs.Prelude.{◌≡◌, ◌≤◌, ◌&&◌, ◌||◌, ◌==◌, not, length, map, Some};
-ghost use Rattle.card_set.specs.declared.card.Slot as slots;
+ghost use Rattle.std.specs.Prelude.{◌≡◌, ◌≤◌, ◌||◌, ◌==◌, Some};
 ghost use Rattle.play_event.specs.CardReasons as reasons;
 ghost use Rattle.card_places.specs.Refusals as why;
 ghost use Rattle.street_laws.specs.Dues.{IsDueWithin};

@@ -1,5 +1,5 @@
 //! The names of a discard or a show find the places that it covers in the order of dealing.
-ghost use Rattle.std.specs.Prelude.{◌≡◌, ◌∷◌, List, filter, map};
+ghost use Rattle.std.specs.Prelude.{◌≡◌, ◌∷◌, List, map};
 ghost use Rattle.card_set.specs.Row.{cards_of};
 ghost use Rattle.play_event.specs.Places.{Place};
 ghost use Rattle.play_event.specs.Naming as naming;

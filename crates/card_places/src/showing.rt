@@ -1,5 +1,5 @@
 //! A show or a muck is refused exactly by the rules, and a show makes its cards known.
-ghost use Rattle.std.specs.Prelude.{◌≡◌, ◌≤◌, ◌&&◌, not, filter, map, length, count_by, Some, IfOk, IfErr, OnOk, OnErr, IsTrue, List, IfNone, IfSome, None};
+ghost use Rattle.std.specs.Prelude.{◌≡◌, ◌≤◌, ◌&&◌, map, length, count_by, Some, IfOk, IfErr, OnOk, IsTrue, List, IfNone, IfSome, None};
 ghost use Rattle.card_set.specs.declared.card.Card.{Card};
 ghost use Rattle.std.specs.List.{list_any};
 ghost use Rattle.card_set.specs.Row.{cards_of};

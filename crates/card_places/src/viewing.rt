@@ -1,5 +1,5 @@
 //! Hands, up-cards and the board are read from the places.
-ghost use Rattle.std.specs.Prelude.{◌≡◌, ℕ, ◌≤◌, ◌&&◌, true, None, Some, map, filter};
+ghost use Rattle.std.specs.Prelude.{◌≡◌, ℕ, ◌≤◌, ◌&&◌, true, None, Some, map};
 ghost use Rattle.std.specs.List.{list_any};
 ghost use Rattle.card_set.specs.Known as known;
 ghost use Rattle.card_set.specs.Row.{cards_of, slots_of};

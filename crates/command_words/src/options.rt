@@ -1,5 +1,5 @@
 //! Words are read as options, each of which stands once.
-ghost use Rattle.std.specs.Prelude.{◌≡◌, option_map, map, string_bytes, not, is_some};
+ghost use Rattle.std.specs.Prelude.{◌≡◌, option_map, map, string_bytes};
 ghost use Rattle.clap.specs.Lexer.{long_of, name_and_value, strip_byte};
 ghost use Rattle.command_words.specs.Requests.{options_in};
 ghost use Rattle.command_words.specs.Words.{no_options, options_said, with_flag as with_flag_said, with_option as with_option_said};

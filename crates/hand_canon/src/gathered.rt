@@ -1,7 +1,6 @@
 // The cards of a trace that were dealt on one street, or discarded in one draw, owner by owner.
-ghost use Rattle.std.specs.Prelude.{◌≡◌, ◌≤◌, ◌<◌, ◌≢◌, ℕ, ◌+◌, ◌∷◌, [], ◌++◌, Some, None, length, map};
-ghost use Rattle.card_set.specs.Row.{cards_of, slots_of};
-ghost use Rattle.card_set.specs.Known.{known_cards};
+ghost use Rattle.std.specs.Prelude.{◌≡◌, ◌≤◌, ℕ, ◌+◌, ◌++◌, Some, None, length, map};
+ghost use Rattle.card_set.specs.Row.{slots_of};
 ghost use Rattle.play_event.specs.SeatSlots.{slots_of_hand};
 ghost use Rattle.canonical_play.specs.CanonScript.{dealt_slots, discarded_slots};
 ghost use Rattle.hand_canon.specs.RowTests.{slot_for};

@@ -1,5 +1,5 @@
 // For each order: the least hand of each class, and the counts of all hands.
-ghost use Rattle.std.specs.Prelude.{◌≡◌, ◌≤◌};
+ghost use Rattle.std.specs.Prelude.{◌≤◌};
 
 use crate::dealing::{count_hands, hand_of};
 use crate::tally::Tally;

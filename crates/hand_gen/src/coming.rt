@@ -1,5 +1,5 @@
 // Which event comes next.
-ghost use Rattle.std.specs.Prelude.{◌≡◌, ◌≤◌, ℕ};
+ghost use Rattle.std.specs.Prelude.{◌≡◌};
 ghost use Rattle.play_event.specs.declared.reason.Due.TheVariants as dues;
 ghost use Rattle.replay_core.specs.Told.{WhereTogether};
 ghost use Rattle.hand_gen.specs.Coming.{bring_in_comes, coming, in_turn_on, move_comes};

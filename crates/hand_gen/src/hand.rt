@@ -1,5 +1,5 @@
 // The script of a made hand, event by event.
-ghost use Rattle.std.specs.Prelude.{◌≡◌, ◌≤◌, ◌<◌, ◌+◌, ◌^◌, cond, length, map, IfOk, OnOk};
+ghost use Rattle.std.specs.Prelude.{◌≡◌, ◌≤◌, ◌<◌, ◌+◌, ◌^◌, cond, length, map, IfOk};
 ghost use Rattle.canonical_play.specs.PlayedScript as played;
 ghost use Rattle.canonical_play.specs.PlayedScript.{IsWithinLimits};
 ghost use Rattle.play_event.specs.declared.setup.Setup.{Setup as SetupNow};

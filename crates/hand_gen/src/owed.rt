@@ -1,5 +1,5 @@
 // Whom the cards owe how many, and who draws next.
-ghost use Rattle.std.specs.Prelude.{◌≡◌, ◌≤◌, ◌+◌, ℕ, nat_lt, find, IfSome};
+ghost use Rattle.std.specs.Prelude.{◌≡◌, ◌≤◌, ◌+◌, nat_lt, find, IfSome};
 ghost use Rattle.std.specs.List.{range_with_len};
 ghost use Rattle.card_places.specs.Plain.{seat_of};
 ghost use Rattle.card_places.specs.Refusals as cards;

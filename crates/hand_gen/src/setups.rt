@@ -5,7 +5,7 @@ ghost use Rattle.play_event.specs.Streets as streets;
 ghost use Rattle.play_event.specs.ValidSetup as valid;
 ghost use Rattle.hand_gen.specs.Draws.{drawn, number_after};
 ghost use Rattle.hand_gen.specs.Setups as setups;
-ghost use Rattle.hand_gen.specs.Setups.{IsMadeSetup, blind_in, number_behind_setup, stack_drawn};
+ghost use Rattle.hand_gen.specs.Setups.{IsMadeSetup, number_behind_setup};
 
 use crate::draws;
 use chip_ledger::{RakeRow, Seat, SeatRow};

@@ -1,13 +1,11 @@
 // The best high hand of a set is the greatest of what its ranks, its straights and its suits make, each looked at alone.
-ghost use Rattle.std.specs.Prelude.{◌≡◌, ◌≤◌, ◌<◌, ◌^◌, ◌⊎◌, ℕ, List, Some};
-ghost use Rattle.std.specs.Int.{bit_at};
+ghost use Rattle.std.specs.Prelude.{◌≡◌, ◌≤◌, ◌<◌, ◌^◌, ℕ, List, Some};
 ghost use Rattle.card_set.specs.declared.card.Card.{Card};
 ghost use Rattle.card_set.specs.CardSet.{count_of, IsListing};
 ghost use Rattle.card_set.specs.Ranks.{high_ace};
 ghost use Rattle.card_set.specs.Row.{cards_of};
 ghost use Rattle.hand_order.specs.Choices.{AreHeld, choices};
 ghost use Rattle.hand_order.specs.Digits.{class_above};
-ghost use Rattle.hand_order.specs.Heights.{heights_of};
 ghost use Rattle.hand_order.specs.Ladder.{ladder_points};
 ghost use Rattle.hand_order.specs.Picks.{OfRanks};
 ghost use Rattle.hand_order.specs.Points.{greatest};

@@ -1,5 +1,5 @@
 // The ranks of a hand make a number: a class above the heights, those that occur oftener first.
-ghost use Rattle.std.specs.Prelude.{◌≡◌, ℕ, ◌+◌, ◌<◌, ◌≤◌, ◌^◌, ◌++◌, length};
+ghost use Rattle.std.specs.Prelude.{◌≡◌, ◌+◌, ◌<◌, ◌≤◌, ◌^◌, ◌++◌, length};
 ghost use Rattle.card_set.specs.Row.{cards_of};
 ghost use Rattle.card_set.specs.Ranks.{falling_heights, occurring, ranks_of, times};
 ghost use Rattle.hand_order.specs.Digits.{class_above, with_digits};

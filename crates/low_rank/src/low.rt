@@ -1,5 +1,5 @@
 // Where low cards are good, a score is what the class and the ranks leave of the greatest number.
-ghost use Rattle.std.specs.Prelude.{◌≡◌, ◌<◌, ◌≤◌, ℕ, ◌-◌, List, length, ◌↔◌};
+ghost use Rattle.std.specs.Prelude.{◌≡◌, ◌<◌, ◌≤◌, ◌-◌, List, length, ◌↔◌};
 ghost use Rattle.card_set.specs.declared.card.Card.{Card};
 ghost use Rattle.card_set.specs.Classes.{place};
 ghost use Rattle.card_set.specs.Different.{AllDifferent};

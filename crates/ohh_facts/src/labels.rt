@@ -1,6 +1,5 @@
 //! Where and when a hand was played is read from its members.
-ghost use Rattle.std.specs.Prelude.{◌≡◌, ◌≤◌, IfOk, IfSome};
-ghost use Rattle.std.specs.Fmt.{decimal};
+ghost use Rattle.std.specs.Prelude.{IfOk, IfSome};
 ghost use Rattle.serde_json.specs.View.{view};
 ghost use Rattle.first_fault.specs.Reading.{Gives, read_if};
 ghost use Rattle.hand_records.specs.AllowedNotes.{IsSeatCount};

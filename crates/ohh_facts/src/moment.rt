@@ -1,5 +1,5 @@
 //! When a hand was played is read from a text: a day of the calendar and a time of the day, in universal time.
-ghost use Rattle.std.specs.Prelude.{◌≡◌, ◌≤◌, ◌+◌, ◌-◌, ◌↔◌, nat_le, pos, length, take, IfOk, IsTrue};
+ghost use Rattle.std.specs.Prelude.{◌≡◌, ◌≤◌, ◌+◌, ◌-◌, ◌↔◌, nat_le, pos, length, IfOk, IsTrue};
 ghost use Rattle.serde_json.specs.View.{view};
 ghost use Rattle.hand_records.specs.AllowedNotes.{IsTime, IsWithin, days_in_month};
 ghost use Rattle.jiff.specs.Words.{IsDate};

@@ -1,5 +1,5 @@
 //! The notes of a hand are read from its players and its labels, and are allowed.
-ghost use Rattle.std.specs.Prelude.{◌≡◌, ◌≢◌, ◌≤◌, ◌<◌, ◌-◌, ◌+◌, ℕ, List, None, bytes_eq, length, map, take, replicate, slice_index, slice_index_or, codes, option_and_then, option_map, IfOk, IfSome};
+ghost use Rattle.std.specs.Prelude.{◌≡◌, ◌≤◌, ◌<◌, ◌-◌, ◌+◌, ℕ, None, bytes_eq, length, map, take, slice_index, slice_index_or, codes, option_and_then, option_map, IfOk, IfSome};
 ghost use Rattle.std.specs.List.{range_with_len};
 ghost use Rattle.serde_json.specs.View.{view};
 ghost use Rattle.hand_records.specs.AllowedNotes.{AreAllowed, AreSeatNumbers, IsName, IsNoteText, IsWithin, default_name};

@@ -1,10 +1,9 @@
 //! The tree of a hand: what is written of its setup, its notes and its play.
-ghost use Rattle.std.specs.Prelude.{◌≡◌, ◌≤◌, codes, unwrap_or, IfOk, OnOk};
+ghost use Rattle.std.specs.Prelude.{◌≡◌, codes, unwrap_or, IfOk, OnOk};
 ghost use Rattle.std.specs.Fmt.{decimal};
 ghost use Rattle.serde_json.specs.Data.{object, string, put as put_said};
 ghost use Rattle.serde_json.specs.View.{view, members_view};
 ghost use Rattle.chip_ledger.specs.SeatRow.{amount_of};
-ghost use Rattle.hand_canon.specs.Sound.{IsSound};
 ghost use Rattle.hand_records.specs.TraceRows.{core_said};
 ghost use Rattle.canonical_play.specs.Tidy.{IsTidy};
 ghost use Rattle.ohh_line.specs.Actions.{small_blind_seat as small_blind_seat_said};

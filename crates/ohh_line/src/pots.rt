@@ -1,7 +1,6 @@
 //! The pots of a hand, with their rakes and with what is won of them.
-ghost use Rattle.std.specs.Prelude.{◌≡◌, ◌≤◌, ◌<◌, ◌++◌, ◌+◌, map, slice_index_or, IfOk, OnOk};
+ghost use Rattle.std.specs.Prelude.{◌≡◌, ◌≤◌, ◌<◌, ◌++◌, ◌+◌, map, IfOk, OnOk};
 ghost use Rattle.serde_json.specs.View.{view};
-ghost use Rattle.chip_ledger.specs.Fillers.{no_amounts};
 ghost use Rattle.ohh_line.specs.Tree.{pot_tree, pots as pots_said, share_at as share_said, win_object, win_tree, wins_of};
 
 use crate::posts::amount_at;

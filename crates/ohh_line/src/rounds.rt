@@ -1,7 +1,5 @@
 //! A hand is a list of rounds: those of its streets, and the showdown.
-ghost use Rattle.std.specs.Prelude.{◌≡◌, ◌≤◌, None, [], ◌∷◌, ◌++◌, map, IfOk, OnOk};
-ghost use Rattle.card_set.specs.Row.{slots_of};
-ghost use Rattle.canonical_play.specs.CanonScript.{dealt_slots};
+ghost use Rattle.std.specs.Prelude.{◌≡◌, None, [], ◌++◌, map, IfOk, OnOk};
 ghost use Rattle.canonical_play.specs.Tidy.{HasTidyCards};
 ghost use Rattle.hand_records.specs.TraceRows.{core_said};
 ghost use Rattle.ohh_line.specs.Actions.{action_said, showings};

@@ -1,9 +1,6 @@
 //! The cards of a hand in its actions: what each seat was dealt, and what it shows or mucks at the end.
-ghost use Rattle.std.specs.Prelude.{◌≡◌, ◌≤◌, [], ◌∷◌, ◌++◌, Some, map, OnOk};
-ghost use Rattle.std.specs.List.{flat_map};
+ghost use Rattle.std.specs.Prelude.{◌≡◌, ◌++◌, Some, map, OnOk};
 ghost use Rattle.card_set.specs.Row.{slots_of};
-ghost use Rattle.play_event.specs.Seats.{all_seats};
-ghost use Rattle.canonical_play.specs.CanonScript.{dealt_slots};
 ghost use Rattle.canonical_play.specs.Tidy.{HasTidyCards};
 ghost use Rattle.hand_records.specs.TraceRows.{core_said};
 ghost use Rattle.ohh_line.specs.Actions.{action_said, alone, deal_written, deals, showing, showings, with_cards};

@@ -1,9 +1,7 @@
 //! What stands in front of the rounds of a hand is read: its game, its players and its blinds.
-ghost use Rattle.std.specs.Prelude.{◌≡◌, ◌≤◌, ◌*◌, true, length, map, IfOk};
+ghost use Rattle.std.specs.Prelude.{IfOk};
 ghost use Rattle.serde_json.specs.View.{view};
-ghost use Rattle.chip_ledger.specs.declared.numbers.TheConstants.{MOST_CHIPS};
 ghost use Rattle.first_fault.specs.Reading.{Gives};
-ghost use Rattle.ohh_members.specs.Blinds.{is_fixed_game};
 ghost use Rattle.ohh_members.specs.Front.{IsFront, front_said, plain_front};
 
 use crate::blinds::{Blinds, read_blinds};

@@ -1,5 +1,5 @@
 //! The players of a hand are read in the order in which they are listed.
-ghost use Rattle.std.specs.Prelude.{◌≡◌, ◌≤◌, ◌+◌, ◌++◌, ◌∷◌, [], ℕ, List, fold, length, map, IfOk, IfSome, option_map, IsTrue, nat_lt};
+ghost use Rattle.std.specs.Prelude.{◌≡◌, ◌≤◌, ◌+◌, [], length, map, IfOk, option_map};
 ghost use Rattle.std.specs.Option.{ForSome};
 ghost use Rattle.serde_json.specs.View.{view};
 ghost use Rattle.chip_ledger.specs.declared.numbers.TheConstants.{MOST_CHIPS};

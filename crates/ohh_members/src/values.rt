@@ -1,10 +1,9 @@
 //! The values of members are read, each in its form.
-ghost use Rattle.std.specs.Prelude.{◌≡◌, ◌≤◌, ◌&&◌, ℕ, [], ◌∷◌, map, length, nat_le, IfOk, IfSome, option_map};
+ghost use Rattle.std.specs.Prelude.{◌≡◌, ◌≤◌, ◌&&◌, map, length, nat_le, IfOk, IfSome, option_map};
 ghost use Rattle.serde_json.specs.Find.{get};
 ghost use Rattle.serde_json.specs.View.{items_view, view};
 ghost use Rattle.card_set.specs.Row.{cards_of, slots_of};
 ghost use Rattle.first_fault.specs.Reading.{Gives};
-ghost use Rattle.ohh_members.specs.Paths.{card_path};
 ghost use Rattle.ohh_members.specs.Values.{cards_from, cards_said, card_said, few_said, field as field_said, integer_said, known_in as known_in_said, listed, list_said, needed as needed_said, number_said, object_said, one_slot, player_said, seat_of as seat_of_said, slot_in as slot_in_said, slot_said, slots_from, slots_said, text_said};
 
 use crate::fault::{Fault, Path, What};

@@ -1,5 +1,5 @@
 //! The input is cut into blocks at lines without anything but spaces, tabs and carriage returns.
-ghost use Rattle.std.specs.Prelude.{◌≡◌, ◌+◌, ◌≤◌, ◌==◌, [], ◌∷◌, ◌++◌, List, ℕ, map, length, None, option_map, IfOk, OnOk};
+ghost use Rattle.std.specs.Prelude.{◌≡◌, ◌+◌, ◌==◌, [], ◌∷◌, ◌++◌, List, ℕ, map, length, None, option_map, IfOk, OnOk};
 ghost use Rattle.std.specs.List.{position_or_len};
 ghost use Rattle.std.specs.Option.{option_map_or};
 ghost use Rattle.ohh_reading.specs.Blocks.{blocks_from, blocks_of, is_blank as is_blank_said, lines_of};

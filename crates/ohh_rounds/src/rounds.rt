@@ -1,5 +1,5 @@
 //! The rounds are read, each with its street, its cards and its actions.
-ghost use Rattle.std.specs.Prelude.{◌≡◌, ◌≤◌, Some, None, [], IfOk, length, map};
+ghost use Rattle.std.specs.Prelude.{◌≡◌, ◌≤◌, Some, None, IfOk, length, map};
 ghost use Rattle.serde_json.specs.View.{view};
 ghost use Rattle.card_set.specs.Row.{cards_of};
 ghost use Rattle.first_fault.specs.Reading.{Gives};

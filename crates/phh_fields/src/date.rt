@@ -1,5 +1,5 @@
 //! When a hand was played is read from its fields: a day of the calendar, and a time of the day.
-ghost use Rattle.std.specs.Prelude.{◌≡◌, ◌≤◌, Option, Some, None, nat_le, true, IfOk, IfSome, IsTrue, option_map, pos, ◌↔◌};
+ghost use Rattle.std.specs.Prelude.{◌≡◌, ◌≤◌, Option, Some, None, nat_le, true, IfOk, IfSome, IsTrue, pos, ◌↔◌};
 ghost use Rattle.toml.specs.View.{table_view, view};
 ghost use Rattle.hand_records.specs.AllowedNotes.{IsTime, IsWithin, days_in_month};
 ghost use Rattle.jiff.specs.Words.{IsDate};

@@ -3,9 +3,8 @@ ghost use Rattle.std.specs.Prelude.{◌≡◌, ℕ, ◌<◌, ◌≤◌, length, 
 ghost use Rattle.toml.specs.View.{view};
 ghost use Rattle.chip_ledger.specs.declared.rows.TheConstants.{MOST_AMOUNT};
 ghost use Rattle.chip_ledger.specs.RakeRow.{rake_of};
-ghost use Rattle.chip_ledger.specs.SeatRow.{amount_of};
 ghost use Rattle.play_event.specs.ValidSetup.{IsSize};
-ghost use Rattle.first_fault.specs.Reading.{Gives, each_from};
+ghost use Rattle.first_fault.specs.Reading.{Gives};
 ghost use Rattle.phh_fields.specs.declared.fault.Key.TheVariants as keys;
 ghost use Rattle.phh_fields.specs.Rows.{amounts_in, amounts_said, antes_from, ante_said, antes_said, posted as posted_said, rakes_from, rakes_said, row_said, stacks_said};
 

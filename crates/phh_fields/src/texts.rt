@@ -1,5 +1,5 @@
 //! The text of a note is kept where it is not empty and not the default of the note.
-ghost use Rattle.std.specs.Prelude.{◌≡◌, ◌≢◌, IfOk, IfSome, option_map};
+ghost use Rattle.std.specs.Prelude.{◌≢◌, IfOk, IfSome};
 ghost use Rattle.toml.specs.View.{view};
 ghost use Rattle.hand_records.specs.AllowedNotes.{IsNoteText};
 ghost use Rattle.first_fault.specs.Reading.{Gives};

@@ -1,5 +1,5 @@
 //! A value of a document is read in one form, or refused with its place.
-ghost use Rattle.std.specs.Prelude.{◌≡◌, ◌≤◌, ◌==◌, ◌&&◌, nat_le, length, map, option_map, IfOk};
+ghost use Rattle.std.specs.Prelude.{◌≡◌, ◌≤◌, ◌&&◌, nat_le, length, map, option_map, IfOk};
 ghost use Rattle.toml.specs.View.{array_view, table_view, view};
 ghost use Rattle.first_fault.specs.Reading.{Gives};
 ghost use Rattle.phh_fields.specs.Fields.{amount_said, field as field_said, flag_said, items_said, kept_within, list_said, listed, needed as needed_said, number_said, text_said};

@@ -1,10 +1,9 @@
 //! Actions are read as events, counted, with the numbers of their actions.
-ghost use Rattle.std.specs.Prelude.{◌≡◌, ◌≤◌, ◌+◌, ◌++◌, ℕ, min, map, List, [], ◌∷◌, count_by, IfOk, OnOk, option_map};
-ghost use Rattle.std.specs.Option.{option_map_or};
+ghost use Rattle.std.specs.Prelude.{◌≡◌, ◌≤◌, ◌+◌, ◌++◌, map, IfOk, OnOk, option_map};
 ghost use Rattle.toml.specs.View.{view};
 ghost use Rattle.first_fault.specs.declared.limits.TheConstants.{MOST_FILE_MOVES};
 ghost use Rattle.canonical_play.specs.PlayedScript.{is_move as is_move_said};
-ghost use Rattle.play_event.specs.Said.{kind_said, numbered, said_of};
+ghost use Rattle.play_event.specs.Said.{kind_said, numbered};
 ghost use Rattle.first_fault.specs.Reading.{Gives};
 ghost use Rattle.phh_words.specs.Action.{action_said};
 ghost use Rattle.phh_reading.specs.Events.{AreCounted, AreFew, IsAfter, IsOneMore, action_fault, at_place, counted, counts_after, event_said, events_said, kept_number, listed_event, one_event};

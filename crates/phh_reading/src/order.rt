@@ -1,5 +1,5 @@
 //! The tables of a document whose keys are numbers come in the order of the numbers, and then of the texts.
-ghost use Rattle.std.specs.Prelude.{◌≡◌, ◌==◌, List, [], ◌∷◌, ◌++◌, map, IfOk, IsTrue, OnOk};
+ghost use Rattle.std.specs.Prelude.{◌≡◌, ◌==◌, [], ◌∷◌, ◌++◌, map, IfOk, IsTrue, OnOk};
 ghost use Rattle.std.specs.List.{prefix_len};
 ghost use Rattle.toml.specs.View.{table_view, view};
 ghost use Rattle.first_fault.specs.Digits.{are_digits as are_digits_said};

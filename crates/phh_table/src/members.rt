@@ -1,7 +1,7 @@
 //! A value is put into a table under its key.
 ghost use Rattle.std.specs.Prelude.{ℕ, ◌≡◌, ◌≤◌, ◌<◌, ◌^◌, pos, length, map, take, slice_index, string_bytes, IfOk, OnOk};
-ghost use Rattle.toml.specs.Data.{array, integer, string};
-ghost use Rattle.toml.specs.View.{array_view, items_of, table_view, view};
+ghost use Rattle.toml.specs.Data.{integer, string};
+ghost use Rattle.toml.specs.View.{table_view, view};
 ghost use Rattle.chip_ledger.specs.declared.rows.TheConstants.{MOST_AMOUNT};
 ghost use Rattle.phh_table.specs.Members.{put as put_said};
 ghost use Rattle.phh_table.specs.HandFields.{amounts_of, numbers};

@@ -1,11 +1,11 @@
 //! The notes of a hand are put into its table.
-ghost use Rattle.std.specs.Prelude.{◌≡◌, ◌≤◌, ◌<◌, ◌^◌, ℕ, codes, length, map, option_map, pos, string_bytes, take, IfOk, IfSome, OnOk};
+ghost use Rattle.std.specs.Prelude.{◌≡◌, ◌≤◌, ◌<◌, ◌^◌, codes, length, map, option_map, pos, string_bytes, take, IfOk, IfSome, OnOk};
 ghost use Rattle.std.specs.List.{list_any, range_with_len};
 ghost use Rattle.std.specs.Option.{is_some};
 ghost use Rattle.toml.specs.Data.{integer, string};
 ghost use Rattle.toml.specs.View.{table_view, view};
 ghost use Rattle.phh_table.specs.Members.{put as put_said, put_if, with_fields};
-ghost use Rattle.phh_table.specs.HandFields.{fraction as fraction_said, hand_field, label, local_time as time_said, name_written, names_field, note_fields, number_field, number_written, numbers, texts};
+ghost use Rattle.phh_table.specs.HandFields.{fraction as fraction_said, hand_field, label, local_time as time_said, name_written, names_field, note_fields, number_field, number_written, numbers};
 
 use crate::members::{number, put, put_number, put_text, text};
 use card_set::Memory;

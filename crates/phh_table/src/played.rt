@@ -1,5 +1,5 @@
 //! What was played in a hand, and what it comes to, are put into its table.
-ghost use Rattle.std.specs.Prelude.{◌≡◌, codes, map, nat_lt, take, true, IfOk, OnOk};
+ghost use Rattle.std.specs.Prelude.{◌≡◌, codes, map, nat_lt, true, IfOk, OnOk};
 ghost use Rattle.std.specs.List.{list_all, list_any};
 ghost use Rattle.toml.specs.Data.{string};
 ghost use Rattle.toml.specs.View.{table_view, view};

@@ -1,5 +1,5 @@
 //! An event is packed into at most fifteen bytes, before any of them goes to a script.
-ghost use Rattle.std.specs.Prelude.{◌≡◌, ℕ, ◌+◌, ◌^◌, ◌<◌, ◌≤◌, List, ◌∷◌, ◌++◌, length, map, IfSome};
+ghost use Rattle.std.specs.Prelude.{◌≡◌, ◌+◌, ◌^◌, ◌<◌, ◌≤◌, List, ◌∷◌, ◌++◌, length, map, IfSome};
 ghost use Rattle.std.specs.Int.{w64, to_be_bytes};
 ghost use Rattle.card_set.specs.Row.{slots_of, cards_of};
 ghost use Rattle.play_event.specs.declared.event.Event.{Event};

@@ -1,15 +1,11 @@
 //! The answer to the bytes of an input, as they are read and what is made of their hands.
 ghost use Rattle.std.specs.Prelude.{◌≡◌, ◌≤◌, All, Some, length, IfOk, string_bytes};
-ghost use Rattle.convert_core.specs.Judged.{IsPlaysFaultOf};
 ghost use Rattle.convert_core.specs.ReadBack.{ReadBack};
-ghost use Rattle.first_fault.specs.declared.limits.TheConstants.{MOST_HANDS};
 ghost use Rattle.hand_canon.specs.Sound.{IsSound};
-ghost use Rattle.hand_records.specs.SoundRecord.{IsSoundRecord};
 ghost use Rattle.poker_cli.specs.Answer as definition;
 ghost use Rattle.poker_cli.specs.Answer.{IsAnswer, IsAnswerTo, IsMadeOf, IsToldOf, IsWritten, most_input};
 ghost use Rattle.poker_cli.specs.Run.{IsOfInput};
 ghost use Rattle.poker_cli.specs.Told.{answer_told};
-ghost use Rattle.poker_cli.specs.declared.task.Task.TheVariants as tasks;
 
 use crate::faults::answer_to_history_fault;
 use crate::lines::refused_line;

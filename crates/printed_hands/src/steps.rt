@@ -1,8 +1,6 @@
 //! The lines of a hand, step by step: what each event did, and the chips of the seats after it.
-ghost use Rattle.std.specs.Prelude.{◌≡◌, ◌≤◌, ◌<◌, ◌+◌, ◌-◌, ◌++◌, ◌∷◌, ℕ, List, true, false, length, slice_get, Some, IfOk, OnOk, IsTrue, string_bytes};
+ghost use Rattle.std.specs.Prelude.{◌≡◌, ◌<◌, ◌+◌, ◌-◌, ◌++◌, ◌∷◌, List, true, false, Some, OnOk, IsTrue, string_bytes};
 ghost use Rattle.std.specs.Fmt.{decimal};
-ghost use Rattle.chip_ledger.specs.SeatRow.{amount_of};
-ghost use Rattle.chip_ledger.specs.declared.rows.TheConstants.{MOST_AMOUNT};
 ghost use Rattle.canonical_play.specs.CanonScript.{move_named, plain_move};
 ghost use Rattle.canonical_play.specs.PlayedScript.{is_move as is_move_said};
 ghost use Rattle.hand_canon.specs.Sound.{IsSound};
@@ -13,7 +11,6 @@ ghost use Rattle.play_event.specs.Played.{move_said};
 ghost use Rattle.play_event.specs.Said.{kind_said};
 ghost use Rattle.play_event.specs.Scripts.{past_at_end};
 ghost use Rattle.play_event.specs.ValidSetup.{IsValid};
-ghost use Rattle.play_event.specs.declared.played.Move as rows;
 ghost use Rattle.printed_hands.specs.Steps.{HasPut, MayAdd, chips_text, head_lines, replay_lines, step_lines};
 
 use crate::chips::{add, posted_row, push_chips};

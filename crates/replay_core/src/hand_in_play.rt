@@ -1,5 +1,5 @@
 // The betting and the cards of a hand, and one event more of it.
-ghost use Rattle.std.specs.Prelude.{◌≡◌, ◌≢◌, [], ℕ, true, false, None, Some, IfErr, IfOk, OnErr, OnOk};
+ghost use Rattle.std.specs.Prelude.{◌≡◌, [], ℕ, true, false, None, Some, IfErr, IfOk, OnErr, OnOk};
 ghost use Rattle.betting_numbers.specs.LegalMoves.{past_with, reason_after};
 ghost use Rattle.chip_ledger.specs.LiveRow.{flag_of};
 ghost use Rattle.chip_ledger.specs.SeatRow.{amount_of};

@@ -1,6 +1,6 @@
 // How hands compare in each order: `cards best ORDER CARDS CARDS`, `cards up ORDER CARDS CARDS`,
 // and `cards deal PICK HOLE BOARD CARDS`, in which the last cards are a hand of the high order.
-ghost use Rattle.std.specs.Prelude.{◌≡◌, ◌≢◌, ◌≤◌, ◌+◌, ◌++◌, IfSome, take, drop, length};
+ghost use Rattle.std.specs.Prelude.{◌≡◌, ◌≢◌, ◌≤◌, IfSome, take, drop, length};
 ghost use Rattle.card_set.specs.Different.{AllDifferent};
 ghost use Rattle.card_set.specs.Row.{cards_of};
 ghost use Rattle.card_set.specs.UpCards.{AreUpCards};

@@ -1,10 +1,9 @@
 // A pot goes to the one seat that may win it, or to the shown seats among those that may.
-ghost use Rattle.std.specs.Prelude.{◌≡◌, ◌≢◌, ◌≤◌, ◌&&◌, ℕ, true, [], IfSome, IfNone, OnSome, false, length, if◌then◌else◌};
+ghost use Rattle.std.specs.Prelude.{◌≡◌, ◌≢◌, ◌≤◌, ◌&&◌, ℕ, true, [], IfSome, IfNone, OnSome, false, if◌then◌else◌};
 ghost use Rattle.chip_ledger.specs.declared.rows.TheConstants.{MOST_AMOUNT};
 ghost use Rattle.chip_ledger.specs.LiveRow.{flag_of, flagged};
 ghost use Rattle.chip_ledger.specs.PotRow.{plain};
 ghost use Rattle.chip_ledger.specs.SeatRow.{amount_of, total_of};
-ghost use Rattle.variant_table.specs.Division.{count_to};
 ghost use Rattle.variant_table.specs.Shares.{AreContested, AreShares, is_contender, is_unshown};
 ghost use Rattle.showdown_split.specs.Scores.{points_of};
 ghost use Rattle.showdown_split.specs.SeatPoints.{is_flagged, ranking_by, shown_only};

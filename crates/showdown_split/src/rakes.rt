@@ -1,7 +1,6 @@
 // The rakes that pots have the chips for, pot by pot.
 ghost use Rattle.std.specs.Prelude.{◌≡◌, ◌+◌, ◌<◌, IfNone};
 ghost use Rattle.chip_ledger.specs.PotRow.{plain_pots};
-ghost use Rattle.chip_ledger.specs.RakeRow.{rake_of};
 ghost use Rattle.chip_ledger.specs.Rakes.{HaveRakes, chips_in, first_rake_above};
 
 use chip_ledger::{PotRow, RakeRow};

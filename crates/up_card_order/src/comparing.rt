@@ -1,8 +1,8 @@
 // Which up-cards open before others, whatever cards they are.
-ghost use Rattle.std.specs.Prelude.{false, ◌≡◌, ℕ, ◌+◌, ◌*◌, ◌<◌, ◌≤◌, ◌++◌, length};
+ghost use Rattle.std.specs.Prelude.{false, ◌≡◌, ◌+◌, ◌*◌, ◌<◌, ◌≤◌, ◌++◌, length};
 ghost use Rattle.std.specs.List.{list_any};
 ghost use Rattle.card_set.specs.Deck as deck;
-ghost use Rattle.card_set.specs.Ranks.{falling_heights, high_ace, low_ace, occurring, ranks_of, times};
+ghost use Rattle.card_set.specs.Ranks.{falling_heights, occurring, ranks_of, times};
 ghost use Rattle.card_set.specs.Row.{cards_of, slots_of};
 ghost use Rattle.card_set.specs.UpCards as up_cards;
 ghost use Rattle.hand_order.specs.Height.{height_with};

@@ -1,5 +1,5 @@
 // Heights in order, for any up-cards that a row holds.
-ghost use Rattle.std.specs.Prelude.{◌≡◌, ℕ, ◌+◌, ◌<◌, ◌≤◌, [], ◌∷◌, ◌++◌, length};
+ghost use Rattle.std.specs.Prelude.{◌≡◌, ◌+◌, ◌<◌, ◌≤◌, [], ◌∷◌, ◌++◌, length};
 
 /// Heights in order: the first `len` of `heights`.
 #[derive(Clone, Copy, Debug)]

@@ -1,6 +1,6 @@
 //! A street deals hole cards or board cards, or draws, and then bets in one size.
 ghost use Rattle.std.specs.Prelude.{◌≡◌, ◌≤◌, ◌-◌, Some, slice_get};
-ghost use Rattle.play_event.specs.Games.{board_street, draw_street, flop_streets, hole_street, stud_street};
+ghost use Rattle.play_event.specs.Games.{board_street, flop_streets, stud_street};
 
 use play_event::{Size, Street};
 

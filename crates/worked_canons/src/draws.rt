@@ -1,5 +1,5 @@
 //! Canonical scripts of draws. Each function does nothing: its contract is computed from the rules.
-ghost use Rattle.std.specs.Prelude.{◌≡◌, [], ◌∷◌, ◌++◌, codes};
+ghost use Rattle.std.specs.Prelude.{◌≡◌, [], ◌∷◌, codes};
 ghost use Rattle.worked_hands.specs.Words.{deal, fold, call, raise, discard, show, muck};
 ghost use Rattle.worked_hands.specs.Outcomes.{AllLegal};
 ghost use Rattle.worked_hands.specs.Setups.{triple_draw};

@@ -1,6 +1,6 @@
 //! Canonical scripts of short deck, and of matches with rules of their own. Each function does nothing: its contract is
 //! computed from the rules.
-ghost use Rattle.std.specs.Prelude.{◌≡◌, [], ◌∷◌, ◌++◌, codes, None, Some};
+ghost use Rattle.std.specs.Prelude.{◌≡◌, [], ◌∷◌, codes};
 ghost use Rattle.play_event.specs.declared.reason.Illegal.TheVariants as reasons;
 ghost use Rattle.canonical_play.specs.CanonScript.{canon_of};
 ghost use Rattle.worked_hands.specs.Outcomes.{AllLegal, AllLegalBy, IllegalAt, closed_after};
