@@ -17,70 +17,37 @@ pub fn is_passed_over(line: &[u8]) -> bool
     line.is_empty() || line[0] == b'#'
 }
 
-// Whether the text begins with a space.
-fn begins_with_space(text: &[u8]) -> bool
-    ensures { result ≡ is_space (slice_index text.now 0) }
+/// The key of a line, and the text of its numbers, where the line has the form of one.
+#[tactic(auto, unfolding(crate::specs::Forms::form_of))]
+pub fn read_form(line: &[u8]) -> Option<(Key, &[u8])>
+    ensures fits { IfSome result (λ found. (list_all are_digits_said (words_of found.1.now) ≡ true)
+        × (has_count found.0 (length (words_of found.1.now)) ≡ true)) }
+    ensures form { option_map (λ found. (found.0, words_of found.1.now)) result ≡ form_of line.now }
 {
-    !text.is_empty() && text[0] == b' '
-}
-
-// Whether the text ends with a space.
-fn ends_with_space(text: &[u8]) -> bool
-    ensures { result ≡ is_space (slice_index text.now (length text.now - 1)) }
-{
-    !text.is_empty() && text[text.len() - 1] == b' '
-}
-
-// The key in front of `=`.
-#[tactic(auto, unfolding(crate::specs::Forms::key_before))]
-fn key_before(front: &[u8]) -> Option<Key>
-    ensures { result ≡ key_before_said front.now }
-{
-    if begins_with_space(front) {
-        return None;
-    }
-    let (word, rest) = next_word(front)?;
-    match next_word(rest) {
-        None => key_named(word),
-        Some(_) => None,
+    if line == b"GAMEDEF".as_slice() {
+        Some((Key::Begin, &[]))
+    } else if line == b"END GAMEDEF".as_slice() {
+        Some((Key::End, &[]))
+    } else if is_word("limit", line) {
+        Some((Key::Limit, &[]))
+    } else if is_word("nolimit", line) {
+        Some((Key::NoLimit, &[]))
+    } else {
+        read_numbered(line)
     }
 }
 
-// How many words there are, where all of them are digits.
-fn count_numbers(text: &[u8]) -> Option<usize>
-    ensures digits { IfSome result (λ count. list_all are_digits_said (words_of text.now) ≡ true) }
-    ensures words { IfSome result (λ count. count ≡ length (words_of text.now)) }
-    ensures count { result ≡ (if list_all are_digits_said (words_of text.now)
-        then Some (length (words_of text.now)) else None) }
-{
-    let mut count = 0;
-    let mut rest = text;
-    while let Some((word, behind)) = next_word(rest) {
-        if !are_digits(word) {
-            return None;
-        }
-        count += 1;
-        rest = behind;
-    }
-    Some(count)
-}
-
-// The numbers behind `=`, as many as the key has.
-#[tactic(auto, unfolding(crate::specs::Forms::numbers_behind))]
-fn numbers_of(key: Key, behind: &[u8]) -> Option<(Key, &[u8])>
+// A key, `=`, and numbers.
+fn read_numbered(line: &[u8]) -> Option<(Key, &[u8])>
     ensures fits { IfSome result (λ found. (list_all are_digits_said (words_of found.1.now) ≡ true)
         × (has_count found.0 (length (words_of found.1.now)) ≡ true)) }
     ensures form { option_map (λ found. (found.0, words_of found.1.now)) result
-        ≡ numbers_behind key behind.now }
+        ≡ key_and_numbers (parts_of 61 line.now) }
 {
-    if ends_with_space(behind) {
-        return None;
-    }
-    let count = count_numbers(behind)?;
-    if key.has_count(count) {
-        Some((key, behind))
-    } else {
-        None
+    let (front, rest) = cut_at(line, b'=');
+    match rest {
+        Some(rest) => read_behind(front, rest),
+        None => None,
     }
 }
 
@@ -102,36 +69,69 @@ fn read_behind<'a>(front: &[u8], rest: &'a [u8]) -> Option<(Key, &'a [u8])>
     }
 }
 
-// A key, `=`, and numbers.
-fn read_numbered(line: &[u8]) -> Option<(Key, &[u8])>
-    ensures fits { IfSome result (λ found. (list_all are_digits_said (words_of found.1.now) ≡ true)
-        × (has_count found.0 (length (words_of found.1.now)) ≡ true)) }
-    ensures form { option_map (λ found. (found.0, words_of found.1.now)) result
-        ≡ key_and_numbers (parts_of 61 line.now) }
+// The key in front of `=`.
+#[tactic(auto, unfolding(crate::specs::Forms::key_before))]
+fn key_before(front: &[u8]) -> Option<Key>
+    ensures { result ≡ key_before_said front.now }
 {
-    let (front, rest) = cut_at(line, b'=');
-    match rest {
-        Some(rest) => read_behind(front, rest),
-        None => None,
+    if begins_with_space(front) {
+        return None;
+    }
+    let (word, rest) = next_word(front)?;
+    match next_word(rest) {
+        None => key_named(word),
+        Some(_) => None,
     }
 }
 
-/// The key of a line, and the text of its numbers, where the line has the form of one.
-#[tactic(auto, unfolding(crate::specs::Forms::form_of))]
-pub fn read_form(line: &[u8]) -> Option<(Key, &[u8])>
+// Whether the text begins with a space.
+fn begins_with_space(text: &[u8]) -> bool
+    ensures { result ≡ is_space (slice_index text.now 0) }
+{
+    !text.is_empty() && text[0] == b' '
+}
+
+// The numbers behind `=`, as many as the key has.
+#[tactic(auto, unfolding(crate::specs::Forms::numbers_behind))]
+fn numbers_of(key: Key, behind: &[u8]) -> Option<(Key, &[u8])>
     ensures fits { IfSome result (λ found. (list_all are_digits_said (words_of found.1.now) ≡ true)
         × (has_count found.0 (length (words_of found.1.now)) ≡ true)) }
-    ensures form { option_map (λ found. (found.0, words_of found.1.now)) result ≡ form_of line.now }
+    ensures form { option_map (λ found. (found.0, words_of found.1.now)) result
+        ≡ numbers_behind key behind.now }
 {
-    if line == b"GAMEDEF".as_slice() {
-        Some((Key::Begin, &[]))
-    } else if line == b"END GAMEDEF".as_slice() {
-        Some((Key::End, &[]))
-    } else if is_word("limit", line) {
-        Some((Key::Limit, &[]))
-    } else if is_word("nolimit", line) {
-        Some((Key::NoLimit, &[]))
-    } else {
-        read_numbered(line)
+    if ends_with_space(behind) {
+        return None;
     }
+    let count = count_numbers(behind)?;
+    if key.has_count(count) {
+        Some((key, behind))
+    } else {
+        None
+    }
+}
+
+// Whether the text ends with a space.
+fn ends_with_space(text: &[u8]) -> bool
+    ensures { result ≡ is_space (slice_index text.now (length text.now - 1)) }
+{
+    !text.is_empty() && text[text.len() - 1] == b' '
+}
+
+// How many words there are, where all of them are digits.
+fn count_numbers(text: &[u8]) -> Option<usize>
+    ensures digits { IfSome result (λ count. list_all are_digits_said (words_of text.now) ≡ true) }
+    ensures words { IfSome result (λ count. count ≡ length (words_of text.now)) }
+    ensures count { result ≡ (if list_all are_digits_said (words_of text.now)
+        then Some (length (words_of text.now)) else None) }
+{
+    let mut count = 0;
+    let mut rest = text;
+    while let Some((word, behind)) = next_word(rest) {
+        if !are_digits(word) {
+            return None;
+        }
+        count += 1;
+        rest = behind;
+    }
+    Some(count)
 }

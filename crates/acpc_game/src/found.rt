@@ -7,24 +7,6 @@ ghost use Rattle.acpc_game.specs.GameFile.{found, is_of, is_for_all as is_for_al
 use crate::entry::Entry;
 use crate::key::Key;
 
-/// The entry with this key, if one stands.
-pub fn find_entry(entries: &[Entry], key: Key) -> Option<&Entry>
-    ensures is { IfSome result (λ entry. is_of key (entry_said entry.now) ≡ true) }
-    ensures entry { option_map (λ entry. entry_said entry.now) result
-        ≡ found key (map entry_said entries.now) }
-{
-    match entries {
-        [] => None,
-        [entry, rest @ ..] => {
-            if entry.key.place() == key.place() {
-                Some(entry)
-            } else {
-                find_entry(rest, key)
-            }
-        }
-    }
-}
-
 /// Whether an entry has this key.
 pub fn has_key(entries: &[Entry], key: Key) -> bool
     ensures { result ≡ has_key_said key (map entry_said entries.now) }
@@ -33,26 +15,6 @@ pub fn has_key(entries: &[Entry], key: Key) -> bool
         [] => false,
         [entry, rest @ ..] => entry.key.place() == key.place() || has_key(rest, key),
     }
-}
-
-/// The numbers behind a key, and none where it doesn't stand.
-#[tactic(auto, using(crate::proofs::Bounds::within_most))]
-pub fn numbers_at(entries: &[Entry], key: Key) -> &[u64]
-    ensures few { are_chips result.now ≡ true }
-    ensures numbers { result.now ≡ numbers_at_said key (map entry_said entries.now) }
-{
-    match find_entry(entries, key) {
-        Some(entry) => entry.numbers.as_slice(),
-        None => &[],
-    }
-}
-
-/// The one number behind a key.
-pub fn number_at(entries: &[Entry], key: Key) -> u64
-    ensures { result ≡ number_at_said key (map entry_said entries.now) }
-{
-    let numbers = numbers_at(entries, key);
-    if numbers.is_empty() { 0 } else { numbers[0] }
 }
 
 /// The line of a key.
@@ -70,4 +32,42 @@ pub fn is_for_all(entries: &[Entry], key: Key) -> bool
     ensures { result ≡ is_for_all_said key (map entry_said entries.now) }
 {
     numbers_at(entries, key).len() as u64 == number_at(entries, Key::NumPlayers)
+}
+
+/// The one number behind a key.
+pub fn number_at(entries: &[Entry], key: Key) -> u64
+    ensures { result ≡ number_at_said key (map entry_said entries.now) }
+{
+    let numbers = numbers_at(entries, key);
+    if numbers.is_empty() { 0 } else { numbers[0] }
+}
+
+/// The numbers behind a key, and none where it doesn't stand.
+#[tactic(auto, using(crate::proofs::Bounds::within_most))]
+pub fn numbers_at(entries: &[Entry], key: Key) -> &[u64]
+    ensures few { are_chips result.now ≡ true }
+    ensures numbers { result.now ≡ numbers_at_said key (map entry_said entries.now) }
+{
+    match find_entry(entries, key) {
+        Some(entry) => entry.numbers.as_slice(),
+        None => &[],
+    }
+}
+
+/// The entry with this key, if one stands.
+pub fn find_entry(entries: &[Entry], key: Key) -> Option<&Entry>
+    ensures is { IfSome result (λ entry. is_of key (entry_said entry.now) ≡ true) }
+    ensures entry { option_map (λ entry. entry_said entry.now) result
+        ≡ found key (map entry_said entries.now) }
+{
+    match entries {
+        [] => None,
+        [entry, rest @ ..] => {
+            if entry.key.place() == key.place() {
+                Some(entry)
+            } else {
+                find_entry(rest, key)
+            }
+        }
+    }
 }

@@ -26,12 +26,14 @@ pub enum Key {
     NumBoardCards,
 }
 
-// Whether the text is this word, in any case.
-#[tactic(auto, unfolding(crate::specs::Keys::is_word), using(crate::proofs::Words::same_word))]
-pub fn is_word(name: &str, text: &[u8]) -> bool
-    ensures { result ≡ is_word_said name.now text.now }
+/// The key with numbers that a word names.
+pub fn key_named(word: &[u8]) -> Option<Key>
+    ensures { result ≡ key_named_said word.now }
 {
-    text.eq_ignore_ascii_case(name.as_bytes())
+    match card_key_named(word) {
+        Some(key) => Some(key),
+        None => chip_key_named(word),
+    }
 }
 
 // The key of one number, or of the cards of the board, that a word names.
@@ -76,14 +78,12 @@ fn chip_key_named(word: &[u8]) -> Option<Key>
     }
 }
 
-/// The key with numbers that a word names.
-pub fn key_named(word: &[u8]) -> Option<Key>
-    ensures { result ≡ key_named_said word.now }
+// Whether the text is this word, in any case.
+#[tactic(auto, unfolding(crate::specs::Keys::is_word), using(crate::proofs::Words::same_word))]
+pub fn is_word(name: &str, text: &[u8]) -> bool
+    ensures { result ≡ is_word_said name.now text.now }
 {
-    match card_key_named(word) {
-        Some(key) => Some(key),
-        None => chip_key_named(word),
-    }
+    text.eq_ignore_ascii_case(name.as_bytes())
 }
 
 impl Key {

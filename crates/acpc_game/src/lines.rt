@@ -16,60 +16,20 @@ use acpc_text::{AcpcFault, LineFault, What, fault_in_line, next_line, next_word}
 use first_fault::{Stop, read_digits};
 use std::alloc::Global;
 
-/// A fault of this kind at a line.
-pub fn wrong(what: What, line: u64) -> Stop<AcpcFault>
-    ensures { result ≡ Stop.At (fault_in_line_said line (record { what = what; byte = 1 })) }
+/// The entries of a file, and how many lines it has.
+pub fn read_entries(alloc: Global, bytes: &[u8]) -> Result<(Vec<Entry>, u64), Stop<AcpcFault>>
+    ensures { Gives (λ found. (map entry_said found.0.items, found.1)) result
+        (entries_said bytes.now) }
 {
-    Stop::At(fault_in_line(line, LineFault { what, byte: 1 }))
-}
-
-// The number that a word says, if it is not too great for its key.
-#[tactic(auto, unfolding(crate::specs::GameFile::number_said))]
-fn read_number(line: u64, most: u64, word: &[u8]) -> Result<u64, Stop<AcpcFault>>
-    requires digits { IsTrue (are_digits word.now) }
-    requires small { most ≤ 1000000000000000000 }
-    ensures said { Gives (λ number. number) result (number_said line most word.now) }
-    ensures bounded { IfOk result (λ number. number ≤ most) }
-{
-    match read_digits(word, most) {
-        Some(number) => Ok(number),
-        None => Err(wrong(What::AmountLimit, line)),
-    }
-}
-
-// The numbers that the words of a text say.
-fn read_numbers(
-    alloc: Global,
-    line: u64,
-    most: u64,
-    text: &[u8],
-) -> Result<Vec<u64>, Stop<AcpcFault>>
-    requires digits { list_all are_digits (words_of text.now) ≡ true }
-    requires small { most ≤ 1000000000000000000 }
-    ensures said { Gives (λ numbers. numbers.items) result
-        (numbers_after line most [] (words_of text.now)) }
-    ensures count { IfOk result (λ numbers. length numbers.items ≡ length (words_of text.now)) }
-    ensures bounded { IfOk result
-        (λ numbers. list_all (λ number. nat_le number most) numbers.items ≡ true) }
-{
-    let mut numbers = Vec::new(alloc);
-    let mut rest = text;
-    while let Some((word, behind)) = next_word(rest) {
-        let number = read_number(line, most, word)?;
-        numbers.push(number)?;
+    let mut entries = Vec::new(alloc);
+    let mut count = 0;
+    let mut rest = bytes;
+    while let Some((line, behind)) = next_line(rest) {
+        count += 1;
+        take_line(alloc, &mut entries, count, line)?;
         rest = behind;
     }
-    Ok(numbers)
-}
-
-// Whether a key may stand after these entries.
-fn may_stand(entries: &[Entry], key: Key) -> bool
-    ensures { result ≡ may_stand_said key (map entry_said entries.now) }
-{
-    match key {
-        Key::Begin => entries.is_empty(),
-        _ => !entries.is_empty() && !has_key(entries, Key::End) && !has_key(entries, key),
-    }
+    Ok((entries, count))
 }
 
 // One more line.
@@ -99,18 +59,58 @@ fn take_line(
     Ok(())
 }
 
-/// The entries of a file, and how many lines it has.
-pub fn read_entries(alloc: Global, bytes: &[u8]) -> Result<(Vec<Entry>, u64), Stop<AcpcFault>>
-    ensures { Gives (λ found. (map entry_said found.0.items, found.1)) result
-        (entries_said bytes.now) }
+// Whether a key may stand after these entries.
+fn may_stand(entries: &[Entry], key: Key) -> bool
+    ensures { result ≡ may_stand_said key (map entry_said entries.now) }
 {
-    let mut entries = Vec::new(alloc);
-    let mut count = 0;
-    let mut rest = bytes;
-    while let Some((line, behind)) = next_line(rest) {
-        count += 1;
-        take_line(alloc, &mut entries, count, line)?;
+    match key {
+        Key::Begin => entries.is_empty(),
+        _ => !entries.is_empty() && !has_key(entries, Key::End) && !has_key(entries, key),
+    }
+}
+
+// The numbers that the words of a text say.
+fn read_numbers(
+    alloc: Global,
+    line: u64,
+    most: u64,
+    text: &[u8],
+) -> Result<Vec<u64>, Stop<AcpcFault>>
+    requires digits { list_all are_digits (words_of text.now) ≡ true }
+    requires small { most ≤ 1000000000000000000 }
+    ensures said { Gives (λ numbers. numbers.items) result
+        (numbers_after line most [] (words_of text.now)) }
+    ensures count { IfOk result (λ numbers. length numbers.items ≡ length (words_of text.now)) }
+    ensures bounded { IfOk result
+        (λ numbers. list_all (λ number. nat_le number most) numbers.items ≡ true) }
+{
+    let mut numbers = Vec::new(alloc);
+    let mut rest = text;
+    while let Some((word, behind)) = next_word(rest) {
+        let number = read_number(line, most, word)?;
+        numbers.push(number)?;
         rest = behind;
     }
-    Ok((entries, count))
+    Ok(numbers)
+}
+
+// The number that a word says, if it is not too great for its key.
+#[tactic(auto, unfolding(crate::specs::GameFile::number_said))]
+fn read_number(line: u64, most: u64, word: &[u8]) -> Result<u64, Stop<AcpcFault>>
+    requires digits { IsTrue (are_digits word.now) }
+    requires small { most ≤ 1000000000000000000 }
+    ensures said { Gives (λ number. number) result (number_said line most word.now) }
+    ensures bounded { IfOk result (λ number. number ≤ most) }
+{
+    match read_digits(word, most) {
+        Some(number) => Ok(number),
+        None => Err(wrong(What::AmountLimit, line)),
+    }
+}
+
+/// A fault of this kind at a line.
+pub fn wrong(what: What, line: u64) -> Stop<AcpcFault>
+    ensures { result ≡ Stop.At (fault_in_line_said line (record { what = what; byte = 1 })) }
+{
+    Stop::At(fault_in_line(line, LineFault { what, byte: 1 }))
 }

@@ -24,6 +24,42 @@ use std::alloc::Global;
 /// The stack of each player of a limit game that says none.
 const DEFAULT_STACK: u64 = 2_147_483_647;
 
+/// The game that a game file says. Of its faults those of single lines come first, in the order of the lines, then
+/// those of the whole, and last that the game is not played here. The byte of a fault is always 1.
+pub fn read_game(alloc: Global, bytes: &[u8]) -> Result<Game, AcpcFault>
+    ensures { Answers game_in result (game_said bytes.now) }
+{
+    match read(alloc, bytes) {
+        Ok(game) => Ok(game),
+        Err(Stop::Memory) => Err(AcpcFault::Memory),
+        Err(Stop::At(fault)) => Err(fault),
+    }
+}
+
+// The game of a file.
+#[tactic(auto, unfolding(crate::specs::GameFile::game_said))]
+fn read(alloc: Global, bytes: &[u8]) -> Result<Game, Stop<AcpcFault>>
+    ensures { Gives game_in result (game_said bytes.now) }
+{
+    let (entries, count) = read_entries(alloc, bytes)?;
+    game_by_end(alloc, entries.as_slice(), count)
+}
+
+// The game that the entries of a file with so many lines come to.
+#[tactic(auto, unfolding(crate::specs::GameFile::game_at_end))]
+fn game_by_end(alloc: Global, entries: &[Entry], count: u64) -> Result<Game, Stop<AcpcFault>>
+    ensures { Gives game_in result (game_at_end count (map entry_said entries.now)) }
+{
+    if !is_whole(entries) {
+        return Err(wrong(What::GameShape, end_line(entries, count)));
+    }
+    let stacks = stacks_of(alloc, entries)?;
+    match first_unsupported(entries, stacks.as_slice()) {
+        Some(key) => Err(wrong(What::UnsupportedGame, line_at(entries, key))),
+        None => Ok(build(entries, stacks.as_slice())),
+    }
+}
+
 // The stacks of the players.
 #[tactic(auto, using(crate::proofs::Bounds::same_stacks))]
 fn stacks_of(alloc: Global, entries: &[Entry]) -> Result<Vec<u64>, Stop<AcpcFault>>
@@ -36,59 +72,6 @@ fn stacks_of(alloc: Global, entries: &[Entry]) -> Result<Vec<u64>, Stop<AcpcFaul
     } else {
         let count = numbers_at(entries, Key::Blind).len();
         Ok(vec![in alloc; DEFAULT_STACK; count]?)
-    }
-}
-
-// A row of these amounts.
-fn row_of(numbers: &[u64]) -> SeatRow
-    requires least { 2 ≤ length numbers.now }
-    requires greatest { length numbers.now ≤ 10 }
-    requires few { are_chips numbers.now ≡ true }
-    ensures amounts { amounts_in result ≡ numbers.now }
-    ensures seats { result.seats ≡ length numbers.now }
-{
-    let mut amounts = [0; 10];
-    for (index, number) in numbers.iter().enumerate() {
-        amounts[index] = *number;
-    }
-    SeatRow {
-        seats: numbers.len() as u8,
-        amounts,
-    }
-}
-
-// The size of a raise at a place of the four, in a limit game; else 0.
-fn size_at(no_limit: bool, sizes: &[u64], place: usize) -> u64
-    ensures { result ≡ (if no_limit then 0 else slice_index sizes.now place) }
-{
-    if no_limit || place >= sizes.len() {
-        0
-    } else {
-        sizes[place]
-    }
-}
-
-// Four caps.
-fn four_caps(numbers: &[u64]) -> [u32; 4]
-    requires four { length numbers.now ≡ 4 }
-    requires small { list_all (λ number. nat_le number 4294967295) numbers.now ≡ true }
-    ensures { result ≡ numbers.now }
-{
-    match numbers {
-        [a, b, c, d] => [*a as u32, *b as u32, *c as u32, *d as u32],
-        _ => [0; 4],
-    }
-}
-
-// The most raises of each round, if there is a most.
-#[tactic(auto, using(crate::proofs::Bounds::caps_small, crate::proofs::Bounds::caps_four))]
-fn caps_of(entries: &[Entry]) -> Option<[u32; 4]>
-    ensures { result
-        ≡ option_map (λ entry. entry.numbers) (found keys.MaxRaises (map entry_said entries.now)) }
-{
-    match find_entry(entries, Key::MaxRaises) {
-        None => None,
-        Some(entry) => Some(four_caps(entry.numbers.as_slice())),
     }
 }
 
@@ -117,38 +100,55 @@ fn build(entries: &[Entry], stacks: &[u64]) -> Game
     }
 }
 
-// The game that the entries of a file with so many lines come to.
-#[tactic(auto, unfolding(crate::specs::GameFile::game_at_end))]
-fn game_by_end(alloc: Global, entries: &[Entry], count: u64) -> Result<Game, Stop<AcpcFault>>
-    ensures { Gives game_in result (game_at_end count (map entry_said entries.now)) }
+// The size of a raise at a place of the four, in a limit game; else 0.
+fn size_at(no_limit: bool, sizes: &[u64], place: usize) -> u64
+    ensures { result ≡ (if no_limit then 0 else slice_index sizes.now place) }
 {
-    if !is_whole(entries) {
-        return Err(wrong(What::GameShape, end_line(entries, count)));
-    }
-    let stacks = stacks_of(alloc, entries)?;
-    match first_unsupported(entries, stacks.as_slice()) {
-        Some(key) => Err(wrong(What::UnsupportedGame, line_at(entries, key))),
-        None => Ok(build(entries, stacks.as_slice())),
+    if no_limit || place >= sizes.len() {
+        0
+    } else {
+        sizes[place]
     }
 }
 
-// The game of a file.
-#[tactic(auto, unfolding(crate::specs::GameFile::game_said))]
-fn read(alloc: Global, bytes: &[u8]) -> Result<Game, Stop<AcpcFault>>
-    ensures { Gives game_in result (game_said bytes.now) }
+// The most raises of each round, if there is a most.
+#[tactic(auto, using(crate::proofs::Bounds::caps_small, crate::proofs::Bounds::caps_four))]
+fn caps_of(entries: &[Entry]) -> Option<[u32; 4]>
+    ensures { result
+        ≡ option_map (λ entry. entry.numbers) (found keys.MaxRaises (map entry_said entries.now)) }
 {
-    let (entries, count) = read_entries(alloc, bytes)?;
-    game_by_end(alloc, entries.as_slice(), count)
+    match find_entry(entries, Key::MaxRaises) {
+        None => None,
+        Some(entry) => Some(four_caps(entry.numbers.as_slice())),
+    }
 }
 
-/// The game that a game file says. Of its faults those of single lines come first, in the order of the lines, then
-/// those of the whole, and last that the game is not played here. The byte of a fault is always 1.
-pub fn read_game(alloc: Global, bytes: &[u8]) -> Result<Game, AcpcFault>
-    ensures { Answers game_in result (game_said bytes.now) }
+// Four caps.
+fn four_caps(numbers: &[u64]) -> [u32; 4]
+    requires four { length numbers.now ≡ 4 }
+    requires small { list_all (λ number. nat_le number 4294967295) numbers.now ≡ true }
+    ensures { result ≡ numbers.now }
 {
-    match read(alloc, bytes) {
-        Ok(game) => Ok(game),
-        Err(Stop::Memory) => Err(AcpcFault::Memory),
-        Err(Stop::At(fault)) => Err(fault),
+    match numbers {
+        [a, b, c, d] => [*a as u32, *b as u32, *c as u32, *d as u32],
+        _ => [0; 4],
+    }
+}
+
+// A row of these amounts.
+fn row_of(numbers: &[u64]) -> SeatRow
+    requires least { 2 ≤ length numbers.now }
+    requires greatest { length numbers.now ≤ 10 }
+    requires few { are_chips numbers.now ≡ true }
+    ensures amounts { amounts_in result ≡ numbers.now }
+    ensures seats { result.seats ≡ length numbers.now }
+{
+    let mut amounts = [0; 10];
+    for (index, number) in numbers.iter().enumerate() {
+        amounts[index] = *number;
+    }
+    SeatRow {
+        seats: numbers.len() as u8,
+        amounts,
     }
 }

@@ -9,36 +9,6 @@ use crate::entry::Entry;
 use crate::found::{find_entry, has_key, is_for_all, number_at, numbers_at};
 use crate::key::Key;
 
-/// Whether the game has no limit.
-pub fn has_no_limit(entries: &[Entry]) -> bool
-    ensures { result ≡ has_no_limit_said (map entry_said entries.now) }
-{
-    match find_entry(entries, Key::Limit) {
-        Some(entry) => match entry.key {
-            Key::NoLimit => true,
-            _ => false,
-        },
-        None => false,
-    }
-}
-
-// Whether each key stands that every game file has.
-fn has_needed(entries: &[Entry]) -> bool
-    ensures { result ≡ list_all (λ key. has_key_said key (map entry_said entries.now)) needed }
-{
-    has_key(entries, Key::Begin)
-        && has_key(entries, Key::Limit)
-        && has_key(entries, Key::NumPlayers)
-        && has_key(entries, Key::NumRounds)
-        && has_key(entries, Key::Blind)
-        && has_key(entries, Key::FirstPlayer)
-        && has_key(entries, Key::NumSuits)
-        && has_key(entries, Key::NumRanks)
-        && has_key(entries, Key::NumHoleCards)
-        && has_key(entries, Key::NumBoardCards)
-        && has_key(entries, Key::End)
-}
-
 /// Whether nothing is missing.
 #[tactic(auto, unfolding(crate::specs::GameFile::is_whole))]
 pub fn is_whole(entries: &[Entry]) -> bool
@@ -59,6 +29,23 @@ pub fn is_whole(entries: &[Entry]) -> bool
         && (!has_key(entries, Key::Stack) || is_for_all(entries, Key::Stack))
 }
 
+// Whether each key stands that every game file has.
+fn has_needed(entries: &[Entry]) -> bool
+    ensures { result ≡ list_all (λ key. has_key_said key (map entry_said entries.now)) needed }
+{
+    has_key(entries, Key::Begin)
+        && has_key(entries, Key::Limit)
+        && has_key(entries, Key::NumPlayers)
+        && has_key(entries, Key::NumRounds)
+        && has_key(entries, Key::Blind)
+        && has_key(entries, Key::FirstPlayer)
+        && has_key(entries, Key::NumSuits)
+        && has_key(entries, Key::NumRanks)
+        && has_key(entries, Key::NumHoleCards)
+        && has_key(entries, Key::NumBoardCards)
+        && has_key(entries, Key::End)
+}
+
 /// The line that a fault of the whole names.
 pub fn end_line(entries: &[Entry], count: u64) -> u64
     ensures { result ≡ end_line_said count (map entry_said entries.now) }
@@ -69,98 +56,15 @@ pub fn end_line(entries: &[Entry], count: u64) -> u64
     }
 }
 
-// Whether the numbers are these four.
-fn are_four(numbers: &[u64], four: [u64; 4]) -> bool
-    ensures { result
-        ≡ are_four_said (slice_index four 0) (slice_index four 1) (slice_index four 2)
-        (slice_index four 3) numbers.now }
+/// The first key that shows that the game is not played.
+#[tactic(auto, unfolding(crate::specs::GameFile::first_unsupported))]
+pub fn first_unsupported(entries: &[Entry], stacks: &[u64]) -> Option<Key>
+    requires { stacks.now ≡ stacks_at (map entry_said entries.now) }
+    ensures { result ≡ first_unsupported_said (map entry_said entries.now) }
 {
-    match numbers {
-        [w, x, y, z] => *w == four[0] && *x == four[1] && (*y == four[2] && *z == four[3]),
-        _ => false,
-    }
-}
-
-/// Whether some stack is 0, or below its blind.
-pub fn has_short_stack(stacks: &[u64], blinds: &[u64]) -> bool
-    ensures { result ≡ has_short_stack_said stacks.now blinds.now }
-{
-    match stacks {
-        [] => false,
-        [stack, stacks @ ..] => match blinds {
-            [] => false,
-            [blind, blinds @ ..] => {
-                *stack == 0 || *stack < *blind || has_short_stack(stacks, blinds)
-            }
-        },
-    }
-}
-
-// Whether there are two players, and the second blind is above the first.
-fn is_reversed(blinds: &[u64]) -> bool
-    ensures { result ≡ is_reversed_said blinds.now }
-{
-    match blinds {
-        [first, second] => *first < *second,
-        _ => false,
-    }
-}
-
-/// The greatest of some numbers.
-pub fn greatest(numbers: &[u64]) -> u64
-    ensures { result ≡ greatest_said numbers.now }
-{
-    match numbers {
-        [] => 0,
-        [number, rest @ ..] => {
-            let most = greatest(rest);
-            if *number < most { most } else { *number }
-        }
-    }
-}
-
-// The last place of a number, from 1, or 0.
-fn last_place(number: u64, numbers: &[u64]) -> usize
-    ensures place { result ≡ last_place_said number numbers.now }
-    ensures within { result ≤ length numbers.now }
-{
-    match numbers {
-        [] => 0,
-        [first, rest @ ..] => {
-            let place = last_place(number, rest);
-            if place > 0 {
-                place + 1
-            } else if *first == number {
-                1
-            } else {
-                0
-            }
-        }
-    }
-}
-
-/// The seat that opens the first round.
-pub fn opener_of(blinds: &[u64]) -> u64
-    ensures { result ≡ opener_of_said blinds.now }
-{
-    if blinds.len() == 2 {
-        return 2;
-    }
-    let place = last_place(greatest(blinds), blinds);
-    if place == blinds.len() {
-        1
-    } else {
-        place as u64 + 1
-    }
-}
-
-// Whether the sizes of raises are two equal ones and two equal ones, each at least 1.
-fn are_sizes(sizes: &[u64]) -> bool
-    ensures { result ≡ are_sizes_said sizes.now }
-{
-    match sizes {
-        [s, t, b, c] => *s >= 1 && *s == *t && (*b >= 1 && *b == *c),
-        _ => false,
+    match other_cards(entries) {
+        Some(key) => Some(key),
+        None => other_chips(entries, stacks),
     }
 }
 
@@ -227,21 +131,117 @@ fn other_chips(entries: &[Entry], stacks: &[u64]) -> Option<Key>
     None
 }
 
+/// Whether the game has no limit.
+pub fn has_no_limit(entries: &[Entry]) -> bool
+    ensures { result ≡ has_no_limit_said (map entry_said entries.now) }
+{
+    match find_entry(entries, Key::Limit) {
+        Some(entry) => match entry.key {
+            Key::NoLimit => true,
+            _ => false,
+        },
+        None => false,
+    }
+}
+
+/// Whether some stack is 0, or below its blind.
+pub fn has_short_stack(stacks: &[u64], blinds: &[u64]) -> bool
+    ensures { result ≡ has_short_stack_said stacks.now blinds.now }
+{
+    match stacks {
+        [] => false,
+        [stack, stacks @ ..] => match blinds {
+            [] => false,
+            [blind, blinds @ ..] => {
+                *stack == 0 || *stack < *blind || has_short_stack(stacks, blinds)
+            }
+        },
+    }
+}
+
+// Whether there are two players, and the second blind is above the first.
+fn is_reversed(blinds: &[u64]) -> bool
+    ensures { result ≡ is_reversed_said blinds.now }
+{
+    match blinds {
+        [first, second] => *first < *second,
+        _ => false,
+    }
+}
+
+// Whether the numbers are these four.
+fn are_four(numbers: &[u64], four: [u64; 4]) -> bool
+    ensures { result
+        ≡ are_four_said (slice_index four 0) (slice_index four 1) (slice_index four 2)
+        (slice_index four 3) numbers.now }
+{
+    match numbers {
+        [w, x, y, z] => *w == four[0] && *x == four[1] && (*y == four[2] && *z == four[3]),
+        _ => false,
+    }
+}
+
+/// The seat that opens the first round.
+pub fn opener_of(blinds: &[u64]) -> u64
+    ensures { result ≡ opener_of_said blinds.now }
+{
+    if blinds.len() == 2 {
+        return 2;
+    }
+    let place = last_place(greatest(blinds), blinds);
+    if place == blinds.len() {
+        1
+    } else {
+        place as u64 + 1
+    }
+}
+
+// The last place of a number, from 1, or 0.
+fn last_place(number: u64, numbers: &[u64]) -> usize
+    ensures place { result ≡ last_place_said number numbers.now }
+    ensures within { result ≤ length numbers.now }
+{
+    match numbers {
+        [] => 0,
+        [first, rest @ ..] => {
+            let place = last_place(number, rest);
+            if place > 0 {
+                place + 1
+            } else if *first == number {
+                1
+            } else {
+                0
+            }
+        }
+    }
+}
+
+/// The greatest of some numbers.
+pub fn greatest(numbers: &[u64]) -> u64
+    ensures { result ≡ greatest_said numbers.now }
+{
+    match numbers {
+        [] => 0,
+        [number, rest @ ..] => {
+            let most = greatest(rest);
+            if *number < most { most } else { *number }
+        }
+    }
+}
+
+// Whether the sizes of raises are two equal ones and two equal ones, each at least 1.
+fn are_sizes(sizes: &[u64]) -> bool
+    ensures { result ≡ are_sizes_said sizes.now }
+{
+    match sizes {
+        [s, t, b, c] => *s >= 1 && *s == *t && (*b >= 1 && *b == *c),
+        _ => false,
+    }
+}
+
 // Whether the greatest blind is above 0 and below the first size of a raise.
 fn is_small_blind_of(most: u64, sizes: &[u64]) -> bool
     ensures { result ≡ nat_lt 0 most && nat_lt most (slice_index sizes.now 0) }
 {
     0 < most && !sizes.is_empty() && most < sizes[0]
-}
-
-/// The first key that shows that the game is not played.
-#[tactic(auto, unfolding(crate::specs::GameFile::first_unsupported))]
-pub fn first_unsupported(entries: &[Entry], stacks: &[u64]) -> Option<Key>
-    requires { stacks.now ≡ stacks_at (map entry_said entries.now) }
-    ensures { result ≡ first_unsupported_said (map entry_said entries.now) }
-{
-    match other_cards(entries) {
-        Some(key) => Some(key),
-        None => other_chips(entries, stacks),
-    }
 }

@@ -10,39 +10,32 @@ use card_set::Memory;
 use chip_ledger::SeatRow;
 use std::alloc::{AllocError, Global};
 
-// Numbers, with a space in front of each.
-fn push_numbers(alloc: Global, out: &mut Vec<u8>, numbers: &[u64]) -> Result<(), AllocError>
-    ensures { OnOk result (out.new.items ≡ out.old.items ++ spaced numbers.now) }
+/// The game file of a game.
+#[tactic(auto, unfolding(crate::specs::GameText::game_text))]
+pub fn write_game(alloc: Global, game: &Game) -> Result<Vec<u8>, Memory>
+    ensures { IfOk result (λ text. text.items ≡ game_text (game_in game.now)) }
 {
-    for number in numbers {
-        let digits = number.to_string(alloc)?;
-        out.extend_from_slice(b" ")?;
-        out.extend_from_slice(digits.as_bytes())?;
-    }
-    Ok(())
+    let mut out = Vec::new(alloc);
+    out.extend_from_slice(b"GAMEDEF\n")?;
+    push_chips(alloc, &mut out, game)?;
+    push_sizes(alloc, &mut out, game)?;
+    push_turns(alloc, &mut out, game)?;
+    out.extend_from_slice(
+        b"numSuits = 4\nnumRanks = 13\nnumHoleCards = 2\nnumBoardCards = 0 3 1 1\n",
+    )?;
+    out.extend_from_slice(b"END GAMEDEF\n")?;
+    Ok(out)
 }
 
-// A key, `=`, and numbers.
-#[tactic(auto, unfolding(crate::specs::GameText::key_line))]
-fn push_line(
-    alloc: Global,
-    out: &mut Vec<u8>,
-    word: &str,
-    numbers: &[u64],
-) -> Result<(), AllocError>
-    ensures { OnOk result (out.new.items ≡ out.old.items ++ key_line word.now numbers.now) }
+// Whether there is a limit, the players, the rounds, the stacks and the blinds.
+#[tactic(auto, unfolding(crate::specs::GameText::chips_text))]
+fn push_chips(alloc: Global, out: &mut Vec<u8>, game: &Game) -> Result<(), AllocError>
+    ensures { OnOk result (out.new.items ≡ out.old.items ++ chips_text (game_in game.now)) }
 {
-    out.extend_from_slice(word.as_bytes())?;
-    out.extend_from_slice(b" =")?;
-    push_numbers(alloc, out, numbers)?;
-    out.extend_from_slice(b"\n")
-}
-
-// The amounts of the seats of a row.
-fn amounts_of(row: &SeatRow) -> &[u64]
-    ensures { result.now ≡ amounts_in row.now }
-{
-    &row.amounts[..row.seats as usize]
+    let stacks = amounts_of(&game.stacks);
+    push_kind(out, game.no_limit)?;
+    push_counts(alloc, out, stacks.len() as u64)?;
+    push_rows(alloc, out, stacks, amounts_of(&game.blinds))
 }
 
 // Whether there is a limit.
@@ -79,17 +72,6 @@ fn push_rows(
     push_line(alloc, out, "blind", blinds)
 }
 
-// Whether there is a limit, the players, the rounds, the stacks and the blinds.
-#[tactic(auto, unfolding(crate::specs::GameText::chips_text))]
-fn push_chips(alloc: Global, out: &mut Vec<u8>, game: &Game) -> Result<(), AllocError>
-    ensures { OnOk result (out.new.items ≡ out.old.items ++ chips_text (game_in game.now)) }
-{
-    let stacks = amounts_of(&game.stacks);
-    push_kind(out, game.no_limit)?;
-    push_counts(alloc, out, stacks.len() as u64)?;
-    push_rows(alloc, out, stacks, amounts_of(&game.blinds))
-}
-
 // The sizes of raises of a limit game.
 #[tactic(auto, unfolding(crate::specs::GameText::sizes_text))]
 fn push_sizes(alloc: Global, out: &mut Vec<u8>, game: &Game) -> Result<(), AllocError>
@@ -107,17 +89,28 @@ fn push_sizes(alloc: Global, out: &mut Vec<u8>, game: &Game) -> Result<(), Alloc
     push_line(alloc, out, "raiseSize", &sizes)
 }
 
-// The caps as wider numbers.
-#[tactic(auto, using(list_laws::proofs::Entries::four_entries))]
-fn wide_caps(caps: [u32; 4]) -> [u64; 4]
-    ensures { result ≡ caps }
+// The first seats of the rounds, and the most raises of each.
+#[tactic(auto, unfolding(crate::specs::GameText::turns_text))]
+fn push_turns(alloc: Global, out: &mut Vec<u8>, game: &Game) -> Result<(), AllocError>
+    ensures { OnOk result (out.new.items ≡ out.old.items ++ turns_text (game_in game.now)) }
 {
-    [
-        u64::from(caps[0]),
-        u64::from(caps[1]),
-        u64::from(caps[2]),
-        u64::from(caps[3]),
-    ]
+    push_first(alloc, out, amounts_of(&game.blinds))?;
+    push_caps(alloc, out, game.caps)
+}
+
+// The first seats of the rounds.
+#[tactic(auto, unfolding(crate::specs::GameText::first_text))]
+fn push_first(alloc: Global, out: &mut Vec<u8>, blinds: &[u64]) -> Result<(), AllocError>
+    ensures { OnOk result (out.new.items ≡ out.old.items ++ first_text blinds.now) }
+{
+    push_line(alloc, out, "firstPlayer", &[opener_of(blinds), 1, 1, 1])
+}
+
+// The amounts of the seats of a row.
+fn amounts_of(row: &SeatRow) -> &[u64]
+    ensures { result.now ≡ amounts_in row.now }
+{
+    &row.amounts[..row.seats as usize]
 }
 
 // The most raises of each round, if there is a most.
@@ -134,36 +127,43 @@ fn push_caps(alloc: Global, out: &mut Vec<u8>, caps: Option<[u32; 4]>) -> Result
     }
 }
 
-// The first seats of the rounds.
-#[tactic(auto, unfolding(crate::specs::GameText::first_text))]
-fn push_first(alloc: Global, out: &mut Vec<u8>, blinds: &[u64]) -> Result<(), AllocError>
-    ensures { OnOk result (out.new.items ≡ out.old.items ++ first_text blinds.now) }
+// The caps as wider numbers.
+#[tactic(auto, using(list_laws::proofs::Entries::four_entries))]
+fn wide_caps(caps: [u32; 4]) -> [u64; 4]
+    ensures { result ≡ caps }
 {
-    push_line(alloc, out, "firstPlayer", &[opener_of(blinds), 1, 1, 1])
+    [
+        u64::from(caps[0]),
+        u64::from(caps[1]),
+        u64::from(caps[2]),
+        u64::from(caps[3]),
+    ]
 }
 
-// The first seats of the rounds, and the most raises of each.
-#[tactic(auto, unfolding(crate::specs::GameText::turns_text))]
-fn push_turns(alloc: Global, out: &mut Vec<u8>, game: &Game) -> Result<(), AllocError>
-    ensures { OnOk result (out.new.items ≡ out.old.items ++ turns_text (game_in game.now)) }
+// A key, `=`, and numbers.
+#[tactic(auto, unfolding(crate::specs::GameText::key_line))]
+fn push_line(
+    alloc: Global,
+    out: &mut Vec<u8>,
+    word: &str,
+    numbers: &[u64],
+) -> Result<(), AllocError>
+    ensures { OnOk result (out.new.items ≡ out.old.items ++ key_line word.now numbers.now) }
 {
-    push_first(alloc, out, amounts_of(&game.blinds))?;
-    push_caps(alloc, out, game.caps)
+    out.extend_from_slice(word.as_bytes())?;
+    out.extend_from_slice(b" =")?;
+    push_numbers(alloc, out, numbers)?;
+    out.extend_from_slice(b"\n")
 }
 
-/// The game file of a game.
-#[tactic(auto, unfolding(crate::specs::GameText::game_text))]
-pub fn write_game(alloc: Global, game: &Game) -> Result<Vec<u8>, Memory>
-    ensures { IfOk result (λ text. text.items ≡ game_text (game_in game.now)) }
+// Numbers, with a space in front of each.
+fn push_numbers(alloc: Global, out: &mut Vec<u8>, numbers: &[u64]) -> Result<(), AllocError>
+    ensures { OnOk result (out.new.items ≡ out.old.items ++ spaced numbers.now) }
 {
-    let mut out = Vec::new(alloc);
-    out.extend_from_slice(b"GAMEDEF\n")?;
-    push_chips(alloc, &mut out, game)?;
-    push_sizes(alloc, &mut out, game)?;
-    push_turns(alloc, &mut out, game)?;
-    out.extend_from_slice(
-        b"numSuits = 4\nnumRanks = 13\nnumHoleCards = 2\nnumBoardCards = 0 3 1 1\n",
-    )?;
-    out.extend_from_slice(b"END GAMEDEF\n")?;
-    Ok(out)
+    for number in numbers {
+        let digits = number.to_string(alloc)?;
+        out.extend_from_slice(b" ")?;
+        out.extend_from_slice(digits.as_bytes())?;
+    }
+    Ok(())
 }

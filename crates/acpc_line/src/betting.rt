@@ -13,81 +13,30 @@ use hand_records::Trace;
 use play_event::{Act, Move, Setup};
 use std::alloc::{AllocError, Global};
 
-// `r`, and in a no-limit game the chips of the whole hand behind it.
-fn push_raise(
+/// The betting of a hand. Raises have their totals where the game has no limit.
+#[tactic(auto, unfolding(crate::specs::Betting::betting_text))]
+pub fn push_betting(
     alloc: Global,
     out: &mut Vec<u8>,
     no_limit: bool,
-    total: u64,
+    trace: &Trace,
 ) -> Result<(), AllocError>
-    ensures { OnOk result (out.new.items
-        ≡ out.old.items ++ letter no_limit Raised total) }
-{
-    out.extend_from_slice(b"r")?;
-    if !no_limit {
-        return Ok(());
-    }
-    let digits = total.to_string(alloc)?;
-    out.extend_from_slice(digits.as_bytes())
-}
-
-// The letter of a move, after which its seat has put so many chips in the whole hand.
-fn push_letter(
-    alloc: Global,
-    out: &mut Vec<u8>,
-    no_limit: bool,
-    act: Act,
-    total: u64,
-) -> Result<(), AllocError>
-    ensures { OnOk result (out.new.items
-        ≡ out.old.items ++ letter no_limit (act_said act) total) }
-{
-    match act {
-        Act::Fold => out.extend_from_slice(b"f"),
-        Act::Call => out.extend_from_slice(b"c"),
-        Act::Raise => push_raise(alloc, out, no_limit, total),
-        Act::BringIn => Ok(()),
-    }
-}
-
-// The letter of a move, where it is one of a street.
-fn push_letter_on(
-    alloc: Global,
-    out: &mut Vec<u8>,
-    no_limit: bool,
-    street: u8,
-    played: Move,
-    total: u64,
-) -> Result<(), AllocError>
-    ensures { OnOk result (out.new.items
-        ≡ out.old.items ++ letter_on no_limit street (plain_move (move_said played)) total) }
-{
-    if played.street != street {
-        return Ok(());
-    }
-    push_letter(alloc, out, no_limit, played.act, total)
-}
-
-// The letters of a street.
-fn push_letters(
-    alloc: Global,
-    out: &mut Vec<u8>,
-    no_limit: bool,
-    setup: &Setup,
-    moves: &[Move],
-    street: u8,
-) -> Result<(), AllocError>
-    requires { HaveFewChips setup.now moves.now }
+    requires { HaveFewChips trace.now.setup trace.now.moves }
     ensures { OnOk result (out.new.items ≡ out.old.items
-        ++ letters_on no_limit setup.now street (plain_moves (map move_said moves.now))) }
+        ++ betting_text no_limit trace.now.setup (map place_said trace.now.places)
+        (plain_moves (map move_said trace.now.moves))) }
 {
-    let mut put = posted_chips(setup);
-    for played in moves {
-        add(&mut put, *played);
-        let total = put[played.seat.number as usize - 1];
-        push_letter_on(alloc, out, no_limit, street, *played, total)?;
-    }
-    Ok(())
+    push_letters(
+        alloc,
+        out,
+        no_limit,
+        &trace.setup,
+        trace.moves.as_slice(),
+        1,
+    )?;
+    push_round(alloc, out, no_limit, trace, 2)?;
+    push_round(alloc, out, no_limit, trace, 3)?;
+    push_round(alloc, out, no_limit, trace, 4)
 }
 
 // The betting of a further round, if it was dealt.
@@ -118,28 +67,79 @@ fn push_round(
     )
 }
 
-/// The betting of a hand. Raises have their totals where the game has no limit.
-#[tactic(auto, unfolding(crate::specs::Betting::betting_text))]
-pub fn push_betting(
+// The letters of a street.
+fn push_letters(
     alloc: Global,
     out: &mut Vec<u8>,
     no_limit: bool,
-    trace: &Trace,
+    setup: &Setup,
+    moves: &[Move],
+    street: u8,
 ) -> Result<(), AllocError>
-    requires { HaveFewChips trace.now.setup trace.now.moves }
+    requires { HaveFewChips setup.now moves.now }
     ensures { OnOk result (out.new.items ≡ out.old.items
-        ++ betting_text no_limit trace.now.setup (map place_said trace.now.places)
-        (plain_moves (map move_said trace.now.moves))) }
+        ++ letters_on no_limit setup.now street (plain_moves (map move_said moves.now))) }
 {
-    push_letters(
-        alloc,
-        out,
-        no_limit,
-        &trace.setup,
-        trace.moves.as_slice(),
-        1,
-    )?;
-    push_round(alloc, out, no_limit, trace, 2)?;
-    push_round(alloc, out, no_limit, trace, 3)?;
-    push_round(alloc, out, no_limit, trace, 4)
+    let mut put = posted_chips(setup);
+    for played in moves {
+        add(&mut put, *played);
+        let total = put[played.seat.number as usize - 1];
+        push_letter_on(alloc, out, no_limit, street, *played, total)?;
+    }
+    Ok(())
+}
+
+// The letter of a move, where it is one of a street.
+fn push_letter_on(
+    alloc: Global,
+    out: &mut Vec<u8>,
+    no_limit: bool,
+    street: u8,
+    played: Move,
+    total: u64,
+) -> Result<(), AllocError>
+    ensures { OnOk result (out.new.items
+        ≡ out.old.items ++ letter_on no_limit street (plain_move (move_said played)) total) }
+{
+    if played.street != street {
+        return Ok(());
+    }
+    push_letter(alloc, out, no_limit, played.act, total)
+}
+
+// The letter of a move, after which its seat has put so many chips in the whole hand.
+fn push_letter(
+    alloc: Global,
+    out: &mut Vec<u8>,
+    no_limit: bool,
+    act: Act,
+    total: u64,
+) -> Result<(), AllocError>
+    ensures { OnOk result (out.new.items
+        ≡ out.old.items ++ letter no_limit (act_said act) total) }
+{
+    match act {
+        Act::Fold => out.extend_from_slice(b"f"),
+        Act::Call => out.extend_from_slice(b"c"),
+        Act::Raise => push_raise(alloc, out, no_limit, total),
+        Act::BringIn => Ok(()),
+    }
+}
+
+// `r`, and in a no-limit game the chips of the whole hand behind it.
+fn push_raise(
+    alloc: Global,
+    out: &mut Vec<u8>,
+    no_limit: bool,
+    total: u64,
+) -> Result<(), AllocError>
+    ensures { OnOk result (out.new.items
+        ≡ out.old.items ++ letter no_limit Raised total) }
+{
+    out.extend_from_slice(b"r")?;
+    if !no_limit {
+        return Ok(());
+    }
+    let digits = total.to_string(alloc)?;
+    out.extend_from_slice(digits.as_bytes())
 }

@@ -16,47 +16,6 @@ use chip_ledger::Seat;
 use play_event::Place;
 use std::alloc::AllocError;
 
-// Whether two owners are one.
-fn is_same_owner(owner: Option<Seat>, other: Option<Seat>) -> bool
-    ensures { result ≡ is_same_owner_said (seat_named owner) (seat_named other) }
-{
-    match (owner, other) {
-        (Some(seat), Some(other)) => seat.number == other.number,
-        (None, None) => true,
-        _ => false,
-    }
-}
-
-// Whether a card was dealt to an owner on a street.
-fn is_dealt(place: Place, owner: Option<Seat>, street: u8) -> bool
-    ensures { result ≡ is_dealt_to (seat_named owner) street (place_said place) }
-{
-    is_same_owner(place.owner, owner) && place.street == street
-}
-
-// Whether a slot is unknown.
-fn is_hidden(slot: Slot) -> bool
-    ensures { result ≡ is_unknown slot }
-{
-    match slot {
-        Slot::Unknown => true,
-        Slot::Known(_) => false,
-    }
-}
-
-/// Whether a card that an owner was dealt on a street is unknown.
-pub fn has_unknown(places: &[Place], owner: Option<Seat>, street: u8) -> bool
-    ensures { result ≡ list_any is_unknown
-        (dealt_slots (map place_said places.now) (seat_named owner) street) }
-{
-    for place in places {
-        if is_dealt(*place, owner, street) && is_hidden(place.slot) {
-            return true;
-        }
-    }
-    false
-}
-
 /// Whether a card that an owner was dealt on a street is known.
 pub fn has_known(places: &[Place], owner: Option<Seat>, street: u8) -> bool
     ensures { result ≡ list_any (λ slot. not (is_unknown slot))
@@ -70,43 +29,28 @@ pub fn has_known(places: &[Place], owner: Option<Seat>, street: u8) -> bool
     false
 }
 
-/// Whether cards of the board were dealt on a street.
-pub fn has_board(places: &[Place], street: u8) -> bool
-    ensures { result ≡ has_board_said (map place_said places.now) street }
-{
-    for place in places {
-        if is_dealt(*place, None, street) {
-            return true;
-        }
-    }
-    false
-}
-
-// The card of a place, where it counts.
-fn push_card(out: &mut Vec<u8>, place: Place, counts: bool) -> Result<(), AllocError>
+/// The cards of a hand of so many seats.
+#[tactic(auto, unfolding(crate::specs::Cards::cards_text))]
+pub fn push_cards(out: &mut Vec<u8>, places: &[Place], seats: u8) -> Result<(), AllocError>
+    requires { seats ≤ 10 }
     ensures { OnOk result (out.new.items
-        ≡ out.old.items ++ (if counts then slot_spelling place.slot else [])) }
+        ≡ out.old.items ++ cards_text (map place_said places.now) seats) }
 {
-    if !counts {
-        return Ok(());
-    }
-    out.extend_from_slice(&slot_text(place.slot))
+    push_holes(out, places, seats)?;
+    push_boards(out, places)
 }
 
-// The cards that an owner was dealt on a street.
-fn push_dealt(
-    out: &mut Vec<u8>,
-    places: &[Place],
-    owner: Option<Seat>,
-    street: u8,
-) -> Result<(), AllocError>
-    ensures { OnOk result (out.new.items ≡ out.old.items
-        ++ spelling (dealt_slots (map place_said places.now) (seat_named owner) street)) }
+// The hole cards of so many seats.
+#[tactic(auto, unfolding(crate::specs::Cards::holes_text))]
+fn push_holes(out: &mut Vec<u8>, places: &[Place], seats: u8) -> Result<(), AllocError>
+    requires { seats ≤ 10 }
+    ensures { OnOk result (out.new.items
+        ≡ out.old.items ++ holes_text (map place_said places.now) seats) }
 {
-    let mut rest = places;
-    while let [place, behind @ ..] = rest {
-        push_card(out, *place, is_dealt(*place, owner, street))?;
-        rest = behind;
+    for index in 0..seats {
+        let seat = Seat { number: index + 1 };
+        push_bar(out, seat)?;
+        push_hole(out, places, seat)?;
     }
     Ok(())
 }
@@ -132,19 +76,38 @@ fn push_hole(out: &mut Vec<u8>, places: &[Place], seat: Seat) -> Result<(), Allo
     push_dealt(out, places, Some(seat), 1)
 }
 
-// The hole cards of so many seats.
-#[tactic(auto, unfolding(crate::specs::Cards::holes_text))]
-fn push_holes(out: &mut Vec<u8>, places: &[Place], seats: u8) -> Result<(), AllocError>
-    requires { seats ≤ 10 }
-    ensures { OnOk result (out.new.items
-        ≡ out.old.items ++ holes_text (map place_said places.now) seats) }
+/// Whether a card that an owner was dealt on a street is unknown.
+pub fn has_unknown(places: &[Place], owner: Option<Seat>, street: u8) -> bool
+    ensures { result ≡ list_any is_unknown
+        (dealt_slots (map place_said places.now) (seat_named owner) street) }
 {
-    for index in 0..seats {
-        let seat = Seat { number: index + 1 };
-        push_bar(out, seat)?;
-        push_hole(out, places, seat)?;
+    for place in places {
+        if is_dealt(*place, owner, street) && is_hidden(place.slot) {
+            return true;
+        }
     }
-    Ok(())
+    false
+}
+
+// Whether a slot is unknown.
+fn is_hidden(slot: Slot) -> bool
+    ensures { result ≡ is_unknown slot }
+{
+    match slot {
+        Slot::Unknown => true,
+        Slot::Known(_) => false,
+    }
+}
+
+// The cards of the board.
+#[tactic(auto, unfolding(crate::specs::Cards::boards_text))]
+fn push_boards(out: &mut Vec<u8>, places: &[Place]) -> Result<(), AllocError>
+    ensures { OnOk result (out.new.items
+        ≡ out.old.items ++ boards_text (map place_said places.now)) }
+{
+    push_board(out, places, 2)?;
+    push_board(out, places, 3)?;
+    push_board(out, places, 4)
 }
 
 // The cards of the board of a further round, if it was dealt.
@@ -160,24 +123,61 @@ fn push_board(out: &mut Vec<u8>, places: &[Place], street: u8) -> Result<(), All
     push_dealt(out, places, None, street)
 }
 
-// The cards of the board.
-#[tactic(auto, unfolding(crate::specs::Cards::boards_text))]
-fn push_boards(out: &mut Vec<u8>, places: &[Place]) -> Result<(), AllocError>
-    ensures { OnOk result (out.new.items
-        ≡ out.old.items ++ boards_text (map place_said places.now)) }
+/// Whether cards of the board were dealt on a street.
+pub fn has_board(places: &[Place], street: u8) -> bool
+    ensures { result ≡ has_board_said (map place_said places.now) street }
 {
-    push_board(out, places, 2)?;
-    push_board(out, places, 3)?;
-    push_board(out, places, 4)
+    for place in places {
+        if is_dealt(*place, None, street) {
+            return true;
+        }
+    }
+    false
 }
 
-/// The cards of a hand of so many seats.
-#[tactic(auto, unfolding(crate::specs::Cards::cards_text))]
-pub fn push_cards(out: &mut Vec<u8>, places: &[Place], seats: u8) -> Result<(), AllocError>
-    requires { seats ≤ 10 }
-    ensures { OnOk result (out.new.items
-        ≡ out.old.items ++ cards_text (map place_said places.now) seats) }
+// The cards that an owner was dealt on a street.
+fn push_dealt(
+    out: &mut Vec<u8>,
+    places: &[Place],
+    owner: Option<Seat>,
+    street: u8,
+) -> Result<(), AllocError>
+    ensures { OnOk result (out.new.items ≡ out.old.items
+        ++ spelling (dealt_slots (map place_said places.now) (seat_named owner) street)) }
 {
-    push_holes(out, places, seats)?;
-    push_boards(out, places)
+    let mut rest = places;
+    while let [place, behind @ ..] = rest {
+        push_card(out, *place, is_dealt(*place, owner, street))?;
+        rest = behind;
+    }
+    Ok(())
+}
+
+// The card of a place, where it counts.
+fn push_card(out: &mut Vec<u8>, place: Place, counts: bool) -> Result<(), AllocError>
+    ensures { OnOk result (out.new.items
+        ≡ out.old.items ++ (if counts then slot_spelling place.slot else [])) }
+{
+    if !counts {
+        return Ok(());
+    }
+    out.extend_from_slice(&slot_text(place.slot))
+}
+
+// Whether a card was dealt to an owner on a street.
+fn is_dealt(place: Place, owner: Option<Seat>, street: u8) -> bool
+    ensures { result ≡ is_dealt_to (seat_named owner) street (place_said place) }
+{
+    is_same_owner(place.owner, owner) && place.street == street
+}
+
+// Whether two owners are one.
+fn is_same_owner(owner: Option<Seat>, other: Option<Seat>) -> bool
+    ensures { result ≡ is_same_owner_said (seat_named owner) (seat_named other) }
+{
+    match (owner, other) {
+        (Some(seat), Some(other)) => seat.number == other.number,
+        (None, None) => true,
+        _ => false,
+    }
 }

@@ -11,34 +11,6 @@ use acpc_game::{Game, greatest, has_short_stack};
 use hand_records::{Play, Unspelled};
 use play_event::{Code, Setup};
 
-// Whether the code is that of a game with or without limit.
-fn is_game_code(no_limit: bool, code: Code) -> bool
-    ensures { result ≡ is_code_of no_limit code }
-{
-    match code {
-        Code::NT => no_limit,
-        Code::FT => !no_limit,
-        _ => false,
-    }
-}
-
-// The greatest blind.
-fn greatest_blind(setup: &Setup) -> u64
-    ensures { result ≡ greatest_blind_said setup.now }
-{
-    greatest(amounts_of(&setup.blinds))
-}
-
-// Whether the sizes are those of a game.
-fn has_game_sizes(game: &Game, setup: &Setup) -> bool
-    ensures { result ≡ has_sizes_of game.now setup.now }
-{
-    if game.no_limit {
-        return setup.min_bet == greatest_blind(setup);
-    }
-    setup.small_bet == game.small_raise && setup.big_bet == game.big_raise
-}
-
 /// The first fact of a setup that the logs of a game do not spell.
 pub fn find_other_setup(game: &Game, setup: &Setup) -> Option<Unspelled>
     ensures { result ≡ first_where (setup_conditions game.now setup.now) }
@@ -67,26 +39,25 @@ pub fn find_other_setup(game: &Game, setup: &Setup) -> Option<Unspelled>
     None
 }
 
-// Whether the sizes of bets fit the greatest blind.
-fn is_sized_by_blind(no_limit: bool, setup: &Setup) -> bool
-    ensures { result ≡ is_sized_by_blind_said no_limit setup.now }
-{
-    let blind = greatest_blind(setup);
-    if no_limit {
-        return setup.min_bet == blind;
-    }
-    blind == 0 || setup.small_bet <= blind
-}
-
-// Whether the game has no limit, if it is hold'em that logs have.
-fn limit_of(code: Code) -> Option<bool>
-    ensures { result ≡ no_limit_of code }
+// Whether the code is that of a game with or without limit.
+fn is_game_code(no_limit: bool, code: Code) -> bool
+    ensures { result ≡ is_code_of no_limit code }
 {
     match code {
-        Code::NT => Some(true),
-        Code::FT => Some(false),
-        _ => None,
+        Code::NT => no_limit,
+        Code::FT => !no_limit,
+        _ => false,
     }
+}
+
+// Whether the sizes are those of a game.
+fn has_game_sizes(game: &Game, setup: &Setup) -> bool
+    ensures { result ≡ has_sizes_of game.now setup.now }
+{
+    if game.no_limit {
+        return setup.min_bet == greatest_blind(setup);
+    }
+    setup.small_bet == game.small_raise && setup.big_bet == game.big_raise
 }
 
 /// The game without caps that a hand fits.
@@ -114,6 +85,35 @@ pub fn game_of(play: &Play) -> Result<Game, Unspelled>
         return Err(Unspelled::Antes);
     }
     Ok(make_game(no_limit, setup))
+}
+
+// Whether the game has no limit, if it is hold'em that logs have.
+fn limit_of(code: Code) -> Option<bool>
+    ensures { result ≡ no_limit_of code }
+{
+    match code {
+        Code::NT => Some(true),
+        Code::FT => Some(false),
+        _ => None,
+    }
+}
+
+// Whether the sizes of bets fit the greatest blind.
+fn is_sized_by_blind(no_limit: bool, setup: &Setup) -> bool
+    ensures { result ≡ is_sized_by_blind_said no_limit setup.now }
+{
+    let blind = greatest_blind(setup);
+    if no_limit {
+        return setup.min_bet == blind;
+    }
+    blind == 0 || setup.small_bet <= blind
+}
+
+// The greatest blind.
+fn greatest_blind(setup: &Setup) -> u64
+    ensures { result ≡ greatest_blind_said setup.now }
+{
+    greatest(amounts_of(&setup.blinds))
 }
 
 // The game with the stacks, blinds and sizes of a setup.

@@ -10,51 +10,24 @@ use first_fault::{Text, are_digits};
 use hand_records::Notes;
 use std::alloc::{AllocError, Global};
 
-// Whether a sign may stand in a name.
-fn may_stand(sign: u8) -> bool
-    ensures { result ≡ may_stand_said sign }
+/// The name of each of so many players, with bars between them.
+#[tactic(auto, unfolding(crate::specs::Names::names_text))]
+pub fn push_names(
+    alloc: Global,
+    out: &mut Vec<u8>,
+    notes: &Notes,
+    seats: u8,
+) -> Result<(), AllocError>
+    requires { seats ≤ 10 }
+    ensures written { OnOk result (out.new.items ≡ out.old.items ++ names_text notes.now seats) }
+    ensures texts { OnOk result (AreTexts seats notes.now) }
 {
-    sign != b':' && sign != b'|' && sign != b'\r' && sign != b'\n'
-}
-
-/// Whether a line spells a name: the name has no colon and no bar, and ends no line.
-#[tactic(auto, unfolding(crate::specs::Names::is_spelled_name))]
-pub fn is_spelled_name(name: &[u8]) -> bool
-    ensures { result ≡ is_spelled_name_said name.now }
-{
-    for sign in name {
-        if !may_stand(*sign) {
-            return false;
-        }
+    for index in 0..seats {
+        let seat = Seat { number: index + 1 };
+        push_bar(out, seat)?;
+        push_name(alloc, out, seat, name_of(notes, seat))?;
     }
-    true
-}
-
-/// Whether a line spells a number of a hand: a decimal number without leading zeros, of at most eighteen digits.
-#[tactic(auto, unfolding(crate::specs::Names::is_spelled_hand))]
-pub fn is_spelled_hand(text: &[u8]) -> bool
-    ensures { result ≡ is_spelled_hand_said text.now }
-{
-    if !are_digits(text) || text.first() == Some(&b'0') && text.len() != 1 {
-        return false;
-    }
-    text.len() <= 18
-}
-
-// The name of a seat's player where none is said.
-fn push_default(alloc: Global, out: &mut Vec<u8>, seat: Seat) -> Result<(), AllocError>
-    ensures { OnOk result (out.new.items ≡ out.old.items ++ default_name seat.number) }
-{
-    let digits = seat.number.to_string(alloc)?;
-    out.extend_from_slice(b"p")?;
-    out.extend_from_slice(digits.as_bytes())
-}
-
-// The name of a seat's player, if one is said.
-fn name_of(notes: &Notes, seat: Seat) -> &Option<Text>
-    ensures { result.now ≡ slice_index_or notes.now.names (seat.number - 1) None }
-{
-    &notes.names[seat.number as usize - 1]
+    Ok(())
 }
 
 // The name of a seat's player, or its default where none is said or it has no spelling.
@@ -78,33 +51,40 @@ fn push_name(
     push_default(alloc, out, seat)
 }
 
-/// The name of each of so many players, with bars between them.
-#[tactic(auto, unfolding(crate::specs::Names::names_text))]
-pub fn push_names(
-    alloc: Global,
-    out: &mut Vec<u8>,
-    notes: &Notes,
-    seats: u8,
-) -> Result<(), AllocError>
-    requires { seats ≤ 10 }
-    ensures written { OnOk result (out.new.items ≡ out.old.items ++ names_text notes.now seats) }
-    ensures texts { OnOk result (AreTexts seats notes.now) }
+// The name of a seat's player where none is said.
+fn push_default(alloc: Global, out: &mut Vec<u8>, seat: Seat) -> Result<(), AllocError>
+    ensures { OnOk result (out.new.items ≡ out.old.items ++ default_name seat.number) }
 {
-    for index in 0..seats {
-        let seat = Seat { number: index + 1 };
-        push_bar(out, seat)?;
-        push_name(alloc, out, seat, name_of(notes, seat))?;
-    }
-    Ok(())
+    let digits = seat.number.to_string(alloc)?;
+    out.extend_from_slice(b"p")?;
+    out.extend_from_slice(digits.as_bytes())
 }
 
-// The digits of a place of a file.
-#[tactic(auto, unfolding(crate::specs::Names::hand_text))]
-fn push_place(alloc: Global, out: &mut Vec<u8>, place: usize) -> Result<(), AllocError>
-    ensures { OnOk result (out.new.items ≡ out.old.items ++ hand_text place None) }
+/// Whether a line spells a name: the name has no colon and no bar, and ends no line.
+#[tactic(auto, unfolding(crate::specs::Names::is_spelled_name))]
+pub fn is_spelled_name(name: &[u8]) -> bool
+    ensures { result ≡ is_spelled_name_said name.now }
 {
-    let digits = place.to_string(alloc)?;
-    out.extend_from_slice(digits.as_bytes())
+    for sign in name {
+        if !may_stand(*sign) {
+            return false;
+        }
+    }
+    true
+}
+
+// Whether a sign may stand in a name.
+fn may_stand(sign: u8) -> bool
+    ensures { result ≡ may_stand_said sign }
+{
+    sign != b':' && sign != b'|' && sign != b'\r' && sign != b'\n'
+}
+
+// The name of a seat's player, if one is said.
+fn name_of(notes: &Notes, seat: Seat) -> &Option<Text>
+    ensures { result.now ≡ slice_index_or notes.now.names (seat.number - 1) None }
+{
+    &notes.names[seat.number as usize - 1]
 }
 
 /// The number of the hand at a place of its file, from 0: that place where none is said or it has no spelling.
@@ -125,4 +105,24 @@ pub fn push_hand(
         return out.extend_from_slice(name);
     }
     push_place(alloc, out, place)
+}
+
+// The digits of a place of a file.
+#[tactic(auto, unfolding(crate::specs::Names::hand_text))]
+fn push_place(alloc: Global, out: &mut Vec<u8>, place: usize) -> Result<(), AllocError>
+    ensures { OnOk result (out.new.items ≡ out.old.items ++ hand_text place None) }
+{
+    let digits = place.to_string(alloc)?;
+    out.extend_from_slice(digits.as_bytes())
+}
+
+/// Whether a line spells a number of a hand: a decimal number without leading zeros, of at most eighteen digits.
+#[tactic(auto, unfolding(crate::specs::Names::is_spelled_hand))]
+pub fn is_spelled_hand(text: &[u8]) -> bool
+    ensures { result ≡ is_spelled_hand_said text.now }
+{
+    if !are_digits(text) || text.first() == Some(&b'0') && text.len() != 1 {
+        return false;
+    }
+    text.len() <= 18
 }

@@ -9,35 +9,25 @@ use crate::names::{is_spelled_hand, is_spelled_name};
 use first_fault::Text;
 use hand_records::{Keep, NoteName, Notes, Unspelled};
 
-// Whether a name is said that has no spelling.
-fn is_unspelled_name(name: &Option<Text>) -> bool
-    ensures { result ≡ is_unspelled_name_said name.now }
+/// The first note that is kept and that a line does not spell.
+#[tactic(auto, unfolding(crate::specs::Spelled::unspelled_note))]
+pub fn find_other_note(notes: &Notes, keep: Keep) -> Option<Unspelled>
+    ensures { result ≡ unspelled_note keep notes.now }
 {
-    match name {
-        Some(name) => !is_spelled_name(name.as_str().as_bytes()),
-        None => false,
+    match keep {
+        Keep::All => find_any(notes),
+        Keep::Spelled => None,
     }
 }
 
-// Whether this is so of one of the names.
-fn has_unspelled_name(names: &[Option<Text>]) -> bool
-    ensures { result ≡ list_any is_unspelled_name_said names.now }
+// The first of all notes that a line does not spell.
+#[tactic(auto, unfolding(crate::specs::Spelled::unspelled_note))]
+fn find_any(notes: &Notes) -> Option<Unspelled>
+    ensures { result ≡ unspelled_note keeps.All notes.now }
 {
-    for name in names {
-        if is_unspelled_name(name) {
-            return true;
-        }
-    }
-    false
-}
-
-// Whether a number of the hand is said that has no spelling.
-fn is_unspelled_hand(text: &Option<Text>) -> bool
-    ensures { result ≡ is_unspelled_hand_said text.now }
-{
-    match text {
-        Some(text) => !is_spelled_hand(text.as_str().as_bytes()),
-        None => false,
+    match find_text(notes) {
+        Some(fact) => Some(fact),
+        None => find_time(notes),
     }
 }
 
@@ -69,6 +59,38 @@ fn find_text(notes: &Notes) -> Option<Unspelled>
     None
 }
 
+// Whether this is so of one of the names.
+fn has_unspelled_name(names: &[Option<Text>]) -> bool
+    ensures { result ≡ list_any is_unspelled_name_said names.now }
+{
+    for name in names {
+        if is_unspelled_name(name) {
+            return true;
+        }
+    }
+    false
+}
+
+// Whether a name is said that has no spelling.
+fn is_unspelled_name(name: &Option<Text>) -> bool
+    ensures { result ≡ is_unspelled_name_said name.now }
+{
+    match name {
+        Some(name) => !is_spelled_name(name.as_str().as_bytes()),
+        None => false,
+    }
+}
+
+// Whether a number of the hand is said that has no spelling.
+fn is_unspelled_hand(text: &Option<Text>) -> bool
+    ensures { result ≡ is_unspelled_hand_said text.now }
+{
+    match text {
+        Some(text) => !is_spelled_hand(text.as_str().as_bytes()),
+        None => false,
+    }
+}
+
 // The first note of the day and its time that stands: a line spells none.
 fn find_time(notes: &Notes) -> Option<Unspelled>
     ensures { result ≡ first_where (time_conditions notes.now) }
@@ -89,26 +111,4 @@ fn find_time(notes: &Notes) -> Option<Unspelled>
         return Some(Unspelled::Note(NoteName::Time));
     }
     None
-}
-
-// The first of all notes that a line does not spell.
-#[tactic(auto, unfolding(crate::specs::Spelled::unspelled_note))]
-fn find_any(notes: &Notes) -> Option<Unspelled>
-    ensures { result ≡ unspelled_note keeps.All notes.now }
-{
-    match find_text(notes) {
-        Some(fact) => Some(fact),
-        None => find_time(notes),
-    }
-}
-
-/// The first note that is kept and that a line does not spell.
-#[tactic(auto, unfolding(crate::specs::Spelled::unspelled_note))]
-pub fn find_other_note(notes: &Notes, keep: Keep) -> Option<Unspelled>
-    ensures { result ≡ unspelled_note keep notes.now }
-{
-    match keep {
-        Keep::All => find_any(notes),
-        Keep::Spelled => None,
-    }
 }

@@ -8,12 +8,12 @@ use crate::amounts::amounts_of;
 use acpc_game::greatest;
 use chip_ledger::{SeatRow, ShareRow};
 
-// Whether one of the amounts is above 0 and below another.
-fn has_between(amounts: &[u64], most: u64) -> bool
-    ensures { result ≡ list_any (λ chips. nat_lt 0 chips && nat_lt chips most) amounts.now }
+/// Whether this is so of one of the pots.
+pub fn has_odd_chip(shares: &ShareRow) -> bool
+    ensures { result ≡ list_any is_uneven_said (shares_in shares.now) }
 {
-    for chips in amounts {
-        if 0 < *chips && *chips < most {
+    for share in &shares.shares[..shares.count as usize] {
+        if is_uneven(share) {
             return true;
         }
     }
@@ -28,12 +28,12 @@ fn is_uneven(share: &SeatRow) -> bool
     has_between(amounts, greatest(amounts))
 }
 
-/// Whether this is so of one of the pots.
-pub fn has_odd_chip(shares: &ShareRow) -> bool
-    ensures { result ≡ list_any is_uneven_said (shares_in shares.now) }
+// Whether one of the amounts is above 0 and below another.
+fn has_between(amounts: &[u64], most: u64) -> bool
+    ensures { result ≡ list_any (λ chips. nat_lt 0 chips && nat_lt chips most) amounts.now }
 {
-    for share in &shares.shares[..shares.count as usize] {
-        if is_uneven(share) {
+    for chips in amounts {
+        if 0 < *chips && *chips < most {
             return true;
         }
     }

@@ -10,16 +10,6 @@ ghost use Rattle.acpc_line.specs.Stakes.{HavePut};
 
 use play_event::{Move, Setup};
 
-// What the seat at an index posts: its ante, and its blind as far as the rest of its stack goes.
-fn posted(setup: &Setup, index: usize) -> u64
-    requires { index < 10 }
-    ensures { result ≡ posted_said setup.now (index + 1) }
-{
-    let ante = setup.antes.amounts[index];
-    let rest = setup.stacks.amounts[index].saturating_sub(ante);
-    ante + setup.blinds.amounts[index].min(rest)
-}
-
 /// What each seat has put before the first move. The first seat's chips are at index 0.
 pub fn posted_chips(setup: &Setup) -> [u64; 10]
     ensures { HavePut setup.now [] result }
@@ -29,6 +19,16 @@ pub fn posted_chips(setup: &Setup) -> [u64; 10]
         put[index] = posted(setup, index);
     }
     put
+}
+
+// What the seat at an index posts: its ante, and its blind as far as the rest of its stack goes.
+fn posted(setup: &Setup, index: usize) -> u64
+    requires { index < 10 }
+    ensures { result ≡ posted_said setup.now (index + 1) }
+{
+    let ante = setup.antes.amounts[index];
+    let rest = setup.stacks.amounts[index].saturating_sub(ante);
+    ante + setup.blinds.amounts[index].min(rest)
 }
 
 /// Puts what a move adds to the chips of its seat.

@@ -7,35 +7,13 @@ ghost use Rattle.acpc_reading.specs.Cards.{board_said, hole_said, known_said};
 
 use card_set::{CardRow, Slot, SlotRow, read_slots};
 
-// Whether all slots are known.
-fn all_known(slots: &[Slot]) -> bool
-    ensures { result ≡ not (list_any is_unknown slots.now) }
-{
-    match slots {
-        [] => true,
-        [slot, rest @ ..] => match slot {
-            Slot::Unknown => false,
-            Slot::Known(_) => all_known(rest),
-        },
-    }
-}
-
-// So many known slots.
-#[tactic(auto, using(crate::proofs::CardLaws::bad_known, crate::proofs::CardLaws::other_len, crate::proofs::CardLaws::some_unknown, crate::proofs::CardLaws::all_known))]
-fn read_known(count: u8, text: &[u8]) -> Option<SlotRow>
+/// So many cards of the board.
+pub fn read_board(count: u8, text: &[u8]) -> Option<CardRow>
     requires { count ≤ 7 }
-    ensures { option_map slots_of result ≡ known_said count text.now }
+    ensures { option_map cards_of result ≡ board_said count text.now }
 {
-    let Ok(slots) = read_slots(text) else {
-        return None;
-    };
-    if slots.len != count {
-        return None;
-    }
-    if !all_known(slots.as_slice()) {
-        return None;
-    }
-    Some(slots)
+    let slots = read_known(count, text)?;
+    Some(known_row(&slots))
 }
 
 // The known cards of a row, in order.
@@ -62,15 +40,6 @@ fn push_known(cards: &mut CardRow, slot: Slot)
     }
 }
 
-/// So many cards of the board.
-pub fn read_board(count: u8, text: &[u8]) -> Option<CardRow>
-    requires { count ≤ 7 }
-    ensures { option_map cards_of result ≡ board_said count text.now }
-{
-    let slots = read_known(count, text)?;
-    Some(known_row(&slots))
-}
-
 /// The hole cards of a seat: two known ones, or nothing where they are unknown.
 #[tactic(auto, unfolding(crate::specs::Cards::hole_said))]
 pub fn read_hole(text: &[u8]) -> Option<SlotRow>
@@ -83,4 +52,35 @@ pub fn read_hole(text: &[u8]) -> Option<SlotRow>
     slots.push(Slot::Unknown);
     slots.push(Slot::Unknown);
     Some(slots)
+}
+
+// So many known slots.
+#[tactic(auto, using(crate::proofs::CardLaws::bad_known, crate::proofs::CardLaws::other_len, crate::proofs::CardLaws::some_unknown, crate::proofs::CardLaws::all_known))]
+fn read_known(count: u8, text: &[u8]) -> Option<SlotRow>
+    requires { count ≤ 7 }
+    ensures { option_map slots_of result ≡ known_said count text.now }
+{
+    let Ok(slots) = read_slots(text) else {
+        return None;
+    };
+    if slots.len != count {
+        return None;
+    }
+    if !all_known(slots.as_slice()) {
+        return None;
+    }
+    Some(slots)
+}
+
+// Whether all slots are known.
+fn all_known(slots: &[Slot]) -> bool
+    ensures { result ≡ not (list_any is_unknown slots.now) }
+{
+    match slots {
+        [] => true,
+        [slot, rest @ ..] => match slot {
+            Slot::Unknown => false,
+            Slot::Known(_) => all_known(rest),
+        },
+    }
 }

@@ -18,29 +18,88 @@ use std::alloc::Global;
 // For so many letters of a hand room is made at once, and for more of them as they come.
 const USUAL_LETTERS: usize = 64;
 
-/// A fault at a byte.
-pub fn wrong(what: What, byte: u64) -> Stop<LineFault>
-    ensures { result ≡ Stop.At (record { what = what; byte = byte }) }
+/// The betting field, which begins at this byte, in a file that has so many moves.
+#[tactic(auto, unfolding(crate::specs::Betting::betting_said))]
+pub fn read_betting(
+    alloc: Global,
+    no_limit: bool,
+    file_moves: usize,
+    at: u64,
+    text: &[u8],
+) -> Result<Betting, Stop<LineFault>>
+    requires { at + length text.now < 2 ^ 64 }
+    ensures { Gives bets_in result (betting_said no_limit file_moves at text.now) }
 {
-    Stop::At(LineFault { what, byte })
+    let (digits, _after) = cut_digits(text);
+    if !digits.is_empty() {
+        return Err(wrong(What::BadBetting, at));
+    }
+    read_letters(alloc, no_limit, file_moves, at, text)
 }
 
-// One more move, if the hand and the file may have it.
-#[tactic(auto, unfolding(crate::specs::Betting::with_move))]
-fn take_move(betting: &mut Betting, at: u64, step: Step) -> Result<(), Stop<LineFault>>
-    ensures ok { OnOk result (with_move (bets_in betting.old) at step ≡ Ok (bets_in betting.new)) }
-    ensures err { IfErr result (λ stop. Fails stop (with_move (bets_in betting.old) at step)) }
+// The letters of a text that begins with no digit.
+fn read_letters(
+    alloc: Global,
+    no_limit: bool,
+    file_moves: usize,
+    at: u64,
+    text: &[u8],
+) -> Result<Betting, Stop<LineFault>>
+    requires few { at + length text.now < 2 ^ 64 }
+    requires begins { (scan text.now).0 ≡ [] }
+    ensures { Gives bets_in result
+        (bets_after no_limit (no_bets file_moves) at (scan text.now).1) }
 {
-    if betting.moves >= MOST_MOVES {
-        return Err(wrong(What::TooMany(Quantity::Moves), at));
+    let steps = Vec::with_capacity(alloc, text.len().min(USUAL_LETTERS))?;
+    let mut betting = Betting {
+        steps,
+        round: 1,
+        moves: 0,
+        file_moves,
+    };
+    let mut place = at;
+    let mut rest = text;
+    while let Some((letter, behind)) = cut_first(rest) {
+        let (digits, after) = cut_digits(behind);
+        take_letter(no_limit, &mut betting, place, letter, digits)?;
+        place += 1 + digits.len() as u64;
+        rest = after;
     }
-    if betting.file_moves >= MOST_FILE_MOVES {
-        return Err(wrong(What::TooMany(Quantity::FileMoves), at));
+    Ok(betting)
+}
+
+// A letter and its digits, at this byte.
+#[tactic(auto, unfolding(crate::specs::Betting::letter_said))]
+fn take_letter(
+    no_limit: bool,
+    betting: &mut Betting,
+    at: u64,
+    letter: u8,
+    digits: &[u8],
+) -> Result<(), Stop<LineFault>>
+    requires few { at + 1 + length digits.now < 2 ^ 64 }
+    requires digits { list_all (λ b. is_digit b 10) digits.now ≡ true }
+    ensures ok { OnOk result (letter_said no_limit (bets_in betting.old) at (letter, digits.now)
+        ≡ Ok (bets_in betting.new)) }
+    ensures err { IfErr result (λ stop.
+        Fails stop (letter_said no_limit (bets_in betting.old) at (letter, digits.now))) }
+{
+    if letter == b'f' {
+        return take_bare(betting, at, digits, Step::Fold);
     }
-    betting.steps.push(step)?;
-    betting.moves += 1;
-    betting.file_moves += 1;
-    Ok(())
+    if letter == b'c' {
+        return take_bare(betting, at, digits, Step::Call);
+    }
+    if letter == b'r' {
+        if no_limit {
+            return take_raise(betting, at, digits);
+        }
+        return take_bare(betting, at, digits, Step::Raise);
+    }
+    if letter == b'/' {
+        return take_stroke(betting, at, digits);
+    }
+    Err(wrong(What::BadBetting, at))
 }
 
 // A letter that has no digits behind it.
@@ -82,6 +141,24 @@ fn take_raise(betting: &mut Betting, at: u64, digits: &[u8]) -> Result<(), Stop<
     }
 }
 
+// One more move, if the hand and the file may have it.
+#[tactic(auto, unfolding(crate::specs::Betting::with_move))]
+fn take_move(betting: &mut Betting, at: u64, step: Step) -> Result<(), Stop<LineFault>>
+    ensures ok { OnOk result (with_move (bets_in betting.old) at step ≡ Ok (bets_in betting.new)) }
+    ensures err { IfErr result (λ stop. Fails stop (with_move (bets_in betting.old) at step)) }
+{
+    if betting.moves >= MOST_MOVES {
+        return Err(wrong(What::TooMany(Quantity::Moves), at));
+    }
+    if betting.file_moves >= MOST_FILE_MOVES {
+        return Err(wrong(What::TooMany(Quantity::FileMoves), at));
+    }
+    betting.steps.push(step)?;
+    betting.moves += 1;
+    betting.file_moves += 1;
+    Ok(())
+}
+
 // A stroke, which begins the next of at most four rounds.
 #[tactic(auto, unfolding(crate::specs::Betting::stroke_said))]
 fn take_stroke(betting: &mut Betting, at: u64, digits: &[u8]) -> Result<(), Stop<LineFault>>
@@ -102,86 +179,9 @@ fn take_stroke(betting: &mut Betting, at: u64, digits: &[u8]) -> Result<(), Stop
     Ok(())
 }
 
-// A letter and its digits, at this byte.
-#[tactic(auto, unfolding(crate::specs::Betting::letter_said))]
-fn take_letter(
-    no_limit: bool,
-    betting: &mut Betting,
-    at: u64,
-    letter: u8,
-    digits: &[u8],
-) -> Result<(), Stop<LineFault>>
-    requires few { at + 1 + length digits.now < 2 ^ 64 }
-    requires digits { list_all (λ b. is_digit b 10) digits.now ≡ true }
-    ensures ok { OnOk result (letter_said no_limit (bets_in betting.old) at (letter, digits.now)
-        ≡ Ok (bets_in betting.new)) }
-    ensures err { IfErr result (λ stop.
-        Fails stop (letter_said no_limit (bets_in betting.old) at (letter, digits.now))) }
+/// A fault at a byte.
+pub fn wrong(what: What, byte: u64) -> Stop<LineFault>
+    ensures { result ≡ Stop.At (record { what = what; byte = byte }) }
 {
-    if letter == b'f' {
-        return take_bare(betting, at, digits, Step::Fold);
-    }
-    if letter == b'c' {
-        return take_bare(betting, at, digits, Step::Call);
-    }
-    if letter == b'r' {
-        if no_limit {
-            return take_raise(betting, at, digits);
-        }
-        return take_bare(betting, at, digits, Step::Raise);
-    }
-    if letter == b'/' {
-        return take_stroke(betting, at, digits);
-    }
-    Err(wrong(What::BadBetting, at))
-}
-
-// The letters of a text that begins with no digit.
-fn read_letters(
-    alloc: Global,
-    no_limit: bool,
-    file_moves: usize,
-    at: u64,
-    text: &[u8],
-) -> Result<Betting, Stop<LineFault>>
-    requires few { at + length text.now < 2 ^ 64 }
-    requires begins { (scan text.now).0 ≡ [] }
-    ensures { Gives bets_in result
-        (bets_after no_limit (no_bets file_moves) at (scan text.now).1) }
-{
-    let steps = Vec::with_capacity(alloc, text.len().min(USUAL_LETTERS))?;
-    let mut betting = Betting {
-        steps,
-        round: 1,
-        moves: 0,
-        file_moves,
-    };
-    let mut place = at;
-    let mut rest = text;
-    while let Some((letter, behind)) = cut_first(rest) {
-        let (digits, after) = cut_digits(behind);
-        take_letter(no_limit, &mut betting, place, letter, digits)?;
-        place += 1 + digits.len() as u64;
-        rest = after;
-    }
-    Ok(betting)
-}
-
-/// The betting field, which begins at this byte, in a file that has so many moves.
-#[tactic(auto, unfolding(crate::specs::Betting::betting_said))]
-pub fn read_betting(
-    alloc: Global,
-    no_limit: bool,
-    file_moves: usize,
-    at: u64,
-    text: &[u8],
-) -> Result<Betting, Stop<LineFault>>
-    requires { at + length text.now < 2 ^ 64 }
-    ensures { Gives bets_in result (betting_said no_limit file_moves at text.now) }
-{
-    let (digits, _after) = cut_digits(text);
-    if !digits.is_empty() {
-        return Err(wrong(What::BadBetting, at));
-    }
-    read_letters(alloc, no_limit, file_moves, at, text)
+    Stop::At(LineFault { what, byte })
 }

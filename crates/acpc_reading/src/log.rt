@@ -21,68 +21,40 @@ use first_fault::{MOST_HANDS, Quantity, Stop};
 use hand_records::{Record, Records};
 use std::alloc::Global;
 
-// The hand of some fields, and how many moves the file then has.
-#[tactic(auto, unfolding(crate::specs::Logs::hand_of))]
-fn read_hand_of(
-    alloc: Global,
-    game: &Game,
-    place: usize,
-    file_moves: usize,
-    fields: &Fields<'_>,
-) -> Result<(Record, usize), Stop<LineFault>>
-    requires room { HasRoom (fields_in fields.now) }
-    requires few { file_moves ≤ MOST_FILE_MOVES }
-    ensures said { Gives (λ found. (record_said found.0, found.1)) result
-        (hand_of game.now place file_moves (fields_in fields.now)) }
-    ensures game { IfOk result (λ found. IsOfGame game.now found.0) }
-    ensures moves { IfOk result (λ found. found.1 ≡ file_moves + moves_of found.0) }
-    ensures few { IfOk result (λ found. found.1 ≤ MOST_FILE_MOVES) }
+/// The records that a log says under its game, one for each line of a hand, in order; or the first
+/// fault, with its line and byte. Each record is sound, and has the setup and the rules of the game.
+pub fn read(alloc: Global, game: &Game, bytes: &[u8]) -> Result<Records, AcpcFault>
+    ensures reads { Answers (map record_said) result (reading game.now bytes.now) }
+    ensures sound { IfOk result (AllByRecursion (IsOfGame game.now)) }
+    ensures few { IfOk result (λ records. length records ≤ MOST_HANDS) }
+    ensures moves { IfOk result (λ records. sum_by moves_of records ≤ MOST_FILE_MOVES) }
 {
-    let players = game.stacks.seats;
-    let hand_at = 1 + fields.state.len() as u64 + 1;
-    let betting_at = hand_at + fields.hand.len() as u64 + 1;
-    let cards_at = betting_at + fields.betting.len() as u64 + 1;
-    let values_at = cards_at + fields.cards.len() as u64 + 1;
-    let names_at = values_at + fields.values.len() as u64 + 1;
-    let hand = read_hand(alloc, place, hand_at, fields.hand)?;
-    let betting = read_betting(alloc, game.no_limit, file_moves, betting_at, fields.betting)?;
-    let steps = betting.steps.as_slice();
-    let script = read_script(alloc, players, steps, cards_at, fields.cards)?;
-    let values = read_values(players, values_at, fields.values)?;
-    let names = read_names(alloc, players, names_at, fields.names)?;
-    let record = record_of(game, script, values, names, hand);
-    Ok((record, betting.file_moves))
-}
-
-// Whether a line is passed over.
-fn is_passed_over(line: &[u8]) -> bool
-    ensures { result ≡ is_passed_over_said line.now }
-{
-    line.is_empty() || line[0] == b'#' || has_prefix(line, b"SCORE:")
-}
-
-// The hand of a line, and how many moves the file then has.
-#[tactic(auto, unfolding(crate::specs::Logs::line_said))]
-fn read_line(
-    alloc: Global,
-    game: &Game,
-    place: usize,
-    file_moves: usize,
-    line: &[u8],
-) -> Result<(Record, usize), Stop<LineFault>>
-    requires room { length line.now < 2 ^ 63 }
-    requires few { file_moves ≤ MOST_FILE_MOVES }
-    ensures said { Gives (λ found. (record_said found.0, found.1)) result
-        (line_said game.now place file_moves line.now) }
-    ensures game { IfOk result (λ found. IsOfGame game.now found.0) }
-    ensures moves { IfOk result (λ found. found.1 ≡ file_moves + moves_of found.0) }
-    ensures few { IfOk result (λ found. found.1 ≤ MOST_FILE_MOVES) }
-{
-    if !has_prefix(line, b"STATE:") {
-        return Err(wrong(What::LineShape, 1));
+    match read_lines(alloc, game, bytes) {
+        Ok(records) => Ok(records),
+        Err(Stop::Memory) => Err(AcpcFault::Memory),
+        Err(Stop::At(fault)) => Err(fault),
     }
-    let fields = cut_fields(line)?;
-    read_hand_of(alloc, game, place, file_moves, &fields)
+}
+
+// The hands of a log.
+#[tactic(auto, unfolding(crate::specs::Logs::reading))]
+fn read_lines(alloc: Global, game: &Game, bytes: &[u8]) -> Result<Records, Stop<AcpcFault>>
+    ensures said { Gives (map record_said) result (reading game.now bytes.now) }
+    ensures each { IfOk result (AllByRecursion (IsOfGame game.now)) }
+    ensures few { IfOk result (λ records. length records ≤ MOST_HANDS) }
+    ensures moves { IfOk result (λ records. sum_by moves_of records ≤ MOST_FILE_MOVES) }
+{
+    let mut records = Records::new(alloc);
+    let mut file_moves = 0;
+    let mut count = 0;
+    let mut rest = bytes;
+    while let Some((line, behind)) = next_line(rest) {
+        count += 1;
+        let moves = take_line(alloc, game, &mut records, file_moves, count, line)?;
+        file_moves = moves;
+        rest = behind;
+    }
+    Ok(records)
 }
 
 // One more line, and how many moves the file then has.
@@ -124,38 +96,66 @@ fn take_line(
     }
 }
 
-// The hands of a log.
-#[tactic(auto, unfolding(crate::specs::Logs::reading))]
-fn read_lines(alloc: Global, game: &Game, bytes: &[u8]) -> Result<Records, Stop<AcpcFault>>
-    ensures said { Gives (map record_said) result (reading game.now bytes.now) }
-    ensures each { IfOk result (AllByRecursion (IsOfGame game.now)) }
-    ensures few { IfOk result (λ records. length records ≤ MOST_HANDS) }
-    ensures moves { IfOk result (λ records. sum_by moves_of records ≤ MOST_FILE_MOVES) }
+// Whether a line is passed over.
+fn is_passed_over(line: &[u8]) -> bool
+    ensures { result ≡ is_passed_over_said line.now }
 {
-    let mut records = Records::new(alloc);
-    let mut file_moves = 0;
-    let mut count = 0;
-    let mut rest = bytes;
-    while let Some((line, behind)) = next_line(rest) {
-        count += 1;
-        let moves = take_line(alloc, game, &mut records, file_moves, count, line)?;
-        file_moves = moves;
-        rest = behind;
-    }
-    Ok(records)
+    line.is_empty() || line[0] == b'#' || has_prefix(line, b"SCORE:")
 }
 
-/// The records that a log says under its game, one for each line of a hand, in order; or the first
-/// fault, with its line and byte. Each record is sound, and has the setup and the rules of the game.
-pub fn read(alloc: Global, game: &Game, bytes: &[u8]) -> Result<Records, AcpcFault>
-    ensures reads { Answers (map record_said) result (reading game.now bytes.now) }
-    ensures sound { IfOk result (AllByRecursion (IsOfGame game.now)) }
-    ensures few { IfOk result (λ records. length records ≤ MOST_HANDS) }
-    ensures moves { IfOk result (λ records. sum_by moves_of records ≤ MOST_FILE_MOVES) }
+// The hand of a line, and how many moves the file then has.
+#[tactic(auto, unfolding(crate::specs::Logs::line_said))]
+fn read_line(
+    alloc: Global,
+    game: &Game,
+    place: usize,
+    file_moves: usize,
+    line: &[u8],
+) -> Result<(Record, usize), Stop<LineFault>>
+    requires room { length line.now < 2 ^ 63 }
+    requires few { file_moves ≤ MOST_FILE_MOVES }
+    ensures said { Gives (λ found. (record_said found.0, found.1)) result
+        (line_said game.now place file_moves line.now) }
+    ensures game { IfOk result (λ found. IsOfGame game.now found.0) }
+    ensures moves { IfOk result (λ found. found.1 ≡ file_moves + moves_of found.0) }
+    ensures few { IfOk result (λ found. found.1 ≤ MOST_FILE_MOVES) }
 {
-    match read_lines(alloc, game, bytes) {
-        Ok(records) => Ok(records),
-        Err(Stop::Memory) => Err(AcpcFault::Memory),
-        Err(Stop::At(fault)) => Err(fault),
+    if !has_prefix(line, b"STATE:") {
+        return Err(wrong(What::LineShape, 1));
     }
+    let fields = cut_fields(line)?;
+    read_hand_of(alloc, game, place, file_moves, &fields)
+}
+
+// The hand of some fields, and how many moves the file then has.
+#[tactic(auto, unfolding(crate::specs::Logs::hand_of))]
+fn read_hand_of(
+    alloc: Global,
+    game: &Game,
+    place: usize,
+    file_moves: usize,
+    fields: &Fields<'_>,
+) -> Result<(Record, usize), Stop<LineFault>>
+    requires room { HasRoom (fields_in fields.now) }
+    requires few { file_moves ≤ MOST_FILE_MOVES }
+    ensures said { Gives (λ found. (record_said found.0, found.1)) result
+        (hand_of game.now place file_moves (fields_in fields.now)) }
+    ensures game { IfOk result (λ found. IsOfGame game.now found.0) }
+    ensures moves { IfOk result (λ found. found.1 ≡ file_moves + moves_of found.0) }
+    ensures few { IfOk result (λ found. found.1 ≤ MOST_FILE_MOVES) }
+{
+    let players = game.stacks.seats;
+    let hand_at = 1 + fields.state.len() as u64 + 1;
+    let betting_at = hand_at + fields.hand.len() as u64 + 1;
+    let cards_at = betting_at + fields.betting.len() as u64 + 1;
+    let values_at = cards_at + fields.cards.len() as u64 + 1;
+    let names_at = values_at + fields.values.len() as u64 + 1;
+    let hand = read_hand(alloc, place, hand_at, fields.hand)?;
+    let betting = read_betting(alloc, game.no_limit, file_moves, betting_at, fields.betting)?;
+    let steps = betting.steps.as_slice();
+    let script = read_script(alloc, players, steps, cards_at, fields.cards)?;
+    let values = read_values(players, values_at, fields.values)?;
+    let names = read_names(alloc, players, names_at, fields.names)?;
+    let record = record_of(game, script, values, names, hand);
+    Ok((record, betting.file_moves))
 }

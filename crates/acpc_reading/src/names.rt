@@ -17,52 +17,6 @@ const MOST_HAND_DIGITS: usize = 18;
 
 const MOST_HAND: u64 = 999_999_999_999_999_999;
 
-// Whether the text is the name of the seat where none is said.
-fn is_default(seat: u8, name: &[u8]) -> bool
-    requires first { 1 ≤ seat }
-    requires last { seat ≤ 10 }
-    ensures { result ≡ bytes_eq name.now (default_name seat) }
-{
-    if seat < 10 {
-        name == [b'p', b'0' + seat].as_slice()
-    } else {
-        name == b"p10".as_slice()
-    }
-}
-
-// The bytes as a text, if they are one.
-#[tactic(auto, using(crate::proofs::Texts::is_text, crate::proofs::Texts::is_no_text))]
-fn text_of(bytes: &[u8]) -> Option<&str>
-    ensures text { IfSome result (λ text. text.now ≡ bytes.now) }
-    ensures is { is_some result ≡ is_utf8 bytes.now }
-{
-    match str::from_utf8(bytes) {
-        Ok(text) => Some(text),
-        Err(_) => None,
-    }
-}
-
-// The name of a seat, which begins at this byte.
-#[tactic(auto, unfolding(crate::specs::Names::name_said))]
-fn read_name(alloc: Global, seat: u8, at: u64, name: &[u8]) -> Result<Option<Text>, Stop<LineFault>>
-    requires first { 1 ≤ seat }
-    requires last { seat ≤ 10 }
-    ensures said { Gives (λ name. name) result (name_said seat at name.now) }
-    ensures allowed { IfOk result (λ name. IfSome name (IsName seat)) }
-{
-    let Some(text) = text_of(name) else {
-        return Err(wrong(What::LineShape, at));
-    };
-    if name.len() > MOST_TEXT_BYTES {
-        return Err(wrong(What::TooMany(Quantity::TextBytes), at));
-    }
-    if name.is_empty() || is_default(seat, name) {
-        return Ok(None);
-    }
-    let text = Text::new(alloc, text)?;
-    Ok(Some(text))
-}
-
 /// The number of the hand at a place of its file, from 0, whose field begins at this byte.
 #[tactic(auto, unfolding(crate::specs::Names::hand_said))]
 pub fn read_hand(
@@ -88,6 +42,29 @@ pub fn read_hand(
         }
         None => Err(wrong(What::LineShape, at)),
     }
+}
+
+/// The names field, which begins at this byte, in a hand of so many players. Past the last seat
+/// there are none.
+#[tactic(auto, unfolding(crate::specs::Names::names_said))]
+pub fn read_names(
+    alloc: Global,
+    players: u8,
+    at: u64,
+    text: &[u8],
+) -> Result<[Option<Text>; 10], Stop<LineFault>>
+    requires few { players ≤ 10 }
+    requires near { at + length text.now < 2 ^ 64 - 1 }
+    ensures said { Gives (take players) result (names_said players at text.now) }
+    ensures each { IfOk result (λ names. (seat : ℕ) → 1 ≤ seat → seat ≤ players
+        → IfSome (slice_index_or names (seat - 1) None) (IsName seat)) }
+    ensures no_more { IfOk result (λ names. (index : ℕ) → players ≤ index
+        → slice_index_or names index None ≡ None) }
+{
+    if count_parts(text, b'|') != players as usize {
+        return Err(wrong(What::SeatCount, at));
+    }
+    fill_names(alloc, players, at, text)
 }
 
 // The names of as many players as there are parts.
@@ -120,25 +97,48 @@ fn fill_names(
     Ok(names)
 }
 
-/// The names field, which begins at this byte, in a hand of so many players. Past the last seat
-/// there are none.
-#[tactic(auto, unfolding(crate::specs::Names::names_said))]
-pub fn read_names(
-    alloc: Global,
-    players: u8,
-    at: u64,
-    text: &[u8],
-) -> Result<[Option<Text>; 10], Stop<LineFault>>
-    requires few { players ≤ 10 }
-    requires near { at + length text.now < 2 ^ 64 - 1 }
-    ensures said { Gives (take players) result (names_said players at text.now) }
-    ensures each { IfOk result (λ names. (seat : ℕ) → 1 ≤ seat → seat ≤ players
-        → IfSome (slice_index_or names (seat - 1) None) (IsName seat)) }
-    ensures no_more { IfOk result (λ names. (index : ℕ) → players ≤ index
-        → slice_index_or names index None ≡ None) }
+// The name of a seat, which begins at this byte.
+#[tactic(auto, unfolding(crate::specs::Names::name_said))]
+fn read_name(alloc: Global, seat: u8, at: u64, name: &[u8]) -> Result<Option<Text>, Stop<LineFault>>
+    requires first { 1 ≤ seat }
+    requires last { seat ≤ 10 }
+    ensures said { Gives (λ name. name) result (name_said seat at name.now) }
+    ensures allowed { IfOk result (λ name. IfSome name (IsName seat)) }
 {
-    if count_parts(text, b'|') != players as usize {
-        return Err(wrong(What::SeatCount, at));
+    let Some(text) = text_of(name) else {
+        return Err(wrong(What::LineShape, at));
+    };
+    if name.len() > MOST_TEXT_BYTES {
+        return Err(wrong(What::TooMany(Quantity::TextBytes), at));
     }
-    fill_names(alloc, players, at, text)
+    if name.is_empty() || is_default(seat, name) {
+        return Ok(None);
+    }
+    let text = Text::new(alloc, text)?;
+    Ok(Some(text))
+}
+
+// The bytes as a text, if they are one.
+#[tactic(auto, using(crate::proofs::Texts::is_text, crate::proofs::Texts::is_no_text))]
+fn text_of(bytes: &[u8]) -> Option<&str>
+    ensures text { IfSome result (λ text. text.now ≡ bytes.now) }
+    ensures is { is_some result ≡ is_utf8 bytes.now }
+{
+    match str::from_utf8(bytes) {
+        Ok(text) => Some(text),
+        Err(_) => None,
+    }
+}
+
+// Whether the text is the name of the seat where none is said.
+fn is_default(seat: u8, name: &[u8]) -> bool
+    requires first { 1 ≤ seat }
+    requires last { seat ≤ 10 }
+    ensures { result ≡ bytes_eq name.now (default_name seat) }
+{
+    if seat < 10 {
+        name == [b'p', b'0' + seat].as_slice()
+    } else {
+        name == b"p10".as_slice()
+    }
 }

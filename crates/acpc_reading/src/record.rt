@@ -12,6 +12,39 @@ use first_fault::Text;
 use hand_records::{NetRow, Notes, Record, Stated};
 use play_event::Script;
 
+/// The record of a hand of the game.
+pub fn record_of(
+    game: &Game,
+    script: Script,
+    values: NetRow,
+    names: [Option<Text>; 10],
+    hand: Option<Text>,
+) -> Record
+    requires within { IsWithinLimits (map said_of script) }
+    requires seats { values.seats ≡ game.now.stacks.seats }
+    requires each { (seat : ℕ) → 1 ≤ seat → seat ≤ game.now.stacks.seats
+        → IfSome (slice_index_or names (seat - 1) None) (IsName seat) }
+    requires no_more { (index : ℕ) → game.now.stacks.seats ≤ index
+        → slice_index_or names index None ≡ None }
+    requires hand { IfSome hand IsNoteText }
+    ensures said { record_said result ≡ record {
+      events = map numbered script;
+      values = nets_in values;
+      names = take game.now.stacks.seats names;
+      hand = hand;
+    } }
+    ensures script { result.script ≡ script }
+    ensures game { IsOfGame game.now result }
+{
+    Record {
+        setup: setup_of(game),
+        rules: rules_of(game),
+        script,
+        stated: stating(values),
+        notes: noting(names, hand),
+    }
+}
+
 // What is stated where each seat's win or loss is.
 fn stating(values: NetRow) -> Stated
     ensures values { result.values ≡ Some values }
@@ -44,38 +77,5 @@ fn noting(names: [Option<Text>; 10], hand: Option<Text>) -> Notes
         day: None,
         time: None,
         zone: None,
-    }
-}
-
-/// The record of a hand of the game.
-pub fn record_of(
-    game: &Game,
-    script: Script,
-    values: NetRow,
-    names: [Option<Text>; 10],
-    hand: Option<Text>,
-) -> Record
-    requires within { IsWithinLimits (map said_of script) }
-    requires seats { values.seats ≡ game.now.stacks.seats }
-    requires each { (seat : ℕ) → 1 ≤ seat → seat ≤ game.now.stacks.seats
-        → IfSome (slice_index_or names (seat - 1) None) (IsName seat) }
-    requires no_more { (index : ℕ) → game.now.stacks.seats ≤ index
-        → slice_index_or names index None ≡ None }
-    requires hand { IfSome hand IsNoteText }
-    ensures said { record_said result ≡ record {
-      events = map numbered script;
-      values = nets_in values;
-      names = take game.now.stacks.seats names;
-      hand = hand;
-    } }
-    ensures script { result.script ≡ script }
-    ensures game { IsOfGame game.now result }
-{
-    Record {
-        setup: setup_of(game),
-        rules: rules_of(game),
-        script,
-        stated: stating(values),
-        notes: noting(names, hand),
     }
 }

@@ -18,27 +18,27 @@ use first_fault::Stop;
 use play_event::{Event, Kind, Script, Spelled};
 use std::alloc::Global;
 
-// The deal of a seat's hole cards.
-#[tactic(auto, unfolding(crate::specs::Cards::hole_after))]
-fn take_hole(script: &mut Script, seat: u8, at: u64, part: &[u8]) -> Result<(), Stop<LineFault>>
-    requires first { 1 ≤ seat }
-    requires last { seat ≤ 10 }
-    ensures ok { OnOk result (hole_after at (map numbered script.old) seat part.now
-        ≡ Ok (map numbered script.new)) }
-    ensures err { IfErr result (λ stop.
-        Fails stop (hole_after at (map numbered script.old) seat part.now)) }
+/// The script of a hand of so many players, from the cards field at this byte and the betting.
+#[tactic(auto, unfolding(crate::specs::Cards::script_said))]
+pub fn read_script(
+    alloc: Global,
+    players: u8,
+    steps: &[Step],
+    at: u64,
+    field: &[u8],
+) -> Result<Script, Stop<LineFault>>
+    requires { players ≤ 10 }
+    ensures { Gives (λ script. map numbered script) result
+        (script_said players steps.now at (parts_of 47 field.now)) }
 {
-    match read_hole(part) {
-        Some(cards) => {
-            let seat = Seat { number: seat };
-            script.push(Event {
-                at: 0,
-                kind: Kind::Hole { seat, cards },
-            })?;
-            Ok(())
-        }
-        None => Err(wrong(What::BadCards, at)),
+    let (holes, boards) = cut_at(field, b'/');
+    if count_parts(holes, b'|') != players as usize {
+        return Err(wrong(What::SeatCount, at));
     }
+    let mut script = Script::new(alloc);
+    take_holes(&mut script, players, at, holes)?;
+    take_steps(&mut script, at, boards, steps)?;
+    Ok(script)
 }
 
 // The deals of the hole cards of all seats.
@@ -63,6 +63,102 @@ fn take_holes(
         rest = more;
     }
     Ok(())
+}
+
+// The deal of a seat's hole cards.
+#[tactic(auto, unfolding(crate::specs::Cards::hole_after))]
+fn take_hole(script: &mut Script, seat: u8, at: u64, part: &[u8]) -> Result<(), Stop<LineFault>>
+    requires first { 1 ≤ seat }
+    requires last { seat ≤ 10 }
+    ensures ok { OnOk result (hole_after at (map numbered script.old) seat part.now
+        ≡ Ok (map numbered script.new)) }
+    ensures err { IfErr result (λ stop.
+        Fails stop (hole_after at (map numbered script.old) seat part.now)) }
+{
+    match read_hole(part) {
+        Some(cards) => {
+            let seat = Seat { number: seat };
+            script.push(Event {
+                at: 0,
+                kind: Kind::Hole { seat, cards },
+            })?;
+            Ok(())
+        }
+        None => Err(wrong(What::BadCards, at)),
+    }
+}
+
+// The events of all steps, after which no cards are left.
+#[tactic(auto, unfolding(crate::specs::Cards::steps_said))]
+fn take_steps(
+    script: &mut Script,
+    at: u64,
+    boards: Option<&[u8]>,
+    steps: &[Step],
+) -> Result<(), Stop<LineFault>>
+    ensures ok { OnOk result
+        (steps_said at (dealt (map numbered script.old) (parts_left 47 boards.entry)) steps.now
+        ≡ Ok (map numbered script.new)) }
+    ensures err { IfErr result (λ stop. Fails stop
+        (steps_said at (dealt (map numbered script.old) (parts_left 47 boards.entry)) steps.now)) }
+{
+    let mut pending = Pending {
+        number: 1,
+        size: 3,
+        boards,
+    };
+    for step in steps {
+        let next = take_step(script, at, pending, *step)?;
+        pending = next;
+    }
+    match pending.boards {
+        None => Ok(()),
+        Some(_) => Err(wrong(What::BadCards, at)),
+    }
+}
+
+// One more letter, or a board deal.
+#[tactic(auto, unfolding(crate::specs::Cards::step_after))]
+fn take_step<'a>(
+    script: &mut Script,
+    at: u64,
+    pending: Pending<'a>,
+    step: Step,
+) -> Result<Pending<'a>, Stop<LineFault>>
+    requires few { pending.number < 2 ^ 64 - 1 }
+    requires small { pending.size ≤ 7 }
+    ensures ok { IfOk result (λ next. step_after at (written_by script.old pending.entry) step
+        ≡ Ok (written_by script.new next)) }
+    ensures number { IfOk result (λ next. next.number ≤ pending.entry.number + 1) }
+    ensures size { IfOk result (λ next. next.size ≤ 7) }
+    ensures err { IfErr result (λ stop.
+        Fails stop (step_after at (written_by script.old pending.entry) step)) }
+{
+    match step {
+        Step::Fold => take_letter(script, pending, Kind::Fold { actor: None }),
+        Step::Call => {
+            let kind = Kind::Call {
+                actor: None,
+                stated: None,
+            };
+            take_letter(script, pending, kind)
+        }
+        Step::Raise => {
+            let kind = Kind::Raise {
+                actor: None,
+                amount: Spelled::Unit,
+            };
+            take_letter(script, pending, kind)
+        }
+        Step::RaiseTo(total) => {
+            let kind = Kind::Raise {
+                actor: None,
+                amount: Spelled::HandTotal(total),
+            };
+            take_letter(script, pending, kind)
+        }
+        Step::NextRound => take_board(script, at, pending),
+    }
 }
 
 // One more letter with its number.
@@ -121,100 +217,4 @@ fn take_board<'a>(
         }
         None => Err(wrong(What::BadCards, at)),
     }
-}
-
-// One more letter, or a board deal.
-#[tactic(auto, unfolding(crate::specs::Cards::step_after))]
-fn take_step<'a>(
-    script: &mut Script,
-    at: u64,
-    pending: Pending<'a>,
-    step: Step,
-) -> Result<Pending<'a>, Stop<LineFault>>
-    requires few { pending.number < 2 ^ 64 - 1 }
-    requires small { pending.size ≤ 7 }
-    ensures ok { IfOk result (λ next. step_after at (written_by script.old pending.entry) step
-        ≡ Ok (written_by script.new next)) }
-    ensures number { IfOk result (λ next. next.number ≤ pending.entry.number + 1) }
-    ensures size { IfOk result (λ next. next.size ≤ 7) }
-    ensures err { IfErr result (λ stop.
-        Fails stop (step_after at (written_by script.old pending.entry) step)) }
-{
-    match step {
-        Step::Fold => take_letter(script, pending, Kind::Fold { actor: None }),
-        Step::Call => {
-            let kind = Kind::Call {
-                actor: None,
-                stated: None,
-            };
-            take_letter(script, pending, kind)
-        }
-        Step::Raise => {
-            let kind = Kind::Raise {
-                actor: None,
-                amount: Spelled::Unit,
-            };
-            take_letter(script, pending, kind)
-        }
-        Step::RaiseTo(total) => {
-            let kind = Kind::Raise {
-                actor: None,
-                amount: Spelled::HandTotal(total),
-            };
-            take_letter(script, pending, kind)
-        }
-        Step::NextRound => take_board(script, at, pending),
-    }
-}
-
-// The events of all steps, after which no cards are left.
-#[tactic(auto, unfolding(crate::specs::Cards::steps_said))]
-fn take_steps(
-    script: &mut Script,
-    at: u64,
-    boards: Option<&[u8]>,
-    steps: &[Step],
-) -> Result<(), Stop<LineFault>>
-    ensures ok { OnOk result
-        (steps_said at (dealt (map numbered script.old) (parts_left 47 boards.entry)) steps.now
-        ≡ Ok (map numbered script.new)) }
-    ensures err { IfErr result (λ stop. Fails stop
-        (steps_said at (dealt (map numbered script.old) (parts_left 47 boards.entry)) steps.now)) }
-{
-    let mut pending = Pending {
-        number: 1,
-        size: 3,
-        boards,
-    };
-    for step in steps {
-        let next = take_step(script, at, pending, *step)?;
-        pending = next;
-    }
-    match pending.boards {
-        None => Ok(()),
-        Some(_) => Err(wrong(What::BadCards, at)),
-    }
-}
-
-/// The script of a hand of so many players, from the cards field at this byte and the betting.
-#[tactic(auto, unfolding(crate::specs::Cards::script_said))]
-pub fn read_script(
-    alloc: Global,
-    players: u8,
-    steps: &[Step],
-    at: u64,
-    field: &[u8],
-) -> Result<Script, Stop<LineFault>>
-    requires { players ≤ 10 }
-    ensures { Gives (λ script. map numbered script) result
-        (script_said players steps.now at (parts_of 47 field.now)) }
-{
-    let (holes, boards) = cut_at(field, b'/');
-    if count_parts(holes, b'|') != players as usize {
-        return Err(wrong(What::SeatCount, at));
-    }
-    let mut script = Script::new(alloc);
-    take_holes(&mut script, players, at, holes)?;
-    take_steps(&mut script, at, boards, steps)?;
-    Ok(script)
 }

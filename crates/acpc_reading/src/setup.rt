@@ -6,24 +6,6 @@ use acpc_game::{Game, greatest};
 use chip_ledger::{RakeRow, SeatRow};
 use play_event::{Code, Reopen, Rules, Setup};
 
-// The code of the game.
-fn code_of(game: &Game) -> Code
-    ensures { result ≡ code_of_said game.now.no_limit }
-{
-    if game.no_limit { Code::NT } else { Code::FT }
-}
-
-// The least bet of the game.
-fn least_bet(game: &Game) -> u64
-    ensures { result ≡ least_bet_said game.now }
-{
-    if game.no_limit {
-        greatest(&game.blinds.amounts[..game.blinds.seats as usize])
-    } else {
-        0
-    }
-}
-
 /// What a hand of the game begins with.
 #[tactic(auto, using(crate::proofs::MatchSetups::no_rake))]
 pub fn setup_of(game: &Game) -> Setup
@@ -40,6 +22,24 @@ pub fn setup_of(game: &Game) -> Setup
         big_bet: game.big_raise,
         min_bet: least_bet(game),
         rakes: RakeRow::none(),
+    }
+}
+
+// The code of the game.
+fn code_of(game: &Game) -> Code
+    ensures { result ≡ code_of_said game.now.no_limit }
+{
+    if game.no_limit { Code::NT } else { Code::FT }
+}
+
+// The least bet of the game.
+fn least_bet(game: &Game) -> u64
+    ensures { result ≡ least_bet_said game.now }
+{
+    if game.no_limit {
+        greatest(&game.blinds.amounts[..game.blinds.seats as usize])
+    } else {
+        0
     }
 }
 

@@ -13,101 +13,18 @@ use chip_ledger::MOST_AMOUNT;
 use first_fault::{Stop, are_digits, read_digits};
 use hand_records::NetRow;
 
-// Whether these are one or more zeros.
-fn are_zeros(text: &[u8]) -> bool
-    ensures { result ≡ are_zeros_said text.now }
+/// The values field, which begins at this byte, in a hand of so many players.
+#[tactic(auto, unfolding(crate::specs::Values::values_said))]
+pub fn read_values(players: u8, at: u64, text: &[u8]) -> Result<NetRow, Stop<LineFault>>
+    requires few { players ≤ 10 }
+    requires near { at + length text.now < 2 ^ 64 - 1 }
+    ensures said { Gives nets_in result (values_said players at text.now) }
+    ensures seats { IfOk result (λ row. row.seats ≡ players) }
 {
-    if text.is_empty() {
-        return false;
+    if count_parts(text, b'|') != players as usize {
+        return Err(wrong(What::SeatCount, at));
     }
-    for b in text {
-        if *b != b'0' {
-            return false;
-        }
-    }
-    true
-}
-
-// A number with its sign.
-fn signed(is_negative: bool, number: u64) -> i64
-    requires { number ≤ MOST_AMOUNT }
-    ensures { result ≡ signed_said is_negative number }
-{
-    if is_negative {
-        0 - number as i64
-    } else {
-        number as i64
-    }
-}
-
-// The number that digits say.
-#[tactic(auto, unfolding(crate::specs::Values::whole_said), using(acpc_game::proofs::Steps::at_most))]
-fn read_whole(is_negative: bool, at: u64, digits: &[u8]) -> Result<i64, Stop<LineFault>>
-    ensures { Gives (λ value. value) result (whole_said is_negative at digits.now) }
-{
-    if !are_digits(digits) {
-        return Err(wrong(What::BadValue, at));
-    }
-    match read_digits(digits, MOST_AMOUNT) {
-        Some(number) => Ok(signed(is_negative, number)),
-        None => Err(wrong(What::AmountLimit, at)),
-    }
-}
-
-// Zeros behind a point, in which no second point stands, behind these digits.
-#[tactic(auto, using(crate::proofs::NumberLaws::no_third_part))]
-fn read_fraction(
-    is_negative: bool,
-    at: u64,
-    digits: &[u8],
-    rest: &[u8],
-) -> Result<i64, Stop<LineFault>>
-    ensures { Gives (λ value. value) result
-        (unsigned_said is_negative at (digits.now ∷ parts_of 46 rest.now)) }
-{
-    let (zeros, more) = cut_at(rest, b'.');
-    match more {
-        Some(_) => Err(wrong(What::BadValue, at)),
-        None => {
-            if !are_zeros(zeros) {
-                return Err(wrong(What::BadValue, at));
-            }
-            read_whole(is_negative, at, digits)
-        }
-    }
-}
-
-// Digits, and a point and zeros behind them or nothing.
-fn read_unsigned(is_negative: bool, at: u64, text: &[u8]) -> Result<i64, Stop<LineFault>>
-    ensures { Gives (λ value. value) result (unsigned_said is_negative at (parts_of 46 text.now)) }
-{
-    let (digits, rest) = cut_at(text, b'.');
-    match rest {
-        Some(rest) => read_fraction(is_negative, at, digits, rest),
-        None => read_whole(is_negative, at, digits),
-    }
-}
-
-// A value, which begins at this byte.
-fn read_value(at: u64, text: &[u8]) -> Result<i64, Stop<LineFault>>
-    ensures { Gives (λ value. value) result (value_said at text.now) }
-{
-    let Some((first, rest)) = cut_first(text) else {
-        return Err(wrong(What::BadValue, at));
-    };
-    if first == b'-' {
-        read_unsigned(true, at, rest)
-    } else {
-        read_unsigned(false, at, text)
-    }
-}
-
-// A row with this number at an index.
-fn put(nets: &mut [i64; 10], index: usize, net: i64)
-    requires { index < 10 }
-    ensures { nets.new ≡ slice_set nets.old index net }
-{
-    nets[index] = net;
+    fill_values(players, at, text)
 }
 
 // The values of as many players as there are parts.
@@ -135,16 +52,99 @@ fn fill_values(players: u8, at: u64, text: &[u8]) -> Result<NetRow, Stop<LineFau
     })
 }
 
-/// The values field, which begins at this byte, in a hand of so many players.
-#[tactic(auto, unfolding(crate::specs::Values::values_said))]
-pub fn read_values(players: u8, at: u64, text: &[u8]) -> Result<NetRow, Stop<LineFault>>
-    requires few { players ≤ 10 }
-    requires near { at + length text.now < 2 ^ 64 - 1 }
-    ensures said { Gives nets_in result (values_said players at text.now) }
-    ensures seats { IfOk result (λ row. row.seats ≡ players) }
+// A value, which begins at this byte.
+fn read_value(at: u64, text: &[u8]) -> Result<i64, Stop<LineFault>>
+    ensures { Gives (λ value. value) result (value_said at text.now) }
 {
-    if count_parts(text, b'|') != players as usize {
-        return Err(wrong(What::SeatCount, at));
+    let Some((first, rest)) = cut_first(text) else {
+        return Err(wrong(What::BadValue, at));
+    };
+    if first == b'-' {
+        read_unsigned(true, at, rest)
+    } else {
+        read_unsigned(false, at, text)
     }
-    fill_values(players, at, text)
+}
+
+// Digits, and a point and zeros behind them or nothing.
+fn read_unsigned(is_negative: bool, at: u64, text: &[u8]) -> Result<i64, Stop<LineFault>>
+    ensures { Gives (λ value. value) result (unsigned_said is_negative at (parts_of 46 text.now)) }
+{
+    let (digits, rest) = cut_at(text, b'.');
+    match rest {
+        Some(rest) => read_fraction(is_negative, at, digits, rest),
+        None => read_whole(is_negative, at, digits),
+    }
+}
+
+// Zeros behind a point, in which no second point stands, behind these digits.
+#[tactic(auto, using(crate::proofs::NumberLaws::no_third_part))]
+fn read_fraction(
+    is_negative: bool,
+    at: u64,
+    digits: &[u8],
+    rest: &[u8],
+) -> Result<i64, Stop<LineFault>>
+    ensures { Gives (λ value. value) result
+        (unsigned_said is_negative at (digits.now ∷ parts_of 46 rest.now)) }
+{
+    let (zeros, more) = cut_at(rest, b'.');
+    match more {
+        Some(_) => Err(wrong(What::BadValue, at)),
+        None => {
+            if !are_zeros(zeros) {
+                return Err(wrong(What::BadValue, at));
+            }
+            read_whole(is_negative, at, digits)
+        }
+    }
+}
+
+// Whether these are one or more zeros.
+fn are_zeros(text: &[u8]) -> bool
+    ensures { result ≡ are_zeros_said text.now }
+{
+    if text.is_empty() {
+        return false;
+    }
+    for b in text {
+        if *b != b'0' {
+            return false;
+        }
+    }
+    true
+}
+
+// The number that digits say.
+#[tactic(auto, unfolding(crate::specs::Values::whole_said), using(acpc_game::proofs::Steps::at_most))]
+fn read_whole(is_negative: bool, at: u64, digits: &[u8]) -> Result<i64, Stop<LineFault>>
+    ensures { Gives (λ value. value) result (whole_said is_negative at digits.now) }
+{
+    if !are_digits(digits) {
+        return Err(wrong(What::BadValue, at));
+    }
+    match read_digits(digits, MOST_AMOUNT) {
+        Some(number) => Ok(signed(is_negative, number)),
+        None => Err(wrong(What::AmountLimit, at)),
+    }
+}
+
+// A number with its sign.
+fn signed(is_negative: bool, number: u64) -> i64
+    requires { number ≤ MOST_AMOUNT }
+    ensures { result ≡ signed_said is_negative number }
+{
+    if is_negative {
+        0 - number as i64
+    } else {
+        number as i64
+    }
+}
+
+// A row with this number at an index.
+fn put(nets: &mut [i64; 10], index: usize, net: i64)
+    requires { index < 10 }
+    ensures { nets.new ≡ slice_set nets.old index net }
+{
+    nets[index] = net;
 }

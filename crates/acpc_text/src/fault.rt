@@ -74,17 +74,6 @@ pub enum AcpcFault {
     Memory,
 }
 
-/// The number, or the greatest that a fault tells.
-pub fn kept(number: u64) -> u32
-    ensures { result ≡ kept_said number }
-{
-    if number > 4_294_967_295 {
-        4_294_967_295
-    } else {
-        number as u32
-    }
-}
-
 /// The fault of a line with this number.
 pub fn fault_in_line(line: u64, fault: LineFault) -> AcpcFault
     ensures { result ≡ fault_in_line_said line fault }
@@ -105,5 +94,16 @@ pub fn fault_in_line(line: u64, fault: LineFault) -> AcpcFault
             line,
             byte,
         },
+    }
+}
+
+/// The number, or the greatest that a fault tells.
+pub fn kept(number: u64) -> u32
+    ensures { result ≡ kept_said number }
+{
+    if number > 4_294_967_295 {
+        4_294_967_295
+    } else {
+        number as u32
     }
 }

@@ -5,18 +5,6 @@ ghost use Rattle.std.specs.Char.{is_digit};
 ghost use Rattle.std.specs.Option.{option_map_or};
 ghost use Rattle.acpc_text.specs.Letters.{scan};
 
-// How many digits stand at the front.
-fn digits_len(text: &[u8]) -> usize
-    ensures { result ≡ prefix_len (λ b. is_digit b 10) text.now }
-{
-    for (index, b) in text.iter().enumerate() {
-        if !b.is_ascii_digit() {
-            return index;
-        }
-    }
-    text.len()
-}
-
 /// The digits at the front, and what stands behind them.
 pub fn cut_digits(text: &[u8]) -> (&[u8], &[u8])
     ensures digits { (scan text.now).0 ≡ result.0.now }
@@ -27,6 +15,18 @@ pub fn cut_digits(text: &[u8]) -> (&[u8], &[u8])
 {
     let len = digits_len(text);
     text.split_at(len)
+}
+
+// How many digits stand at the front.
+fn digits_len(text: &[u8]) -> usize
+    ensures { result ≡ prefix_len (λ b. is_digit b 10) text.now }
+{
+    for (index, b) in text.iter().enumerate() {
+        if !b.is_ascii_digit() {
+            return index;
+        }
+    }
+    text.len()
 }
 
 /// The first byte, and what stands behind it.

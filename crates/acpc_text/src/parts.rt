@@ -4,34 +4,6 @@ ghost use Rattle.std.specs.List.{position_or_len};
 ghost use Rattle.std.specs.Option.{option_map_or};
 ghost use Rattle.acpc_text.specs.Parts.{has_front, is_space, lines_of, parts_of, without_return as without_return_said, words_of};
 
-// How many bytes stand before the first such sign.
-fn place_of(text: &[u8], sign: u8) -> usize
-    ensures { result ≡ position_or_len (λ b. b == sign) text.now }
-{
-    for (index, other) in text.iter().enumerate() {
-        if *other == sign {
-            return index;
-        }
-    }
-    text.len()
-}
-
-/// The part before the first such sign, and what stands behind the sign, if there is one.
-pub fn cut_at(text: &[u8], sign: u8) -> (&[u8], Option<&[u8]>)
-    ensures parts { parts_of sign text.now
-        ≡ result.0.now ∷ option_map_or (λ rest. parts_of sign rest.now) result.1 [] }
-    ensures len { length text.now
-        ≡ length result.0.now + option_map_or (λ rest. 1 + length rest.now) result.1 0 }
-{
-    let len = place_of(text, sign);
-    if len == text.len() {
-        return (text, None);
-    }
-    let (front, rest) = text.split_at(len);
-    let (_sign, behind) = rest.split_at(1);
-    (front, Some(behind))
-}
-
 /// Whether the text begins with these bytes.
 pub fn has_prefix(text: &[u8], front: &[u8]) -> bool
     ensures { result ≡ has_front front.now text.now }
@@ -41,22 +13,6 @@ pub fn has_prefix(text: &[u8], front: &[u8]) -> bool
     }
     let (first, _rest) = text.split_at(front.len());
     first == front
-}
-
-// The line without the carriage return at its end, if there is one.
-fn without_return(line: &[u8]) -> &[u8]
-    ensures within { length result.now ≤ length line.now }
-    ensures line { result.now ≡ without_return_said line.now }
-{
-    if line.is_empty() {
-        return line;
-    }
-    let last = line.len() - 1;
-    if line[last] == b'\r' {
-        &line[..last]
-    } else {
-        line
-    }
 }
 
 /// The first line of a text, and what stands behind it, if the text is not empty.
@@ -75,6 +31,36 @@ pub fn next_line(text: &[u8]) -> Option<(&[u8], &[u8])>
         Some(rest) => Some((line, rest)),
         None => Some((line, &[])),
     }
+}
+
+// The line without the carriage return at its end, if there is one.
+fn without_return(line: &[u8]) -> &[u8]
+    ensures within { length result.now ≤ length line.now }
+    ensures line { result.now ≡ without_return_said line.now }
+{
+    if line.is_empty() {
+        return line;
+    }
+    let last = line.len() - 1;
+    if line[last] == b'\r' {
+        &line[..last]
+    } else {
+        line
+    }
+}
+
+/// The first word of a text, and what stands behind it; `None` where the text has no word.
+pub fn next_word(text: &[u8]) -> Option<(&[u8], &[u8])>
+    ensures words { words_of text.now
+        ≡ option_map_or (λ cut. cut.0.now ∷ words_of cut.1.now) result [] }
+    ensures shorter { IfSome result (λ cut. length cut.1.now < length text.now) }
+{
+    let text = skip_spaces(text);
+    if text.is_empty() {
+        return None;
+    }
+    let len = word_len(text);
+    Some(text.split_at(len))
 }
 
 // The text without the spaces that it begins with.
@@ -102,20 +88,6 @@ fn word_len(text: &[u8]) -> usize
     text.len()
 }
 
-/// The first word of a text, and what stands behind it; `None` where the text has no word.
-pub fn next_word(text: &[u8]) -> Option<(&[u8], &[u8])>
-    ensures words { words_of text.now
-        ≡ option_map_or (λ cut. cut.0.now ∷ words_of cut.1.now) result [] }
-    ensures shorter { IfSome result (λ cut. length cut.1.now < length text.now) }
-{
-    let text = skip_spaces(text);
-    if text.is_empty() {
-        return None;
-    }
-    let len = word_len(text);
-    Some(text.split_at(len))
-}
-
 /// How many parts the sign divides the text into.
 pub fn count_parts(text: &[u8], sign: u8) -> usize
     ensures { result ≡ length (parts_of sign text.now) }
@@ -129,4 +101,32 @@ pub fn count_parts(text: &[u8], sign: u8) -> usize
         rest = more;
     }
     count
+}
+
+/// The part before the first such sign, and what stands behind the sign, if there is one.
+pub fn cut_at(text: &[u8], sign: u8) -> (&[u8], Option<&[u8]>)
+    ensures parts { parts_of sign text.now
+        ≡ result.0.now ∷ option_map_or (λ rest. parts_of sign rest.now) result.1 [] }
+    ensures len { length text.now
+        ≡ length result.0.now + option_map_or (λ rest. 1 + length rest.now) result.1 0 }
+{
+    let len = place_of(text, sign);
+    if len == text.len() {
+        return (text, None);
+    }
+    let (front, rest) = text.split_at(len);
+    let (_sign, behind) = rest.split_at(1);
+    (front, Some(behind))
+}
+
+// How many bytes stand before the first such sign.
+fn place_of(text: &[u8], sign: u8) -> usize
+    ensures { result ≡ position_or_len (λ b. b == sign) text.now }
+{
+    for (index, other) in text.iter().enumerate() {
+        if *other == sign {
+            return index;
+        }
+    }
+    text.len()
 }

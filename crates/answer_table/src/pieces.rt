@@ -11,12 +11,6 @@ pub struct Pieces {
 }
 
 impl Pieces {
-    pub fn new(alloc: Global) -> Self {
-        Pieces {
-            named: Vec::new(alloc),
-        }
-    }
-
     /// Names a piece of text, as `NAME = TEXT`.
     pub fn define(&mut self, alloc: Global, definition: &str) -> Result<(), Memory> {
         let (name, text) = parted(definition, " = ");
@@ -41,11 +35,9 @@ impl Pieces {
         Ok(bytes)
     }
 
-    /// The bytes of a piece. A name that no piece has stands for itself.
-    pub fn piece<'a>(&'a self, name: &'a str) -> &'a [u8] {
-        match self.named.iter().find(|piece| piece.0.as_str() == name) {
-            Some(piece) => piece.1.as_slice(),
-            None => name.as_bytes(),
+    pub fn new(alloc: Global) -> Self {
+        Pieces {
+            named: Vec::new(alloc),
         }
     }
 
@@ -58,6 +50,14 @@ impl Pieces {
             bytes.extend_from_slice(piece)?;
         }
         Ok(())
+    }
+
+    /// The bytes of a piece. A name that no piece has stands for itself.
+    pub fn piece<'a>(&'a self, name: &'a str) -> &'a [u8] {
+        match self.named.iter().find(|piece| piece.0.as_str() == name) {
+            Some(piece) => piece.1.as_slice(),
+            None => name.as_bytes(),
+        }
     }
 }
 

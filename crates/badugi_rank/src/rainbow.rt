@@ -1,4 +1,4 @@
-// The best choice of badugi takes of each suit one rank that is still free, or none.
+//! The best choice of badugi takes of each suit one rank that is still free, or none.
 ghost use Rattle.std.specs.Prelude.{◌≡◌, List, Some};
 ghost use Rattle.card_set.specs.declared.card.Card.{Card};
 ghost use Rattle.card_set.specs.CardSet.{count_of, IsListing};

@@ -1,4 +1,4 @@
-// Laws of traces and of their canonical scripts.
+//! Laws of traces and of their canonical scripts.
 ghost use Rattle.std.specs.Prelude.{◌≡◌, ◌↔◌, ◌≤◌, List, count_by};
 ghost use Rattle.play_event.specs.Said.{Said};
 ghost use Rattle.play_event.specs.ValidSetup.{IsValid};

@@ -1,5 +1,5 @@
-// What the events of a canonical script may be, how many there are, and what rules a play suits. The functions do nothing: each
-// contract is a law.
+//! What the events of a canonical script may be, how many there are, and what rules a play suits. The functions do nothing: each
+//! contract is a law.
 ghost use Rattle.std.specs.Prelude.{◌≡◌, ◌≤◌, List, count_by};
 ghost use Rattle.std.specs.List.{AllByRecursion};
 ghost use Rattle.canonical_play.specs.CanonScript.{canon_of};

@@ -1,4 +1,4 @@
-// The limits of a hand, each of them a decision of this project.
+//! The limits of a hand, each of them a decision of this project.
 
 /// The most moves of a hand: its folds, calls, raises and bring-ins.
 pub const MOST_MOVES: usize = 4_096;

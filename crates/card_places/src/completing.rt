@@ -10,14 +10,23 @@ use crate::discarding::first_to_draw;
 use chip_ledger::{LiveRow, Seat};
 use play_event::Due;
 
-// The seat lacks cards of the street's deal.
-fn lacks(state: &CardState, live: &LiveRow, on: u8, seat: Seat) -> bool
+// What is due is complete.
+pub fn done(state: &CardState, live: &LiveRow, due: Due) -> bool
+    requires due { IsDueWithin 5 due }
     requires live { live.now.seats ≡ state.now.seats }
-    requires seat { seat.number ≤ state.now.seats }
-    ensures { result ≡ why.is_owed_deal_in state.now live.now on seat.number }
+    requires ten { state.now.seats ≤ 10 }
+    ensures { result ≡ why.is_done_in state.now live.now due }
 {
-    let street = state.table.street(on);
-    live.get(seat) && state.places.in_group(Some(seat), on) < street.down + street.up
+    match due {
+        Due::Deal(on) => !(some_lacks(state, live, on) || board_lacks(state, on)),
+        Due::Draw(on) => {
+            !(state.table.street(on).draws
+                && (first_to_draw(state, live, on, 1, state.seats).is_some()
+                    || some_owed(state, on)))
+        }
+        Due::Show => !some_to_show(state, live),
+        Due::BringIn | Due::Move | Due::Over => false,
+    }
 }
 
 // Some seat lacks cards of the street's deal.
@@ -34,6 +43,23 @@ fn some_lacks(state: &CardState, live: &LiveRow, on: u8) -> bool
         any = any || this;
     }
     any
+}
+
+// The seat lacks cards of the street's deal.
+fn lacks(state: &CardState, live: &LiveRow, on: u8, seat: Seat) -> bool
+    requires live { live.now.seats ≡ state.now.seats }
+    requires seat { seat.number ≤ state.now.seats }
+    ensures { result ≡ why.is_owed_deal_in state.now live.now on seat.number }
+{
+    let street = state.table.street(on);
+    live.get(seat) && state.places.in_group(Some(seat), on) < street.down + street.up
+}
+
+// The board lacks cards of the street.
+fn board_lacks(state: &CardState, on: u8) -> bool
+    ensures { result ≡ why.is_board_owed_in state.now on }
+{
+    state.places.in_group(None, on) < state.table.street(on).board
 }
 
 // Some seat is owed cards for its discards.
@@ -66,30 +92,4 @@ fn some_to_show(state: &CardState, live: &LiveRow) -> bool
         any = any || this;
     }
     any
-}
-
-// The board lacks cards of the street.
-fn board_lacks(state: &CardState, on: u8) -> bool
-    ensures { result ≡ why.is_board_owed_in state.now on }
-{
-    state.places.in_group(None, on) < state.table.street(on).board
-}
-
-// What is due is complete.
-pub fn done(state: &CardState, live: &LiveRow, due: Due) -> bool
-    requires due { IsDueWithin 5 due }
-    requires live { live.now.seats ≡ state.now.seats }
-    requires ten { state.now.seats ≤ 10 }
-    ensures { result ≡ why.is_done_in state.now live.now due }
-{
-    match due {
-        Due::Deal(on) => !(some_lacks(state, live, on) || board_lacks(state, on)),
-        Due::Draw(on) => {
-            !(state.table.street(on).draws
-                && (first_to_draw(state, live, on, 1, state.seats).is_some()
-                    || some_owed(state, on)))
-        }
-        Due::Show => !some_to_show(state, live),
-        Due::BringIn | Due::Move | Due::Over => false,
-    }
 }

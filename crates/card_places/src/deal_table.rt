@@ -50,6 +50,21 @@ impl DealTable {
         self.game.streets
     }
 
+    /// Whether the deck has the card.
+    pub fn in_deck(&self, card: Card) -> bool
+        ensures { result ≡ taken.is_in_deck self.now.code card }
+    {
+        self.game.deck != SHORT_DECK || place_of_rank(card.rank) >= place_of_rank(Rank::Six)
+    }
+
+    /// Whether the card was dealt face up.
+    pub fn is_up(&self, card: &DealtCard) -> bool
+        ensures { result ≡ places.is_up self.now.code (place_of card.now) }
+    {
+        let street = self.street(card.street);
+        street.up > 0 && street.down <= card.index
+    }
+
     /// The street with this number, from 1; past the last one a street that deals and draws nothing.
     pub fn street(&self, number: u8) -> Street
         ensures { IsStreetOf self.now.code number result }
@@ -66,20 +81,5 @@ impl DealTable {
                 size: Size::Least,
             }
         }
-    }
-
-    /// Whether the deck has the card.
-    pub fn in_deck(&self, card: Card) -> bool
-        ensures { result ≡ taken.is_in_deck self.now.code card }
-    {
-        self.game.deck != SHORT_DECK || place_of_rank(card.rank) >= place_of_rank(Rank::Six)
-    }
-
-    /// Whether the card was dealt face up.
-    pub fn is_up(&self, card: &DealtCard) -> bool
-        ensures { result ≡ places.is_up self.now.code (place_of card.now) }
-    {
-        let street = self.street(card.street);
-        street.up > 0 && street.down <= card.index
     }
 }

@@ -20,16 +20,6 @@ impl DealtCards {
         &self.rows[..self.count as usize]
     }
 
-    /// Puts a card after the others.
-    pub fn push(&mut self, card: DealtCard)
-        requires { self.old.count < MOST_CARDS }
-        ensures places { placed self.new ≡ placed self.old ++ place_of card ∷ [] }
-        ensures count { self.new.count ≡ self.old.count + 1 }
-    {
-        self.rows[self.count as usize] = card;
-        self.count += 1;
-    }
-
     /// How many cards the owner has that are not gone.
     pub fn held(&self, owner: Option<Seat>) -> u8
         ensures { result ≡ count_by (is_held (seat_of owner)) (placed self.now) }
@@ -37,20 +27,6 @@ impl DealtCards {
         let mut count: u8 = 0;
         for card in &self.rows[..self.count as usize] {
             if card.held_by(owner) {
-                count += 1;
-            }
-        }
-        count
-    }
-
-    /// How many cards of the street the owner was dealt.
-    pub fn in_group(&self, owner: Option<Seat>, street: u8) -> u8
-        ensures value { result ≡ count_by (is_in_group (seat_of owner) street) (placed self.now) }
-        ensures bounded { result ≤ self.now.count }
-    {
-        let mut count: u8 = 0;
-        for card in &self.rows[..self.count as usize] {
-            if card.in_group(owner, street) {
                 count += 1;
             }
         }
@@ -80,5 +56,29 @@ impl DealtCards {
             });
             index += 1;
         }
+    }
+
+    /// How many cards of the street the owner was dealt.
+    pub fn in_group(&self, owner: Option<Seat>, street: u8) -> u8
+        ensures value { result ≡ count_by (is_in_group (seat_of owner) street) (placed self.now) }
+        ensures bounded { result ≤ self.now.count }
+    {
+        let mut count: u8 = 0;
+        for card in &self.rows[..self.count as usize] {
+            if card.in_group(owner, street) {
+                count += 1;
+            }
+        }
+        count
+    }
+
+    /// Puts a card after the others.
+    pub fn push(&mut self, card: DealtCard)
+        requires { self.old.count < MOST_CARDS }
+        ensures places { placed self.new ≡ placed self.old ++ place_of card ∷ [] }
+        ensures count { self.new.count ≡ self.old.count + 1 }
+    {
+        self.rows[self.count as usize] = card;
+        self.count += 1;
     }
 }

@@ -23,58 +23,6 @@ use card_set::SlotRow;
 use chip_ledger::{LiveRow, Seat};
 use play_event::{Due, Illegal};
 
-// The first of so many seats, from this number on, that has to draw.
-#[tactic(auto, using(list_laws::proofs::Finding::find_step))]
-pub fn first_to_draw(
-    state: &CardState,
-    live: &LiveRow,
-    on: u8,
-    first: u8,
-    count: u8,
-) -> Option<Seat>
-    requires street { on ≤ 5 }
-    requires live { live.now.seats ≡ state.now.seats }
-    requires from_one { 1 ≤ first }
-    requires within { first + count ≤ state.now.seats + 1 }
-    ensures { seat_of result ≡ find (why.has_to_draw state.now live.now on)
-        (range_with_len first count) }
-{
-    if count == 0 {
-        return None;
-    }
-    let seat = Seat { number: first };
-    if live.get(seat) && !state.draws.drew(on, seat) {
-        Some(seat)
-    } else {
-        first_to_draw(state, live, on, first + 1, count - 1)
-    }
-}
-
-// The seat draws next.
-fn is_next_to_draw(state: &CardState, live: &LiveRow, on: u8, seat: Seat) -> bool
-    requires street { on ≤ 5 }
-    requires live { live.now.seats ≡ state.now.seats }
-    ensures { result ≡ why.is_next_in state.now live.now on seat.number }
-{
-    match first_to_draw(state, live, on, 1, state.seats) {
-        Some(next) => next.number == seat.number,
-        None => false,
-    }
-}
-
-// The places after a discard.
-fn discarded(table: &DealTable, places: &DealtCards, on: u8, seat: Seat, cards: &SlotRow) -> Outcome
-    ensures after { placed result.after ≡ naming.after_discard on seat.number (slots_of cards.now)
-        (placed places.now) }
-    ensures lacking { result.lacking ≡ reasons.has_no_place
-        (filter (is_held_by seat.number) (placed places.now)) (known_cards (slots_of cards.now))
-        (naming.blanks_in (slots_of cards.now)) }
-{
-    let names = known(cards);
-    let blanks = blanks(cards.as_slice()) as u8;
-    tried(table, places, seat, true, Some(on), &names, blanks)
-}
-
 /// The places after a discard of the seat on the street, or why it is illegal.
 pub fn discard_on(
     state: &CardState,
@@ -109,6 +57,58 @@ pub fn discard_on(
     } else {
         Ok(outcome.after)
     }
+}
+
+// The seat draws next.
+fn is_next_to_draw(state: &CardState, live: &LiveRow, on: u8, seat: Seat) -> bool
+    requires street { on ≤ 5 }
+    requires live { live.now.seats ≡ state.now.seats }
+    ensures { result ≡ why.is_next_in state.now live.now on seat.number }
+{
+    match first_to_draw(state, live, on, 1, state.seats) {
+        Some(next) => next.number == seat.number,
+        None => false,
+    }
+}
+
+// The first of so many seats, from this number on, that has to draw.
+#[tactic(auto, using(list_laws::proofs::Finding::find_step))]
+pub fn first_to_draw(
+    state: &CardState,
+    live: &LiveRow,
+    on: u8,
+    first: u8,
+    count: u8,
+) -> Option<Seat>
+    requires street { on ≤ 5 }
+    requires live { live.now.seats ≡ state.now.seats }
+    requires from_one { 1 ≤ first }
+    requires within { first + count ≤ state.now.seats + 1 }
+    ensures { seat_of result ≡ find (why.has_to_draw state.now live.now on)
+        (range_with_len first count) }
+{
+    if count == 0 {
+        return None;
+    }
+    let seat = Seat { number: first };
+    if live.get(seat) && !state.draws.drew(on, seat) {
+        Some(seat)
+    } else {
+        first_to_draw(state, live, on, first + 1, count - 1)
+    }
+}
+
+// The places after a discard.
+fn discarded(table: &DealTable, places: &DealtCards, on: u8, seat: Seat, cards: &SlotRow) -> Outcome
+    ensures after { placed result.after ≡ naming.after_discard on seat.number (slots_of cards.now)
+        (placed places.now) }
+    ensures lacking { result.lacking ≡ reasons.has_no_place
+        (filter (is_held_by seat.number) (placed places.now)) (known_cards (slots_of cards.now))
+        (naming.blanks_in (slots_of cards.now)) }
+{
+    let names = known(cards);
+    let blanks = blanks(cards.as_slice()) as u8;
+    tried(table, places, seat, true, Some(on), &names, blanks)
 }
 
 /// The seat drew on the street, and these are the places after it.

@@ -19,20 +19,6 @@ pub struct Found {
     pub blanks: u8,
 }
 
-// A card that is discarded on this street, after so many deals, is gone; without a street it stays.
-pub fn marked(card: DealtCard, street: Option<u8>, count: u8) -> DealtCard
-    ensures { place_of result ≡ mark_by street count (place_of card) }
-{
-    match street {
-        Some(discarded) => DealtCard {
-            gone_after: Some(count),
-            discarded,
-            ..card
-        },
-        None => card,
-    }
-}
-
 // What the names make of a covered place.
 pub fn find(
     card: DealtCard,
@@ -84,5 +70,19 @@ pub fn find(
                 }
             }
         }
+    }
+}
+
+// A card that is discarded on this street, after so many deals, is gone; without a street it stays.
+pub fn marked(card: DealtCard, street: Option<u8>, count: u8) -> DealtCard
+    ensures { place_of result ≡ mark_by street count (place_of card) }
+{
+    match street {
+        Some(discarded) => DealtCard {
+            gone_after: Some(count),
+            discarded,
+            ..card
+        },
+        None => card,
     }
 }

@@ -10,18 +10,11 @@ use crate::dealt_card::DealtCard;
 use crate::dealt_cards::DealtCards;
 use chip_ledger::Seat;
 
-// The card after the seat folded, so many cards being dealt.
-fn folded(card: DealtCard, seat: Seat, count: u8) -> DealtCard
-    ensures { place_of result ≡ plain.folded_place seat.number count (place_of card) }
+/// Folds the cards of a seat.
+pub fn fold(state: &mut CardState, seat: Seat)
+    ensures { IsFolded state.old state.new seat.number }
 {
-    if card.held_by(Some(seat)) {
-        DealtCard {
-            gone_after: Some(count),
-            ..card
-        }
-    } else {
-        card
-    }
+    state.places = after_fold(&state.places, seat);
 }
 
 // The places after the seat folded.
@@ -38,9 +31,16 @@ fn after_fold(places: &DealtCards, seat: Seat) -> DealtCards
     }
 }
 
-/// Folds the cards of a seat.
-pub fn fold(state: &mut CardState, seat: Seat)
-    ensures { IsFolded state.old state.new seat.number }
+// The card after the seat folded, so many cards being dealt.
+fn folded(card: DealtCard, seat: Seat, count: u8) -> DealtCard
+    ensures { place_of result ≡ plain.folded_place seat.number count (place_of card) }
 {
-    state.places = after_fold(&state.places, seat);
+    if card.held_by(Some(seat)) {
+        DealtCard {
+            gone_after: Some(count),
+            ..card
+        }
+    } else {
+        card
+    }
 }

@@ -11,43 +11,6 @@ ghost use Rattle.play_event.specs.CardReasons as reasons;
 
 use card_set::{Card, CardRow, Slot, SlotRow, place_in_deck};
 
-// Both are one card.
-pub fn is_same_card(a: Card, b: Card) -> bool
-    ensures { result ≡ decks.is_same_card a b }
-{
-    place_in_deck(a) == place_in_deck(b)
-}
-
-// The card is among the names.
-pub fn is_named(card: Card, names: &[Card]) -> bool
-    ensures { result ≡ naming.is_named card names.now }
-{
-    match names {
-        [] => false,
-        [name, rest @ ..] => is_same_card(card, *name) || is_named(card, rest),
-    }
-}
-
-// The slot is unknown.
-pub fn is_unknown(slot: Slot) -> bool
-    ensures { result ≡ known.is_unknown slot }
-{
-    match slot {
-        Slot::Unknown => true,
-        Slot::Known(_) => false,
-    }
-}
-
-// The slot bears the card.
-pub fn is_borne_by(card: Card, slot: Slot) -> bool
-    ensures { result ≡ taken.is_borne_by card slot }
-{
-    match slot {
-        Slot::Known(other) => is_same_card(card, other),
-        Slot::Unknown => false,
-    }
-}
-
 // Two slots bear one card.
 pub fn is_one_card(a: Slot, b: Slot) -> bool
     ensures { result ≡ taken.is_one_card a b }
@@ -68,13 +31,23 @@ pub fn left_out(slot: Slot, names: &[Card]) -> bool
     }
 }
 
-// One of the slots bears the card.
-fn any_bears(card: Card, slots: &[Slot]) -> bool
-    ensures { result ≡ list_any (taken.is_borne_by card) slots.now }
+// The card is among the names.
+pub fn is_named(card: Card, names: &[Card]) -> bool
+    ensures { result ≡ naming.is_named card names.now }
+{
+    match names {
+        [] => false,
+        [name, rest @ ..] => is_same_card(card, *name) || is_named(card, rest),
+    }
+}
+
+// Two of the slots bear one card.
+pub fn has_repeat(slots: &[Slot]) -> bool
+    ensures { result ≡ taken.has_repeat slots.now }
 {
     match slots {
         [] => false,
-        [slot, rest @ ..] => is_borne_by(card, *slot) || any_bears(card, rest),
+        [slot, rest @ ..] => is_repeated(*slot, rest) || has_repeat(rest),
     }
 }
 
@@ -88,13 +61,23 @@ fn is_repeated(slot: Slot, others: &[Slot]) -> bool
     }
 }
 
-// Two of the slots bear one card.
-pub fn has_repeat(slots: &[Slot]) -> bool
-    ensures { result ≡ taken.has_repeat slots.now }
+// One of the slots bears the card.
+fn any_bears(card: Card, slots: &[Slot]) -> bool
+    ensures { result ≡ list_any (taken.is_borne_by card) slots.now }
 {
     match slots {
         [] => false,
-        [slot, rest @ ..] => is_repeated(*slot, rest) || has_repeat(rest),
+        [slot, rest @ ..] => is_borne_by(card, *slot) || any_bears(card, rest),
+    }
+}
+
+// The slot bears the card.
+pub fn is_borne_by(card: Card, slot: Slot) -> bool
+    ensures { result ≡ taken.is_borne_by card slot }
+{
+    match slot {
+        Slot::Known(other) => is_same_card(card, other),
+        Slot::Unknown => false,
     }
 }
 
@@ -110,6 +93,16 @@ pub fn blanks(slots: &[Slot]) -> usize
         }
     }
     count
+}
+
+// The slot is unknown.
+pub fn is_unknown(slot: Slot) -> bool
+    ensures { result ≡ known.is_unknown slot }
+{
+    match slot {
+        Slot::Unknown => true,
+        Slot::Known(_) => false,
+    }
 }
 
 // The known cards of the slots.
@@ -149,6 +142,13 @@ fn without_card(card: Card, names: &CardRow) -> CardRow
         }
     }
     left
+}
+
+// Both are one card.
+pub fn is_same_card(a: Card, b: Card) -> bool
+    ensures { result ≡ decks.is_same_card a b }
+{
+    place_in_deck(a) == place_in_deck(b)
 }
 
 // The slots of known cards.

@@ -25,30 +25,6 @@ pub struct Outcome {
     pub lacking: bool,
 }
 
-// A covered place is unknown.
-fn is_free(table: &DealTable, card: &DealtCard, seat: Seat, all: bool) -> bool
-    ensures { result ≡ (naming.is_covered table.now.code seat.number all (place_of card.now)
-        && known.is_unknown card.now.slot) }
-{
-    covers(table, card, seat, all) && is_unknown(card.slot)
-}
-
-// How many covered places are unknown.
-#[tactic(auto, using(crate::proofs::Covered::free_more))]
-fn free_count(table: &DealTable, rows: &[DealtCard], seat: Seat, all: bool) -> usize
-    ensures value { result ≡ count_by (λ place. known.is_unknown place.slot)
-        (covered table.now.code seat.number all (map place_of rows.now)) }
-    ensures most { result ≤ length rows.now }
-{
-    let mut count = 0;
-    for row in rows {
-        if is_free(table, row, seat, all) {
-            count += 1;
-        }
-    }
-    count
-}
-
 // A known card of the covered places is not named.
 pub fn leaves_out(
     table: &DealTable,
@@ -98,4 +74,28 @@ pub fn tried(
     let after = run(table, places, &search, blanks);
     let lacking = free_count(table, rows, seat, all) < others.len as usize + blanks as usize;
     Outcome { after, lacking }
+}
+
+// How many covered places are unknown.
+#[tactic(auto, using(crate::proofs::Covered::free_more))]
+fn free_count(table: &DealTable, rows: &[DealtCard], seat: Seat, all: bool) -> usize
+    ensures value { result ≡ count_by (λ place. known.is_unknown place.slot)
+        (covered table.now.code seat.number all (map place_of rows.now)) }
+    ensures most { result ≤ length rows.now }
+{
+    let mut count = 0;
+    for row in rows {
+        if is_free(table, row, seat, all) {
+            count += 1;
+        }
+    }
+    count
+}
+
+// A covered place is unknown.
+fn is_free(table: &DealTable, card: &DealtCard, seat: Seat, all: bool) -> bool
+    ensures { result ≡ (naming.is_covered table.now.code seat.number all (place_of card.now)
+        && known.is_unknown card.now.slot) }
+{
+    covers(table, card, seat, all) && is_unknown(card.slot)
 }

@@ -11,25 +11,60 @@ use card_set::Slot;
 use chip_ledger::Seat;
 use play_event::Place;
 
-// The card at an index of those of the street and the owner, or how far the index is past them.
-fn in_group(rows: &[DealtCard], owner: Option<Seat>, street: u8, index: u8) -> Result<DealtCard, u8>
-    ensures found { IfOk result (λ card.
-        slice_get (group (map place_of rows.now) street (seat_of owner)) index
+/// The place at this index, from 0, in the order of the trace.
+pub fn place(state: &CardState, index: u8) -> Place
+    requires seats { state.now.seats ≤ 10 }
+    requires within { index < state.now.places.count }
+    ensures { IsPlaceOf result (slice_get
+        (ordered state.now.table.code state.now.seats (placed state.now.places)) index) }
+{
+    match in_streets(state, 1, state.table.streets(), index) {
+        Ok(card) => Place {
+            owner: card.owner,
+            street: card.street,
+            slot: card.slot,
+            gone: card.discarded,
+        },
+        // No index below the count is past all cards.
+        Err(_) => Place {
+            owner: None,
+            street: 0,
+            slot: Slot::Unknown,
+            gone: 0,
+        },
+    }
+}
+
+// The same of the cards of so many streets, from this one on.
+fn in_streets(state: &CardState, first: u8, count: u8, index: u8) -> Result<DealtCard, u8>
+    requires seats { state.now.seats ≤ 10 }
+    requires within { first + count ≤ 6 }
+    ensures found { IfOk result (λ card. slice_get
+        (on_streets state.now.seats (placed state.now.places) first count) index
         ≡ Some (place_of card)) }
     ensures past { IfErr result (λ left.
-        index ≡ left + length (group (map place_of rows.now) street (seat_of owner))) }
+        index ≡ left + length (on_streets state.now.seats (placed state.now.places) first count)) }
 {
-    match rows {
-        [] => Err(index),
-        [card, rest @ ..] => {
-            if !card.in_group(owner, street) {
-                in_group(rest, owner, street, index)
-            } else if index == 0 {
-                Ok(*card)
-            } else {
-                in_group(rest, owner, street, index - 1)
-            }
-        }
+    if count == 0 {
+        return Err(index);
+    }
+    match in_street(state, first, index) {
+        Ok(card) => Ok(card),
+        Err(left) => in_streets(state, first + 1, count - 1, left),
+    }
+}
+
+// The same of all cards of a street: first those of the seats, and then the board's.
+fn in_street(state: &CardState, street: u8, index: u8) -> Result<DealtCard, u8>
+    requires { state.now.seats ≤ 10 }
+    ensures found { IfOk result (λ card. slice_get
+        (on_street state.now.seats (placed state.now.places) street) index ≡ Some (place_of card)) }
+    ensures past { IfErr result (λ left.
+        index ≡ left + length (on_street state.now.seats (placed state.now.places) street)) }
+{
+    match in_seats(state, street, 1, state.seats, index) {
+        Ok(card) => Ok(card),
+        Err(left) => in_group(state.places.as_slice(), None, street, left),
     }
 }
 
@@ -56,59 +91,24 @@ fn in_seats(state: &CardState, street: u8, first: u8, count: u8, index: u8) -> R
     }
 }
 
-// The same of all cards of a street: first those of the seats, and then the board's.
-fn in_street(state: &CardState, street: u8, index: u8) -> Result<DealtCard, u8>
-    requires { state.now.seats ≤ 10 }
-    ensures found { IfOk result (λ card. slice_get
-        (on_street state.now.seats (placed state.now.places) street) index ≡ Some (place_of card)) }
-    ensures past { IfErr result (λ left.
-        index ≡ left + length (on_street state.now.seats (placed state.now.places) street)) }
-{
-    match in_seats(state, street, 1, state.seats, index) {
-        Ok(card) => Ok(card),
-        Err(left) => in_group(state.places.as_slice(), None, street, left),
-    }
-}
-
-// The same of the cards of so many streets, from this one on.
-fn in_streets(state: &CardState, first: u8, count: u8, index: u8) -> Result<DealtCard, u8>
-    requires seats { state.now.seats ≤ 10 }
-    requires within { first + count ≤ 6 }
-    ensures found { IfOk result (λ card. slice_get
-        (on_streets state.now.seats (placed state.now.places) first count) index
+// The card at an index of those of the street and the owner, or how far the index is past them.
+fn in_group(rows: &[DealtCard], owner: Option<Seat>, street: u8, index: u8) -> Result<DealtCard, u8>
+    ensures found { IfOk result (λ card.
+        slice_get (group (map place_of rows.now) street (seat_of owner)) index
         ≡ Some (place_of card)) }
     ensures past { IfErr result (λ left.
-        index ≡ left + length (on_streets state.now.seats (placed state.now.places) first count)) }
+        index ≡ left + length (group (map place_of rows.now) street (seat_of owner))) }
 {
-    if count == 0 {
-        return Err(index);
-    }
-    match in_street(state, first, index) {
-        Ok(card) => Ok(card),
-        Err(left) => in_streets(state, first + 1, count - 1, left),
-    }
-}
-
-/// The place at this index, from 0, in the order of the trace.
-pub fn place(state: &CardState, index: u8) -> Place
-    requires seats { state.now.seats ≤ 10 }
-    requires within { index < state.now.places.count }
-    ensures { IsPlaceOf result (slice_get
-        (ordered state.now.table.code state.now.seats (placed state.now.places)) index) }
-{
-    match in_streets(state, 1, state.table.streets(), index) {
-        Ok(card) => Place {
-            owner: card.owner,
-            street: card.street,
-            slot: card.slot,
-            gone: card.discarded,
-        },
-        // No index below the count is past all cards.
-        Err(_) => Place {
-            owner: None,
-            street: 0,
-            slot: Slot::Unknown,
-            gone: 0,
-        },
+    match rows {
+        [] => Err(index),
+        [card, rest @ ..] => {
+            if !card.in_group(owner, street) {
+                in_group(rest, owner, street, index)
+            } else if index == 0 {
+                Ok(*card)
+            } else {
+                in_group(rest, owner, street, index - 1)
+            }
+        }
     }
 }

@@ -11,28 +11,30 @@ use card_set::Slot;
 use chip_ledger::{LiveRow, Seat};
 use play_event::{Due, Illegal};
 
-// A deal has no card, or more than are owed.
-fn is_wrong_deal(owed: u8, count: usize) -> bool
-    ensures { result ≡ reasons.is_wrong_deal owed count }
-{
-    count == 0 || (owed as usize) < count
-}
-
-// How many cards the seat is owed.
-pub fn owed(state: &CardState, live: &LiveRow, on: u8, seat: Seat) -> u8
-    requires street { on ≤ 5 }
+/// Why the seat may not be dealt these cards now.
+pub fn hole_why(
+    state: &CardState,
+    live: &LiveRow,
+    due: Due,
+    seat: Seat,
+    cards: &[Slot],
+) -> Option<Illegal>
+    requires due { IsDueWithin 5 due }
     requires live { live.now.seats ≡ state.now.seats }
-    requires seat { seat.number ≤ state.now.seats }
-    ensures { result ≡ why.owed_in state.now live.now on seat.number }
+    ensures { result ≡ why.hole_why state.now live.now due seat.number cards.now }
 {
-    let street = state.table.street(on);
-    let dealt = state.places.in_group(Some(seat), on);
-    if street.draws {
-        state.draws.named(on, seat).saturating_sub(dealt)
-    } else if live.get(seat) {
-        (street.down + street.up).saturating_sub(dealt)
-    } else {
-        0
+    match due {
+        Due::Over => Some(Illegal::HandOver),
+        Due::Deal(on) => {
+            let street = state.table.street(on);
+            if street.down + street.up > 0 {
+                hole_why_on(state, live, on, seat, cards)
+            } else {
+                Some(Illegal::WrongKind)
+            }
+        }
+        Due::Draw(on) => hole_why_on(state, live, on, seat, cards),
+        Due::BringIn | Due::Move | Due::Show => Some(Illegal::WrongKind),
     }
 }
 
@@ -63,30 +65,38 @@ fn hole_why_on(
     }
 }
 
-/// Why the seat may not be dealt these cards now.
-pub fn hole_why(
-    state: &CardState,
-    live: &LiveRow,
-    due: Due,
-    seat: Seat,
-    cards: &[Slot],
-) -> Option<Illegal>
-    requires due { IsDueWithin 5 due }
+// How many cards the seat is owed.
+pub fn owed(state: &CardState, live: &LiveRow, on: u8, seat: Seat) -> u8
+    requires street { on ≤ 5 }
     requires live { live.now.seats ≡ state.now.seats }
-    ensures { result ≡ why.hole_why state.now live.now due seat.number cards.now }
+    requires seat { seat.number ≤ state.now.seats }
+    ensures { result ≡ why.owed_in state.now live.now on seat.number }
+{
+    let street = state.table.street(on);
+    let dealt = state.places.in_group(Some(seat), on);
+    if street.draws {
+        state.draws.named(on, seat).saturating_sub(dealt)
+    } else if live.get(seat) {
+        (street.down + street.up).saturating_sub(dealt)
+    } else {
+        0
+    }
+}
+
+/// Why the board may not be dealt these cards now.
+pub fn board_why(state: &CardState, due: Due, cards: &[Slot]) -> Option<Illegal>
+    ensures { result ≡ why.board_why state.now due cards.now }
 {
     match due {
         Due::Over => Some(Illegal::HandOver),
         Due::Deal(on) => {
-            let street = state.table.street(on);
-            if street.down + street.up > 0 {
-                hole_why_on(state, live, on, seat, cards)
+            if state.table.street(on).board > 0 {
+                board_why_on(state, on, cards)
             } else {
                 Some(Illegal::WrongKind)
             }
         }
-        Due::Draw(on) => hole_why_on(state, live, on, seat, cards),
-        Due::BringIn | Due::Move | Due::Show => Some(Illegal::WrongKind),
+        Due::Draw(_) | Due::BringIn | Due::Move | Due::Show => Some(Illegal::WrongKind),
     }
 }
 
@@ -108,21 +118,11 @@ fn board_why_on(state: &CardState, on: u8, cards: &[Slot]) -> Option<Illegal>
     }
 }
 
-/// Why the board may not be dealt these cards now.
-pub fn board_why(state: &CardState, due: Due, cards: &[Slot]) -> Option<Illegal>
-    ensures { result ≡ why.board_why state.now due cards.now }
+// A deal has no card, or more than are owed.
+fn is_wrong_deal(owed: u8, count: usize) -> bool
+    ensures { result ≡ reasons.is_wrong_deal owed count }
 {
-    match due {
-        Due::Over => Some(Illegal::HandOver),
-        Due::Deal(on) => {
-            if state.table.street(on).board > 0 {
-                board_why_on(state, on, cards)
-            } else {
-                Some(Illegal::WrongKind)
-            }
-        }
-        Due::Draw(_) | Due::BringIn | Due::Move | Due::Show => Some(Illegal::WrongKind),
-    }
+    count == 0 || (owed as usize) < count
 }
 
 /// The street whose cards are due.

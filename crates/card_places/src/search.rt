@@ -28,39 +28,6 @@ pub struct Search {
     pub others: CardRow,
 }
 
-// The card is covered.
-pub fn covers(table: &DealTable, card: &DealtCard, seat: Seat, all: bool) -> bool
-    ensures { result ≡ naming.is_covered table.now.code seat.number all (place_of card.now) }
-{
-    card.held_by(Some(seat)) && (all || !table.is_up(card))
-}
-
-// What the names make of the next place.
-fn look(table: &DealTable, search: &Search, card: DealtCard, taken: u8, blanks: u8) -> Found
-    ensures { (rest : List Place) → search_from table.now.code search.now taken blanks
-        (place_of card ∷ rest)
-        ≡ place_of result.card
-        ∷ search_from table.now.code search.now result.taken result.blanks rest }
-{
-    if covers(table, &card, search.seat, search.all) {
-        find(
-            card,
-            search.street,
-            search.count,
-            &search.names,
-            &search.others,
-            taken,
-            blanks,
-        )
-    } else {
-        Found {
-            card,
-            taken,
-            blanks,
-        }
-    }
-}
-
 // The names that no known card of the covered places bears.
 pub fn other_names(
     table: &DealTable,
@@ -100,4 +67,37 @@ pub fn run(table: &DealTable, places: &DealtCards, search: &Search, blanks: u8) 
         count: places.count,
         rows,
     }
+}
+
+// What the names make of the next place.
+fn look(table: &DealTable, search: &Search, card: DealtCard, taken: u8, blanks: u8) -> Found
+    ensures { (rest : List Place) → search_from table.now.code search.now taken blanks
+        (place_of card ∷ rest)
+        ≡ place_of result.card
+        ∷ search_from table.now.code search.now result.taken result.blanks rest }
+{
+    if covers(table, &card, search.seat, search.all) {
+        find(
+            card,
+            search.street,
+            search.count,
+            &search.names,
+            &search.others,
+            taken,
+            blanks,
+        )
+    } else {
+        Found {
+            card,
+            taken,
+            blanks,
+        }
+    }
+}
+
+// The card is covered.
+pub fn covers(table: &DealTable, card: &DealtCard, seat: Seat, all: bool) -> bool
+    ensures { result ≡ naming.is_covered table.now.code seat.number all (place_of card.now) }
+{
+    card.held_by(Some(seat)) && (all || !table.is_up(card))
 }

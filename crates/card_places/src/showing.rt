@@ -25,104 +25,6 @@ use card_set::CardRow;
 use chip_ledger::{LiveRow, Seat};
 use play_event::{Due, Illegal};
 
-// The seat may show or muck.
-fn may_show(state: &CardState, live: &LiveRow, seat: Seat) -> bool
-    requires { live.now.seats ≡ state.now.seats }
-    ensures may { result ≡ why.may_show_in state.now live.now seat.number }
-    ensures in_hand { IsTrue result → seat.number ≤ state.now.seats }
-{
-    seat.number <= state.seats
-        && live.get(seat)
-        && !(state.shown.get(seat) || state.mucked.get(seat))
-}
-
-// The card is held, and face down.
-fn is_held_down(table: &DealTable, card: &DealtCard, seat: Seat) -> bool
-    ensures { result ≡ naming.is_held_down table.now.code seat.number (place_of card.now) }
-{
-    card.held_by(Some(seat)) && !table.is_up(card)
-}
-
-// How many cards the seat holds face down.
-fn held_down(table: &DealTable, rows: &[DealtCard], seat: Seat) -> usize
-    ensures value { result ≡ count_by (naming.is_held_down table.now.code seat.number)
-        (map place_of rows.now) }
-    ensures most { result ≤ length rows.now }
-{
-    let mut count = 0;
-    for row in rows {
-        if is_held_down(table, row, seat) {
-            count += 1;
-        }
-    }
-    count
-}
-
-// An up-card of the seat is unknown.
-fn hides_up(table: &DealTable, rows: &[DealtCard], seat: Seat) -> bool
-    ensures { result ≡ list_any known.is_unknown
-        (plain.up_slots table.now.code (map place_of rows.now) seat.number) }
-{
-    for row in rows {
-        if row.held_by(Some(seat)) && table.is_up(row) && is_unknown(row.slot) {
-            return true;
-        }
-    }
-    false
-}
-
-// A show may have so many cards.
-fn may_show_many(state: &CardState, seat: Seat, count: u8) -> bool
-    ensures { result ≡ why.may_show_many state.now.table.code
-        (placed state.now.places) seat.number count }
-{
-    let rows = state.places.as_slice();
-    count == state.places.held(Some(seat))
-        || count as usize == held_down(&state.table, rows, seat)
-            && !hides_up(&state.table, rows, seat)
-}
-
-// The show names all cards that the seat holds.
-fn is_show_of_all(places: &DealtCards, seat: Seat, cards: &CardRow) -> bool
-    ensures { result ≡ naming.is_show_of_all (placed places.now) seat.number (cards_of cards.now) }
-{
-    cards.len == places.held(Some(seat))
-}
-
-// The places after a show of the cards that are covered, and whether it names other cards.
-fn shown_of(
-    table: &DealTable,
-    places: &DealtCards,
-    seat: Seat,
-    all: bool,
-    cards: &CardRow,
-) -> Outcome
-    ensures after { placed result.after ≡ after_named table.now.code seat.number all
-        (λ place. place) (cards_of cards.now) 0 (placed places.now) }
-    ensures lacking { result.lacking ≡ reasons.is_show_of_others
-        (covered table.now.code seat.number all (placed places.now)) (cards_of cards.now) }
-{
-    let outcome = tried(table, places, seat, all, None, cards, 0);
-    let lacking = outcome.lacking
-        || leaves_out(table, places.as_slice(), seat, all, cards.as_slice());
-    Outcome {
-        after: outcome.after,
-        lacking,
-    }
-}
-
-// The places after a show, and whether it names other cards.
-fn shown(table: &DealTable, places: &DealtCards, seat: Seat, cards: &CardRow) -> Outcome
-    ensures after { placed result.after ≡ naming.after_show table.now.code seat.number
-        (cards_of cards.now) (placed places.now) }
-    ensures lacking { result.lacking ≡ reasons.is_show_of_others
-        (covered table.now.code seat.number (naming.is_show_of_all (placed places.now) seat.number
-        (cards_of cards.now)) (placed places.now)) (cards_of cards.now) }
-{
-    let all = is_show_of_all(places, seat, cards);
-    shown_of(table, places, seat, all, cards)
-}
-
 /// The places after a show of the seat, or why it is illegal.
 pub fn show_on(
     state: &CardState,
@@ -155,6 +57,93 @@ pub fn show_on(
         Err(Illegal::NotHeld)
     } else {
         Ok(outcome.after)
+    }
+}
+
+// A show may have so many cards.
+fn may_show_many(state: &CardState, seat: Seat, count: u8) -> bool
+    ensures { result ≡ why.may_show_many state.now.table.code
+        (placed state.now.places) seat.number count }
+{
+    let rows = state.places.as_slice();
+    count == state.places.held(Some(seat))
+        || count as usize == held_down(&state.table, rows, seat)
+            && !hides_up(&state.table, rows, seat)
+}
+
+// How many cards the seat holds face down.
+fn held_down(table: &DealTable, rows: &[DealtCard], seat: Seat) -> usize
+    ensures value { result ≡ count_by (naming.is_held_down table.now.code seat.number)
+        (map place_of rows.now) }
+    ensures most { result ≤ length rows.now }
+{
+    let mut count = 0;
+    for row in rows {
+        if is_held_down(table, row, seat) {
+            count += 1;
+        }
+    }
+    count
+}
+
+// The card is held, and face down.
+fn is_held_down(table: &DealTable, card: &DealtCard, seat: Seat) -> bool
+    ensures { result ≡ naming.is_held_down table.now.code seat.number (place_of card.now) }
+{
+    card.held_by(Some(seat)) && !table.is_up(card)
+}
+
+// An up-card of the seat is unknown.
+fn hides_up(table: &DealTable, rows: &[DealtCard], seat: Seat) -> bool
+    ensures { result ≡ list_any known.is_unknown
+        (plain.up_slots table.now.code (map place_of rows.now) seat.number) }
+{
+    for row in rows {
+        if row.held_by(Some(seat)) && table.is_up(row) && is_unknown(row.slot) {
+            return true;
+        }
+    }
+    false
+}
+
+// The places after a show, and whether it names other cards.
+fn shown(table: &DealTable, places: &DealtCards, seat: Seat, cards: &CardRow) -> Outcome
+    ensures after { placed result.after ≡ naming.after_show table.now.code seat.number
+        (cards_of cards.now) (placed places.now) }
+    ensures lacking { result.lacking ≡ reasons.is_show_of_others
+        (covered table.now.code seat.number (naming.is_show_of_all (placed places.now) seat.number
+        (cards_of cards.now)) (placed places.now)) (cards_of cards.now) }
+{
+    let all = is_show_of_all(places, seat, cards);
+    shown_of(table, places, seat, all, cards)
+}
+
+// The show names all cards that the seat holds.
+fn is_show_of_all(places: &DealtCards, seat: Seat, cards: &CardRow) -> bool
+    ensures { result ≡ naming.is_show_of_all (placed places.now) seat.number (cards_of cards.now) }
+{
+    cards.len == places.held(Some(seat))
+}
+
+// The places after a show of the cards that are covered, and whether it names other cards.
+fn shown_of(
+    table: &DealTable,
+    places: &DealtCards,
+    seat: Seat,
+    all: bool,
+    cards: &CardRow,
+) -> Outcome
+    ensures after { placed result.after ≡ after_named table.now.code seat.number all
+        (λ place. place) (cards_of cards.now) 0 (placed places.now) }
+    ensures lacking { result.lacking ≡ reasons.is_show_of_others
+        (covered table.now.code seat.number all (placed places.now)) (cards_of cards.now) }
+{
+    let outcome = tried(table, places, seat, all, None, cards, 0);
+    let lacking = outcome.lacking
+        || leaves_out(table, places.as_slice(), seat, all, cards.as_slice());
+    Outcome {
+        after: outcome.after,
+        lacking,
     }
 }
 
@@ -215,6 +204,17 @@ pub fn muck_why(state: &CardState, live: &LiveRow, due: Due, seat: Seat) -> Opti
         }
         Due::Deal(_) | Due::Draw(_) | Due::BringIn | Due::Move => Some(Illegal::WrongKind),
     }
+}
+
+// The seat may show or muck.
+fn may_show(state: &CardState, live: &LiveRow, seat: Seat) -> bool
+    requires { live.now.seats ≡ state.now.seats }
+    ensures may { result ≡ why.may_show_in state.now live.now seat.number }
+    ensures in_hand { IsTrue result → seat.number ≤ state.now.seats }
+{
+    seat.number <= state.seats
+        && live.get(seat)
+        && !(state.shown.get(seat) || state.mucked.get(seat))
 }
 
 /// The seat showed, and these are the places after it.

@@ -11,28 +11,35 @@ use crate::dealt_card::DealtCard;
 use crate::names::{has_repeat, is_borne_by, is_one_card, is_unknown};
 use card_set::{Card, Slot};
 
-// The card was gone before so many cards were dealt.
-fn is_gone_before(gone_after: Option<u8>, number: u8) -> bool
-    ensures { result ≡ taken.is_gone_before gone_after number }
+// One of the slots may not be dealt on this street.
+pub fn has_taken_card(table: &DealTable, rows: &[DealtCard], street: u8, slots: &[Slot]) -> bool
+    requires { length rows.now ≤ 120 }
+    ensures { result ≡ taken.has_taken_card table.now.code
+        (map place_of rows.now) street slots.now }
 {
-    match gone_after {
-        Some(count) => count <= number,
-        None => false,
+    some_taken(table, rows, is_past_deck(table, rows, street), slots) || has_repeat(slots)
+}
+
+// One of the slots may not be dealt behind these places.
+fn some_taken(table: &DealTable, rows: &[DealtCard], past_deck: bool, slots: &[Slot]) -> bool
+    ensures { result ≡ list_any (taken.is_taken table.now.code
+        (map place_of rows.now) past_deck) slots.now }
+{
+    match slots {
+        [] => false,
+        [slot, rest @ ..] => is_taken(table, rows, past_deck, *slot)
+            || some_taken(table, rows, past_deck, rest),
     }
 }
 
-// A place may bear the card of another.
-fn may_repeat(card: &DealtCard, other: &DealtCard) -> bool
-    ensures { result ≡ taken.may_repeat (place_of card.now) (place_of other.now) }
+// The slot may not be dealt behind these places.
+fn is_taken(table: &DealTable, rows: &[DealtCard], past_deck: bool, slot: Slot) -> bool
+    ensures { result ≡ taken.is_taken table.now.code (map place_of rows.now) past_deck slot }
 {
-    card.past_deck && is_gone_before(other.gone_after, card.number)
-}
-
-// Two places clash.
-pub fn is_clash(a: &DealtCard, b: &DealtCard) -> bool
-    ensures { result ≡ taken.is_clash (place_of a.now) (place_of b.now) }
-{
-    !(may_repeat(a, b) || may_repeat(b, a)) && is_one_card(a.slot, b.slot)
+    match slot {
+        Slot::Known(card) => !table.in_deck(card) || lies(rows, past_deck, card),
+        Slot::Unknown => false,
+    }
 }
 
 // A place bears the card, and is not gone where it is dealt past the deck.
@@ -49,26 +56,13 @@ fn lies(rows: &[DealtCard], past_deck: bool, card: Card) -> bool
     }
 }
 
-// The slot may not be dealt behind these places.
-fn is_taken(table: &DealTable, rows: &[DealtCard], past_deck: bool, slot: Slot) -> bool
-    ensures { result ≡ taken.is_taken table.now.code (map place_of rows.now) past_deck slot }
+// A card that is dealt now on this street is dealt past the deck.
+pub fn is_past_deck(table: &DealTable, rows: &[DealtCard], street: u8) -> bool
+    requires { length rows.now ≤ 120 }
+    ensures { result ≡ places.is_past_deck table.now.code (map place_of rows.now) street }
 {
-    match slot {
-        Slot::Known(card) => !table.in_deck(card) || lies(rows, past_deck, card),
-        Slot::Unknown => false,
-    }
-}
-
-// One of the slots may not be dealt behind these places.
-fn some_taken(table: &DealTable, rows: &[DealtCard], past_deck: bool, slots: &[Slot]) -> bool
-    ensures { result ≡ list_any (taken.is_taken table.now.code
-        (map place_of rows.now) past_deck) slots.now }
-{
-    match slots {
-        [] => false,
-        [slot, rest @ ..] => is_taken(table, rows, past_deck, *slot)
-            || some_taken(table, rows, past_deck, rest),
-    }
+    table.street(street).draws
+        && (table.deck() as usize) < count_before(rows, street) + count_discarded(rows, street)
 }
 
 // How many cards were dealt before the street, and how many were discarded on it.
@@ -99,22 +93,47 @@ fn count_discarded(rows: &[DealtCard], street: u8) -> usize
     count
 }
 
-// A card that is dealt now on this street is dealt past the deck.
-pub fn is_past_deck(table: &DealTable, rows: &[DealtCard], street: u8) -> bool
-    requires { length rows.now ≤ 120 }
-    ensures { result ≡ places.is_past_deck table.now.code (map place_of rows.now) street }
+// A card of the new rows that was not known in the old ones may not lie there, among all these.
+pub fn has_misplaced_card(
+    table: &DealTable,
+    all: &[DealtCard],
+    olds: &[DealtCard],
+    news: &[DealtCard],
+) -> bool
+    ensures { result ≡ list_any (taken.is_misplaced table.now.code (map place_of all.now))
+        (taken.newly_known (map place_of olds.now) (map place_of news.now)) }
 {
-    table.street(street).draws
-        && (table.deck() as usize) < count_before(rows, street) + count_discarded(rows, street)
+    match olds {
+        [] => false,
+        [old, later_olds @ ..] => match news {
+            [] => false,
+            [new, later_news @ ..] => {
+                is_newly_misplaced(table, all, old, new)
+                    || has_misplaced_card(table, all, later_olds, later_news)
+            }
+        },
+    }
 }
 
-// One of the slots may not be dealt on this street.
-pub fn has_taken_card(table: &DealTable, rows: &[DealtCard], street: u8, slots: &[Slot]) -> bool
-    requires { length rows.now ≤ 120 }
-    ensures { result ≡ taken.has_taken_card table.now.code
-        (map place_of rows.now) street slots.now }
+// A card became known that may not lie there.
+fn is_newly_misplaced(
+    table: &DealTable,
+    all: &[DealtCard],
+    old: &DealtCard,
+    new: &DealtCard,
+) -> bool
+    ensures { result ≡ ((known.is_unknown old.now.slot && not (known.is_unknown new.now.slot))
+        && taken.is_misplaced table.now.code (map place_of all.now) (place_of new.now)) }
 {
-    some_taken(table, rows, is_past_deck(table, rows, street), slots) || has_repeat(slots)
+    is_unknown(old.slot) && !is_unknown(new.slot) && is_misplaced(table, all, new)
+}
+
+// A place may not bear its card among these.
+fn is_misplaced(table: &DealTable, rows: &[DealtCard], card: &DealtCard) -> bool
+    ensures { result ≡ taken.is_misplaced table.now.code (map place_of rows.now)
+        (place_of card.now) }
+{
+    is_foreign(table, card.slot) || clashes(card, rows)
 }
 
 // The deck lacks the card of a slot.
@@ -138,45 +157,26 @@ fn clashes(card: &DealtCard, rows: &[DealtCard]) -> bool
     }
 }
 
-// A place may not bear its card among these.
-fn is_misplaced(table: &DealTable, rows: &[DealtCard], card: &DealtCard) -> bool
-    ensures { result ≡ taken.is_misplaced table.now.code (map place_of rows.now)
-        (place_of card.now) }
+// Two places clash.
+pub fn is_clash(a: &DealtCard, b: &DealtCard) -> bool
+    ensures { result ≡ taken.is_clash (place_of a.now) (place_of b.now) }
 {
-    is_foreign(table, card.slot) || clashes(card, rows)
+    !(may_repeat(a, b) || may_repeat(b, a)) && is_one_card(a.slot, b.slot)
 }
 
-// A card became known that may not lie there.
-fn is_newly_misplaced(
-    table: &DealTable,
-    all: &[DealtCard],
-    old: &DealtCard,
-    new: &DealtCard,
-) -> bool
-    ensures { result ≡ ((known.is_unknown old.now.slot && not (known.is_unknown new.now.slot))
-        && taken.is_misplaced table.now.code (map place_of all.now) (place_of new.now)) }
+// A place may bear the card of another.
+fn may_repeat(card: &DealtCard, other: &DealtCard) -> bool
+    ensures { result ≡ taken.may_repeat (place_of card.now) (place_of other.now) }
 {
-    is_unknown(old.slot) && !is_unknown(new.slot) && is_misplaced(table, all, new)
+    card.past_deck && is_gone_before(other.gone_after, card.number)
 }
 
-// A card of the new rows that was not known in the old ones may not lie there, among all these.
-pub fn has_misplaced_card(
-    table: &DealTable,
-    all: &[DealtCard],
-    olds: &[DealtCard],
-    news: &[DealtCard],
-) -> bool
-    ensures { result ≡ list_any (taken.is_misplaced table.now.code (map place_of all.now))
-        (taken.newly_known (map place_of olds.now) (map place_of news.now)) }
+// The card was gone before so many cards were dealt.
+fn is_gone_before(gone_after: Option<u8>, number: u8) -> bool
+    ensures { result ≡ taken.is_gone_before gone_after number }
 {
-    match olds {
-        [] => false,
-        [old, later_olds @ ..] => match news {
-            [] => false,
-            [new, later_news @ ..] => {
-                is_newly_misplaced(table, all, old, new)
-                    || has_misplaced_card(table, all, later_olds, later_news)
-            }
-        },
+    match gone_after {
+        Some(count) => count <= number,
+        None => false,
     }
 }

@@ -19,35 +19,6 @@ use card_set::{CardRow, SlotRow};
 use chip_ledger::{LiveRow, Seat};
 use play_event::{HandRow, UpRow};
 
-// What an owner has on the table, in the order of dealing.
-fn held_slots(state: &CardState, owner: Option<Seat>) -> SlotRow
-    requires { is_owner state.now.seats (seat_of owner) ≡ true }
-    ensures { slots_of result ≡ held.held_slots (seat_of owner) (placed state.now.places) }
-{
-    let mut slots = SlotRow::new();
-    for card in state.places.as_slice() {
-        if card.held_by(owner) {
-            slots.push(card.slot);
-        }
-    }
-    slots
-}
-
-// The up-cards of a seat, in the order of dealing.
-fn up_slots(state: &CardState, seat: Seat) -> SlotRow
-    requires { seat.number ≤ state.now.seats }
-    ensures { slots_of result
-        ≡ places.up_slots state.now.table.code (placed state.now.places) seat.number }
-{
-    let mut slots = SlotRow::new();
-    for card in state.places.as_slice() {
-        if card.held_by(Some(seat)) && state.table.is_up(card) {
-            slots.push(card.slot);
-        }
-    }
-    slots
-}
-
 /// The cards that each seat has, in the order of dealing.
 pub fn hands(state: &CardState) -> HandRow
     requires { state.now.seats ≤ 10 }
@@ -78,6 +49,21 @@ pub fn up(state: &CardState) -> UpRow
     row
 }
 
+// The up-cards of a seat, in the order of dealing.
+fn up_slots(state: &CardState, seat: Seat) -> SlotRow
+    requires { seat.number ≤ state.now.seats }
+    ensures { slots_of result
+        ≡ places.up_slots state.now.table.code (placed state.now.places) seat.number }
+{
+    let mut slots = SlotRow::new();
+    for card in state.places.as_slice() {
+        if card.held_by(Some(seat)) && state.table.is_up(card) {
+            slots.push(card.slot);
+        }
+    }
+    slots
+}
+
 /// The known cards of the board, in the order of dealing.
 pub fn board(state: &CardState) -> CardRow
     ensures { cards_of result
@@ -86,18 +72,18 @@ pub fn board(state: &CardState) -> CardRow
     known(&held_slots(state, None))
 }
 
-// The seat has a card that is unknown.
-fn has_unknown(rows: &[DealtCard], seat: Seat) -> bool
-    ensures { result ≡ list_any
-        (λ place. is_held_by seat.number place && known.is_unknown place.slot)
-        (map place_of rows.now) }
+// What an owner has on the table, in the order of dealing.
+fn held_slots(state: &CardState, owner: Option<Seat>) -> SlotRow
+    requires { is_owner state.now.seats (seat_of owner) ≡ true }
+    ensures { slots_of result ≡ held.held_slots (seat_of owner) (placed state.now.places) }
 {
-    for card in rows {
-        if card.held_by(Some(seat)) && is_unknown(card.slot) {
-            return true;
+    let mut slots = SlotRow::new();
+    for card in state.places.as_slice() {
+        if card.held_by(owner) {
+            slots.push(card.slot);
         }
     }
-    false
+    slots
 }
 
 /// Which seats have a card that is unknown.
@@ -115,4 +101,18 @@ pub fn unknown(state: &CardState) -> LiveRow
         row.set(seat, has_unknown(state.places.as_slice(), seat));
     }
     row
+}
+
+// The seat has a card that is unknown.
+fn has_unknown(rows: &[DealtCard], seat: Seat) -> bool
+    ensures { result ≡ list_any
+        (λ place. is_held_by seat.number place && known.is_unknown place.slot)
+        (map place_of rows.now) }
+{
+    for card in rows {
+        if card.held_by(Some(seat)) && is_unknown(card.slot) {
+            return true;
+        }
+    }
+    false
 }

@@ -1,4 +1,4 @@
-// A card is a rank and a suit; a slot holds a card that is known, or one that is not.
+//! A card is a rank and a suit; a slot holds a card that is known, or one that is not.
 
 /// The thirteen ranks, from the lowest to the ace.
 #[derive(Clone, Copy, Debug, PartialEq, Eq, PartialOrd, Ord, Hash)]

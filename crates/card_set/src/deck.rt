@@ -1,4 +1,4 @@
-// Each card has a place in the deck: by rank from the lowest, and then by suit c, d, h, s.
+//! Each card has a place in the deck: by rank from the lowest, and then by suit c, d, h, s.
 ghost use Rattle.std.specs.Prelude.{◌≡◌, ◌<◌, slice_get, unwrap_or};
 ghost use Rattle.card_set.specs.declared.card.Rank.TheVariants as ranks;
 ghost use Rattle.card_set.specs.declared.card.Suit.TheVariants as suits;

@@ -1,4 +1,4 @@
-// Want of memory is one fault, the same in every crate.
+//! Want of memory is one fault, the same in every crate.
 use std::alloc::{AllocError, AllocFailed};
 
 /// There was not enough memory. It has no cause beyond that.

@@ -1,4 +1,4 @@
-// Which of the cards that a seat holds, and of those on the board, make its hand.
+//! Which of the cards that a seat holds, and of those on the board, make its hand.
 
 /// Which choices of cards a holding allows.
 #[derive(Clone, Copy, Debug, PartialEq, Eq)]

@@ -1,4 +1,4 @@
-// A set of cards is 52 bits of one number: a suit's thirteen ranks stand side by side.
+//! A set of cards is 52 bits of one number: a suit's thirteen ranks stand side by side.
 ghost use Rattle.std.specs.Prelude.{◌<◌, ◌^◌};
 
 use crate::card::{Card, Suit};
@@ -22,13 +22,6 @@ impl CardSet {
     ghost use Rattle.card_set.specs.Deck.{ranks_below};
     ghost use Rattle.card_set.specs.Row.{cards_of};
 
-    /// The set without cards.
-    pub fn empty() -> Self
-        ensures { (card : Card) → is_in result card ≡ false }
-    {
-        CardSet { bits: 0 }
-    }
-
     /// The set of the row's cards.
     pub fn of(row: &CardRow) -> Self
         ensures { (card : Card) → is_in result card ≡ is_one_of card (cards_of row.now) }
@@ -40,11 +33,11 @@ impl CardSet {
         set
     }
 
-    /// Whether the card is in the set.
-    pub fn has(&self, card: Card) -> bool
-        ensures { result ≡ is_in self.now card }
+    /// The set without cards.
+    pub fn empty() -> Self
+        ensures { (card : Card) → is_in result card ≡ false }
     {
-        self.bits >> Self::place_among_bits(card) & 1 == 1
+        CardSet { bits: 0 }
     }
 
     /// Puts the card into the set; one that is in it stays.
@@ -94,6 +87,13 @@ impl CardSet {
             }
         }
         row
+    }
+
+    /// Whether the card is in the set.
+    pub fn has(&self, card: Card) -> bool
+        ensures { result ≡ is_in self.now card }
+    {
+        self.bits >> Self::place_among_bits(card) & 1 == 1
     }
 
     // The place of a card among the bits of a set.

@@ -1,4 +1,4 @@
-// A card is spelled by the letter of its rank and the letter of its suit, an unknown one by two question marks.
+//! A card is spelled by the letter of its rank and the letter of its suit, an unknown one by two question marks.
 ghost use Rattle.std.specs.Prelude.{◌≡◌, ◌%◌, ◌≤◌, List, [], ◌∷◌, length, IfOk, IfErr, IfSome, IfNone, IsOkAnd};
 ghost use Rattle.card_set.specs.declared.card.Rank.{Rank};
 ghost use Rattle.card_set.specs.declared.card.Suit.{Suit};
@@ -29,6 +29,37 @@ pub fn slot_text(slot: Slot) -> [u8; 2]
     match slot {
         Slot::Known(card) => [letter_of_rank(card.rank), letter_of_suit(card.suit)],
         Slot::Unknown => [b'?', b'?'],
+    }
+}
+
+fn letter_of_rank(rank: Rank) -> u8
+    ensures { result ≡ rank_letter rank }
+{
+    match rank {
+        Rank::Two => b'2',
+        Rank::Three => b'3',
+        Rank::Four => b'4',
+        Rank::Five => b'5',
+        Rank::Six => b'6',
+        Rank::Seven => b'7',
+        Rank::Eight => b'8',
+        Rank::Nine => b'9',
+        Rank::Ten => b'T',
+        Rank::Jack => b'J',
+        Rank::Queen => b'Q',
+        Rank::King => b'K',
+        Rank::Ace => b'A',
+    }
+}
+
+fn letter_of_suit(suit: Suit) -> u8
+    ensures { result ≡ suit_letter suit }
+{
+    match suit {
+        Suit::C => b'c',
+        Suit::D => b'd',
+        Suit::H => b'h',
+        Suit::S => b's',
     }
 }
 
@@ -95,37 +126,6 @@ fn read_slot(first: u8, second: u8) -> Result<Slot, CardFault>
         return Err(CardFault::BadSuit)
     };
     Ok(Slot::Known(Card { rank, suit }))
-}
-
-fn letter_of_rank(rank: Rank) -> u8
-    ensures { result ≡ rank_letter rank }
-{
-    match rank {
-        Rank::Two => b'2',
-        Rank::Three => b'3',
-        Rank::Four => b'4',
-        Rank::Five => b'5',
-        Rank::Six => b'6',
-        Rank::Seven => b'7',
-        Rank::Eight => b'8',
-        Rank::Nine => b'9',
-        Rank::Ten => b'T',
-        Rank::Jack => b'J',
-        Rank::Queen => b'Q',
-        Rank::King => b'K',
-        Rank::Ace => b'A',
-    }
-}
-
-fn letter_of_suit(suit: Suit) -> u8
-    ensures { result ≡ suit_letter suit }
-{
-    match suit {
-        Suit::C => b'c',
-        Suit::D => b'd',
-        Suit::H => b'h',
-        Suit::S => b's',
-    }
 }
 
 fn rank_of(letter: u8) -> Option<Rank>

@@ -84,14 +84,6 @@ impl LiveRow {
         }
     }
 
-    /// The seat's flag.
-    pub fn get(&self, seat: Seat) -> bool
-        requires { seat.number ≤ self.now.seats }
-        ensures { result ≡ flag_of self.now seat.number }
-    {
-        self.flags[seat.number as usize - 1]
-    }
-
     /// Gives the seat this flag.
     pub fn set(&mut self, seat: Seat, flag: bool)
         requires { seat.number ≤ self.old.seats }
@@ -115,5 +107,13 @@ impl LiveRow {
             }
         }
         false
+    }
+
+    /// The seat's flag.
+    pub fn get(&self, seat: Seat) -> bool
+        requires { seat.number ≤ self.now.seats }
+        ensures { result ≡ flag_of self.now seat.number }
+    {
+        self.flags[seat.number as usize - 1]
     }
 }

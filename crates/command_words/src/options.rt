@@ -55,6 +55,34 @@ pub fn read_options(words: &[String]) -> Option<Options<'_>>
     Some(options)
 }
 
+// The name and the value of `--name` or `--name=value`.
+fn long_word(word: &str) -> Option<(&str, Option<&str>)>
+    ensures { option_map (λ p. (p.0.now, option_map (λ s. s.now) p.1)) result ≡ long_of word.now }
+{
+    let rest = strip_hyphen(strip_hyphen(word)?)?;
+    if rest.is_empty() {
+        return None;
+    }
+    Some(split_value(rest))
+}
+
+// What follows a first hyphen.
+fn strip_hyphen(word: &str) -> Option<&str>
+    ensures { option_map (λ s. s.now) result ≡ strip_byte 45 word.now }
+{
+    word.strip_prefix('-')
+}
+
+// What stands before the first `=`, and what stands after it if there is one.
+fn split_value(text: &str) -> (&str, Option<&str>)
+    ensures { (result.0.now, option_map (λ s. s.now) result.1) ≡ name_and_value text.now }
+{
+    match text.split_once('=') {
+        Some((name, value)) => (name, Some(value)),
+        None => (text, None),
+    }
+}
+
 // The options with one more.
 fn with_option<'a>(options: Options<'a>, name: &str, value: &'a str) -> Option<Options<'a>>
     ensures { option_map options_in result
@@ -100,32 +128,4 @@ fn with_flag<'a>(options: Options<'a>) -> Option<Options<'a>>
         drops_notes: true,
         ..options
     })
-}
-
-// The name and the value of `--name` or `--name=value`.
-fn long_word(word: &str) -> Option<(&str, Option<&str>)>
-    ensures { option_map (λ p. (p.0.now, option_map (λ s. s.now) p.1)) result ≡ long_of word.now }
-{
-    let rest = strip_hyphen(strip_hyphen(word)?)?;
-    if rest.is_empty() {
-        return None;
-    }
-    Some(split_value(rest))
-}
-
-// What follows a first hyphen.
-fn strip_hyphen(word: &str) -> Option<&str>
-    ensures { option_map (λ s. s.now) result ≡ strip_byte 45 word.now }
-{
-    word.strip_prefix('-')
-}
-
-// What stands before the first `=`, and what stands after it if there is one.
-fn split_value(text: &str) -> (&str, Option<&str>)
-    ensures { (result.0.now, option_map (λ s. s.now) result.1) ≡ name_and_value text.now }
-{
-    match text.split_once('=') {
-        Some((name, value)) => (name, Some(value)),
-        None => (text, None),
-    }
 }

@@ -38,21 +38,6 @@ fn request_in_words(words: &[String]) -> Option<Request<'_>>
     request_of(word.as_str(), options)
 }
 
-// The options that the parser found.
-fn options_found<'a>(matches: &ArgMatches<'a>) -> Options<'a>
-    ensures { (options : OptionsSaid) → AreFound (found_of matches.now) options
-        → options_in result ≡ options }
-{
-    Options {
-        from: matches.get_str("from"),
-        to: matches.get_str("to"),
-        game: matches.get_str("game"),
-        seed: matches.get_str("seed"),
-        hands: matches.get_str("hands"),
-        drops_notes: matches.get_flag("drop-notes"),
-    }
-}
-
 // The words of a command, by the names of what they are. They are refused only for want of memory.
 fn parsed<'a>(alloc: Global, words: &'a [String]) -> Result<ArgMatches<'a>, Memory>
     requires { is_some (request_said (map string_bytes words.now)) ≡ true }
@@ -81,4 +66,19 @@ fn option<'a>(alloc: Global, name: &'a str) -> Arg<'a>
     ensures local { result.global ≡ false }
 {
     Arg::new(alloc, name).long(name)
+}
+
+// The options that the parser found.
+fn options_found<'a>(matches: &ArgMatches<'a>) -> Options<'a>
+    ensures { (options : OptionsSaid) → AreFound (found_of matches.now) options
+        → options_in result ≡ options }
+{
+    Options {
+        from: matches.get_str("from"),
+        to: matches.get_str("to"),
+        game: matches.get_str("game"),
+        seed: matches.get_str("seed"),
+        hands: matches.get_str("hands"),
+        drops_notes: matches.get_flag("drop-notes"),
+    }
 }

@@ -92,16 +92,11 @@ fn conversion<'a>(options: Options<'a>) -> Option<Request<'a>>
     Some(Request::Convert { from, to, keep })
 }
 
-// Hands are made from a seed.
-fn load<'a>(options: Options<'a>) -> Option<Request<'a>>
-    ensures { option_map request_in result ≡ load_said (options_in options.entry) }
+// Whether an option of hands that are made is given.
+fn has_number(options: Options<'_>) -> bool
+    ensures { result ≡ has_number_said (options_in options.entry) }
 {
-    if has_input(options) || has_output(options) {
-        return None;
-    }
-    let seed = read_seed(options.seed?)?;
-    let hands = read_count(options.hands?)?;
-    Some(Request::Load { seed, hands })
+    options.seed.is_some() || options.hands.is_some()
 }
 
 // Which notes are kept, as the flag stands.
@@ -113,6 +108,18 @@ fn keep_of(drops_notes: bool) -> Keep
     } else {
         Keep::All
     }
+}
+
+// Hands are made from a seed.
+fn load<'a>(options: Options<'a>) -> Option<Request<'a>>
+    ensures { option_map request_in result ≡ load_said (options_in options.entry) }
+{
+    if has_input(options) || has_output(options) {
+        return None;
+    }
+    let seed = read_seed(options.seed?)?;
+    let hands = read_count(options.hands?)?;
+    Some(Request::Load { seed, hands })
 }
 
 // Whether an option of what is read is given.
@@ -127,11 +134,4 @@ fn has_output(options: Options<'_>) -> bool
     ensures { result ≡ has_output_said (options_in options.entry) }
 {
     options.to.is_some() || options.drops_notes
-}
-
-// Whether an option of hands that are made is given.
-fn has_number(options: Options<'_>) -> bool
-    ensures { result ≡ has_number_said (options_in options.entry) }
-{
-    options.seed.is_some() || options.hands.is_some()
 }

@@ -20,6 +20,14 @@ pub fn read_hands(alloc: Global, from: &str, bytes: &[u8]) -> Option<usize> {
     }
 }
 
+// How many hands bytes say.
+fn count_hands<N: Notation>(alloc: Global, from: &N, bytes: &[u8]) -> Option<usize> {
+    match from.read(alloc, bytes) {
+        Ok(records) => Some(records.len()),
+        Err(_) => None,
+    }
+}
+
 /// How many bytes the hands have in the notation of the second name. They are read and replayed once, and written so many
 /// times.
 pub fn write_hands(alloc: Global, from: &str, to: &str, times: u32, bytes: &[u8]) -> Option<usize> {
@@ -28,27 +36,6 @@ pub fn write_hands(alloc: Global, from: &str, to: &str, times: u32, bytes: &[u8]
         "ohh" => write_from(alloc, &added(), to, times, bytes),
         "acpc" => write_from(alloc, &game_log(alloc)?, to, times, bytes),
         _ => None,
-    }
-}
-
-// Open Hand History, in the dialect in which a raise adds its amount.
-fn added() -> Ohh {
-    Ohh {
-        dialect: Dialect::Added,
-    }
-}
-
-// The logs of the game.
-fn game_log(alloc: Global) -> Option<Acpc> {
-    let game: Option<Game> = read_game(alloc, GAME).ok();
-    game.map(|game| Acpc { game })
-}
-
-// How many hands bytes say.
-fn count_hands<N: Notation>(alloc: Global, from: &N, bytes: &[u8]) -> Option<usize> {
-    match from.read(alloc, bytes) {
-        Ok(records) => Some(records.len()),
-        Err(_) => None,
     }
 }
 
@@ -88,4 +75,17 @@ fn write_times<N: Notation, M: Notation>(
         }
     }
     Some(written)
+}
+
+// Open Hand History, in the dialect in which a raise adds its amount.
+fn added() -> Ohh {
+    Ohh {
+        dialect: Dialect::Added,
+    }
+}
+
+// The logs of the game.
+fn game_log(alloc: Global) -> Option<Acpc> {
+    let game: Option<Game> = read_game(alloc, GAME).ok();
+    game.map(|game| Acpc { game })
 }

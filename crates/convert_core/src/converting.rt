@@ -13,34 +13,6 @@ use crate::notation::Notation;
 use hand_records::{Keep, Play, WriteRefusal};
 use std::alloc::Global;
 
-/// The plays that bytes read as: each record with the trace that its script comes to.
-///
-/// # Errors
-///
-/// The first fault of the bytes; or else the first refused hand, with what is wrong with it first; or want of memory.
-pub fn plays<N: Notation>(alloc: Global, from: &N, bytes: &[u8]) -> Result<Vec<Play>, ConvertFault>
-    ensures plays { IfOk result (λ plays. ReadAsPlays (N.Say from.now bytes.now) plays.items) }
-    ensures sound { IfOk result (λ plays. AllByRecursion IsSound plays.items) }
-    ensures few { IfOk result (λ plays. AreFew plays.items) }
-    ensures refused { IfErr result (IsPlaysRefusal (N.Say from.now bytes.now)
-        (N.HaveFault from.now bytes.now)) }
-{
-    let records = match from.read(alloc, bytes) {
-        Ok(records) => records,
-        Err(fault) => {
-            if fault.is_memory() {
-                return Err(ConvertFault::Memory);
-            }
-            return Err(ConvertFault::Format(fault));
-        }
-    };
-    match plays_of(alloc, records) {
-        Ok(plays) => Ok(plays),
-        Err(PlaysFault::Refused { hand, why }) => Err(ConvertFault::Refused { hand, why }),
-        Err(PlaysFault::Memory) => Err(ConvertFault::Memory),
-    }
-}
-
 /// The bytes of the plays in another notation, if each fact to be kept has a spelling there. They read back as hands with the
 /// same traces and the kept notes.
 ///
@@ -66,5 +38,33 @@ pub fn convert<N: Notation, M: Notation>(
         Ok(output) => Ok(output),
         Err(WriteRefusal::Unspelled { hand, fact }) => Err(ConvertFault::Unspelled { hand, fact }),
         Err(WriteRefusal::Memory) => Err(ConvertFault::Memory),
+    }
+}
+
+/// The plays that bytes read as: each record with the trace that its script comes to.
+///
+/// # Errors
+///
+/// The first fault of the bytes; or else the first refused hand, with what is wrong with it first; or want of memory.
+pub fn plays<N: Notation>(alloc: Global, from: &N, bytes: &[u8]) -> Result<Vec<Play>, ConvertFault>
+    ensures plays { IfOk result (λ plays. ReadAsPlays (N.Say from.now bytes.now) plays.items) }
+    ensures sound { IfOk result (λ plays. AllByRecursion IsSound plays.items) }
+    ensures few { IfOk result (λ plays. AreFew plays.items) }
+    ensures refused { IfErr result (IsPlaysRefusal (N.Say from.now bytes.now)
+        (N.HaveFault from.now bytes.now)) }
+{
+    let records = match from.read(alloc, bytes) {
+        Ok(records) => records,
+        Err(fault) => {
+            if fault.is_memory() {
+                return Err(ConvertFault::Memory);
+            }
+            return Err(ConvertFault::Format(fault));
+        }
+    };
+    match plays_of(alloc, records) {
+        Ok(plays) => Ok(plays),
+        Err(PlaysFault::Refused { hand, why }) => Err(ConvertFault::Refused { hand, why }),
+        Err(PlaysFault::Memory) => Err(ConvertFault::Memory),
     }
 }

@@ -61,6 +61,34 @@ impl<V: Variant> Cards<V> {
         }
     }
 
+    /// Deals hole cards or board cards. Illegal exactly by the rules of play; the state is then as it was.
+    pub fn deal(&mut self, due: Due, live: &LiveRow, event: &Event) -> Result<(), Illegal>
+        requires kind { is_deal (said_of event.now) ≡ true }
+        requires due { IsDueWithin V.STREETS due }
+        requires live { live.now.seats ≡ self.old.state.seats }
+        ensures legal { (setup : Setup) (rules : Rules) (past : Past)
+            → IsNow self.old.state due live.now setup past
+            → OnOk result (why setup rules past (said_of event.now) ≡ None) }
+        ensures illegal { (setup : Setup) (rules : Rules) (past : Past)
+            → IsNow self.old.state due live.now setup past
+            → IfErr result (λ reason. why setup rules past (said_of event.now) ≡ Some reason) }
+        ensures stands { (setup : Setup) (past : Past)
+            → IsNow self.old.state due live.now setup past
+            → OnOk result (StandsFor self.new.state (with_event setup (said_of event.now) past)) }
+        ensures unchanged { OnErr result (self.new ≡ self.old) }
+        ensures seats { self.new.state.seats ≡ self.old.state.seats }
+    {
+        match event.kind {
+            Kind::Hole { seat, cards } => self.deal_hole(due, live, seat, cards.as_slice()),
+            Kind::Board { cards } => {
+                let known = slots(&cards);
+                self.deal_board(due, known.as_slice())
+            }
+            // The condition leaves no other kind.
+            _ => Err(Illegal::WrongKind),
+        }
+    }
+
     // Deals hole cards to a seat, where it may have them.
     fn deal_hole(
         &mut self,
@@ -115,9 +143,9 @@ impl<V: Variant> Cards<V> {
         }
     }
 
-    /// Deals hole cards or board cards. Illegal exactly by the rules of play; the state is then as it was.
-    pub fn deal(&mut self, due: Due, live: &LiveRow, event: &Event) -> Result<(), Illegal>
-        requires kind { is_deal (said_of event.now) ≡ true }
+    /// Discards cards of a seat that draws. Illegal exactly by the rules of play; the state is then as it was.
+    pub fn discard(&mut self, due: Due, live: &LiveRow, event: &Event) -> Result<(), Illegal>
+        requires kind { is_discard (said_of event.now) ≡ true }
         requires due { IsDueWithin V.STREETS due }
         requires live { live.now.seats ≡ self.old.state.seats }
         ensures legal { (setup : Setup) (rules : Rules) (past : Past)
@@ -133,11 +161,7 @@ impl<V: Variant> Cards<V> {
         ensures seats { self.new.state.seats ≡ self.old.state.seats }
     {
         match event.kind {
-            Kind::Hole { seat, cards } => self.deal_hole(due, live, seat, cards.as_slice()),
-            Kind::Board { cards } => {
-                let known = slots(&cards);
-                self.deal_board(due, known.as_slice())
-            }
+            Kind::Discard { seat, cards } => self.discard_of(due, live, seat, &cards),
             // The condition leaves no other kind.
             _ => Err(Illegal::WrongKind),
         }
@@ -176,16 +200,23 @@ impl<V: Variant> Cards<V> {
         }
     }
 
-    /// Discards cards of a seat that draws. Illegal exactly by the rules of play; the state is then as it was.
-    pub fn discard(&mut self, due: Due, live: &LiveRow, event: &Event) -> Result<(), Illegal>
-        requires kind { is_discard (said_of event.now) ≡ true }
-        requires due { IsDueWithin V.STREETS due }
+    /// Shows or mucks the cards of a seat. Illegal exactly by the rules of play; the state is then as it was.
+    pub fn show(
+        &mut self,
+        due: Due,
+        live: &LiveRow,
+        settled: bool,
+        event: &Event,
+    ) -> Result<(), Illegal>
+        requires kind { is_showing (said_of event.now) ≡ true }
         requires live { live.now.seats ≡ self.old.state.seats }
         ensures legal { (setup : Setup) (rules : Rules) (past : Past)
             → IsNow self.old.state due live.now setup past
+            → is_settled setup (moves_of past) (turn setup past) ≡ settled
             → OnOk result (why setup rules past (said_of event.now) ≡ None) }
         ensures illegal { (setup : Setup) (rules : Rules) (past : Past)
             → IsNow self.old.state due live.now setup past
+            → is_settled setup (moves_of past) (turn setup past) ≡ settled
             → IfErr result (λ reason. why setup rules past (said_of event.now) ≡ Some reason) }
         ensures stands { (setup : Setup) (past : Past)
             → IsNow self.old.state due live.now setup past
@@ -194,7 +225,8 @@ impl<V: Variant> Cards<V> {
         ensures seats { self.new.state.seats ≡ self.old.state.seats }
     {
         match event.kind {
-            Kind::Discard { seat, cards } => self.discard_of(due, live, seat, &cards),
+            Kind::Show { seat, cards } => self.show_of(due, live, settled, seat, &cards),
+            Kind::Muck { seat } => self.muck_of(due, live, seat),
             // The condition leaves no other kind.
             _ => Err(Illegal::WrongKind),
         }
@@ -250,38 +282,6 @@ impl<V: Variant> Cards<V> {
                 set_muck(&mut self.state, seat);
                 Ok(())
             }
-        }
-    }
-
-    /// Shows or mucks the cards of a seat. Illegal exactly by the rules of play; the state is then as it was.
-    pub fn show(
-        &mut self,
-        due: Due,
-        live: &LiveRow,
-        settled: bool,
-        event: &Event,
-    ) -> Result<(), Illegal>
-        requires kind { is_showing (said_of event.now) ≡ true }
-        requires live { live.now.seats ≡ self.old.state.seats }
-        ensures legal { (setup : Setup) (rules : Rules) (past : Past)
-            → IsNow self.old.state due live.now setup past
-            → is_settled setup (moves_of past) (turn setup past) ≡ settled
-            → OnOk result (why setup rules past (said_of event.now) ≡ None) }
-        ensures illegal { (setup : Setup) (rules : Rules) (past : Past)
-            → IsNow self.old.state due live.now setup past
-            → is_settled setup (moves_of past) (turn setup past) ≡ settled
-            → IfErr result (λ reason. why setup rules past (said_of event.now) ≡ Some reason) }
-        ensures stands { (setup : Setup) (past : Past)
-            → IsNow self.old.state due live.now setup past
-            → OnOk result (StandsFor self.new.state (with_event setup (said_of event.now) past)) }
-        ensures unchanged { OnErr result (self.new ≡ self.old) }
-        ensures seats { self.new.state.seats ≡ self.old.state.seats }
-    {
-        match event.kind {
-            Kind::Show { seat, cards } => self.show_of(due, live, settled, seat, &cards),
-            Kind::Muck { seat } => self.muck_of(due, live, seat),
-            // The condition leaves no other kind.
-            _ => Err(Illegal::WrongKind),
         }
     }
 

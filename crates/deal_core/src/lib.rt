@@ -2,6 +2,7 @@
 #![tactic(auto)]
 
 mod cards;
-pub mod laws;
+mod laws;
 
 pub use cards::Cards;
+pub use laws::moves_leave_cards;

@@ -101,6 +101,14 @@ fn differing_finish(trace: &Trace, row: &SeatRow, seat: Seat) -> Option<FactDiff
     )
 }
 
+// The finishing stack of a seat.
+fn finish(trace: &Trace, seat: Seat) -> u64
+    ensures stack { result ≡ amount_of trace.now.finish seat.number }
+    ensures bounded { result ≤ MOST_AMOUNT }
+{
+    trace.finish.amounts[seat.number as usize - 1]
+}
+
 // The first stated win that differs.
 fn first_win(trace: &Trace, row: Option<SeatRow>) -> Option<FactDiffers>
     requires { ForSome row (λ row. row.seats ≡ trace.now.setup.stacks.seats) }
@@ -132,6 +140,18 @@ fn differing_win(trace: &Trace, row: &SeatRow, seat: Seat) -> Option<FactDiffers
     )
 }
 
+// What a seat wins of the pots: its shares together.
+fn win(trace: &Trace, seat: Seat) -> u64
+    ensures won { result ≡ win_of trace.now seat.number }
+    ensures bounded { result ≤ 11 * MOST_AMOUNT }
+{
+    let mut all = 0;
+    for share in &trace.shares.shares[..trace.shares.count as usize] {
+        all += share.amounts[seat.number as usize - 1];
+    }
+    all
+}
+
 // The stated total of the pots, if it differs.
 fn differing_total(trace: &Trace, total: Option<u64>) -> Option<FactDiffers>
     requires pots { HasBoundedPots trace.now }
@@ -143,6 +163,27 @@ fn differing_total(trace: &Trace, total: Option<u64>) -> Option<FactDiffers>
         return None;
     };
     compare(Which::Pots, signed(total), signed(pot_total(trace)))
+}
+
+// Chips as a number with a sign.
+fn signed(chips: u64) -> i64
+    requires { chips ≤ 11 * MOST_AMOUNT }
+    ensures { result ≡ pos chips }
+{
+    chips as i64
+}
+
+// All pots together.
+fn pot_total(trace: &Trace) -> u64
+    requires { HasBoundedPots trace.now }
+    ensures sum { result ≡ pot_total_of trace.now }
+    ensures bounded { result ≤ 11 * MOST_AMOUNT }
+{
+    let mut all = 0;
+    for pot in &trace.pots.pots[..trace.pots.count as usize] {
+        all += pot.chips;
+    }
+    all
 }
 
 // The first stated value that differs.
@@ -185,47 +226,6 @@ fn compare(which: Which, stated: i64, replayed: i64) -> Option<FactDiffers>
         stated,
         replayed,
     })
-}
-
-// Chips as a number with a sign.
-fn signed(chips: u64) -> i64
-    requires { chips ≤ 11 * MOST_AMOUNT }
-    ensures { result ≡ pos chips }
-{
-    chips as i64
-}
-
-// The finishing stack of a seat.
-fn finish(trace: &Trace, seat: Seat) -> u64
-    ensures stack { result ≡ amount_of trace.now.finish seat.number }
-    ensures bounded { result ≤ MOST_AMOUNT }
-{
-    trace.finish.amounts[seat.number as usize - 1]
-}
-
-// What a seat wins of the pots: its shares together.
-fn win(trace: &Trace, seat: Seat) -> u64
-    ensures won { result ≡ win_of trace.now seat.number }
-    ensures bounded { result ≤ 11 * MOST_AMOUNT }
-{
-    let mut all = 0;
-    for share in &trace.shares.shares[..trace.shares.count as usize] {
-        all += share.amounts[seat.number as usize - 1];
-    }
-    all
-}
-
-// All pots together.
-fn pot_total(trace: &Trace) -> u64
-    requires { HasBoundedPots trace.now }
-    ensures sum { result ≡ pot_total_of trace.now }
-    ensures bounded { result ≤ 11 * MOST_AMOUNT }
-{
-    let mut all = 0;
-    for pot in &trace.pots.pots[..trace.pots.count as usize] {
-        all += pot.chips;
-    }
-    all
 }
 
 // The finishing stack of a seat less its starting stack.

@@ -1,4 +1,4 @@
-// Which seats have folded, by the moves of a trace.
+//! Which seats have folded, by the moves of a trace.
 ghost use Rattle.std.specs.Prelude.{◌≡◌, ◌≤◌, ℕ, ◌&&◌, ◌||◌};
 ghost use Rattle.std.specs.List.{list_any};
 ghost use Rattle.chip_ledger.specs.LiveRow.{flag_of};

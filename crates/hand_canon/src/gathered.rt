@@ -1,4 +1,4 @@
-// The cards of a trace that were dealt on one street, or discarded in one draw, owner by owner.
+//! The cards of a trace that were dealt on one street, or discarded in one draw, owner by owner.
 ghost use Rattle.std.specs.Prelude.{◌≡◌, ◌≤◌, ℕ, ◌+◌, ◌++◌, Some, None, length, map};
 ghost use Rattle.card_set.specs.Row.{slots_of};
 ghost use Rattle.play_event.specs.SeatSlots.{slots_of_hand};

@@ -1,4 +1,4 @@
-// The events of a script that is being written have the numbers 1, 2 and so on.
+//! The events of a script that is being written have the numbers 1, 2 and so on.
 ghost use Rattle.std.specs.Prelude.{◌≡◌, [], ◌∷◌, ◌++◌, ◌+◌, OnOk};
 ghost use Rattle.play_event.specs.Said.{kind_said};
 ghost use Rattle.hand_canon.specs.Numbers.{AreNumbered, number_of};

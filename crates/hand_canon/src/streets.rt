@@ -1,4 +1,4 @@
-// How many streets a game has, and which of them draw.
+//! How many streets a game has, and which of them draw.
 ghost use Rattle.std.specs.Prelude.{◌≡◌, ◌≤◌};
 ghost use Rattle.play_event.specs.Games.{street_count};
 ghost use Rattle.play_event.specs.Streets.{has_draw};

@@ -1,4 +1,4 @@
-// Hands are dealt in the order of the deck, so the cards of a hand are all different.
+//! Hands are dealt in the order of the deck, so the cards of a hand are all different.
 ghost use Rattle.std.specs.Prelude.{◌<◌, ◌≤◌, IfSome};
 ghost use Rattle.card_set.specs.Row.{cards_of};
 ghost use Rattle.hand_counts.specs.Dealt.{AreDealt};

@@ -1,4 +1,4 @@
-// For timing: hands that are spread over the deck are scored, and their points added up.
+//! For timing: hands that are spread over the deck are scored, and their points added up.
 ghost use Rattle.std.specs.Prelude.{◌≤◌, length};
 ghost use Rattle.card_set.specs.Different.{AllDifferent};
 ghost use Rattle.card_set.specs.Row.{cards_of};

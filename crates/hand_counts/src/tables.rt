@@ -1,4 +1,4 @@
-// For each order: the least hand of each class, and the counts of all hands.
+//! For each order: the least hand of each class, and the counts of all hands.
 ghost use Rattle.std.specs.Prelude.{◌≤◌};
 
 use crate::dealing::{count_hands, hand_of};

@@ -1,4 +1,4 @@
-// A tally counts hands by the least hand of each class, and the different scores among them.
+//! A tally counts hands by the least hand of each class, and the different scores among them.
 use hand_order::Score;
 use std::alloc::{AllocError, Global};
 use std::collections::HashSet;

@@ -1,4 +1,4 @@
-// Which event comes next.
+//! Which event comes next.
 ghost use Rattle.std.specs.Prelude.{◌≡◌};
 ghost use Rattle.play_event.specs.declared.reason.Due.TheVariants as dues;
 ghost use Rattle.replay_core.specs.Told.{WhereTogether};
@@ -13,6 +13,27 @@ use crate::stock::Stock;
 use play_event::{Due, Kind};
 use replay_core::HandInPlay;
 use variant_table::Variant;
+
+/// The event that comes next, if one does. What it takes of the stock is taken.
+pub fn next<V: Variant>(hand: &HandInPlay<V>, stock: &mut Stock) -> Option<Kind>
+    requires seats { hand.now.betting.table.setup.stacks.seats ≡ hand.now.cards.state.seats }
+    ensures event { WhereTogether hand.now.betting.table hand.now.cards.state
+        (λ past. event_said result ≡ (coming hand.now.betting.table.setup
+        hand.now.betting.table.rules past stock.old).event) }
+    ensures left { WhereTogether hand.now.betting.table hand.now.cards.state
+        (λ past. stock.new ≡ (coming hand.now.betting.table.setup
+        hand.now.betting.table.rules past stock.old).left) }
+{
+    let live = hand.betting.live();
+    match hand.betting.due() {
+        Due::Deal(on) => Some(deal(&hand.cards.state, &live, on, stock)),
+        Due::Draw(on) => Some(draw(&hand.cards.state, &live, on, stock)),
+        Due::BringIn => bring_in(hand),
+        Due::Move => acted(hand, stock),
+        Due::Show => None,
+        Due::Over => None,
+    }
+}
 
 // The bring-in of the seat in turn.
 fn bring_in<V: Variant>(hand: &HandInPlay<V>) -> Option<Kind>
@@ -53,26 +74,5 @@ fn acted<V: Variant>(hand: &HandInPlay<V>, stock: &mut Stock) -> Option<Kind>
     match in_turn(&hand.betting, &up) {
         Some(seat) => Some(make_move(&hand.betting, &up, seat, stock)),
         None => None,
-    }
-}
-
-/// The event that comes next, if one does. What it takes of the stock is taken.
-pub fn next<V: Variant>(hand: &HandInPlay<V>, stock: &mut Stock) -> Option<Kind>
-    requires seats { hand.now.betting.table.setup.stacks.seats ≡ hand.now.cards.state.seats }
-    ensures event { WhereTogether hand.now.betting.table hand.now.cards.state
-        (λ past. event_said result ≡ (coming hand.now.betting.table.setup
-        hand.now.betting.table.rules past stock.old).event) }
-    ensures left { WhereTogether hand.now.betting.table hand.now.cards.state
-        (λ past. stock.new ≡ (coming hand.now.betting.table.setup
-        hand.now.betting.table.rules past stock.old).left) }
-{
-    let live = hand.betting.live();
-    match hand.betting.due() {
-        Due::Deal(on) => Some(deal(&hand.cards.state, &live, on, stock)),
-        Due::Draw(on) => Some(draw(&hand.cards.state, &live, on, stock)),
-        Due::BringIn => bring_in(hand),
-        Due::Move => acted(hand, stock),
-        Due::Show => None,
-        Due::Over => None,
     }
 }

@@ -1,4 +1,4 @@
-// The numbers of one play.
+//! The numbers of one play.
 ghost use Rattle.std.specs.Prelude.{◌≡◌, ◌≤◌, ◌*◌, ◌^◌, ◌∷◌, [], Ok, IfOk, length};
 ghost use Rattle.std.specs.List.{AllByRecursion};
 ghost use Rattle.acpc_game.specs.GameView.{game_in};
@@ -16,87 +16,6 @@ use card_set::Memory;
 use hand_records::{Keep, Play, Trace, WriteRefusal};
 use ohh_members::Dialect;
 use std::alloc::Global;
-
-// A hand that is not spelled.
-fn not_spelled() -> Spelled
-    ensures hands { result.hands ≡ 0 }
-    ensures bytes { result.bytes ≡ 0 }
-{
-    Spelled { hands: 0, bytes: 0 }
-}
-
-// A hand that is spelled in so many bytes.
-fn spelled_in(bytes: usize) -> Spelled
-    ensures hands { result.hands ≡ 1 }
-    ensures bytes { result.bytes ≡ bytes }
-{
-    Spelled {
-        hands: 1,
-        bytes: bytes as u128,
-    }
-}
-
-// All pots of a trace together.
-fn pot_total(trace: &Trace) -> u128
-    ensures sum { result ≡ pot_total_of trace.now }
-    ensures few { result ≤ 11 * 2 ^ 64 }
-{
-    let mut all: u128 = 0;
-    for pot in &trace.pots.pots[..trace.pots.count as usize] {
-        all += u128::from(pot.chips);
-    }
-    all
-}
-
-// What Open Hand History spells of a play, which is a file of its own.
-fn in_histories(alloc: Global, file: &[Play]) -> Result<Spelled, Memory>
-    requires sound { AllByRecursion IsSound file.now }
-    requires one { length file.now ≤ 1 }
-    ensures { (play : PlayNow) → file.now ≡ play ∷ [] → IfOk result (IsInHistories play) }
-{
-    match ohh_line::write(alloc, Dialect::Added, file, Keep::All) {
-        Ok(bytes) => Ok(spelled_in(bytes.len())),
-        Err(WriteRefusal::Memory) => Err(Memory),
-        Err(WriteRefusal::Unspelled { hand: _, fact: _ }) => Ok(not_spelled()),
-    }
-}
-
-// What the logs of a game spell of a play, which is a file of its own.
-fn in_logs_of(alloc: Global, game: &Game, file: &[Play]) -> Result<Spelled, Memory>
-    requires sound { AllByRecursion IsSound file.now }
-    requires one { length file.now ≤ 1 }
-    ensures { (play : PlayNow) → file.now ≡ play ∷ []
-        → games.game_of play.trace.setup ≡ Ok (game_in game.now) → IfOk result (IsInLogs play) }
-{
-    match acpc_line::write(alloc, game, file, Keep::All) {
-        Ok(bytes) => Ok(spelled_in(bytes.len())),
-        Err(WriteRefusal::Memory) => Err(Memory),
-        Err(WriteRefusal::Unspelled { hand: _, fact: _ }) => Ok(not_spelled()),
-    }
-}
-
-// What the logs of the game that a play fits spell of it.
-fn in_logs(alloc: Global, play: &Play, file: &[Play]) -> Result<Spelled, Memory>
-    requires sound { AllByRecursion IsSound file.now }
-    requires one { file.now ≡ play.now ∷ [] }
-    ensures { IfOk result (IsInLogs play.now) }
-{
-    match game_of(play) {
-        Ok(game) => in_logs_of(alloc, &game, file),
-        Err(_) => Ok(not_spelled()),
-    }
-}
-
-// How many hands of one the Poker Hand History format spells.
-fn in_tables(play: &Play) -> u128
-    ensures hands { result ≡ hands_spelled (phh.unspelled play.now) }
-    ensures one { result ≤ 1 }
-{
-    match phh_table::spells(play, Keep::All) {
-        Some(_) => 0,
-        None => 1,
-    }
-}
 
 /// The numbers of the only play of a file.
 pub fn counts_of(alloc: Global, file: &[Play]) -> Result<Counts, Memory>
@@ -120,4 +39,85 @@ pub fn counts_of(alloc: Global, file: &[Play]) -> Result<Counts, Memory>
         ohh,
         acpc,
     })
+}
+
+// What Open Hand History spells of a play, which is a file of its own.
+fn in_histories(alloc: Global, file: &[Play]) -> Result<Spelled, Memory>
+    requires sound { AllByRecursion IsSound file.now }
+    requires one { length file.now ≤ 1 }
+    ensures { (play : PlayNow) → file.now ≡ play ∷ [] → IfOk result (IsInHistories play) }
+{
+    match ohh_line::write(alloc, Dialect::Added, file, Keep::All) {
+        Ok(bytes) => Ok(spelled_in(bytes.len())),
+        Err(WriteRefusal::Memory) => Err(Memory),
+        Err(WriteRefusal::Unspelled { hand: _, fact: _ }) => Ok(not_spelled()),
+    }
+}
+
+// What the logs of the game that a play fits spell of it.
+fn in_logs(alloc: Global, play: &Play, file: &[Play]) -> Result<Spelled, Memory>
+    requires sound { AllByRecursion IsSound file.now }
+    requires one { file.now ≡ play.now ∷ [] }
+    ensures { IfOk result (IsInLogs play.now) }
+{
+    match game_of(play) {
+        Ok(game) => in_logs_of(alloc, &game, file),
+        Err(_) => Ok(not_spelled()),
+    }
+}
+
+// What the logs of a game spell of a play, which is a file of its own.
+fn in_logs_of(alloc: Global, game: &Game, file: &[Play]) -> Result<Spelled, Memory>
+    requires sound { AllByRecursion IsSound file.now }
+    requires one { length file.now ≤ 1 }
+    ensures { (play : PlayNow) → file.now ≡ play ∷ []
+        → games.game_of play.trace.setup ≡ Ok (game_in game.now) → IfOk result (IsInLogs play) }
+{
+    match acpc_line::write(alloc, game, file, Keep::All) {
+        Ok(bytes) => Ok(spelled_in(bytes.len())),
+        Err(WriteRefusal::Memory) => Err(Memory),
+        Err(WriteRefusal::Unspelled { hand: _, fact: _ }) => Ok(not_spelled()),
+    }
+}
+
+// A hand that is spelled in so many bytes.
+fn spelled_in(bytes: usize) -> Spelled
+    ensures hands { result.hands ≡ 1 }
+    ensures bytes { result.bytes ≡ bytes }
+{
+    Spelled {
+        hands: 1,
+        bytes: bytes as u128,
+    }
+}
+
+// A hand that is not spelled.
+fn not_spelled() -> Spelled
+    ensures hands { result.hands ≡ 0 }
+    ensures bytes { result.bytes ≡ 0 }
+{
+    Spelled { hands: 0, bytes: 0 }
+}
+
+// All pots of a trace together.
+fn pot_total(trace: &Trace) -> u128
+    ensures sum { result ≡ pot_total_of trace.now }
+    ensures few { result ≤ 11 * 2 ^ 64 }
+{
+    let mut all: u128 = 0;
+    for pot in &trace.pots.pots[..trace.pots.count as usize] {
+        all += u128::from(pot.chips);
+    }
+    all
+}
+
+// How many hands of one the Poker Hand History format spells.
+fn in_tables(play: &Play) -> u128
+    ensures hands { result ≡ hands_spelled (phh.unspelled play.now) }
+    ensures one { result ≤ 1 }
+{
+    match phh_table::spells(play, Keep::All) {
+        Some(_) => 0,
+        None => 1,
+    }
 }

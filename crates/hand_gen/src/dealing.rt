@@ -1,4 +1,4 @@
-// What the deals and draws of a street bring next.
+//! What the deals and draws of a street bring next.
 ghost use Rattle.std.specs.Prelude.{◌≡◌, ◌≤◌, take, Some};
 ghost use Rattle.card_set.specs.Row.{slots_of};
 ghost use Rattle.play_event.specs.Said.{kind_said};

@@ -1,4 +1,4 @@
-// Numbers are drawn one after the other.
+//! Numbers are drawn one after the other.
 ghost use Rattle.std.specs.Prelude.{◌≡◌, ◌<◌};
 ghost use Rattle.hand_gen.specs.Draws as draws;
 

@@ -1,4 +1,4 @@
-// The script of a made hand, event by event.
+//! The script of a made hand, event by event.
 ghost use Rattle.std.specs.Prelude.{◌≡◌, ◌≤◌, ◌<◌, ◌+◌, ◌^◌, cond, length, map, IfOk};
 ghost use Rattle.canonical_play.specs.PlayedScript as played;
 ghost use Rattle.canonical_play.specs.PlayedScript.{IsWithinLimits};
@@ -19,6 +19,40 @@ use replay_core::HandInPlay;
 use std::alloc::Global;
 use variant_table::Variant;
 
+/// The script of a made hand of the game `V`, from this stock.
+pub fn script_of<V: Variant>(
+    alloc: Global,
+    setup: &Setup,
+    stock: &mut Stock,
+) -> Result<Script, Memory>
+    requires valid { IsValid setup.now }
+    requires code { setup.now.code ≡ V.CODE }
+    ensures made { IfOk result (IsMadeScript setup.now stock.old) }
+    ensures left { IfOk result (λ script. stock.new
+        ≡ stock_behind setup.now histories.history_rules stock.old (backward script)) }
+    ensures within { IfOk result (λ script. IsWithinLimits (map said_of script)) }
+{
+    let mut hand = HandInPlay::<V>::start(setup, &history_rules());
+    let mut script = Script::new(alloc);
+    let mut moves: usize = 0;
+    for events in 0..MOST_MOVES + MOST_OTHER_EVENTS {
+        let came = match play_next(&mut hand, &mut script, stock) {
+            Ok(came) => came,
+            Err(memory) => return Err(memory),
+        };
+        match came {
+            Some(kind) => moves = moves_with(moves, kind),
+            None => {
+                if moves <= MOST_MOVES && events - moves <= MOST_OTHER_EVENTS {
+                    return Ok(script);
+                }
+                return Err(Memory);
+            }
+        }
+    }
+    Err(Memory)
+}
+
 /// What hand histories rule beyond the game.
 pub fn history_rules() -> Rules
     ensures { result ≡ histories.history_rules }
@@ -27,31 +61,6 @@ pub fn history_rules() -> Rules
         reopen: Reopen::Full,
         free_fold: true,
         caps: None,
-    }
-}
-
-// The number of moves with one event more.
-fn moves_with(moves: usize, kind: Kind) -> usize
-    requires { moves < 2 ^ 32 }
-    ensures count { result ≡ moves + cond (played.is_move (kind_said kind)) 1 0 }
-    ensures more { result ≤ moves + 1 }
-{
-    match kind {
-        Kind::Fold { actor: _ }
-        | Kind::Call {
-            actor: _,
-            stated: _,
-        }
-        | Kind::Raise {
-            actor: _,
-            amount: _,
-        }
-        | Kind::BringIn { actor: _ } => moves + 1,
-        Kind::Hole { seat: _, cards: _ }
-        | Kind::Board { cards: _ }
-        | Kind::Discard { seat: _, cards: _ }
-        | Kind::Show { seat: _, cards: _ }
-        | Kind::Muck { seat: _ } => moves,
     }
 }
 
@@ -88,36 +97,27 @@ fn play_next<V: Variant>(
     }
 }
 
-/// The script of a made hand of the game `V`, from this stock.
-pub fn script_of<V: Variant>(
-    alloc: Global,
-    setup: &Setup,
-    stock: &mut Stock,
-) -> Result<Script, Memory>
-    requires valid { IsValid setup.now }
-    requires code { setup.now.code ≡ V.CODE }
-    ensures made { IfOk result (IsMadeScript setup.now stock.old) }
-    ensures left { IfOk result (λ script. stock.new
-        ≡ stock_behind setup.now histories.history_rules stock.old (backward script)) }
-    ensures within { IfOk result (λ script. IsWithinLimits (map said_of script)) }
+// The number of moves with one event more.
+fn moves_with(moves: usize, kind: Kind) -> usize
+    requires { moves < 2 ^ 32 }
+    ensures count { result ≡ moves + cond (played.is_move (kind_said kind)) 1 0 }
+    ensures more { result ≤ moves + 1 }
 {
-    let mut hand = HandInPlay::<V>::start(setup, &history_rules());
-    let mut script = Script::new(alloc);
-    let mut moves: usize = 0;
-    for events in 0..MOST_MOVES + MOST_OTHER_EVENTS {
-        let came = match play_next(&mut hand, &mut script, stock) {
-            Ok(came) => came,
-            Err(memory) => return Err(memory),
-        };
-        match came {
-            Some(kind) => moves = moves_with(moves, kind),
-            None => {
-                if moves <= MOST_MOVES && events - moves <= MOST_OTHER_EVENTS {
-                    return Ok(script);
-                }
-                return Err(Memory);
-            }
+    match kind {
+        Kind::Fold { actor: _ }
+        | Kind::Call {
+            actor: _,
+            stated: _,
         }
+        | Kind::Raise {
+            actor: _,
+            amount: _,
+        }
+        | Kind::BringIn { actor: _ } => moves + 1,
+        Kind::Hole { seat: _, cards: _ }
+        | Kind::Board { cards: _ }
+        | Kind::Discard { seat: _, cards: _ }
+        | Kind::Show { seat: _, cards: _ }
+        | Kind::Muck { seat: _ } => moves,
     }
-    Err(Memory)
 }

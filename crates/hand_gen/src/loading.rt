@@ -13,6 +13,37 @@ use crate::numbers::{Counts, Summary};
 use card_set::Memory;
 use std::alloc::Global;
 
+/// The summary of so many made hands from a seed. It keeps one hand at a time.
+///
+/// # Errors
+///
+/// Want of memory.
+pub fn load(alloc: Global, seed: u64, count: u32) -> Result<Summary, Memory>
+    requires few { count ≤ MOST_HANDS }
+    ensures { IfOk result (IsLoad seed count) }
+{
+    let mut number = seed;
+    let mut summary = no_hands();
+    for place in 0..count {
+        let made = match make_play(alloc, place, number) {
+            Ok(made) => made,
+            Err(memory) => return Err(memory),
+        };
+        number = made.number;
+        let mut file = Vec::new(alloc);
+        match file.push(made.play) {
+            Ok(()) => {}
+            Err(_) => return Err(Memory),
+        }
+        let counts = match counts_of(alloc, file.as_slice()) {
+            Ok(counts) => counts,
+            Err(memory) => return Err(memory),
+        };
+        summary = with_counts(summary, counts, place);
+    }
+    Ok(summary)
+}
+
 // The summary of no hands.
 fn no_hands() -> Summary
     ensures { IsFewIn 0 result }
@@ -47,46 +78,18 @@ fn with_counts(summary: Summary, counts: Counts, before: u32) -> Summary
     }
 }
 
-/// The summary of so many made hands from a seed. It keeps one hand at a time.
+/// The six lines of a summary.
 ///
 /// # Errors
 ///
 /// Want of memory.
-pub fn load(alloc: Global, seed: u64, count: u32) -> Result<Summary, Memory>
-    requires few { count ≤ MOST_HANDS }
-    ensures { IfOk result (IsLoad seed count) }
+pub fn summary_text(alloc: Global, summary: &Summary) -> Result<String, Memory>
+    ensures { IfOk result (λ text. string_bytes text ≡ loads.summary_text summary.now) }
 {
-    let mut number = seed;
-    let mut summary = no_hands();
-    for place in 0..count {
-        let made = match make_play(alloc, place, number) {
-            Ok(made) => made,
-            Err(memory) => return Err(memory),
-        };
-        number = made.number;
-        let mut file = Vec::new(alloc);
-        match file.push(made.play) {
-            Ok(()) => {}
-            Err(_) => return Err(Memory),
-        }
-        let counts = match counts_of(alloc, file.as_slice()) {
-            Ok(counts) => counts,
-            Err(memory) => return Err(memory),
-        };
-        summary = with_counts(summary, counts, place);
-    }
-    Ok(summary)
-}
-
-// Puts a number at the end of a text, behind its label.
-fn push_number(alloc: Global, text: &mut String, label: &str, number: u128) -> Result<(), Memory>
-    ensures { OnOk result (string_bytes text.new
-        ≡ string_bytes text.old ++ (label.now ++ decimal number)) }
-{
-    let number = format!(in alloc; "{number}")?;
-    text.push_str(label)?;
-    text.push_str(number.as_str())?;
-    Ok(())
+    let mut text = String::new(alloc);
+    push_played(alloc, &mut text, summary)?;
+    push_spelled(alloc, &mut text, summary)?;
+    Ok(text)
 }
 
 // Puts the lines of hands, moves, pots and tables at the end of a text.
@@ -114,16 +117,13 @@ fn push_spelled(alloc: Global, text: &mut String, summary: &Summary) -> Result<(
     Ok(())
 }
 
-/// The six lines of a summary.
-///
-/// # Errors
-///
-/// Want of memory.
-pub fn summary_text(alloc: Global, summary: &Summary) -> Result<String, Memory>
-    ensures { IfOk result (λ text. string_bytes text ≡ loads.summary_text summary.now) }
+// Puts a number at the end of a text, behind its label.
+fn push_number(alloc: Global, text: &mut String, label: &str, number: u128) -> Result<(), Memory>
+    ensures { OnOk result (string_bytes text.new
+        ≡ string_bytes text.old ++ (label.now ++ decimal number)) }
 {
-    let mut text = String::new(alloc);
-    push_played(alloc, &mut text, summary)?;
-    push_spelled(alloc, &mut text, summary)?;
-    Ok(text)
+    let number = format!(in alloc; "{number}")?;
+    text.push_str(label)?;
+    text.push_str(number.as_str())?;
+    Ok(())
 }

@@ -27,59 +27,31 @@ pub struct Made {
     pub number: u64,
 }
 
-// The script of a made hand of the game that its setup names.
-fn script_by_code(alloc: Global, setup: &Setup, stock: &mut Stock) -> Result<Script, Memory>
-    requires valid { IsValid setup.now }
-    ensures made { IfOk result (IsMadeScript setup.now stock.old) }
-    ensures left { IfOk result (λ script. stock.new
-        ≡ stock_behind setup.now rules_of_histories stock.old (backward script)) }
-    ensures within { IfOk result (λ script. IsWithinLimits (map said_of script)) }
+/// So many made hands, from a seed.
+///
+/// # Errors
+///
+/// Want of memory.
+pub fn make(alloc: Global, seed: u64, count: u32) -> Result<Records, Memory>
+    requires few { count ≤ MOST_HANDS }
+    ensures made { IfOk result (AreMade seed count) }
+    ensures sound { IfOk result (λ hands. All IsSoundHand hands) }
 {
-    match setup.code {
-        Code::FT => script_of::<FT>(alloc, setup, stock),
-        Code::NT => script_of::<NT>(alloc, setup, stock),
-        Code::NS => script_of::<NS>(alloc, setup, stock),
-        Code::PO => script_of::<PO>(alloc, setup, stock),
-        Code::FO8 => script_of::<FO8>(alloc, setup, stock),
-        Code::F7S => script_of::<F7S>(alloc, setup, stock),
-        Code::F7S8 => script_of::<F7S8>(alloc, setup, stock),
-        Code::FR => script_of::<FR>(alloc, setup, stock),
-        Code::N2L1D => script_of::<N2L1D>(alloc, setup, stock),
-        Code::F2L3D => script_of::<F2L3D>(alloc, setup, stock),
-        Code::FB => script_of::<FB>(alloc, setup, stock),
+    let mut number = seed;
+    let mut hands = Records::new(alloc);
+    for place in 0..count {
+        let made = match make_play(alloc, place, number) {
+            Ok(made) => made,
+            Err(memory) => return Err(memory),
+        };
+        number = made.number;
+        let play = made.play;
+        match hands.push(play.hand) {
+            Ok(()) => {}
+            Err(memory) => return Err(memory),
+        }
     }
-}
-
-// No notes.
-fn no_notes() -> Notes
-    ensures { AreNoNotes result }
-{
-    Notes {
-        names: [None, None, None, None, None, None, None, None, None, None],
-        seats: None,
-        seat_count: None,
-        hand: None,
-        table: None,
-        venue: None,
-        currency: None,
-        year: None,
-        month: None,
-        day: None,
-        time: None,
-        zone: None,
-    }
-}
-
-// Nothing is stated.
-fn nothing_stated() -> Stated
-    ensures { IsNothingStated result }
-{
-    Stated {
-        finish: None,
-        wins: None,
-        pot_total: None,
-        values: None,
-    }
+    Ok(hands)
 }
 
 /// The hand at a place among the made hands, from 0, where the draws have come to this number, with its trace.
@@ -120,29 +92,57 @@ pub fn make_play(alloc: Global, place: u32, number: u64) -> Result<Made, Memory>
     })
 }
 
-/// So many made hands, from a seed.
-///
-/// # Errors
-///
-/// Want of memory.
-pub fn make(alloc: Global, seed: u64, count: u32) -> Result<Records, Memory>
-    requires few { count ≤ MOST_HANDS }
-    ensures made { IfOk result (AreMade seed count) }
-    ensures sound { IfOk result (λ hands. All IsSoundHand hands) }
+// The script of a made hand of the game that its setup names.
+fn script_by_code(alloc: Global, setup: &Setup, stock: &mut Stock) -> Result<Script, Memory>
+    requires valid { IsValid setup.now }
+    ensures made { IfOk result (IsMadeScript setup.now stock.old) }
+    ensures left { IfOk result (λ script. stock.new
+        ≡ stock_behind setup.now rules_of_histories stock.old (backward script)) }
+    ensures within { IfOk result (λ script. IsWithinLimits (map said_of script)) }
 {
-    let mut number = seed;
-    let mut hands = Records::new(alloc);
-    for place in 0..count {
-        let made = match make_play(alloc, place, number) {
-            Ok(made) => made,
-            Err(memory) => return Err(memory),
-        };
-        number = made.number;
-        let play = made.play;
-        match hands.push(play.hand) {
-            Ok(()) => {}
-            Err(memory) => return Err(memory),
-        }
+    match setup.code {
+        Code::FT => script_of::<FT>(alloc, setup, stock),
+        Code::NT => script_of::<NT>(alloc, setup, stock),
+        Code::NS => script_of::<NS>(alloc, setup, stock),
+        Code::PO => script_of::<PO>(alloc, setup, stock),
+        Code::FO8 => script_of::<FO8>(alloc, setup, stock),
+        Code::F7S => script_of::<F7S>(alloc, setup, stock),
+        Code::F7S8 => script_of::<F7S8>(alloc, setup, stock),
+        Code::FR => script_of::<FR>(alloc, setup, stock),
+        Code::N2L1D => script_of::<N2L1D>(alloc, setup, stock),
+        Code::F2L3D => script_of::<F2L3D>(alloc, setup, stock),
+        Code::FB => script_of::<FB>(alloc, setup, stock),
     }
-    Ok(hands)
+}
+
+// Nothing is stated.
+fn nothing_stated() -> Stated
+    ensures { IsNothingStated result }
+{
+    Stated {
+        finish: None,
+        wins: None,
+        pot_total: None,
+        values: None,
+    }
+}
+
+// No notes.
+fn no_notes() -> Notes
+    ensures { AreNoNotes result }
+{
+    Notes {
+        names: [None, None, None, None, None, None, None, None, None, None],
+        seats: None,
+        seat_count: None,
+        hand: None,
+        table: None,
+        venue: None,
+        currency: None,
+        year: None,
+        month: None,
+        day: None,
+        time: None,
+        zone: None,
+    }
 }

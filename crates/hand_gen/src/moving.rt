@@ -1,4 +1,4 @@
-// Whose turn it is, and what that seat does.
+//! Whose turn it is, and what that seat does.
 ghost use Rattle.std.specs.Prelude.{◌≡◌, ◌≤◌, ℕ, true, None, IfSome};
 ghost use Rattle.std.specs.Option.{option_map};
 ghost use Rattle.betting_numbers.specs.LegalMoves.{IsTurn, WhereUps};
@@ -35,47 +35,26 @@ pub fn in_turn<V: Variant>(betting: &Betting<V>, up: &UpRow) -> Option<Seat>
     }
 }
 
-// A call, which states nothing.
-fn call(seat: Seat) -> Kind
-    ensures { kind_said result ≡ raise_of seat.number None }
+/// The move of the seat in turn.
+pub fn make_move<V: Variant>(
+    betting: &Betting<V>,
+    up: &UpRow,
+    seat: Seat,
+    stock: &mut Stock,
+) -> Kind
+    requires row { up.now.seats ≡ betting.now.table.setup.stacks.seats }
+    requires bets { is_bet_due betting.now.table.due ≡ true }
+    requires in_hand { seat.number ≤ betting.now.table.setup.stacks.seats }
+    ensures event { WhereUps betting.now.table up.now
+        (λ past. IsTurn betting.now.table past (TheSeat seat.number)
+        → kind_said result ≡ move_by betting.now.table.setup betting.now.table.rules
+        (moves_of past) betting.now.table.street seat.number (draw_of 8 stock.old)) }
+    ensures left { stock.new ≡ after_draw stock.old }
 {
-    Kind::Call {
-        actor: Some(seat),
-        stated: None,
-    }
-}
-
-// A raise to a target; without one it is a call.
-fn raise(seat: Seat, target: Option<u64>) -> Kind
-    ensures { kind_said result ≡ raise_of seat.number target }
-{
-    match target {
-        Some(target) => Kind::Raise {
-            actor: Some(seat),
-            amount: Spelled::To(target),
-        },
-        None => call(seat),
-    }
-}
-
-// The least target, if there is one.
-fn least(ends: Option<Targets>) -> Option<u64>
-    ensures { result ≡ option_map (λ (t : ℕ × ℕ). t.0) (ends_said ends) }
-{
-    match ends {
-        Some(ends) => Some(ends.least),
-        None => None,
-    }
-}
-
-// The greatest target, if there is one.
-fn greatest(ends: Option<Targets>) -> Option<u64>
-    ensures { result ≡ option_map (λ (t : ℕ × ℕ). t.1) (ends_said ends) }
-{
-    match ends {
-        Some(ends) => Some(ends.greatest),
-        None => None,
-    }
+    let number = stock.draw(8);
+    let owes = 0 < betting.table.owed(seat);
+    let ends = betting.targets(up);
+    chosen(owes, ends, seat, number)
 }
 
 // What a seat does by a number that was drawn.
@@ -97,24 +76,45 @@ fn chosen(owes: bool, ends: Option<Targets>, seat: Seat, number: u64) -> Kind
     }
 }
 
-/// The move of the seat in turn.
-pub fn make_move<V: Variant>(
-    betting: &Betting<V>,
-    up: &UpRow,
-    seat: Seat,
-    stock: &mut Stock,
-) -> Kind
-    requires row { up.now.seats ≡ betting.now.table.setup.stacks.seats }
-    requires bets { is_bet_due betting.now.table.due ≡ true }
-    requires in_hand { seat.number ≤ betting.now.table.setup.stacks.seats }
-    ensures event { WhereUps betting.now.table up.now
-        (λ past. IsTurn betting.now.table past (TheSeat seat.number)
-        → kind_said result ≡ move_by betting.now.table.setup betting.now.table.rules
-        (moves_of past) betting.now.table.street seat.number (draw_of 8 stock.old)) }
-    ensures left { stock.new ≡ after_draw stock.old }
+// A raise to a target; without one it is a call.
+fn raise(seat: Seat, target: Option<u64>) -> Kind
+    ensures { kind_said result ≡ raise_of seat.number target }
 {
-    let number = stock.draw(8);
-    let owes = 0 < betting.table.owed(seat);
-    let ends = betting.targets(up);
-    chosen(owes, ends, seat, number)
+    match target {
+        Some(target) => Kind::Raise {
+            actor: Some(seat),
+            amount: Spelled::To(target),
+        },
+        None => call(seat),
+    }
+}
+
+// A call, which states nothing.
+fn call(seat: Seat) -> Kind
+    ensures { kind_said result ≡ raise_of seat.number None }
+{
+    Kind::Call {
+        actor: Some(seat),
+        stated: None,
+    }
+}
+
+// The least target, if there is one.
+fn least(ends: Option<Targets>) -> Option<u64>
+    ensures { result ≡ option_map (λ (t : ℕ × ℕ). t.0) (ends_said ends) }
+{
+    match ends {
+        Some(ends) => Some(ends.least),
+        None => None,
+    }
+}
+
+// The greatest target, if there is one.
+fn greatest(ends: Option<Targets>) -> Option<u64>
+    ensures { result ≡ option_map (λ (t : ℕ × ℕ). t.1) (ends_said ends) }
+{
+    match ends {
+        Some(ends) => Some(ends.greatest),
+        None => None,
+    }
 }

@@ -1,4 +1,4 @@
-// The numbers of one play, and of made hands together.
+//! The numbers of one play, and of made hands together.
 ghost use Rattle.std.specs.Prelude.{◌≤◌, ◌*◌, ◌^◌};
 
 /// Whether a format spells a hand, 1 or 0, and in how many bytes.

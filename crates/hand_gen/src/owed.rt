@@ -1,4 +1,4 @@
-// Whom the cards owe how many, and who draws next.
+//! Whom the cards owe how many, and who draws next.
 ghost use Rattle.std.specs.Prelude.{◌≡◌, ◌≤◌, ◌+◌, nat_lt, find, IfSome};
 ghost use Rattle.std.specs.List.{range_with_len};
 ghost use Rattle.card_places.specs.Plain.{seat_of};
@@ -6,25 +6,6 @@ ghost use Rattle.card_places.specs.Refusals as cards;
 
 use card_places::CardState;
 use chip_ledger::{LiveRow, Seat};
-
-/// How many cards of the street the seat is owed.
-pub fn owed(state: &CardState, live: &LiveRow, on: u8, seat: Seat) -> u8
-    requires street { on ≤ 5 }
-    requires live { live.now.seats ≡ state.now.seats }
-    requires seat { seat.number ≤ state.now.seats }
-    ensures value { result ≡ cards.owed_in state.now live.now on seat.number }
-    ensures most { result ≤ 7 }
-{
-    let street = state.table.street(on);
-    let dealt = state.places.in_group(Some(seat), on);
-    if street.draws {
-        state.draws.named(on, seat).saturating_sub(dealt)
-    } else if live.get(seat) {
-        (street.down + street.up).saturating_sub(dealt)
-    } else {
-        0
-    }
-}
 
 /// How many cards of the street the board is owed.
 pub fn board_owed(state: &CardState, on: u8) -> u8
@@ -55,6 +36,25 @@ pub fn first_owed(state: &CardState, live: &LiveRow, on: u8, first: u8, count: u
         Some(seat)
     } else {
         first_owed(state, live, on, first + 1, count - 1)
+    }
+}
+
+/// How many cards of the street the seat is owed.
+pub fn owed(state: &CardState, live: &LiveRow, on: u8, seat: Seat) -> u8
+    requires street { on ≤ 5 }
+    requires live { live.now.seats ≡ state.now.seats }
+    requires seat { seat.number ≤ state.now.seats }
+    ensures value { result ≡ cards.owed_in state.now live.now on seat.number }
+    ensures most { result ≤ 7 }
+{
+    let street = state.table.street(on);
+    let dealt = state.places.in_group(Some(seat), on);
+    if street.draws {
+        state.draws.named(on, seat).saturating_sub(dealt)
+    } else if live.get(seat) {
+        (street.down + street.up).saturating_sub(dealt)
+    } else {
+        0
     }
 }
 

@@ -1,4 +1,4 @@
-// The setup of a made hand.
+//! The setup of a made hand.
 ghost use Rattle.std.specs.Prelude.{◌≡◌, ◌≤◌, ◌+◌, ℕ, if◌then◌else◌};
 ghost use Rattle.chip_ledger.specs.SeatRow.{amount_of};
 ghost use Rattle.play_event.specs.Streets as streets;
@@ -27,6 +27,29 @@ const GAMES: [Code; 11] = [
     Code::FB,
 ];
 
+/// The setup of the hand at a place, where the draws have come to this number.
+pub fn setup_at(place: u32, number: u64) -> Setup
+    ensures { IsMadeSetup place number result }
+{
+    let code = game_at(place);
+    let stud = is_stud(code);
+    let fixed = is_fixed(code);
+    let first = draws::next_number(number);
+    let seats = 2 + draws::drawn(3, first) as u8;
+    Setup {
+        code,
+        stacks: stacks(first, seats),
+        antes: even_row(seats, chips_where(stud, 1)),
+        dead_antes: false,
+        blinds: blinds(stud, seats),
+        bring_in: chips_where(stud, 1),
+        small_bet: chips_where(fixed, 2),
+        big_bet: chips_where(fixed, 4),
+        min_bet: chips_where(!fixed, 2),
+        rakes: RakeRow::none(),
+    }
+}
+
 // The game of a hand by its place.
 fn game_at(place: u32) -> Code
     ensures { result ≡ setups.game_at place }
@@ -54,13 +77,6 @@ fn is_fixed(code: Code) -> bool
     }
 }
 
-// Chips where they are used, and else none.
-fn chips_where(used: bool, chips: u64) -> u64
-    ensures { result ≡ (if used then chips else 0) }
-{
-    if used { chips } else { 0 }
-}
-
 // The stacks, drawn behind this number.
 #[tactic(auto, using(crate::proofs::DrawLaws::one_draw_more))]
 fn stacks(number: u64, seats: u8) -> SeatRow
@@ -79,18 +95,6 @@ fn stacks(number: u64, seats: u8) -> SeatRow
     row
 }
 
-// The number behind so many draws.
-#[tactic(auto, using(crate::proofs::DrawLaws::one_draw_more))]
-fn number_behind(number: u64, count: u8) -> u64
-    ensures { result ≡ number_after count number }
-{
-    let mut number = number;
-    for _ in 0..count {
-        number = draws::next_number(number);
-    }
-    number
-}
-
 // A row with one amount for each seat.
 fn even_row(seats: u8, amount: u64) -> SeatRow
     requires least { 2 ≤ seats }
@@ -102,6 +106,28 @@ fn even_row(seats: u8, amount: u64) -> SeatRow
     let mut row = SeatRow::new(seats);
     for index in 0..seats {
         row.set(Seat { number: index + 1 }, amount);
+    }
+    row
+}
+
+// Chips where they are used, and else none.
+fn chips_where(used: bool, chips: u64) -> u64
+    ensures { result ≡ (if used then chips else 0) }
+{
+    if used { chips } else { 0 }
+}
+
+// The blinds of all seats.
+fn blinds(stud: bool, seats: u8) -> SeatRow
+    requires least { 2 ≤ seats }
+    requires most { seats ≤ 10 }
+    ensures seats { result.seats ≡ seats }
+    ensures blinds { (seat : ℕ) → 1 ≤ seat → seat ≤ seats
+        → amount_of result seat ≡ (if stud then 0 else setups.blind_of seats seat) }
+{
+    let mut row = SeatRow::new(seats);
+    for index in 0..seats {
+        row.set(Seat { number: index + 1 }, blind(stud, seats, index + 1));
     }
     row
 }
@@ -122,47 +148,21 @@ fn blind(stud: bool, seats: u8, seat: u8) -> u64
     }
 }
 
-// The blinds of all seats.
-fn blinds(stud: bool, seats: u8) -> SeatRow
-    requires least { 2 ≤ seats }
-    requires most { seats ≤ 10 }
-    ensures seats { result.seats ≡ seats }
-    ensures blinds { (seat : ℕ) → 1 ≤ seat → seat ≤ seats
-        → amount_of result seat ≡ (if stud then 0 else setups.blind_of seats seat) }
-{
-    let mut row = SeatRow::new(seats);
-    for index in 0..seats {
-        row.set(Seat { number: index + 1 }, blind(stud, seats, index + 1));
-    }
-    row
-}
-
-/// The setup of the hand at a place, where the draws have come to this number.
-pub fn setup_at(place: u32, number: u64) -> Setup
-    ensures { IsMadeSetup place number result }
-{
-    let code = game_at(place);
-    let stud = is_stud(code);
-    let fixed = is_fixed(code);
-    let first = draws::next_number(number);
-    let seats = 2 + draws::drawn(3, first) as u8;
-    Setup {
-        code,
-        stacks: stacks(first, seats),
-        antes: even_row(seats, chips_where(stud, 1)),
-        dead_antes: false,
-        blinds: blinds(stud, seats),
-        bring_in: chips_where(stud, 1),
-        small_bet: chips_where(fixed, 2),
-        big_bet: chips_where(fixed, 4),
-        min_bet: chips_where(!fixed, 2),
-        rakes: RakeRow::none(),
-    }
-}
-
 /// The number to which the draws come behind a setup.
 pub fn number_behind_setup(number: u64, setup: &Setup) -> u64
     ensures { result ≡ setups.number_behind_setup number setup.now }
 {
     number_behind(number, 1 + setup.stacks.seats)
+}
+
+// The number behind so many draws.
+#[tactic(auto, using(crate::proofs::DrawLaws::one_draw_more))]
+fn number_behind(number: u64, count: u8) -> u64
+    ensures { result ≡ number_after count number }
+{
+    let mut number = number;
+    for _ in 0..count {
+        number = draws::next_number(number);
+    }
+    number
 }

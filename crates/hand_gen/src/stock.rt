@@ -1,4 +1,4 @@
-// What a hand is made of: numbers that are drawn, and a deck from which cards are taken.
+//! What a hand is made of: numbers that are drawn, and a deck from which cards are taken.
 ghost use Rattle.std.specs.Prelude.{◌≡◌, ◌<◌, ◌≤◌, ◌++◌, ◌∷◌, [], cond, OnOk, IfOk};
 ghost use Rattle.card_set.specs.Row.{cards_of};
 ghost use Rattle.hand_gen.specs.Stock as stocks;
@@ -25,20 +25,6 @@ impl Model for Stock {
     ghost view = { λ s. record { number = s.number; deck = s.deck.items } };
 }
 
-// Puts a card behind the others, where the game has it.
-fn push_if(deck: &mut Vec<Card>, has: bool, card: Card) -> Result<(), Memory>
-    ensures { OnOk result (deck.new.items ≡ deck.old.items ++ cond has (card ∷ []) []) }
-{
-    if has {
-        match deck.push(card) {
-            Ok(()) => Ok(()),
-            Err(_) => Err(Memory),
-        }
-    } else {
-        Ok(())
-    }
-}
-
 // The whole deck of a game.
 fn full_deck(alloc: Global, code: Code) -> Result<Vec<Card>, Memory>
     ensures { IfOk result (λ deck. deck.items ≡ stocks.full_deck code) }
@@ -53,6 +39,20 @@ fn full_deck(alloc: Global, code: Code) -> Result<Vec<Card>, Memory>
         }
     }
     Ok(deck)
+}
+
+// Puts a card behind the others, where the game has it.
+fn push_if(deck: &mut Vec<Card>, has: bool, card: Card) -> Result<(), Memory>
+    ensures { OnOk result (deck.new.items ≡ deck.old.items ++ cond has (card ∷ []) []) }
+{
+    if has {
+        match deck.push(card) {
+            Ok(()) => Ok(()),
+            Err(_) => Err(Memory),
+        }
+    } else {
+        Ok(())
+    }
 }
 
 impl Stock {
@@ -85,19 +85,6 @@ impl Stock {
         drawn(count, self.number)
     }
 
-    /// Takes the next card.
-    pub fn take_card(&mut self) -> Card
-        ensures card { result ≡ stocks.next_card self.old }
-        ensures stock { self.new ≡ stocks.after_card self.old }
-    {
-        self.number = next_number(self.number);
-        if self.deck.is_empty() {
-            return card_placed(0);
-        }
-        let place = drawn(self.deck.len() as u64, self.number) as usize;
-        self.deck.remove(place)
-    }
-
     /// Takes so many cards.
     pub fn take_cards(&mut self, count: u8) -> CardRow
         requires { count ≤ 7 }
@@ -109,5 +96,18 @@ impl Stock {
             cards.push(self.take_card());
         }
         cards
+    }
+
+    /// Takes the next card.
+    pub fn take_card(&mut self) -> Card
+        ensures card { result ≡ stocks.next_card self.old }
+        ensures stock { self.new ≡ stocks.after_card self.old }
+    {
+        self.number = next_number(self.number);
+        if self.deck.is_empty() {
+            return card_placed(0);
+        }
+        let place = drawn(self.deck.len() as u64, self.number) as usize;
+        self.deck.remove(place)
     }
 }

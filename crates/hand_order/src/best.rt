@@ -1,4 +1,4 @@
-// The best of a holding is the greatest score of the choices that its pick allows.
+//! The best of a holding is the greatest score of the choices that its pick allows.
 ghost use Rattle.std.specs.Prelude.{◌≡◌, ℕ, ◌+◌, ◌≤◌, List, ◌++◌, drop, length, Option, IfSome, IfNone};
 ghost use Rattle.std.specs.Option.{option_map};
 ghost use Rattle.card_set.specs.declared.card.Card.{Card};
@@ -53,12 +53,16 @@ fn any_five<O: HandOrder>(hole: &CardRow, board: &CardRow) -> Option<Score>
     O::best_set(&CardSet::of(&joined(hole, board)))
 }
 
-// The only choice of all hole cards.
-fn all_held<O: HandOrder>(hole: &CardRow) -> Option<Score>
-    requires { AreHeld O.HELD (cards_of hole.now) }
-    ensures { option_map (λ s. s.points) result ≡ O.points (cards_of hole.now) }
+// The cards of the first row, then those of the second.
+fn joined(first: &CardRow, second: &CardRow) -> CardRow
+    requires { length (cards_of first.now) + length (cards_of second.now) ≤ 7 }
+    ensures { cards_of result ≡ cards_of first.now ++ cards_of second.now }
 {
-    O::best_set(&CardSet::of(hole))
+    let mut row = *first;
+    for card in second.as_slice() {
+        row.push(*card);
+    }
+    row
 }
 
 // The best of two hole cards with three cards of the board.
@@ -75,16 +79,12 @@ fn two_and_three<O: HandOrder>(hole: &CardRow, board: &CardRow) -> Option<Score>
     best_choice(&judge, hole, 0, CardRow::new(), 2)
 }
 
-// The cards of the first row, then those of the second.
-fn joined(first: &CardRow, second: &CardRow) -> CardRow
-    requires { length (cards_of first.now) + length (cards_of second.now) ≤ 7 }
-    ensures { cards_of result ≡ cards_of first.now ++ cards_of second.now }
+// The only choice of all hole cards.
+fn all_held<O: HandOrder>(hole: &CardRow) -> Option<Score>
+    requires { AreHeld O.HELD (cards_of hole.now) }
+    ensures { option_map (λ s. s.points) result ≡ O.points (cards_of hole.now) }
 {
-    let mut row = *first;
-    for card in second.as_slice() {
-        row.push(*card);
-    }
-    row
+    O::best_set(&CardSet::of(hole))
 }
 
 /// How many points a choice has.
@@ -99,6 +99,19 @@ pub trait Judge {
     fn judge(&self, chosen: &CardRow) -> Option<Score>
         requires { accepts self.now (cards_of chosen.now) }
         ensures { option_map (λ s. s.points) result ≡ points self.now (cards_of chosen.now) };
+}
+
+/// The best choice of so many of a set's cards, each judged by itself.
+/// The judge may not look at the order of the cards.
+pub fn best_listed<J: Judge>(judge: &J, cards: &CardSet, held: u8) -> Option<Score>
+    requires room { held ≤ 7 }
+    requires few { count_of cards.now ≤ 7 }
+    requires accepted { (hand : List Card) → AreHeld held hand → J.accepts judge.now hand }
+    requires alike { AreAlike (J.points judge.now) held }
+    ensures { (listing : List Card) → IsListing cards.now listing
+        → option_map (λ s. s.points) result ≡ greatest (J.points judge.now) (choices held listing) }
+{
+    best_choice(judge, &cards.to_row(), 0, CardRow::new(), held)
 }
 
 /// The best that can be had with `chosen` and `need` of the cards from place `from` on.
@@ -129,19 +142,6 @@ pub fn best_choice<J: Judge>(
         best_choice(judge, cards, from + 1, with, need - 1),
         best_choice(judge, cards, from + 1, chosen, need),
     )
-}
-
-/// The best choice of so many of a set's cards, each judged by itself.
-/// The judge may not look at the order of the cards.
-pub fn best_listed<J: Judge>(judge: &J, cards: &CardSet, held: u8) -> Option<Score>
-    requires room { held ≤ 7 }
-    requires few { count_of cards.now ≤ 7 }
-    requires accepted { (hand : List Card) → AreHeld held hand → J.accepts judge.now hand }
-    requires alike { AreAlike (J.points judge.now) held }
-    ensures { (listing : List Card) → IsListing cards.now listing
-        → option_map (λ s. s.points) result ≡ greatest (J.points judge.now) (choices held listing) }
-{
-    best_choice(judge, &cards.to_row(), 0, CardRow::new(), held)
 }
 
 /// The better of two scores, where none is the worst.

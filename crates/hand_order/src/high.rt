@@ -1,4 +1,4 @@
-// The best high hand of a set is the greatest of what its ranks, its straights and its suits make, each looked at alone.
+//! The best high hand of a set is the greatest of what its ranks, its straights and its suits make, each looked at alone.
 ghost use Rattle.std.specs.Prelude.{◌≡◌, ◌≤◌, ◌<◌, ◌^◌, ℕ, List, Some};
 ghost use Rattle.card_set.specs.declared.card.Card.{Card};
 ghost use Rattle.card_set.specs.CardSet.{count_of, IsListing};
@@ -21,6 +21,15 @@ use crate::ranks::class_above;
 use crate::row::RankRow;
 use crate::straights::{LowStraight, top_straight};
 use card_set::{CardRow, CardSet, Suit};
+
+/// The points of five cards in the high order, where the ace begins this straight or none,
+/// and a flush has this place.
+pub fn hand_points(cards: &CardRow, low: LowStraight, flush: FlushPlace) -> u32
+    requires { AreHeld 5 (cards_of cards.now) }
+    ensures { result ≡ ladder_points flush low (cards_of cards.now) }
+{
+    best_high(&CardSet::of(cards), low, flush)
+}
 
 /// The points of the best five cards of a set in the high order,
 /// where the ace begins this straight or none, and a flush has this place.
@@ -45,15 +54,6 @@ pub fn best_high(cards: &CardSet, low: LowStraight, flush: FlushPlace) -> u32
         .max(suit_points(diamonds, low, flush))
         .max(suit_points(hearts, low, flush))
         .max(suit_points(spades, low, flush))
-}
-
-/// The points of five cards in the high order, where the ace begins this straight or none,
-/// and a flush has this place.
-pub fn hand_points(cards: &CardRow, low: LowStraight, flush: FlushPlace) -> u32
-    requires { AreHeld 5 (cards_of cards.now) }
-    ensures { result ≡ ladder_points flush low (cards_of cards.now) }
-{
-    best_high(&CardSet::of(cards), low, flush)
 }
 
 // The points of the best flush or straight flush among the ranks of one suit, 0 where there is none.

@@ -1,4 +1,4 @@
-// How often ranks occur, from the masks of the four suits.
+//! How often ranks occur, from the masks of the four suits.
 ghost use Rattle.std.specs.Prelude.{◌<◌, ◌^◌};
 ghost use Rattle.hand_order.specs.Tops.{IsLevel};
 

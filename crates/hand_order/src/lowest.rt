@@ -1,4 +1,4 @@
-// The lowest ranks of a mask, where the ace is the lowest.
+//! The lowest ranks of a mask, where the ace is the lowest.
 ghost use Rattle.std.specs.Prelude.{◌≡◌, ◌≤◌, ◌+◌, length};
 ghost use Rattle.hand_order.specs.Heights.{heights_of};
 ghost use Rattle.hand_order.specs.Lowest.{has_height, lowest};

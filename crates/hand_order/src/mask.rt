@@ -1,4 +1,4 @@
-// The bits of a mask of ranks.
+//! The bits of a mask of ranks.
 ghost use Rattle.std.specs.Prelude.{◌≡◌, ◌<◌, ◌≤◌, ℕ, ◌==◌, if◌then◌else◌, ◌+◌, ◌*◌, ◌-◌, ◌^◌, ◌%◌, ◌++◌, length};
 ghost use Rattle.std.specs.Int.{bit_at, bit_not, w16};
 ghost use lib.Bits.{bit_and};
@@ -6,6 +6,20 @@ ghost use Rattle.hand_order.specs.Heights.{heights_of};
 ghost use Rattle.hand_order.specs.Tops.{highest, tops};
 
 use crate::row::RankRow;
+
+/// Puts so many of the highest ranks after the others.
+pub fn with_tops(row: RankRow, mask: u16, need: u8) -> RankRow
+    requires { length (heights_of row) + need ≤ 5 }
+    ensures { heights_of result ≡ heights_of row ++ tops need mask }
+{
+    if need == 0 || mask == 0 {
+        return row;
+    }
+    let place = top(mask);
+    let mut more = row;
+    more.push(place as u8 + 2);
+    with_tops(more, clear(mask, place), need - 1)
+}
 
 /// The place of the highest bit.
 pub fn top(mask: u16) -> u32
@@ -25,18 +39,4 @@ pub fn clear(mask: u16, place: u32) -> u16
     ensures bits { (k : ℕ) → bit_at result k ≡ (if place == k then 0 else bit_at mask k) }
 {
     mask & !(1 << place)
-}
-
-/// Puts so many of the highest ranks after the others.
-pub fn with_tops(row: RankRow, mask: u16, need: u8) -> RankRow
-    requires { length (heights_of row) + need ≤ 5 }
-    ensures { heights_of result ≡ heights_of row ++ tops need mask }
-{
-    if need == 0 || mask == 0 {
-        return row;
-    }
-    let place = top(mask);
-    let mut more = row;
-    more.push(place as u8 + 2);
-    with_tops(more, clear(mask, place), need - 1)
 }

@@ -1,4 +1,4 @@
-// An order of hands is a trait: its score is there exactly for its hands, and less exactly for the weaker hand.
+//! An order of hands is a trait: its score is there exactly for its hands, and less exactly for the weaker hand.
 ghost use Rattle.std.specs.Prelude.{◌≡◌, ℕ, List, Option};
 ghost use Rattle.std.specs.Option.{option_map};
 ghost use Rattle.card_set.specs.declared.card.Card.{Card};

@@ -1,4 +1,4 @@
-// The best pattern of ranks, without straights and flushes.
+//! The best pattern of ranks, without straights and flushes.
 ghost use Rattle.std.specs.Prelude.{ℕ};
 ghost use Rattle.hand_order.specs.Heights.{heights_of};
 ghost use Rattle.hand_order.specs.Tops.{Shows};

@@ -1,4 +1,4 @@
-// The ranks of a hand make a number: a class above the heights, those that occur oftener first.
+//! The ranks of a hand make a number: a class above the heights, those that occur oftener first.
 ghost use Rattle.std.specs.Prelude.{◌≡◌, ◌+◌, ◌<◌, ◌≤◌, ◌^◌, ◌++◌, length};
 ghost use Rattle.card_set.specs.Row.{cards_of};
 ghost use Rattle.card_set.specs.Ranks.{falling_heights, occurring, ranks_of, times};
@@ -14,50 +14,6 @@ use card_set::{CardRow, Rank};
 pub enum Ace {
     High,
     Low,
-}
-
-/// The height of a rank: 2 to 14, or 1 for an ace that is low.
-pub fn height_of(rank: Rank, ace: Ace) -> u8
-    ensures { result ≡ height_with ace rank }
-{
-    match rank {
-        Rank::Two => 2,
-        Rank::Three => 3,
-        Rank::Four => 4,
-        Rank::Five => 5,
-        Rank::Six => 6,
-        Rank::Seven => 7,
-        Rank::Eight => 8,
-        Rank::Nine => 9,
-        Rank::Ten => 10,
-        Rank::Jack => 11,
-        Rank::Queen => 12,
-        Rank::King => 13,
-        Rank::Ace => match ace {
-            Ace::High => 14,
-            Ace::Low => 1,
-        },
-    }
-}
-
-// All heights, from the greatest.
-#[tactic(auto, unfolding(card_set::specs::Ranks::falling_heights))]
-fn all_heights() -> [u8; 14]
-    ensures { result ≡ falling_heights }
-{
-    [14, 13, 12, 11, 10, 9, 8, 7, 6, 5, 4, 3, 2, 1]
-}
-
-// How many of the cards have this height.
-#[tactic(auto, unfolding(card_set::specs::Ranks::times))]
-fn times_of(cards: &CardRow, ace: Ace, height: u8) -> usize
-    ensures { result ≡ times (height_with ace) (cards_of cards.now) height }
-{
-    cards
-        .as_slice()
-        .iter()
-        .filter(|card| height_of(card.rank, ace) == height)
-        .count()
 }
 
 /// How many ranks occur so many times among the cards.
@@ -97,6 +53,50 @@ fn push_occurring(row: &mut RankRow, cards: &CardRow, ace: Ace, occurrences: usi
         if times_of(cards, ace, height) == occurrences {
             row.push(height);
         }
+    }
+}
+
+// All heights, from the greatest.
+#[tactic(auto, unfolding(card_set::specs::Ranks::falling_heights))]
+fn all_heights() -> [u8; 14]
+    ensures { result ≡ falling_heights }
+{
+    [14, 13, 12, 11, 10, 9, 8, 7, 6, 5, 4, 3, 2, 1]
+}
+
+// How many of the cards have this height.
+#[tactic(auto, unfolding(card_set::specs::Ranks::times))]
+fn times_of(cards: &CardRow, ace: Ace, height: u8) -> usize
+    ensures { result ≡ times (height_with ace) (cards_of cards.now) height }
+{
+    cards
+        .as_slice()
+        .iter()
+        .filter(|card| height_of(card.rank, ace) == height)
+        .count()
+}
+
+/// The height of a rank: 2 to 14, or 1 for an ace that is low.
+pub fn height_of(rank: Rank, ace: Ace) -> u8
+    ensures { result ≡ height_with ace rank }
+{
+    match rank {
+        Rank::Two => 2,
+        Rank::Three => 3,
+        Rank::Four => 4,
+        Rank::Five => 5,
+        Rank::Six => 6,
+        Rank::Seven => 7,
+        Rank::Eight => 8,
+        Rank::Nine => 9,
+        Rank::Ten => 10,
+        Rank::Jack => 11,
+        Rank::Queen => 12,
+        Rank::King => 13,
+        Rank::Ace => match ace {
+            Ace::High => 14,
+            Ace::Low => 1,
+        },
     }
 }
 

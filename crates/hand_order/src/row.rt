@@ -1,4 +1,4 @@
-// A row of heights has up to five of them: as many as a hand has different ranks.
+//! A row of heights has up to five of them: as many as a hand has different ranks.
 ghost use Rattle.std.specs.Prelude.{◌≡◌, ◌+◌, ◌<◌, ◌≤◌, [], ◌∷◌, ◌++◌, length};
 
 /// Heights in order: the first `len` of `heights`.

@@ -1,4 +1,4 @@
-// Straights by the mask of the ranks that occur: five bits in a row, or those of the straight that the ace begins.
+//! Straights by the mask of the ranks that occur: five bits in a row, or those of the straight that the ace begins.
 ghost use Rattle.std.specs.Prelude.{◌≡◌, ◌≤◌, ◌<◌, ◌==◌, ◌&&◌, ◌⊎◌, ◌↔◌, ◌+◌, ◌^◌, ℕ};
 ghost use Rattle.std.specs.Int.{bit_at};
 ghost use Rattle.hand_order.specs.StraightRanks.{HasLow, HasRun, HasStraight, IsRunFrom, has_ace_and_four};

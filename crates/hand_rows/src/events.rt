@@ -1,6 +1,6 @@
-// Events by their words: `hole 1 2c??`, `board 2c3d4h`, `fold 1`, `call 1 6`, `raise 1 to 40`, `bring_in 1`,
-// `discard 1 2c`, `show 1 2c3d` and `muck 1`. A move of the seat in turn has `-` for its seat, and a call that states no
-// chips, or a discard of no card, ends with `-`.
+//! Events by their words: `hole 1 2c??`, `board 2c3d4h`, `fold 1`, `call 1 6`, `raise 1 to 40`, `bring_in 1`,
+//! `discard 1 2c`, `show 1 2c3d` and `muck 1`. A move of the seat in turn has `-` for its seat, and a call that states no
+//! chips, or a discard of no card, ends with `-`.
 use crate::cards::{cards_text, slots_text};
 use crate::words::{first_and_rest, seat_of};
 use card_set::{CardRow, Slot, SlotRow, read_slots};
@@ -37,24 +37,6 @@ pub fn kind_of(words: &str) -> Option<Kind> {
     }
 }
 
-fn move_of(word: &str, rest: &str) -> Option<Kind> {
-    let (actor, rest) = first_and_rest(rest);
-    let actor = actor_of(actor)?;
-    match word.as_bytes() {
-        b"fold" => Some(Kind::Fold { actor }),
-        b"call" => Some(Kind::Call {
-            actor,
-            stated: stated_of(rest)?,
-        }),
-        b"raise" => Some(Kind::Raise {
-            actor,
-            amount: amount_of(rest)?,
-        }),
-        b"bring_in" => Some(Kind::BringIn { actor }),
-        _ => None,
-    }
-}
-
 fn seat_and_slots(text: &str) -> Option<(Seat, SlotRow)> {
     let (seat, slots) = first_and_rest(text);
     Some((seat_of(seat)?, slots_of(slots)?))
@@ -77,6 +59,24 @@ fn known(slots: &SlotRow) -> Option<CardRow> {
         }
     }
     Some(cards)
+}
+
+fn move_of(word: &str, rest: &str) -> Option<Kind> {
+    let (actor, rest) = first_and_rest(rest);
+    let actor = actor_of(actor)?;
+    match word.as_bytes() {
+        b"fold" => Some(Kind::Fold { actor }),
+        b"call" => Some(Kind::Call {
+            actor,
+            stated: stated_of(rest)?,
+        }),
+        b"raise" => Some(Kind::Raise {
+            actor,
+            amount: amount_of(rest)?,
+        }),
+        b"bring_in" => Some(Kind::BringIn { actor }),
+        _ => None,
+    }
 }
 
 fn actor_of(word: &str) -> Option<Option<Seat>> {

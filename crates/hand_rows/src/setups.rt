@@ -1,4 +1,4 @@
-// The setup and the rules of a row: `NT 14,100,100 blinds=1,2,0 min=2 rakes=1 always_open`.
+//! The setup and the rules of a row: `NT 14,100,100 blinds=1,2,0 min=2 rakes=1 always_open`.
 ghost use Rattle.std.specs.Prelude.{◌<◌};
 
 use crate::words;

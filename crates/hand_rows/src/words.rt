@@ -1,4 +1,4 @@
-// The words of a row, which spaces part, and the numbers of a word, which commas part.
+//! The words of a row, which spaces part, and the numbers of a word, which commas part.
 ghost use Rattle.std.specs.Prelude.{◌≤◌, IfSome};
 
 use chip_ledger::{MOST_AMOUNT, Seat, SeatRow};

@@ -1,4 +1,4 @@
-// What `replay` answers to a hand, and what `canon` and `check_stated` answer to its trace.
+//! What `replay` answers to a hand, and what `canon` and `check_stated` answer to its trace.
 use crate::facts::{difference_text, fits, stated_of};
 use crate::hands::{hand_of, is_short};
 use crate::traces::{fault_text, script_text, trace_text};
@@ -7,10 +7,6 @@ use hand_rows::first_and_rest;
 use replay_core::replay;
 use std::alloc::{AllocError, Global};
 use variant_table::is_valid;
-
-fn no_valid_hand(alloc: Global) -> Result<Option<String>, AllocError> {
-    Ok(Some(String::from_str(alloc, "no valid hand")?))
-}
 
 /// The trace of the row's hand, or what is wrong with it.
 pub fn replayed(alloc: Global, row: &str) -> Result<Option<String>, AllocError> {
@@ -83,4 +79,8 @@ pub fn repeated(alloc: Global, row: &str) -> Result<Option<String>, AllocError> 
         }
     }
     Ok(Some(format!(in alloc; "{events} events")?))
+}
+
+fn no_valid_hand(alloc: Global) -> Result<Option<String>, AllocError> {
+    Ok(Some(String::from_str(alloc, "no valid hand")?))
 }

@@ -1,4 +1,4 @@
-// What a list holds after one item was put into it, and what a text holds.
+//! What a list holds after one item was put into it, and what a text holds.
 use chip_ledger::Seat;
 use first_fault::Text;
 use hand_records::{Moves, Notes, Places, Record, Records, Stated};

@@ -1,4 +1,4 @@
-// Traces, scripts and faults in words.
+//! Traces, scripts and faults in words.
 use chip_ledger::{LiveRow, Seat};
 use hand_records::Trace;
 use hand_rows::{event_text, row_text};

@@ -1,4 +1,4 @@
-// The high order of the short deck, with a flush above a full house.
+//! The high order of the short deck, with a flush above a full house.
 use card_set::{CardRow, CardSet};
 use hand_order::{FlushPlace, HandOrder, LowStraight, Score, best_high, hand_points};
 

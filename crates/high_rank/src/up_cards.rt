@@ -1,4 +1,4 @@
-// The high order of up-cards: straights and flushes do not count.
+//! The high order of up-cards: straights and flushes do not count.
 ghost use Rattle.std.specs.Prelude.{◌≡◌, ◌<◌, ◌-◌, List, length, ◌↔◌};
 ghost use Rattle.card_set.specs.declared.card.Card.{Card};
 ghost use Rattle.card_set.specs.Classes.{place};

@@ -1,4 +1,4 @@
-// The high order: the better class, then the higher ranks, those that occur oftener first.
+//! The high order: the better class, then the higher ranks, those that occur oftener first.
 use card_set::{CardRow, CardSet};
 use hand_order::{FlushPlace, HandOrder, LowStraight, Score, best_high, hand_points};
 

@@ -33,11 +33,20 @@ impl<R: Files> FileShelf<R> {
     }
 }
 
-// Whether a path could not be opened because it leads nowhere.
-fn is_missing(error: &io::Error) -> bool
-    ensures { IsTrue result ↔ IsMissing error.now }
+// The answer for a name, by what came of opening it.
+fn fetch_opened<F: Read + Drop>(
+    alloc: Global,
+    opened: io::Result<F>,
+    max: usize,
+) -> Result<Fetched, ShelfFault>
+    ensures absent { (result ≡ Ok Fetched.Absent) ↔ IsErrAnd opened IsMissing }
+    ensures unopened { IfErr opened (λ error. IsMissing error ⊎ (result ≡ Err ShelfFault.Failed)) }
 {
-    matches!(error.kind(), ErrorKind::NotFound | ErrorKind::NotADirectory)
+    match opened {
+        Ok(file) => fetch_from(alloc, &mut StdSource::new(file), max),
+        Err(error) if is_missing(&error) => Ok(Fetched::Absent),
+        Err(_) => Err(ShelfFault::Failed),
+    }
 }
 
 // The answer for a name that is there, by the bytes that the source has left.
@@ -56,20 +65,11 @@ fn fetch_from<S: Source>(alloc: Global, source: &mut S, max: usize) -> Result<Fe
     }
 }
 
-// The answer for a name, by what came of opening it.
-fn fetch_opened<F: Read + Drop>(
-    alloc: Global,
-    opened: io::Result<F>,
-    max: usize,
-) -> Result<Fetched, ShelfFault>
-    ensures absent { (result ≡ Ok Fetched.Absent) ↔ IsErrAnd opened IsMissing }
-    ensures unopened { IfErr opened (λ error. IsMissing error ⊎ (result ≡ Err ShelfFault.Failed)) }
+// Whether a path could not be opened because it leads nowhere.
+fn is_missing(error: &io::Error) -> bool
+    ensures { IsTrue result ↔ IsMissing error.now }
 {
-    match opened {
-        Ok(file) => fetch_from(alloc, &mut StdSource::new(file), max),
-        Err(error) if is_missing(&error) => Ok(Fetched::Absent),
-        Err(_) => Err(ShelfFault::Failed),
-    }
+    matches!(error.kind(), ErrorKind::NotFound | ErrorKind::NotADirectory)
 }
 
 impl<R: Files> Shelf for FileShelf<R> {

@@ -28,6 +28,13 @@ pub struct MemSink {
 impl MemSink {
     ghost use Rattle.host_io.specs.MemSink.{bytes_held, room_left, sink_piece, sink_plan};
 
+    /// The bytes that the sink holds.
+    pub fn held(&self) -> &[u8]
+        ensures { result.now ≡ bytes_held self.now }
+    {
+        &self.bytes
+    }
+
     /// An empty sink with room for `room` bytes, that fails at the calls with these numbers,
     /// counted from 0. It takes all its memory here. Bytes of any number are one piece.
     pub fn new(alloc: Global, room: usize, fail_at: Vec<u64>) -> Result<MemSink, Memory>
@@ -58,13 +65,6 @@ impl MemSink {
             piece,
             plan: FaultPlan::new(fail_at),
         })
-    }
-
-    /// The bytes that the sink holds.
-    pub fn held(&self) -> &[u8]
-        ensures { result.now ≡ bytes_held self.now }
-    {
-        &self.bytes
     }
 }
 

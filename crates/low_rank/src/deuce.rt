@@ -1,4 +1,4 @@
-// Deuce-to-seven reads the high order backwards.
+//! Deuce-to-seven reads the high order backwards.
 ghost use Rattle.std.specs.Prelude.{◌≡◌, Some};
 ghost use Rattle.card_set.specs.Row.{cards_of};
 ghost use Rattle.hand_order.specs.Choices.{AreHeld};

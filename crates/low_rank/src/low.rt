@@ -1,4 +1,4 @@
-// Where low cards are good, a score is what the class and the ranks leave of the greatest number.
+//! Where low cards are good, a score is what the class and the ranks leave of the greatest number.
 ghost use Rattle.std.specs.Prelude.{◌≡◌, ◌<◌, ◌≤◌, ◌-◌, List, length, ◌↔◌};
 ghost use Rattle.card_set.specs.declared.card.Card.{Card};
 ghost use Rattle.card_set.specs.Classes.{place};

@@ -1,4 +1,4 @@
-// The low orders in which the ace is low and straights and flushes do not count.
+//! The low orders in which the ace is low and straights and flushes do not count.
 use crate::eight::best_eight;
 use crate::razz::best_razz;
 use card_set::{CardRow, CardSet};

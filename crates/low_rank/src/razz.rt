@@ -1,4 +1,4 @@
-// The best hand of razz is read from how often ranks occur: of the best class that can be had, the lowest ranks.
+//! The best hand of razz is read from how often ranks occur: of the best class that can be had, the lowest ranks.
 ghost use Rattle.std.specs.Prelude.{◌≡◌, ◌<◌, ◌≤◌, ◌+◌, ◌⊎◌, ◌++◌, ℕ, List, length, Some};
 ghost use Rattle.std.specs.Int.{bit_at};
 ghost use Rattle.card_set.specs.declared.card.Card.{Card};
@@ -144,18 +144,6 @@ fn lowest_of_shape(masks: &SuitMasks, shape: &Shape) -> RankRow
     joined(&first, &others)
 }
 
-// The heights of one row, then those of the other.
-fn joined(first: &RankRow, others: &RankRow) -> RankRow
-    requires { length (heights_of first.now) + length (heights_of others.now) ≤ 5 }
-    ensures { heights_of result ≡ heights_of first.now ++ heights_of others.now }
-{
-    let mut row = *first;
-    for height in others.as_slice() {
-        row.push(*height);
-    }
-    row
-}
-
 // So many of the lowest ranks that occur often enough and are none of the others, the greatest first.
 #[tactic(auto, unfolding(crate::specs::RazzBest::lowest_ranks))]
 fn lowest_ranks(masks: &SuitMasks, least: u8, others: &RankRow, need: u8) -> RankRow
@@ -230,4 +218,16 @@ fn is_height_of(heights: &[u8], height: u8) -> bool
     ensures { result ≡ is_height_of heights.now height }
 {
     heights.iter().any(|other| *other == height)
+}
+
+// The heights of one row, then those of the other.
+fn joined(first: &RankRow, others: &RankRow) -> RankRow
+    requires { length (heights_of first.now) + length (heights_of others.now) ≤ 5 }
+    ensures { heights_of result ≡ heights_of first.now ++ heights_of others.now }
+{
+    let mut row = *first;
+    for height in others.as_slice() {
+        row.push(*height);
+    }
+    row
 }

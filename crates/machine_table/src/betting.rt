@@ -89,10 +89,6 @@ fn answered<V: Variant>(
     }
 }
 
-fn due_text(alloc: Global, due: Due) -> Result<String, AllocError> {
-    format!(in alloc; "{due:?}")
-}
-
 // Ends the deal, the draw or the show, and tells what is due then.
 fn ended<V: Variant>(alloc: Global, betting: &mut Betting<V>) -> Result<String, AllocError> {
     match betting.due() {
@@ -102,6 +98,10 @@ fn ended<V: Variant>(alloc: Global, betting: &mut Betting<V>) -> Result<String, 
         }
         Due::BringIn | Due::Move | Due::Over => String::from_str(alloc, "nothing to end"),
     }
+}
+
+fn due_text(alloc: Global, due: Due) -> Result<String, AllocError> {
+    format!(in alloc; "{due:?}")
 }
 
 // Gives a seat its up-cards.
@@ -146,39 +146,6 @@ fn stacks_text<V: Variant>(alloc: Global, betting: &Betting<V>) -> Result<String
         write!(text, "{chips}")?;
     }
     Ok(text)
-}
-
-// Makes a move, and tells whose it was and where it went, or why it is refused.
-fn moved<V: Variant>(
-    alloc: Global,
-    betting: &mut Betting<V>,
-    up: &UpRow,
-    kind: Kind,
-) -> Result<String, AllocError>
-    requires { is_card_said (kind_said kind) ≡ false }
-{
-    if up.seats != betting.live().seats {
-        return String::from_str(alloc, "no row");
-    }
-    match betting.step(up, &Event { at: 0, kind }) {
-        Ok(moved) => move_text(alloc, &moved),
-        Err(reason) => reason_text(alloc, reason),
-    }
-}
-
-fn move_text(alloc: Global, moved: &Moved) -> Result<String, AllocError> {
-    let (seat, act, from, to) = (moved.seat.number, moved.act, moved.from, moved.to);
-    let closed = if moved.closed { " closed" } else { "" };
-    format!(in alloc; "{seat} {act:?} {from} to {to}{closed}")
-}
-
-fn reason_text(alloc: Global, reason: Illegal) -> Result<String, AllocError> {
-    match reason {
-        Illegal::AmountDiffers { stated, due } => {
-            format!(in alloc; "AmountDiffers stated {stated} due {due}")
-        }
-        _ => format!(in alloc; "{reason:?}"),
-    }
 }
 
 // The move that the words say.
@@ -226,5 +193,38 @@ fn amount_of(words: &str) -> Option<Spelled> {
         b"total" => Some(Spelled::HandTotal(chips.parse::<u64>().ok()?)),
         b"unit" => Some(Spelled::Unit),
         _ => None,
+    }
+}
+
+// Makes a move, and tells whose it was and where it went, or why it is refused.
+fn moved<V: Variant>(
+    alloc: Global,
+    betting: &mut Betting<V>,
+    up: &UpRow,
+    kind: Kind,
+) -> Result<String, AllocError>
+    requires { is_card_said (kind_said kind) ≡ false }
+{
+    if up.seats != betting.live().seats {
+        return String::from_str(alloc, "no row");
+    }
+    match betting.step(up, &Event { at: 0, kind }) {
+        Ok(moved) => move_text(alloc, &moved),
+        Err(reason) => reason_text(alloc, reason),
+    }
+}
+
+fn move_text(alloc: Global, moved: &Moved) -> Result<String, AllocError> {
+    let (seat, act, from, to) = (moved.seat.number, moved.act, moved.from, moved.to);
+    let closed = if moved.closed { " closed" } else { "" };
+    format!(in alloc; "{seat} {act:?} {from} to {to}{closed}")
+}
+
+fn reason_text(alloc: Global, reason: Illegal) -> Result<String, AllocError> {
+    match reason {
+        Illegal::AmountDiffers { stated, due } => {
+            format!(in alloc; "AmountDiffers stated {stated} due {due}")
+        }
+        _ => format!(in alloc; "{reason:?}"),
     }
 }

@@ -126,154 +126,6 @@ fn due_of(text: &str) -> Option<Due> {
     }
 }
 
-// The street of a deal or a draw is one of the game.
-fn is_within<V: Variant>(due: Due) -> bool
-    ensures { IsTrue result → IsDueWithin V.STREETS due }
-{
-    match due {
-        Due::Deal(on) => 1 <= on && on <= V::STREETS,
-        Due::Draw(on) => 1 <= on && on <= V::STREETS,
-        Due::BringIn | Due::Move | Due::Show | Due::Over => true,
-    }
-}
-
-// An event of cards.
-fn told_event<V: Variant>(
-    alloc: Global,
-    cards: &mut Cards<V>,
-    told: &Told,
-    word: &str,
-    rest: &str,
-) -> Result<String, AllocError> {
-    match word.as_bytes() {
-        b"hole" => match seat_and_slots(rest) {
-            Some((seat, cards_named)) => dealt(
-                alloc,
-                cards,
-                told,
-                Kind::Hole {
-                    seat,
-                    cards: cards_named,
-                },
-            ),
-            None => no_event(alloc),
-        },
-        b"board" => match read_slots(rest.as_bytes()) {
-            Ok(slots) => dealt(
-                alloc,
-                cards,
-                told,
-                Kind::Board {
-                    cards: known(&slots),
-                },
-            ),
-            Err(_) => no_event(alloc),
-        },
-        b"discard" => match seat_and_slots(rest) {
-            Some((seat, cards_named)) => discarded(
-                alloc,
-                cards,
-                told,
-                Kind::Discard {
-                    seat,
-                    cards: cards_named,
-                },
-            ),
-            None => no_event(alloc),
-        },
-        b"show" => match seat_and_slots(rest) {
-            Some((seat, slots)) => shown(
-                alloc,
-                cards,
-                told,
-                Kind::Show {
-                    seat,
-                    cards: known(&slots),
-                },
-            ),
-            None => no_event(alloc),
-        },
-        b"muck" => match seat_of(rest) {
-            Some(seat) => shown(alloc, cards, told, Kind::Muck { seat }),
-            None => no_event(alloc),
-        },
-        _ => no_event(alloc),
-    }
-}
-
-fn no_event(alloc: Global) -> Result<String, AllocError> {
-    String::from_str(alloc, "no event")
-}
-
-fn seat_and_slots(text: &str) -> Option<(Seat, SlotRow)> {
-    let (seat, slots) = first_and_rest(text);
-    Some((seat_of(seat)?, read_slots(slots.as_bytes()).ok()?))
-}
-
-// The known cards of a row.
-fn known(slots: &SlotRow) -> CardRow {
-    let mut cards = CardRow::new();
-    for slot in slots.as_slice() {
-        if let Slot::Known(card) = slot {
-            if cards.len < 7 {
-                cards.push(*card);
-            }
-        }
-    }
-    cards
-}
-
-fn dealt<V: Variant>(
-    alloc: Global,
-    cards: &mut Cards<V>,
-    told: &Told,
-    kind: Kind,
-) -> Result<String, AllocError>
-    requires { is_deal (kind_said kind) ≡ true }
-{
-    if told.live.seats != cards.state.seats || !is_within::<V>(told.due) {
-        return String::from_str(alloc, "no such street");
-    }
-    outcome(
-        alloc,
-        cards.deal(told.due, &told.live, &Event { at: 0, kind }),
-    )
-}
-
-fn discarded<V: Variant>(
-    alloc: Global,
-    cards: &mut Cards<V>,
-    told: &Told,
-    kind: Kind,
-) -> Result<String, AllocError>
-    requires { is_discard (kind_said kind) ≡ true }
-{
-    if told.live.seats != cards.state.seats || !is_within::<V>(told.due) {
-        return String::from_str(alloc, "no such street");
-    }
-    outcome(
-        alloc,
-        cards.discard(told.due, &told.live, &Event { at: 0, kind }),
-    )
-}
-
-fn shown<V: Variant>(
-    alloc: Global,
-    cards: &mut Cards<V>,
-    told: &Told,
-    kind: Kind,
-) -> Result<String, AllocError>
-    requires { is_showing (kind_said kind) ≡ true }
-{
-    if told.live.seats != cards.state.seats {
-        return String::from_str(alloc, "no such seats");
-    }
-    outcome(
-        alloc,
-        cards.show(told.due, &told.live, told.settled, &Event { at: 0, kind }),
-    )
-}
-
 fn folded<V: Variant>(
     alloc: Global,
     cards: &mut Cards<V>,
@@ -290,32 +142,12 @@ fn folded<V: Variant>(
     }
 }
 
-fn outcome(alloc: Global, taken: Result<(), Illegal>) -> Result<String, AllocError> {
-    match taken {
-        Ok(()) => String::from_str(alloc, "ok"),
-        Err(reason) => format!(in alloc; "{reason:?}"),
-    }
-}
-
 fn done<V: Variant>(alloc: Global, cards: &Cards<V>, told: &Told) -> Result<String, AllocError> {
     if told.live.seats != cards.state.seats || !is_within::<V>(told.due) {
         return String::from_str(alloc, "no such street");
     }
     let done = cards.done(told.due, &told.live);
     format!(in alloc; "{done}")
-}
-
-// The slots of a row, as `2c??`, and `-` for none.
-fn push_slots(text: &mut String, slots: &[Slot]) -> Result<(), AllocError> {
-    if slots.is_empty() {
-        text.push_str("-")?;
-    }
-    for slot in slots {
-        let [rank, suit] = slot_text(*slot);
-        text.push(char::from(rank))?;
-        text.push(char::from(suit))?;
-    }
-    Ok(())
 }
 
 fn up<V: Variant>(alloc: Global, cards: &Cards<V>) -> Result<String, AllocError> {
@@ -389,4 +221,172 @@ fn places<V: Variant>(alloc: Global, cards: &Cards<V>) -> Result<String, AllocEr
         }
     }
     Ok(text)
+}
+
+// The slots of a row, as `2c??`, and `-` for none.
+fn push_slots(text: &mut String, slots: &[Slot]) -> Result<(), AllocError> {
+    if slots.is_empty() {
+        text.push_str("-")?;
+    }
+    for slot in slots {
+        let [rank, suit] = slot_text(*slot);
+        text.push(char::from(rank))?;
+        text.push(char::from(suit))?;
+    }
+    Ok(())
+}
+
+// An event of cards.
+fn told_event<V: Variant>(
+    alloc: Global,
+    cards: &mut Cards<V>,
+    told: &Told,
+    word: &str,
+    rest: &str,
+) -> Result<String, AllocError> {
+    match word.as_bytes() {
+        b"hole" => match seat_and_slots(rest) {
+            Some((seat, cards_named)) => dealt(
+                alloc,
+                cards,
+                told,
+                Kind::Hole {
+                    seat,
+                    cards: cards_named,
+                },
+            ),
+            None => no_event(alloc),
+        },
+        b"board" => match read_slots(rest.as_bytes()) {
+            Ok(slots) => dealt(
+                alloc,
+                cards,
+                told,
+                Kind::Board {
+                    cards: known(&slots),
+                },
+            ),
+            Err(_) => no_event(alloc),
+        },
+        b"discard" => match seat_and_slots(rest) {
+            Some((seat, cards_named)) => discarded(
+                alloc,
+                cards,
+                told,
+                Kind::Discard {
+                    seat,
+                    cards: cards_named,
+                },
+            ),
+            None => no_event(alloc),
+        },
+        b"show" => match seat_and_slots(rest) {
+            Some((seat, slots)) => shown(
+                alloc,
+                cards,
+                told,
+                Kind::Show {
+                    seat,
+                    cards: known(&slots),
+                },
+            ),
+            None => no_event(alloc),
+        },
+        b"muck" => match seat_of(rest) {
+            Some(seat) => shown(alloc, cards, told, Kind::Muck { seat }),
+            None => no_event(alloc),
+        },
+        _ => no_event(alloc),
+    }
+}
+
+fn seat_and_slots(text: &str) -> Option<(Seat, SlotRow)> {
+    let (seat, slots) = first_and_rest(text);
+    Some((seat_of(seat)?, read_slots(slots.as_bytes()).ok()?))
+}
+
+fn dealt<V: Variant>(
+    alloc: Global,
+    cards: &mut Cards<V>,
+    told: &Told,
+    kind: Kind,
+) -> Result<String, AllocError>
+    requires { is_deal (kind_said kind) ≡ true }
+{
+    if told.live.seats != cards.state.seats || !is_within::<V>(told.due) {
+        return String::from_str(alloc, "no such street");
+    }
+    outcome(
+        alloc,
+        cards.deal(told.due, &told.live, &Event { at: 0, kind }),
+    )
+}
+
+fn no_event(alloc: Global) -> Result<String, AllocError> {
+    String::from_str(alloc, "no event")
+}
+
+// The known cards of a row.
+fn known(slots: &SlotRow) -> CardRow {
+    let mut cards = CardRow::new();
+    for slot in slots.as_slice() {
+        if let Slot::Known(card) = slot {
+            if cards.len < 7 {
+                cards.push(*card);
+            }
+        }
+    }
+    cards
+}
+
+fn discarded<V: Variant>(
+    alloc: Global,
+    cards: &mut Cards<V>,
+    told: &Told,
+    kind: Kind,
+) -> Result<String, AllocError>
+    requires { is_discard (kind_said kind) ≡ true }
+{
+    if told.live.seats != cards.state.seats || !is_within::<V>(told.due) {
+        return String::from_str(alloc, "no such street");
+    }
+    outcome(
+        alloc,
+        cards.discard(told.due, &told.live, &Event { at: 0, kind }),
+    )
+}
+
+// The street of a deal or a draw is one of the game.
+fn is_within<V: Variant>(due: Due) -> bool
+    ensures { IsTrue result → IsDueWithin V.STREETS due }
+{
+    match due {
+        Due::Deal(on) => 1 <= on && on <= V::STREETS,
+        Due::Draw(on) => 1 <= on && on <= V::STREETS,
+        Due::BringIn | Due::Move | Due::Show | Due::Over => true,
+    }
+}
+
+fn shown<V: Variant>(
+    alloc: Global,
+    cards: &mut Cards<V>,
+    told: &Told,
+    kind: Kind,
+) -> Result<String, AllocError>
+    requires { is_showing (kind_said kind) ≡ true }
+{
+    if told.live.seats != cards.state.seats {
+        return String::from_str(alloc, "no such seats");
+    }
+    outcome(
+        alloc,
+        cards.show(told.due, &told.live, told.settled, &Event { at: 0, kind }),
+    )
+}
+
+fn outcome(alloc: Global, taken: Result<(), Illegal>) -> Result<String, AllocError> {
+    match taken {
+        Ok(()) => String::from_str(alloc, "ok"),
+        Err(reason) => format!(in alloc; "{reason:?}"),
+    }
 }

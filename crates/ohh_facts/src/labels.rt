@@ -29,47 +29,6 @@ pub struct Labels {
     pub venue: Option<Text>,
 }
 
-// How many seats the table has.
-#[tactic(auto, unfolding(crate::specs::Notes::seat_count_said))]
-fn read_seat_count(value: &Value, seats: u8) -> Result<Option<u8>, Stop<Fault>>
-    ensures said { Gives (λ count. count) result (seat_count_said seats (view value.now)) }
-    ensures allowed { IfOk result (λ count. IfSome count (IsSeatCount seats)) }
-{
-    let count = read_number(value, 1, 255, Path::TableSize)? as u8;
-    if count == seats {
-        Ok(None)
-    } else {
-        Ok(Some(count))
-    }
-}
-
-// How many seats the table has, if that is said.
-fn seat_count_at(ohh: &Value, seats: u8) -> Result<Option<u8>, Stop<Fault>>
-    ensures said { Gives (λ count. count) result
-        (or_none (seat_count_said seats) (field_said paths.TableSize (view ohh.now))) }
-    ensures allowed { IfOk result (λ count. IfSome count (IsSeatCount seats)) }
-{
-    match field(ohh, Path::TableSize) {
-        Some(value) => read_seat_count(value, seats),
-        None => Ok(None),
-    }
-}
-
-// The moment at which the hand began, if it is said.
-fn moment_at(ohh: &Value) -> Result<Option<Moment>, Stop<Fault>>
-    ensures said { Gives (λ moment. moment) result
-        (read_if moment_said (field_said paths.StartDate (view ohh.now))) }
-    ensures moment { IfOk result (λ moment. IfSome moment IsMoment) }
-{
-    match field(ohh, Path::StartDate) {
-        Some(value) => {
-            let moment = read_moment(value)?;
-            Ok(Some(moment))
-        }
-        None => Ok(None),
-    }
-}
-
 /// The labels of a hand with so many seats, at this place of its file, from 0.
 #[tactic(auto, unfolding(crate::specs::Notes::labels_said))]
 pub fn read_labels(alloc: Global, ohh: &Value, place: u32, seats: u8) -> Result<Labels, Stop<Fault>>
@@ -91,4 +50,45 @@ pub fn read_labels(alloc: Global, ohh: &Value, place: u32, seats: u8) -> Result<
         currency,
         venue,
     })
+}
+
+// How many seats the table has, if that is said.
+fn seat_count_at(ohh: &Value, seats: u8) -> Result<Option<u8>, Stop<Fault>>
+    ensures said { Gives (λ count. count) result
+        (or_none (seat_count_said seats) (field_said paths.TableSize (view ohh.now))) }
+    ensures allowed { IfOk result (λ count. IfSome count (IsSeatCount seats)) }
+{
+    match field(ohh, Path::TableSize) {
+        Some(value) => read_seat_count(value, seats),
+        None => Ok(None),
+    }
+}
+
+// How many seats the table has.
+#[tactic(auto, unfolding(crate::specs::Notes::seat_count_said))]
+fn read_seat_count(value: &Value, seats: u8) -> Result<Option<u8>, Stop<Fault>>
+    ensures said { Gives (λ count. count) result (seat_count_said seats (view value.now)) }
+    ensures allowed { IfOk result (λ count. IfSome count (IsSeatCount seats)) }
+{
+    let count = read_number(value, 1, 255, Path::TableSize)? as u8;
+    if count == seats {
+        Ok(None)
+    } else {
+        Ok(Some(count))
+    }
+}
+
+// The moment at which the hand began, if it is said.
+fn moment_at(ohh: &Value) -> Result<Option<Moment>, Stop<Fault>>
+    ensures said { Gives (λ moment. moment) result
+        (read_if moment_said (field_said paths.StartDate (view ohh.now))) }
+    ensures moment { IfOk result (λ moment. IfSome moment IsMoment) }
+{
+    match field(ohh, Path::StartDate) {
+        Some(value) => {
+            let moment = read_moment(value)?;
+            Ok(Some(moment))
+        }
+        None => Ok(None),
+    }
 }

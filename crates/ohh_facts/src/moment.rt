@@ -29,21 +29,185 @@ pub struct Moment {
     pub time: Clock,
 }
 
-// The text says no moment.
-fn no_moment() -> Stop<Fault>
-    ensures { result ≡ Stop.At (record { what = What.WrongType; path = Path.StartDate }) }
+/// The moment at which a hand began.
+pub fn read_moment(value: &Value) -> Result<Moment, Stop<Fault>>
+    ensures said { Gives (λ moment. moment) result (moment_said (view value.now)) }
+    ensures moment { IfOk result IsMoment }
 {
-    wrong(What::WrongType, Path::StartDate)
+    let text = read_text(value, Path::StartDate)?;
+    moment_of(text.as_bytes())
 }
 
-// So many signs of a text, from this place on.
-fn part(text: &[u8], from: usize, count: usize) -> &[u8]
-    requires { from + count ≤ length text.now }
-    ensures { result.now ≡ part_said from count text.now }
+// The moment that a text says.
+#[tactic(auto, unfolding(crate::specs::Moments::moment_in))]
+fn moment_of(text: &[u8]) -> Result<Moment, Stop<Fault>>
+    ensures said { Gives (λ moment. moment) result (moment_in text.now) }
+    ensures moment { IfOk result IsMoment }
 {
-    let (_before, rest) = text.split_at(from);
-    let (part, _behind) = rest.split_at(count);
-    part
+    if has_signs(text) {
+        read_parts(text)
+    } else {
+        Err(no_moment())
+    }
+}
+
+// Whether the signs between the numbers are those of a moment.
+fn has_signs(text: &[u8]) -> bool
+    ensures { result ≡ has_signs_said text.now }
+{
+    text.len() >= 19
+        && ((text[4] == b'-' && text[7] == b'-')
+            && ((text[10] == b'T' || text[10] == b' ') && (text[13] == b':' && text[16] == b':')))
+}
+
+// The moment of a text with its signs.
+#[tactic(auto, unfolding(crate::specs::Moments::parts_said))]
+fn read_parts(text: &[u8]) -> Result<Moment, Stop<Fault>>
+    requires { 19 ≤ length text.now }
+    ensures said { Gives (λ moment. moment) result (parts_said text.now) }
+    ensures moment { IfOk result IsMoment }
+{
+    let day = read_day(text)?;
+    let (_front, behind) = text.split_at(19);
+    let nano = read_fraction(behind)?;
+    let time = read_clock(text, nano)?;
+    Ok(Moment { day, time })
+}
+
+// The day of a text of 19 signs or more.
+#[tactic(auto, unfolding(crate::specs::Moments::day_said))]
+fn read_day(text: &[u8]) -> Result<Day, Stop<Fault>>
+    requires { 19 ≤ length text.now }
+    ensures said { Gives (λ day. day) result (day_said text.now) }
+    ensures day { IfOk result IsDay }
+{
+    let year = number_in(part(text, 0, 4), 1, 9999)? as u16;
+    let month = number_in(part(text, 5, 2), 1, 12)? as u8;
+    let day = number_in(part(text, 8, 2), 1, 31)? as u8;
+    if has_day(year, month, day) {
+        Ok(Day { year, month, day })
+    } else {
+        Err(no_moment())
+    }
+}
+
+// Whether the calendar has the day.
+fn has_day(year: u16, month: u8, day: u8) -> bool
+    requires year { IsWithin 1 9999 year }
+    requires month { IsWithin 1 12 month }
+    requires day { IsWithin 1 31 day }
+    ensures { result ≡ nat_le day (days_in_month year month) }
+{
+    is_date(year, month, day)
+}
+
+// Whether the numbers are a date.
+fn is_date(year: u16, month: u8, day: u8) -> bool
+    requires year { year ≤ 9999 }
+    requires month { month ≤ 12 }
+    requires day { day ≤ 31 }
+    ensures { IsTrue result ↔ IsDate (pos year) (pos month) (pos day) }
+{
+    Date::new(year as i16, month as i8, day as i8).is_ok()
+}
+
+// What stands behind the seconds: a point and a fraction, or not, and the zone.
+#[tactic(auto, unfolding(crate::specs::Moments::fraction_said))]
+fn read_fraction(text: &[u8]) -> Result<u32, Stop<Fault>>
+    ensures said { Gives (λ nano. nano) result (fraction_said text.now) }
+    ensures most { IfOk result (λ nano. nano ≤ 999999999) }
+{
+    if !has_point(text) {
+        return read_zone(0, text);
+    }
+    let (_point, behind) = text.split_at(1);
+    read_digits_of_fraction(digits_in_front(behind), behind)
+}
+
+// Whether a point stands in front.
+fn has_point(text: &[u8]) -> bool
+    ensures { result ≡ has_point_said text.now }
+{
+    !text.is_empty() && text[0] == b'.'
+}
+
+// One to nine digits in front of a text, in nanoseconds, where the zone stands behind them.
+#[tactic(auto, unfolding(crate::specs::Moments::fraction_of))]
+fn read_digits_of_fraction(count: usize, text: &[u8]) -> Result<u32, Stop<Fault>>
+    requires { count ≤ length text.now }
+    ensures said { Gives (λ nano. nano) result (fraction_of count text.now) }
+    ensures most { IfOk result (λ nano. nano ≤ 999999999) }
+{
+    if count < 1 || count > 9 {
+        return Err(no_moment());
+    }
+    let (digits, zone) = text.split_at(count);
+    let nine = nine(digits);
+    let nano = number_in(&nine, 0, 999_999_999)? as u32;
+    read_zone(nano, zone)
+}
+
+// Up to nine digits, and zeros behind them.
+fn nine(digits: &[u8]) -> [u8; 9]
+    requires { length digits.now ≤ 9 }
+    ensures { result ≡ nine_of digits.now }
+{
+    let mut nine = [b'0'; 9];
+    for (index, digit) in digits.iter().enumerate() {
+        nine[index] = *digit;
+    }
+    nine
+}
+
+// These nanoseconds, where the zone behind them is that of universal time.
+#[tactic(auto, unfolding(crate::specs::Moments::zoned))]
+fn read_zone(nano: u32, zone: &[u8]) -> Result<u32, Stop<Fault>>
+    ensures said { Gives (λ nano. nano) result (zoned nano zone.now) }
+    ensures same { IfOk result (λ found. found ≡ nano) }
+{
+    if is_universal(zone) {
+        Ok(nano)
+    } else {
+        Err(no_moment())
+    }
+}
+
+// Whether the zone is that of universal time.
+fn is_universal(zone: &[u8]) -> bool
+    ensures { result ≡ is_universal_said zone.now }
+{
+    zone.is_empty() || (zone == b"Z".as_slice() || zone == b"+00:00".as_slice())
+}
+
+// How many digits stand in front.
+fn digits_in_front(text: &[u8]) -> usize
+    ensures { result ≡ digits_in_front_said text.now }
+{
+    for (index, sign) in text.iter().enumerate() {
+        if !sign.is_ascii_digit() {
+            return index;
+        }
+    }
+    text.len()
+}
+
+// The time of a text of 19 signs or more, with these nanoseconds.
+#[tactic(auto, unfolding(crate::specs::Moments::clock_said))]
+fn read_clock(text: &[u8], nano: u32) -> Result<Clock, Stop<Fault>>
+    requires long { 19 ≤ length text.now }
+    requires nano { nano ≤ 999999999 }
+    ensures said { Gives (λ clock. clock) result (clock_said nano text.now) }
+    ensures time { IfOk result IsTime }
+{
+    let hour = number_in(part(text, 11, 2), 0, 23)? as u8;
+    let minute = number_in(part(text, 14, 2), 0, 59)? as u8;
+    let second = number_in(part(text, 17, 2), 0, 59)? as u8;
+    Ok(Clock {
+        hour,
+        minute,
+        second,
+        nano,
+    })
 }
 
 // A number from `least` to `most`, in decimal digits.
@@ -68,183 +232,19 @@ fn number_in(digits: &[u8], least: u64, most: u64) -> Result<u64, Stop<Fault>>
     }
 }
 
-// Whether the signs between the numbers are those of a moment.
-fn has_signs(text: &[u8]) -> bool
-    ensures { result ≡ has_signs_said text.now }
+// The text says no moment.
+fn no_moment() -> Stop<Fault>
+    ensures { result ≡ Stop.At (record { what = What.WrongType; path = Path.StartDate }) }
 {
-    text.len() >= 19
-        && ((text[4] == b'-' && text[7] == b'-')
-            && ((text[10] == b'T' || text[10] == b' ') && (text[13] == b':' && text[16] == b':')))
+    wrong(What::WrongType, Path::StartDate)
 }
 
-// Whether the numbers are a date.
-fn is_date(year: u16, month: u8, day: u8) -> bool
-    requires year { year ≤ 9999 }
-    requires month { month ≤ 12 }
-    requires day { day ≤ 31 }
-    ensures { IsTrue result ↔ IsDate (pos year) (pos month) (pos day) }
+// So many signs of a text, from this place on.
+fn part(text: &[u8], from: usize, count: usize) -> &[u8]
+    requires { from + count ≤ length text.now }
+    ensures { result.now ≡ part_said from count text.now }
 {
-    Date::new(year as i16, month as i8, day as i8).is_ok()
-}
-
-// Whether the calendar has the day.
-fn has_day(year: u16, month: u8, day: u8) -> bool
-    requires year { IsWithin 1 9999 year }
-    requires month { IsWithin 1 12 month }
-    requires day { IsWithin 1 31 day }
-    ensures { result ≡ nat_le day (days_in_month year month) }
-{
-    is_date(year, month, day)
-}
-
-// The day of a text of 19 signs or more.
-#[tactic(auto, unfolding(crate::specs::Moments::day_said))]
-fn read_day(text: &[u8]) -> Result<Day, Stop<Fault>>
-    requires { 19 ≤ length text.now }
-    ensures said { Gives (λ day. day) result (day_said text.now) }
-    ensures day { IfOk result IsDay }
-{
-    let year = number_in(part(text, 0, 4), 1, 9999)? as u16;
-    let month = number_in(part(text, 5, 2), 1, 12)? as u8;
-    let day = number_in(part(text, 8, 2), 1, 31)? as u8;
-    if has_day(year, month, day) {
-        Ok(Day { year, month, day })
-    } else {
-        Err(no_moment())
-    }
-}
-
-// The time of a text of 19 signs or more, with these nanoseconds.
-#[tactic(auto, unfolding(crate::specs::Moments::clock_said))]
-fn read_clock(text: &[u8], nano: u32) -> Result<Clock, Stop<Fault>>
-    requires long { 19 ≤ length text.now }
-    requires nano { nano ≤ 999999999 }
-    ensures said { Gives (λ clock. clock) result (clock_said nano text.now) }
-    ensures time { IfOk result IsTime }
-{
-    let hour = number_in(part(text, 11, 2), 0, 23)? as u8;
-    let minute = number_in(part(text, 14, 2), 0, 59)? as u8;
-    let second = number_in(part(text, 17, 2), 0, 59)? as u8;
-    Ok(Clock {
-        hour,
-        minute,
-        second,
-        nano,
-    })
-}
-
-// How many digits stand in front.
-fn digits_in_front(text: &[u8]) -> usize
-    ensures { result ≡ digits_in_front_said text.now }
-{
-    for (index, sign) in text.iter().enumerate() {
-        if !sign.is_ascii_digit() {
-            return index;
-        }
-    }
-    text.len()
-}
-
-// Up to nine digits, and zeros behind them.
-fn nine(digits: &[u8]) -> [u8; 9]
-    requires { length digits.now ≤ 9 }
-    ensures { result ≡ nine_of digits.now }
-{
-    let mut nine = [b'0'; 9];
-    for (index, digit) in digits.iter().enumerate() {
-        nine[index] = *digit;
-    }
-    nine
-}
-
-// Whether the zone is that of universal time.
-fn is_universal(zone: &[u8]) -> bool
-    ensures { result ≡ is_universal_said zone.now }
-{
-    zone.is_empty() || (zone == b"Z".as_slice() || zone == b"+00:00".as_slice())
-}
-
-// These nanoseconds, where the zone behind them is that of universal time.
-#[tactic(auto, unfolding(crate::specs::Moments::zoned))]
-fn read_zone(nano: u32, zone: &[u8]) -> Result<u32, Stop<Fault>>
-    ensures said { Gives (λ nano. nano) result (zoned nano zone.now) }
-    ensures same { IfOk result (λ found. found ≡ nano) }
-{
-    if is_universal(zone) {
-        Ok(nano)
-    } else {
-        Err(no_moment())
-    }
-}
-
-// One to nine digits in front of a text, in nanoseconds, where the zone stands behind them.
-#[tactic(auto, unfolding(crate::specs::Moments::fraction_of))]
-fn read_digits_of_fraction(count: usize, text: &[u8]) -> Result<u32, Stop<Fault>>
-    requires { count ≤ length text.now }
-    ensures said { Gives (λ nano. nano) result (fraction_of count text.now) }
-    ensures most { IfOk result (λ nano. nano ≤ 999999999) }
-{
-    if count < 1 || count > 9 {
-        return Err(no_moment());
-    }
-    let (digits, zone) = text.split_at(count);
-    let nine = nine(digits);
-    let nano = number_in(&nine, 0, 999_999_999)? as u32;
-    read_zone(nano, zone)
-}
-
-// Whether a point stands in front.
-fn has_point(text: &[u8]) -> bool
-    ensures { result ≡ has_point_said text.now }
-{
-    !text.is_empty() && text[0] == b'.'
-}
-
-// What stands behind the seconds: a point and a fraction, or not, and the zone.
-#[tactic(auto, unfolding(crate::specs::Moments::fraction_said))]
-fn read_fraction(text: &[u8]) -> Result<u32, Stop<Fault>>
-    ensures said { Gives (λ nano. nano) result (fraction_said text.now) }
-    ensures most { IfOk result (λ nano. nano ≤ 999999999) }
-{
-    if !has_point(text) {
-        return read_zone(0, text);
-    }
-    let (_point, behind) = text.split_at(1);
-    read_digits_of_fraction(digits_in_front(behind), behind)
-}
-
-// The moment of a text with its signs.
-#[tactic(auto, unfolding(crate::specs::Moments::parts_said))]
-fn read_parts(text: &[u8]) -> Result<Moment, Stop<Fault>>
-    requires { 19 ≤ length text.now }
-    ensures said { Gives (λ moment. moment) result (parts_said text.now) }
-    ensures moment { IfOk result IsMoment }
-{
-    let day = read_day(text)?;
-    let (_front, behind) = text.split_at(19);
-    let nano = read_fraction(behind)?;
-    let time = read_clock(text, nano)?;
-    Ok(Moment { day, time })
-}
-
-// The moment that a text says.
-#[tactic(auto, unfolding(crate::specs::Moments::moment_in))]
-fn moment_of(text: &[u8]) -> Result<Moment, Stop<Fault>>
-    ensures said { Gives (λ moment. moment) result (moment_in text.now) }
-    ensures moment { IfOk result IsMoment }
-{
-    if has_signs(text) {
-        read_parts(text)
-    } else {
-        Err(no_moment())
-    }
-}
-
-/// The moment at which a hand began.
-pub fn read_moment(value: &Value) -> Result<Moment, Stop<Fault>>
-    ensures said { Gives (λ moment. moment) result (moment_said (view value.now)) }
-    ensures moment { IfOk result IsMoment }
-{
-    let text = read_text(value, Path::StartDate)?;
-    moment_of(text.as_bytes())
+    let (_before, rest) = text.split_at(from);
+    let (part, _behind) = rest.split_at(count);
+    part
 }

@@ -22,130 +22,6 @@ use std::alloc::Global;
 // The numbers of ten seats where none are said.
 const USUAL: [u8; 10] = [1, 2, 3, 4, 5, 6, 7, 8, 9, 10];
 
-// The name of the player in a seat.
-fn name_of(alloc: Global, player: &Player, seat: u8) -> Result<Option<Text>, Memory>
-    ensures said { IfOk result (λ name. name
-        ≡ option_and_then (noted (default_name seat)) (plain_player player.now).name) }
-    ensures allowed { IfOk result (λ name. IfSome name (IsName seat)) }
-{
-    match player.name {
-        Some(name) => {
-            let usual = format!(in alloc; "p{seat}")?;
-            keep_short(alloc, name, usual.as_str())
-        }
-        None => Ok(None),
-    }
-}
-
-// The names of players by their seats in the hand.
-fn names_of(alloc: Global, players: &[Player]) -> Result<[Option<Text>; 10], Memory>
-    requires { length players.now ≤ 10 }
-    ensures said { IfOk result (λ names. take (length players.now) names
-        ≡ names_from 1 (map plain_player players.now)) }
-    ensures each { IfOk result (λ names. (seat : ℕ) → 1 ≤ seat → seat ≤ length players.now
-        → IfSome (slice_index_or names (seat - 1) None) (IsName seat)) }
-    ensures no_more { IfOk result (λ names. (index : ℕ) → length players.now ≤ index
-        → slice_index_or names index None ≡ None) }
-{
-    let mut names = [None, None, None, None, None, None, None, None, None, None];
-    for (index, player) in players.iter().enumerate() {
-        names[index] = name_of(alloc, player, index as u8 + 1)?;
-    }
-    Ok(names)
-}
-
-// The seats of players at the table, by their seats in the hand.
-fn seats_of(players: &[Player]) -> [u8; 10]
-    requires { length players.now ≤ 10 }
-    ensures said { take (length players.now) result
-        ≡ map (λ player. player.seat) (map plain_player players.now) }
-    ensures each { (k : ℕ) → k < length players.now → IsWithin 1 255 (slice_index result k) }
-    ensures no_more { (k : ℕ) → length players.now ≤ k → slice_index result k ≡ 0 }
-    ensures ten { length result ≡ 10 }
-{
-    let mut seats = [0; 10];
-    for (index, player) in players.iter().enumerate() {
-        seats[index] = player.seat;
-    }
-    seats
-}
-
-// Whether the first seats, so many of them, are 1, 2 and so on.
-fn are_usual(seats: [u8; 10], count: usize) -> bool
-    requires { count ≤ 10 }
-    ensures { result ≡ bytes_eq (take count seats) (range_with_len 1 count) }
-{
-    let (said, _fillers) = seats.split_at(count);
-    let (usual, _others) = USUAL.split_at(count);
-    said == usual
-}
-
-// The seats of players at the table, unless they are 1, 2 and so on.
-fn unless_usual(players: &[Player]) -> Option<[u8; 10]>
-    requires { length players.now ≤ 10 }
-    ensures said { option_map (take (length players.now)) result
-        ≡ unless_usual_said (map (λ player. player.seat) (map plain_player players.now)) }
-    ensures allowed { IfSome result (AreSeatNumbers (length players.now)) }
-{
-    let seats = seats_of(players);
-    if are_usual(seats, players.len()) {
-        None
-    } else {
-        Some(seats)
-    }
-}
-
-// The zone of a moment.
-fn zone_of(alloc: Global, moment: Option<Moment>) -> Result<Option<Text>, Memory>
-    ensures said { IfOk result (λ zone. zone ≡ option_map (λ moment. codes "UTC") moment) }
-    ensures allowed { IfOk result (λ zone. IfSome zone IsNoteText) }
-{
-    match moment {
-        Some(_) => Ok(Some(Text::new(alloc, "UTC")?)),
-        None => Ok(None),
-    }
-}
-
-// The year of a moment.
-fn year_of(moment: Option<Moment>) -> Option<u16>
-    ensures { result ≡ option_map (λ moment. moment.day.year) moment }
-{
-    match moment {
-        Some(moment) => Some(moment.day.year),
-        None => None,
-    }
-}
-
-// The month of a moment.
-fn month_of(moment: Option<Moment>) -> Option<u8>
-    ensures { result ≡ option_map (λ moment. moment.day.month) moment }
-{
-    match moment {
-        Some(moment) => Some(moment.day.month),
-        None => None,
-    }
-}
-
-// The day of the month of a moment.
-fn day_of(moment: Option<Moment>) -> Option<u8>
-    ensures { result ≡ option_map (λ moment. moment.day.day) moment }
-{
-    match moment {
-        Some(moment) => Some(moment.day.day),
-        None => None,
-    }
-}
-
-// The time of a moment.
-fn time_of(moment: Option<Moment>) -> Option<Clock>
-    ensures { result ≡ option_map (λ moment. moment.time) moment }
-{
-    match moment {
-        Some(moment) => Some(moment.time),
-        None => None,
-    }
-}
-
 /// The notes of a hand with these players by their seats in it, at this place of its file, from 0.
 #[tactic(auto, unfolding(crate::specs::Notes::notes_said))]
 pub fn read_notes(
@@ -196,4 +72,128 @@ fn notes_of(alloc: Global, players: &[Player], labels: Labels) -> Result<Notes, 
         time: time_of(moment),
         zone,
     })
+}
+
+// The names of players by their seats in the hand.
+fn names_of(alloc: Global, players: &[Player]) -> Result<[Option<Text>; 10], Memory>
+    requires { length players.now ≤ 10 }
+    ensures said { IfOk result (λ names. take (length players.now) names
+        ≡ names_from 1 (map plain_player players.now)) }
+    ensures each { IfOk result (λ names. (seat : ℕ) → 1 ≤ seat → seat ≤ length players.now
+        → IfSome (slice_index_or names (seat - 1) None) (IsName seat)) }
+    ensures no_more { IfOk result (λ names. (index : ℕ) → length players.now ≤ index
+        → slice_index_or names index None ≡ None) }
+{
+    let mut names = [None, None, None, None, None, None, None, None, None, None];
+    for (index, player) in players.iter().enumerate() {
+        names[index] = name_of(alloc, player, index as u8 + 1)?;
+    }
+    Ok(names)
+}
+
+// The name of the player in a seat.
+fn name_of(alloc: Global, player: &Player, seat: u8) -> Result<Option<Text>, Memory>
+    ensures said { IfOk result (λ name. name
+        ≡ option_and_then (noted (default_name seat)) (plain_player player.now).name) }
+    ensures allowed { IfOk result (λ name. IfSome name (IsName seat)) }
+{
+    match player.name {
+        Some(name) => {
+            let usual = format!(in alloc; "p{seat}")?;
+            keep_short(alloc, name, usual.as_str())
+        }
+        None => Ok(None),
+    }
+}
+
+// The zone of a moment.
+fn zone_of(alloc: Global, moment: Option<Moment>) -> Result<Option<Text>, Memory>
+    ensures said { IfOk result (λ zone. zone ≡ option_map (λ moment. codes "UTC") moment) }
+    ensures allowed { IfOk result (λ zone. IfSome zone IsNoteText) }
+{
+    match moment {
+        Some(_) => Ok(Some(Text::new(alloc, "UTC")?)),
+        None => Ok(None),
+    }
+}
+
+// The seats of players at the table, unless they are 1, 2 and so on.
+fn unless_usual(players: &[Player]) -> Option<[u8; 10]>
+    requires { length players.now ≤ 10 }
+    ensures said { option_map (take (length players.now)) result
+        ≡ unless_usual_said (map (λ player. player.seat) (map plain_player players.now)) }
+    ensures allowed { IfSome result (AreSeatNumbers (length players.now)) }
+{
+    let seats = seats_of(players);
+    if are_usual(seats, players.len()) {
+        None
+    } else {
+        Some(seats)
+    }
+}
+
+// The seats of players at the table, by their seats in the hand.
+fn seats_of(players: &[Player]) -> [u8; 10]
+    requires { length players.now ≤ 10 }
+    ensures said { take (length players.now) result
+        ≡ map (λ player. player.seat) (map plain_player players.now) }
+    ensures each { (k : ℕ) → k < length players.now → IsWithin 1 255 (slice_index result k) }
+    ensures no_more { (k : ℕ) → length players.now ≤ k → slice_index result k ≡ 0 }
+    ensures ten { length result ≡ 10 }
+{
+    let mut seats = [0; 10];
+    for (index, player) in players.iter().enumerate() {
+        seats[index] = player.seat;
+    }
+    seats
+}
+
+// Whether the first seats, so many of them, are 1, 2 and so on.
+fn are_usual(seats: [u8; 10], count: usize) -> bool
+    requires { count ≤ 10 }
+    ensures { result ≡ bytes_eq (take count seats) (range_with_len 1 count) }
+{
+    let (said, _fillers) = seats.split_at(count);
+    let (usual, _others) = USUAL.split_at(count);
+    said == usual
+}
+
+// The year of a moment.
+fn year_of(moment: Option<Moment>) -> Option<u16>
+    ensures { result ≡ option_map (λ moment. moment.day.year) moment }
+{
+    match moment {
+        Some(moment) => Some(moment.day.year),
+        None => None,
+    }
+}
+
+// The month of a moment.
+fn month_of(moment: Option<Moment>) -> Option<u8>
+    ensures { result ≡ option_map (λ moment. moment.day.month) moment }
+{
+    match moment {
+        Some(moment) => Some(moment.day.month),
+        None => None,
+    }
+}
+
+// The day of the month of a moment.
+fn day_of(moment: Option<Moment>) -> Option<u8>
+    ensures { result ≡ option_map (λ moment. moment.day.day) moment }
+{
+    match moment {
+        Some(moment) => Some(moment.day.day),
+        None => None,
+    }
+}
+
+// The time of a moment.
+fn time_of(moment: Option<Moment>) -> Option<Clock>
+    ensures { result ≡ option_map (λ moment. moment.time) moment }
+{
+    match moment {
+        Some(moment) => Some(moment.time),
+        None => None,
+    }
 }

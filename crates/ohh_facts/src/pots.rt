@@ -20,18 +20,169 @@ use ohh_members::values::{field, needed, read_list, read_number, read_object, re
 use serde_json::Value;
 use std::alloc::Global;
 
-// A number which, with what it is added to, is no more than may be stated.
-#[tactic(auto, unfolding(crate::specs::Pots::summed))]
-fn within_sum(before: u64, path: Path, number: u64) -> Result<u64, Stop<Fault>>
-    requires before { before ≤ MOST_AMOUNT }
-    requires number { number ≤ MOST_AMOUNT }
-    ensures said { Gives (λ number. number) result (summed before path number) }
-    ensures within { IfOk result (λ number. before + number ≤ MOST_AMOUNT) }
+/// What is stated of the pots of a hand, where the ids are those of its players by their seats.
+#[tactic(auto, unfolding(crate::specs::Pots::pots_said))]
+pub fn read_pots(alloc: Global, ids: &[i128], ohh: &Value) -> Result<Paid, Stop<Fault>>
+    requires some { 2 ≤ length ids.now }
+    requires few { length ids.now ≤ 10 }
+    ensures said { Gives plain_paid result (pots_said ids.now (view ohh.now)) }
+    ensures fits { IfOk result (IsPaid (length ids.now)) }
 {
-    if before + number > MOST_AMOUNT {
-        return Err(wrong(What::AmountLimit, path));
+    match field(ohh, Path::Pots) {
+        Some(value) => read_listed(alloc, ids, value),
+        None => Ok(Paid::none()),
     }
-    Ok(number)
+}
+
+// What a list of pots states.
+#[tactic(auto, unfolding(crate::specs::Pots::listed_paid))]
+fn read_listed(alloc: Global, ids: &[i128], value: &Value) -> Result<Paid, Stop<Fault>>
+    requires some { 2 ≤ length ids.now }
+    requires few { length ids.now ≤ 10 }
+    ensures said { Gives plain_paid result (listed_paid ids.now (view value.now)) }
+    ensures fits { IfOk result (IsPaid (length ids.now)) }
+{
+    let values = read_list(value, Path::Pots)?;
+    let found = add_pots(alloc, ids, values)?;
+    Ok(found.paid())
+}
+
+// The pots of a list, and what is won of them.
+fn add_pots(alloc: Global, ids: &[i128], values: &[Value]) -> Result<Found, Stop<Fault>>
+    requires some { 2 ≤ length ids.now }
+    requires few { length ids.now ≤ 10 }
+    ensures said { Gives plain_found result
+        (added_from (pot_added ids.now) no_pots 0 (map view values.now)) }
+    ensures seats { IfOk result (λ found. found.won.sums.seats ≡ length ids.now) }
+{
+    let mut found = Found::new(alloc, ids.len() as u8);
+    for (index, value) in values.iter().enumerate() {
+        found = add_pot(ids, found, index as u64, value)?;
+    }
+    Ok(found)
+}
+
+// The pots with one more, and what is won of it.
+#[tactic(auto, unfolding(crate::specs::Pots::pot_added))]
+fn add_pot(ids: &[i128], found: Found, index: u64, value: &Value) -> Result<Found, Stop<Fault>>
+    requires ids { length ids.now ≡ found.won.sums.seats }
+    ensures said { Gives plain_found result
+        (pot_added ids.now (plain_found found) index (view value.now)) }
+    ensures seats { IfOk result (λ after. after.won.sums.seats ≡ found.won.sums.seats) }
+{
+    let itself = Path::Pot {
+        index,
+        member: PotMember::Itself,
+    };
+    let pot = read_object(value, itself)?;
+    let amount = read_amount(&found, index, pot)?;
+    let rake = read_rake(index, pot)?;
+    let after = found.with_pot(Pot { amount, rake })?;
+    let Found { pots, total, won } = after;
+    let won = read_wins(ids, index, won, pot)?;
+    Ok(Found { pots, total, won })
+}
+
+// The amount of a pot, after pots that are so much together.
+#[tactic(auto, unfolding(crate::specs::Pots::amount_said))]
+fn read_amount(found: &Found, index: u64, pot: &Value) -> Result<u64, Stop<Fault>>
+    ensures said { Gives (λ amount. amount) result
+        (amount_said (map plain_pot found.now.pots.items) index (view pot.now)) }
+    ensures within { IfOk result (λ amount. found.now.total + amount ≤ MOST_AMOUNT) }
+{
+    let path = Path::Pot {
+        index,
+        member: PotMember::Amount,
+    };
+    let amount = read_number(needed(pot, path)?, 0, MOST_AMOUNT, path)?;
+    within_sum(found.total, path, amount)
+}
+
+// The rake of a pot; nothing is taken after the eleventh.
+#[tactic(auto, unfolding(crate::specs::Pots::rake_said))]
+fn read_rake(index: u64, pot: &Value) -> Result<u64, Stop<Fault>>
+    ensures said { Gives (λ rake. rake) result (rake_said index (view pot.now)) }
+    ensures most { IfOk result (λ rake. rake ≤ MOST_AMOUNT) }
+{
+    let path = Path::Pot {
+        index,
+        member: PotMember::Rake,
+    };
+    let rake = or_zero(number_or_none(pot, path)?);
+    if index >= 11 && rake > 0 {
+        return Err(wrong(What::RakePlace, path));
+    }
+    Ok(rake)
+}
+
+// The number, or 0 where there is none.
+fn or_zero(number: Option<u64>) -> u64
+    ensures said { result ≡ unwrap_or number 0 }
+    ensures most { ForSome number (λ number. number ≤ MOST_AMOUNT) → result ≤ MOST_AMOUNT }
+{
+    match number {
+        Some(number) => number,
+        None => 0,
+    }
+}
+
+// The number at a path, or 0.
+fn number_or_none(pot: &Value, path: Path) -> Result<Option<u64>, Stop<Fault>>
+    ensures said { Gives (λ number. number) result
+        (read_if (number_said 0 MOST_AMOUNT path) (field_said path (view pot.now))) }
+    ensures most { IfOk result (λ number. ForSome number (λ number. number ≤ MOST_AMOUNT)) }
+{
+    match field(pot, path) {
+        Some(value) => {
+            let number = read_number(value, 0, MOST_AMOUNT, path)?;
+            Ok(Some(number))
+        }
+        None => Ok(None),
+    }
+}
+
+// What is won of a pot, after what was won before.
+#[tactic(auto, unfolding(crate::specs::Pots::wins_said))]
+fn read_wins(ids: &[i128], index: u64, won: Won, pot: &Value) -> Result<Won, Stop<Fault>>
+    requires ids { length ids.now ≡ won.sums.seats }
+    ensures said { Gives (λ after. map plain_win after.list.items) result
+        (wins_said ids.now index (map plain_win won.list.items) (view pot.now)) }
+    ensures seats { IfOk result (λ after. after.sums.seats ≡ won.sums.seats) }
+{
+    let path = Path::Pot {
+        index,
+        member: PotMember::PlayerWins,
+    };
+    let values = read_list(needed(pot, path)?, path)?;
+    add_wins(ids, index, won, values)
+}
+
+// What is won of the pot with this index, after what was won before.
+fn add_wins(ids: &[i128], pot: u64, won: Won, values: &[Value]) -> Result<Won, Stop<Fault>>
+    requires ids { length ids.now ≡ won.sums.seats }
+    ensures said { Gives (λ after. map plain_win after.list.items) result
+        (added_from (win_added ids.now pot) (map plain_win won.list.items) 0
+        (map view values.now)) }
+    ensures seats { IfOk result (λ after. after.sums.seats ≡ won.sums.seats) }
+{
+    let mut after = won;
+    for (index, value) in values.iter().enumerate() {
+        after = add_win(ids, pot, after, index as u64, value)?;
+    }
+    Ok(after)
+}
+
+// What was won, with one more.
+#[tactic(auto, unfolding(crate::specs::Pots::win_added))]
+fn add_win(ids: &[i128], pot: u64, won: Won, index: u64, value: &Value) -> Result<Won, Stop<Fault>>
+    requires ids { length ids.now ≡ won.sums.seats }
+    ensures said { Gives (λ after. map plain_win after.list.items) result
+        (win_added ids.now pot (map plain_win won.list.items) index (view value.now)) }
+    ensures seats { IfOk result (λ after. after.sums.seats ≡ won.sums.seats) }
+{
+    let win = read_win(ids, pot, &won, index, value)?;
+    let after = won.with(win)?;
+    Ok(after)
 }
 
 // What a player wins of the pot with this index, after what was won before.
@@ -78,167 +229,16 @@ fn read_win(
     Ok(Win { seat, chips })
 }
 
-// What was won, with one more.
-#[tactic(auto, unfolding(crate::specs::Pots::win_added))]
-fn add_win(ids: &[i128], pot: u64, won: Won, index: u64, value: &Value) -> Result<Won, Stop<Fault>>
-    requires ids { length ids.now ≡ won.sums.seats }
-    ensures said { Gives (λ after. map plain_win after.list.items) result
-        (win_added ids.now pot (map plain_win won.list.items) index (view value.now)) }
-    ensures seats { IfOk result (λ after. after.sums.seats ≡ won.sums.seats) }
+// A number which, with what it is added to, is no more than may be stated.
+#[tactic(auto, unfolding(crate::specs::Pots::summed))]
+fn within_sum(before: u64, path: Path, number: u64) -> Result<u64, Stop<Fault>>
+    requires before { before ≤ MOST_AMOUNT }
+    requires number { number ≤ MOST_AMOUNT }
+    ensures said { Gives (λ number. number) result (summed before path number) }
+    ensures within { IfOk result (λ number. before + number ≤ MOST_AMOUNT) }
 {
-    let win = read_win(ids, pot, &won, index, value)?;
-    let after = won.with(win)?;
-    Ok(after)
-}
-
-// What is won of the pot with this index, after what was won before.
-fn add_wins(ids: &[i128], pot: u64, won: Won, values: &[Value]) -> Result<Won, Stop<Fault>>
-    requires ids { length ids.now ≡ won.sums.seats }
-    ensures said { Gives (λ after. map plain_win after.list.items) result
-        (added_from (win_added ids.now pot) (map plain_win won.list.items) 0
-        (map view values.now)) }
-    ensures seats { IfOk result (λ after. after.sums.seats ≡ won.sums.seats) }
-{
-    let mut after = won;
-    for (index, value) in values.iter().enumerate() {
-        after = add_win(ids, pot, after, index as u64, value)?;
+    if before + number > MOST_AMOUNT {
+        return Err(wrong(What::AmountLimit, path));
     }
-    Ok(after)
-}
-
-// What is won of a pot, after what was won before.
-#[tactic(auto, unfolding(crate::specs::Pots::wins_said))]
-fn read_wins(ids: &[i128], index: u64, won: Won, pot: &Value) -> Result<Won, Stop<Fault>>
-    requires ids { length ids.now ≡ won.sums.seats }
-    ensures said { Gives (λ after. map plain_win after.list.items) result
-        (wins_said ids.now index (map plain_win won.list.items) (view pot.now)) }
-    ensures seats { IfOk result (λ after. after.sums.seats ≡ won.sums.seats) }
-{
-    let path = Path::Pot {
-        index,
-        member: PotMember::PlayerWins,
-    };
-    let values = read_list(needed(pot, path)?, path)?;
-    add_wins(ids, index, won, values)
-}
-
-// The amount of a pot, after pots that are so much together.
-#[tactic(auto, unfolding(crate::specs::Pots::amount_said))]
-fn read_amount(found: &Found, index: u64, pot: &Value) -> Result<u64, Stop<Fault>>
-    ensures said { Gives (λ amount. amount) result
-        (amount_said (map plain_pot found.now.pots.items) index (view pot.now)) }
-    ensures within { IfOk result (λ amount. found.now.total + amount ≤ MOST_AMOUNT) }
-{
-    let path = Path::Pot {
-        index,
-        member: PotMember::Amount,
-    };
-    let amount = read_number(needed(pot, path)?, 0, MOST_AMOUNT, path)?;
-    within_sum(found.total, path, amount)
-}
-
-// The number at a path, or 0.
-fn number_or_none(pot: &Value, path: Path) -> Result<Option<u64>, Stop<Fault>>
-    ensures said { Gives (λ number. number) result
-        (read_if (number_said 0 MOST_AMOUNT path) (field_said path (view pot.now))) }
-    ensures most { IfOk result (λ number. ForSome number (λ number. number ≤ MOST_AMOUNT)) }
-{
-    match field(pot, path) {
-        Some(value) => {
-            let number = read_number(value, 0, MOST_AMOUNT, path)?;
-            Ok(Some(number))
-        }
-        None => Ok(None),
-    }
-}
-
-// The number, or 0 where there is none.
-fn or_zero(number: Option<u64>) -> u64
-    ensures said { result ≡ unwrap_or number 0 }
-    ensures most { ForSome number (λ number. number ≤ MOST_AMOUNT) → result ≤ MOST_AMOUNT }
-{
-    match number {
-        Some(number) => number,
-        None => 0,
-    }
-}
-
-// The rake of a pot; nothing is taken after the eleventh.
-#[tactic(auto, unfolding(crate::specs::Pots::rake_said))]
-fn read_rake(index: u64, pot: &Value) -> Result<u64, Stop<Fault>>
-    ensures said { Gives (λ rake. rake) result (rake_said index (view pot.now)) }
-    ensures most { IfOk result (λ rake. rake ≤ MOST_AMOUNT) }
-{
-    let path = Path::Pot {
-        index,
-        member: PotMember::Rake,
-    };
-    let rake = or_zero(number_or_none(pot, path)?);
-    if index >= 11 && rake > 0 {
-        return Err(wrong(What::RakePlace, path));
-    }
-    Ok(rake)
-}
-
-// The pots with one more, and what is won of it.
-#[tactic(auto, unfolding(crate::specs::Pots::pot_added))]
-fn add_pot(ids: &[i128], found: Found, index: u64, value: &Value) -> Result<Found, Stop<Fault>>
-    requires ids { length ids.now ≡ found.won.sums.seats }
-    ensures said { Gives plain_found result
-        (pot_added ids.now (plain_found found) index (view value.now)) }
-    ensures seats { IfOk result (λ after. after.won.sums.seats ≡ found.won.sums.seats) }
-{
-    let itself = Path::Pot {
-        index,
-        member: PotMember::Itself,
-    };
-    let pot = read_object(value, itself)?;
-    let amount = read_amount(&found, index, pot)?;
-    let rake = read_rake(index, pot)?;
-    let after = found.with_pot(Pot { amount, rake })?;
-    let Found { pots, total, won } = after;
-    let won = read_wins(ids, index, won, pot)?;
-    Ok(Found { pots, total, won })
-}
-
-// The pots of a list, and what is won of them.
-fn add_pots(alloc: Global, ids: &[i128], values: &[Value]) -> Result<Found, Stop<Fault>>
-    requires some { 2 ≤ length ids.now }
-    requires few { length ids.now ≤ 10 }
-    ensures said { Gives plain_found result
-        (added_from (pot_added ids.now) no_pots 0 (map view values.now)) }
-    ensures seats { IfOk result (λ found. found.won.sums.seats ≡ length ids.now) }
-{
-    let mut found = Found::new(alloc, ids.len() as u8);
-    for (index, value) in values.iter().enumerate() {
-        found = add_pot(ids, found, index as u64, value)?;
-    }
-    Ok(found)
-}
-
-// What a list of pots states.
-#[tactic(auto, unfolding(crate::specs::Pots::listed_paid))]
-fn read_listed(alloc: Global, ids: &[i128], value: &Value) -> Result<Paid, Stop<Fault>>
-    requires some { 2 ≤ length ids.now }
-    requires few { length ids.now ≤ 10 }
-    ensures said { Gives plain_paid result (listed_paid ids.now (view value.now)) }
-    ensures fits { IfOk result (IsPaid (length ids.now)) }
-{
-    let values = read_list(value, Path::Pots)?;
-    let found = add_pots(alloc, ids, values)?;
-    Ok(found.paid())
-}
-
-/// What is stated of the pots of a hand, where the ids are those of its players by their seats.
-#[tactic(auto, unfolding(crate::specs::Pots::pots_said))]
-pub fn read_pots(alloc: Global, ids: &[i128], ohh: &Value) -> Result<Paid, Stop<Fault>>
-    requires some { 2 ≤ length ids.now }
-    requires few { length ids.now ≤ 10 }
-    ensures said { Gives plain_paid result (pots_said ids.now (view ohh.now)) }
-    ensures fits { IfOk result (IsPaid (length ids.now)) }
-{
-    match field(ohh, Path::Pots) {
-        Some(value) => read_listed(alloc, ids, value),
-        None => Ok(Paid::none()),
-    }
+    Ok(number)
 }

@@ -12,17 +12,6 @@ use card_set::Memory;
 use chip_ledger::RakeRow;
 use std::alloc::Global;
 
-// The rake of the pot with this index, or 0 where there is none.
-fn rake_at(pots: &[Pot], index: usize) -> u64
-    ensures said { result ≡ rake_at_said (map plain_pot pots.now) index }
-    ensures most { result ≤ MOST_AMOUNT }
-{
-    match pots.get(index) {
-        Some(pot) => pot.rake,
-        None => 0,
-    }
-}
-
 // The rakes of the first eleven pots.
 fn rakes_of(pots: &[Pot]) -> RakeRow
     ensures said { result.rakes ≡ rakes_said (map plain_pot pots.now) }
@@ -42,6 +31,17 @@ fn rakes_of(pots: &[Pot]) -> RakeRow
         rake_at(pots, 10),
     ];
     RakeRow { rakes }
+}
+
+// The rake of the pot with this index, or 0 where there is none.
+fn rake_at(pots: &[Pot], index: usize) -> u64
+    ensures said { result ≡ rake_at_said (map plain_pot pots.now) index }
+    ensures most { result ≤ MOST_AMOUNT }
+{
+    match pots.get(index) {
+        Some(pot) => pot.rake,
+        None => 0,
+    }
 }
 
 impl Found {

@@ -27,25 +27,16 @@ pub fn keep_short(alloc: Global, text: &str, default: &str) -> Result<Option<Tex
     Ok(Some(Text::new(alloc, text)?))
 }
 
-// A copy of the text, or nothing where it says no note.
-#[tactic(auto, unfolding(crate::specs::Notes::note_said))]
-fn keep_text(
-    alloc: Global,
-    text: &str,
-    default: &str,
-    path: Path,
-) -> Result<Option<Text>, Stop<Fault>>
-    ensures said { Gives (λ note. note) result (note_said default.now path text.now) }
+/// The text of a member, if there is one that is not empty.
+pub fn text_at(alloc: Global, ohh: &Value, path: Path) -> Result<Option<Text>, Stop<Fault>>
+    ensures said { Gives (λ note. note) result
+        (or_none (text_note_said [] path) (field_said path (view ohh.now))) }
     ensures allowed { IfOk result (λ note. IfSome note IsNoteText) }
 {
-    if text.len() > MOST_TEXT_BYTES {
-        let quantity = Quantity::TextBytes;
-        return Err(wrong(What::TooMany { quantity }, path));
+    match field(ohh, path) {
+        Some(value) => read_text_note(alloc, value, "", path),
+        None => Ok(None),
     }
-    if text.is_empty() || text == default {
-        return Ok(None);
-    }
-    Ok(Some(Text::new(alloc, text)?))
 }
 
 // The text of a note with this default.
@@ -61,6 +52,23 @@ fn read_text_note(
     ensures allowed { IfOk result (λ note. IfSome note IsNoteText) }
 {
     keep_text(alloc, read_text(value, path)?, default, path)
+}
+
+/// The label of a member, with this default, if there is one.
+pub fn label_at(
+    alloc: Global,
+    ohh: &Value,
+    path: Path,
+    default: &str,
+) -> Result<Option<Text>, Stop<Fault>>
+    ensures said { Gives (λ note. note) result
+        (or_none (label_said default.now path) (field_said path (view ohh.now))) }
+    ensures allowed { IfOk result (λ note. IfSome note IsNoteText) }
+{
+    match field(ohh, path) {
+        Some(value) => read_label(alloc, value, default, path),
+        None => Ok(None),
+    }
 }
 
 // The same, where a whole number may stand for its decimal text.
@@ -84,31 +92,23 @@ fn read_label(
     }
 }
 
-/// The text of a member, if there is one that is not empty.
-pub fn text_at(alloc: Global, ohh: &Value, path: Path) -> Result<Option<Text>, Stop<Fault>>
-    ensures said { Gives (λ note. note) result
-        (or_none (text_note_said [] path) (field_said path (view ohh.now))) }
-    ensures allowed { IfOk result (λ note. IfSome note IsNoteText) }
-{
-    match field(ohh, path) {
-        Some(value) => read_text_note(alloc, value, "", path),
-        None => Ok(None),
-    }
-}
-
-/// The label of a member, with this default, if there is one.
-pub fn label_at(
+// A copy of the text, or nothing where it says no note.
+#[tactic(auto, unfolding(crate::specs::Notes::note_said))]
+fn keep_text(
     alloc: Global,
-    ohh: &Value,
-    path: Path,
+    text: &str,
     default: &str,
+    path: Path,
 ) -> Result<Option<Text>, Stop<Fault>>
-    ensures said { Gives (λ note. note) result
-        (or_none (label_said default.now path) (field_said path (view ohh.now))) }
+    ensures said { Gives (λ note. note) result (note_said default.now path text.now) }
     ensures allowed { IfOk result (λ note. IfSome note IsNoteText) }
 {
-    match field(ohh, path) {
-        Some(value) => read_label(alloc, value, default, path),
-        None => Ok(None),
+    if text.len() > MOST_TEXT_BYTES {
+        let quantity = Quantity::TextBytes;
+        return Err(wrong(What::TooMany { quantity }, path));
     }
+    if text.is_empty() || text == default {
+        return Ok(None);
+    }
+    Ok(Some(Text::new(alloc, text)?))
 }

@@ -38,8 +38,6 @@ row_at row f count same seat low high =
     ∙ at_seat f 1 count (seat - 1) within
     ∙ ap f number
 
-]
-
 greatest_none : (f : ℕ → ℕ) (first count : ℕ) → ((number : ℕ) → first ≤ number → number < first + count → f number ≡ 0) → greatest (map f (range_with_len first count)) ≡ 0
 greatest_none f first zero each = refl
 greatest_none f first (suc count) each =

@@ -160,6 +160,26 @@ fn put_names(
     Ok(())
 }
 
+// A text that is said, or the empty one.
+fn note_value(alloc: Global, note: &Option<Text>) -> Result<Value, Memory>
+    ensures { IfOk result (λ value. view value ≡ text_or_empty note.now) }
+{
+    match note {
+        Some(text) => text_value(alloc, text.as_str()),
+        None => text_value(alloc, ""),
+    }
+}
+
+// The name of the hand at a place of its file: the one that is said, or its place.
+fn hand_name(alloc: Global, place: usize, name: &Option<Text>) -> Result<Value, Memory>
+    ensures { IfOk result (λ value. view value ≡ string (unwrap_or name.now (decimal place))) }
+{
+    match name {
+        Some(text) => text_value(alloc, text.as_str()),
+        None => Ok(Value::String(place.to_string(alloc)?)),
+    }
+}
+
 // Puts the rounds and the pots under their names.
 fn put_play(
     alloc: Global,
@@ -190,6 +210,13 @@ fn put_versions(alloc: Global, ohh: &mut Map<String, Value>) -> Result<(), Memor
     Ok(())
 }
 
+// A copy of a text as a value.
+fn text_value(alloc: Global, text: &str) -> Result<Value, Memory>
+    ensures { IfOk result (λ value. view value ≡ string text.now) }
+{
+    Ok(Value::String(String::from_str(alloc, text)?))
+}
+
 // Puts the moment under its name, where the notes say a whole one.
 fn put_date(alloc: Global, ohh: &mut Map<String, Value>, notes: &Notes) -> Result<(), Memory>
     ensures { OnOk result (members_view ohh.new.entries
@@ -200,31 +227,4 @@ fn put_date(alloc: Global, ohh: &mut Map<String, Value>, notes: &Notes) -> Resul
         put(ohh, alloc, "start_date_utc", Value::String(text))?;
     }
     Ok(())
-}
-
-// A copy of a text as a value.
-fn text_value(alloc: Global, text: &str) -> Result<Value, Memory>
-    ensures { IfOk result (λ value. view value ≡ string text.now) }
-{
-    Ok(Value::String(String::from_str(alloc, text)?))
-}
-
-// A text that is said, or the empty one.
-fn note_value(alloc: Global, note: &Option<Text>) -> Result<Value, Memory>
-    ensures { IfOk result (λ value. view value ≡ text_or_empty note.now) }
-{
-    match note {
-        Some(text) => text_value(alloc, text.as_str()),
-        None => text_value(alloc, ""),
-    }
-}
-
-// The name of the hand at a place of its file: the one that is said, or its place.
-fn hand_name(alloc: Global, place: usize, name: &Option<Text>) -> Result<Value, Memory>
-    ensures { IfOk result (λ value. view value ≡ string (unwrap_or name.now (decimal place))) }
-{
-    match name {
-        Some(text) => text_value(alloc, text.as_str()),
-        None => Ok(Value::String(place.to_string(alloc)?)),
-    }
 }

@@ -33,17 +33,6 @@ pub fn push_moves(
     Ok(())
 }
 
-// The first of some moves, and the others.
-fn first_move(moves: &[Move]) -> Option<(Move, &[Move])>
-    ensures first { IfSome result (λ found. moves.now ≡ found.0 ∷ found.1.now) }
-    ensures none { IfNone result (moves.now ≡ []) }
-{
-    match moves {
-        [] => None,
-        [played, behind @ ..] => Some((*played, behind)),
-    }
-}
-
 // The chips that each seat, of ten, has left when it has posted.
 fn stacks_after_posts(setup: &Setup) -> [u64; 10]
     ensures { (k : ℕ) → k ≤ 9 → slice_index result k ≡ chips_left setup.now [] (k + 1) }
@@ -53,6 +42,17 @@ fn stacks_after_posts(setup: &Setup) -> [u64; 10]
         left[index as usize] = left_after_posts(setup, index + 1);
     }
     left
+}
+
+// The first of some moves, and the others.
+fn first_move(moves: &[Move]) -> Option<(Move, &[Move])>
+    ensures first { IfSome result (λ found. moves.now ≡ found.0 ∷ found.1.now) }
+    ensures none { IfNone result (moves.now ≡ []) }
+{
+    match moves {
+        [] => None,
+        [played, behind @ ..] => Some((*played, behind)),
+    }
 }
 
 // Puts a move that leaves its seat so many chips behind other actions, if it is one of the street.
@@ -80,6 +80,16 @@ fn push_move(
     Ok(())
 }
 
+// A check or a call.
+fn call_action(played: Move, left: u64) -> Action
+    ensures { action_said result ≡ call_written (move_said played) left }
+{
+    if played.price == played.from {
+        return alone_action(Word::Check, played);
+    }
+    chips_action(Word::Call, played.seat.number, added(played), left)
+}
+
 // An action that tells its player alone.
 fn alone_action(word: Word, played: Move) -> Action
     ensures { action_said result ≡ alone word played.seat.number }
@@ -89,23 +99,6 @@ fn alone_action(word: Word, played: Move) -> Action
         player: played.seat.number,
         detail: Detail::Nothing,
     }
-}
-
-// The chips that a move adds.
-fn added(played: Move) -> u64
-    ensures { result ≡ played.to - played.from }
-{
-    played.to.saturating_sub(played.from)
-}
-
-// A check or a call.
-fn call_action(played: Move, left: u64) -> Action
-    ensures { action_said result ≡ call_written (move_said played) left }
-{
-    if played.price == played.from {
-        return alone_action(Word::Check, played);
-    }
-    chips_action(Word::Call, played.seat.number, added(played), left)
 }
 
 // A bet or a raise.
@@ -127,4 +120,11 @@ fn raise_amount(dialect: Dialect, played: Move) -> u64
         Dialect::Added => added(played),
         Dialect::To => played.to,
     }
+}
+
+// The chips that a move adds.
+fn added(played: Move) -> u64
+    ensures { result ≡ played.to - played.from }
+{
+    played.to.saturating_sub(played.from)
 }

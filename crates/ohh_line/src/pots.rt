@@ -32,14 +32,6 @@ fn pot_value(alloc: Global, trace: &Trace, place: u8, pot: &Pot) -> Result<Value
     Ok(json!(in alloc; {"amount": amount, "number": place, "player_wins": wins, "rake": rake})?)
 }
 
-// The shares of the pot at a place.
-fn share_at(trace: &Trace, place: u8) -> &SeatRow
-    requires { place < 11 }
-    ensures { result.now ≡ share_said trace.now place }
-{
-    &trace.shares.shares[place as usize]
-}
-
 // The trees of what so many seats win of a pot.
 fn win_values(alloc: Global, share: &SeatRow, seats: u8) -> Result<Value, Memory>
     requires { seats ≤ 10 }
@@ -72,4 +64,12 @@ fn win_value(alloc: Global, seat: u8, amount: u64) -> Result<Value, Memory>
     ensures { IfOk result (λ value. view value ≡ win_object seat amount) }
 {
     Ok(json!(in alloc; {"player_id": seat, "win_amount": amount})?)
+}
+
+// The shares of the pot at a place.
+fn share_at(trace: &Trace, place: u8) -> &SeatRow
+    requires { place < 11 }
+    ensures { result.now ≡ share_said trace.now place }
+{
+    &trace.shares.shares[place as usize]
 }

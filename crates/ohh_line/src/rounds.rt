@@ -55,27 +55,6 @@ fn first_round(alloc: Global, dialect: Dialect, trace: &Trace) -> Result<Round, 
     })
 }
 
-// The moves of a street.
-fn moves_on(
-    alloc: Global,
-    dialect: Dialect,
-    trace: &Trace,
-    number: u8,
-) -> Result<Vec<Action>, Memory>
-    ensures { IfOk result (λ actions.
-        map action_said actions.items ≡ moves_on_said dialect trace.now number) }
-{
-    let mut actions = Vec::new(alloc);
-    push_moves(
-        &mut actions,
-        dialect,
-        &trace.setup,
-        trace.moves.as_slice(),
-        number,
-    )?;
-    Ok(actions)
-}
-
 // Puts the round of a street of the board behind others, where its cards were dealt.
 fn push_board_round(
     alloc: Global,
@@ -100,6 +79,27 @@ fn push_board_round(
         actions,
     })?;
     Ok(())
+}
+
+// The moves of a street.
+fn moves_on(
+    alloc: Global,
+    dialect: Dialect,
+    trace: &Trace,
+    number: u8,
+) -> Result<Vec<Action>, Memory>
+    ensures { IfOk result (λ actions.
+        map action_said actions.items ≡ moves_on_said dialect trace.now number) }
+{
+    let mut actions = Vec::new(alloc);
+    push_moves(
+        &mut actions,
+        dialect,
+        &trace.setup,
+        trace.moves.as_slice(),
+        number,
+    )?;
+    Ok(actions)
 }
 
 // Puts the showdown behind other rounds, where there is one.

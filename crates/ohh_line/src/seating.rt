@@ -21,18 +21,6 @@ pub fn numbers_spelled(count: u8, said: Option<[u8; 10]>) -> Option<[u8; 10]>
     }
 }
 
-/// The number of a seat among these, or by default that of its place.
-pub fn number_among(numbers: Option<[u8; 10]>, seat: u8) -> u8
-    requires first { 1 ≤ seat }
-    requires last { seat ≤ 10 }
-    ensures { result ≡ number_among_said numbers seat }
-{
-    match numbers {
-        Some(numbers) => numbers[seat as usize - 1],
-        None => seat,
-    }
-}
-
 // Whether numbers differ, and one step goes down when one goes round them.
 fn is_circular(numbers: &[u8]) -> bool
     requires some { 1 ≤ length numbers.now }
@@ -72,6 +60,18 @@ fn has_number(numbers: &[u8], number: u8) -> bool
     false
 }
 
+// How many steps go down, from each number to the next, and from the last one back.
+fn falls(back: u8, numbers: &[u8]) -> u8
+    requires few { length numbers.now ≤ 10 }
+    ensures falls { result ≡ falls_said back numbers.now }
+    ensures few { result ≤ length numbers.now }
+{
+    match numbers {
+        [] => 0,
+        [number, rest @ ..] => fall(*number, first_or(back, rest)) + falls(back, rest),
+    }
+}
+
 // Whether a step goes down, as a number.
 fn fall(number: u8, next: u8) -> u8
     ensures fall { result ≡ fall_said number next }
@@ -90,14 +90,14 @@ fn first_or(back: u8, numbers: &[u8]) -> u8
     }
 }
 
-// How many steps go down, from each number to the next, and from the last one back.
-fn falls(back: u8, numbers: &[u8]) -> u8
-    requires few { length numbers.now ≤ 10 }
-    ensures falls { result ≡ falls_said back numbers.now }
-    ensures few { result ≤ length numbers.now }
+/// The number of a seat among these, or by default that of its place.
+pub fn number_among(numbers: Option<[u8; 10]>, seat: u8) -> u8
+    requires first { 1 ≤ seat }
+    requires last { seat ≤ 10 }
+    ensures { result ≡ number_among_said numbers seat }
 {
     match numbers {
-        [] => 0,
-        [number, rest @ ..] => fall(*number, first_or(back, rest)) + falls(back, rest),
+        Some(numbers) => numbers[seat as usize - 1],
+        None => seat,
     }
 }

@@ -8,13 +8,6 @@ use crate::games::is_fixed;
 use crate::posts::{amount_at, big_blind_seat};
 use play_event::Setup;
 
-/// The big blind, as it is named.
-pub fn big_blind(setup: &Setup) -> u64
-    ensures { result ≡ big_blind_said setup.now }
-{
-    amount_at(&setup.blinds, big_blind_seat(setup))
-}
-
 /// Whether the bet sizes are those that follow from the big blind.
 pub fn has_spelled_sizes(setup: &Setup) -> bool
     ensures { result ≡ has_sizes_said setup.now }
@@ -27,17 +20,11 @@ pub fn has_spelled_sizes(setup: &Setup) -> bool
     }
 }
 
-/// The greatest ante.
-pub fn greatest_ante(setup: &Setup) -> u64
-    ensures { result ≡ greatest_ante_said setup.now }
+/// The big blind, as it is named.
+pub fn big_blind(setup: &Setup) -> u64
+    ensures { result ≡ big_blind_said setup.now }
 {
-    let mut greatest = 0;
-    let mut left = setup.stacks.seats;
-    while left > 0 {
-        greatest = amount_at(&setup.antes, left).max(greatest);
-        left -= 1;
-    }
-    greatest
+    amount_at(&setup.blinds, big_blind_seat(setup))
 }
 
 /// Whether the antes are those of all seats where they are not dead, and else those of some.
@@ -72,16 +59,6 @@ fn has_no_ante(setup: &Setup, seat: u8) -> bool
     amount_at(&setup.antes, seat) == 0
 }
 
-// Whether a seat posts the greatest ante, as far as its stack goes.
-fn is_whole_ante(setup: &Setup, greatest: u64, seat: u8) -> bool
-    requires first { 1 ≤ seat }
-    requires last { seat ≤ 10 }
-    requires greatest { greatest ≡ greatest_ante_said setup.now }
-    ensures { result ≡ is_whole_said setup.now seat }
-{
-    amount_at(&setup.antes, seat) == amount_at(&setup.stacks, seat).min(greatest)
-}
-
 // Whether each seat posts the greatest ante, as far as its stack goes.
 fn has_whole_antes(setup: &Setup) -> bool
     ensures { result ≡ list_all (is_whole_said setup.now) (all_seats setup.now) }
@@ -93,6 +70,29 @@ fn has_whole_antes(setup: &Setup) -> bool
         }
     }
     true
+}
+
+/// The greatest ante.
+pub fn greatest_ante(setup: &Setup) -> u64
+    ensures { result ≡ greatest_ante_said setup.now }
+{
+    let mut greatest = 0;
+    let mut left = setup.stacks.seats;
+    while left > 0 {
+        greatest = amount_at(&setup.antes, left).max(greatest);
+        left -= 1;
+    }
+    greatest
+}
+
+// Whether a seat posts the greatest ante, as far as its stack goes.
+fn is_whole_ante(setup: &Setup, greatest: u64, seat: u8) -> bool
+    requires first { 1 ≤ seat }
+    requires last { seat ≤ 10 }
+    requires greatest { greatest ≡ greatest_ante_said setup.now }
+    ensures { result ≡ is_whole_said setup.now seat }
+{
+    amount_at(&setup.antes, seat) == amount_at(&setup.stacks, seat).min(greatest)
 }
 
 /// Whether the first two seats have the blinds, and the others straddles that their stacks cover.

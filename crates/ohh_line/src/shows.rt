@@ -38,17 +38,6 @@ fn push_deal(actions: &mut Vec<Action>, seat: Seat, cards: SlotRow) -> Result<()
     Ok(())
 }
 
-// An action that tells cards.
-fn cards_action(word: Word, seat: Seat, cards: SlotRow) -> Action
-    ensures { action_said result ≡ with_cards word seat.number (slots_of cards) }
-{
-    Action {
-        word,
-        player: seat.number,
-        detail: Detail::Cards(cards),
-    }
-}
-
 /// Puts the showdown behind other actions, from p1 upward.
 pub fn push_showings(actions: &mut Vec<Action>, trace: &Trace) -> Result<(), Memory>
     requires { HasTidyCards (core_said trace.now) }
@@ -74,6 +63,17 @@ fn push_showing(actions: &mut Vec<Action>, trace: &Trace, seat: Seat) -> Result<
         actions.push(muck_action(seat))?;
     }
     Ok(())
+}
+
+// An action that tells cards.
+fn cards_action(word: Word, seat: Seat, cards: SlotRow) -> Action
+    ensures { action_said result ≡ with_cards word seat.number (slots_of cards) }
+{
+    Action {
+        word,
+        player: seat.number,
+        detail: Detail::Cards(cards),
+    }
 }
 
 fn muck_action(seat: Seat) -> Action

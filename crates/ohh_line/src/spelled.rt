@@ -11,6 +11,22 @@ use crate::setup::{has_spelled_antes, has_spelled_blinds, has_spelled_sizes};
 use hand_records::{Keep, NoteName, Notes, Play, Trace, Unspelled, WriteRefusal};
 use play_event::Move;
 
+/// The refusal of the first play that the format does not spell. The first hand has the number 1.
+pub fn find_refusal(plays: &[Play], keep: Keep) -> Option<WriteRefusal>
+    requires { length plays.now ≤ MOST_HANDS }
+    ensures { result ≡ first_refusal keep plays.now }
+{
+    for (index, play) in plays.iter().enumerate() {
+        if let Some(fact) = spells(play, keep) {
+            return Some(WriteRefusal::Unspelled {
+                hand: index as u32 + 1,
+                fact,
+            });
+        }
+    }
+    None
+}
+
 /// The first fact of the play that the format does not spell, in either dialect. Notes count where all are kept.
 #[tactic(auto, unfolding(crate::specs::Spelled::unspelled))]
 pub fn spells(play: &Play, keep: Keep) -> Option<Unspelled>
@@ -19,16 +35,6 @@ pub fn spells(play: &Play, keep: Keep) -> Option<Unspelled>
     match first_of_trace(&play.trace) {
         Some(fact) => Some(fact),
         None => first_of_kept(play, keep),
-    }
-}
-
-// The first of the notes to be kept that is not spelled.
-fn first_of_kept(play: &Play, keep: Keep) -> Option<Unspelled>
-    ensures { result ≡ first_unspelled (kept_facts keep play.now) }
-{
-    match keep {
-        Keep::All => first_of_notes(play.trace.setup.stacks.seats, &play.hand.notes),
-        Keep::Spelled => None,
     }
 }
 
@@ -64,6 +70,16 @@ fn has_closed(moves: &[Move]) -> bool
         }
     }
     false
+}
+
+// The first of the notes to be kept that is not spelled.
+fn first_of_kept(play: &Play, keep: Keep) -> Option<Unspelled>
+    ensures { result ≡ first_unspelled (kept_facts keep play.now) }
+{
+    match keep {
+        Keep::All => first_of_notes(play.trace.setup.stacks.seats, &play.hand.notes),
+        Keep::Spelled => None,
+    }
 }
 
 // The first note of so many seats that is not spelled.
@@ -106,20 +122,4 @@ fn has_spelled_numbers(count: u8, notes: &Notes) -> bool
         return true;
     }
     numbers_spelled(count, notes.seats).is_some()
-}
-
-/// The refusal of the first play that the format does not spell. The first hand has the number 1.
-pub fn find_refusal(plays: &[Play], keep: Keep) -> Option<WriteRefusal>
-    requires { length plays.now ≤ MOST_HANDS }
-    ensures { result ≡ first_refusal keep plays.now }
-{
-    for (index, play) in plays.iter().enumerate() {
-        if let Some(fact) = spells(play, keep) {
-            return Some(WriteRefusal::Unspelled {
-                hand: index as u32 + 1,
-                fact,
-            });
-        }
-    }
-    None
 }

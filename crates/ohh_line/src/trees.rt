@@ -76,6 +76,26 @@ fn action_value(alloc: Global, number: u64, action: Action) -> Result<Value, Mem
     }
 }
 
+// How the word of an action is spelled.
+fn word_text(word: Word) -> &'static str
+    ensures { result.now ≡ word_said word }
+{
+    match word {
+        Word::PostAnte => "Post Ante",
+        Word::PostSmallBlind => "Post SB",
+        Word::PostBigBlind => "Post BB",
+        Word::Straddle => "Straddle",
+        Word::DealtCards => "Dealt Cards",
+        Word::Fold => "Fold",
+        Word::Check => "Check",
+        Word::Call => "Call",
+        Word::Bet => "Bet",
+        Word::Raise => "Raise",
+        Word::ShowsCards => "Shows Cards",
+        Word::MucksCards => "Mucks Cards",
+    }
+}
+
 // The tree of an action that tells its player alone.
 fn alone_value(alloc: Global, number: u64, word: &str, player: u8) -> Result<Value, Memory>
     ensures { IfOk result (λ value.
@@ -99,55 +119,6 @@ fn chips_value(
     Ok(
         json!(in alloc; {"action": word, "action_number": number, "amount": amount, "is_allin": all_in, "player_id": player})?,
     )
-}
-
-// The tree of an action that tells cards.
-fn cards_value(
-    alloc: Global,
-    number: u64,
-    word: &str,
-    player: u8,
-    cards: Value,
-) -> Result<Value, Memory>
-    ensures { IfOk result (λ value. view value
-        ≡ action_object number word.now player (member (codes "cards") (view cards))) }
-{
-    Ok(
-        json!(in alloc; {"action": word, "action_number": number, "cards": cards, "player_id": player})?,
-    )
-}
-
-// How the word of an action is spelled.
-fn word_text(word: Word) -> &'static str
-    ensures { result.now ≡ word_said word }
-{
-    match word {
-        Word::PostAnte => "Post Ante",
-        Word::PostSmallBlind => "Post SB",
-        Word::PostBigBlind => "Post BB",
-        Word::Straddle => "Straddle",
-        Word::DealtCards => "Dealt Cards",
-        Word::Fold => "Fold",
-        Word::Check => "Check",
-        Word::Call => "Call",
-        Word::Bet => "Bet",
-        Word::Raise => "Raise",
-        Word::ShowsCards => "Shows Cards",
-        Word::MucksCards => "Mucks Cards",
-    }
-}
-
-// How a street is spelled.
-fn street_text(street: Street) -> &'static str
-    ensures { result.now ≡ street_said street }
-{
-    match street {
-        Street::Preflop => "Preflop",
-        Street::Flop => "Flop",
-        Street::Turn => "Turn",
-        Street::River => "River",
-        Street::Showdown => "Showdown",
-    }
 }
 
 // The trees of cards.
@@ -182,4 +153,33 @@ fn letters_of(card: Slot) -> [u8; 2]
     ensures second { slice_index result 1 < 128 }
 {
     slot_text(card)
+}
+
+// The tree of an action that tells cards.
+fn cards_value(
+    alloc: Global,
+    number: u64,
+    word: &str,
+    player: u8,
+    cards: Value,
+) -> Result<Value, Memory>
+    ensures { IfOk result (λ value. view value
+        ≡ action_object number word.now player (member (codes "cards") (view cards))) }
+{
+    Ok(
+        json!(in alloc; {"action": word, "action_number": number, "cards": cards, "player_id": player})?,
+    )
+}
+
+// How a street is spelled.
+fn street_text(street: Street) -> &'static str
+    ensures { result.now ≡ street_said street }
+{
+    match street {
+        Street::Preflop => "Preflop",
+        Street::Flop => "Flop",
+        Street::Turn => "Turn",
+        Street::River => "River",
+        Street::Showdown => "Showdown",
+    }
 }

@@ -21,13 +21,33 @@ pub struct Blinds {
     pub big: u64,
 }
 
-/// Whether the game is played in fixed limit. Ask for one of the games that are read.
-pub fn is_fixed_game(code: Code) -> bool
-    ensures { result ≡ is_fixed_game_said code }
+/// The blinds of a hand. The ante is examined for its form alone: what is posted counts.
+#[tactic(auto, unfolding(crate::specs::Blinds::blinds_said))]
+pub fn read_blinds(ohh: &Value, code: Code) -> Result<Blinds, Stop<Fault>>
+    ensures said { Gives (λ blinds. blinds) result (blinds_said code (view ohh.now)) }
+    ensures least { IfOk result (λ blinds. 1 ≤ blinds.small) }
+    ensures order { IfOk result (λ blinds. blinds.small ≤ blinds.big) }
+    ensures most { IfOk result (λ blinds. blinds.big ≤ MOST_CHIPS) }
+    ensures fixed { IfOk result (λ blinds. is_fixed_game_said code ≡ true
+        → 2 * blinds.big ≤ MOST_CHIPS) }
 {
-    match code {
-        Code::NT | Code::NS | Code::PO | Code::N2L1D => false,
-        _ => true,
+    let _ante = read_ante(ohh)?;
+    let small = needed(ohh, Path::SmallBlindAmount)?;
+    let small = read_number(small, 1, MOST_CHIPS, Path::SmallBlindAmount)?;
+    let big = needed(ohh, Path::BigBlindAmount)?;
+    let big = read_number(big, 1, MOST_CHIPS, Path::BigBlindAmount)?;
+    fit(code, small, big)
+}
+
+// The ante, if it is said.
+fn read_ante(ohh: &Value) -> Result<Option<u64>, Stop<Fault>>
+    ensures { Gives (λ ante. ante) result
+        (read_if (number_said 0 MOST_CHIPS paths.AnteAmount)
+        (field_said paths.AnteAmount (view ohh.now))) }
+{
+    match field(ohh, Path::AnteAmount) {
+        Some(value) => Ok(Some(read_number(value, 0, MOST_CHIPS, Path::AnteAmount)?)),
+        None => Ok(None),
     }
 }
 
@@ -50,32 +70,12 @@ fn fit(code: Code, small: u64, big: u64) -> Result<Blinds, Stop<Fault>>
     Ok(Blinds { small, big })
 }
 
-// The ante, if it is said.
-fn read_ante(ohh: &Value) -> Result<Option<u64>, Stop<Fault>>
-    ensures { Gives (λ ante. ante) result
-        (read_if (number_said 0 MOST_CHIPS paths.AnteAmount)
-        (field_said paths.AnteAmount (view ohh.now))) }
+/// Whether the game is played in fixed limit. Ask for one of the games that are read.
+pub fn is_fixed_game(code: Code) -> bool
+    ensures { result ≡ is_fixed_game_said code }
 {
-    match field(ohh, Path::AnteAmount) {
-        Some(value) => Ok(Some(read_number(value, 0, MOST_CHIPS, Path::AnteAmount)?)),
-        None => Ok(None),
+    match code {
+        Code::NT | Code::NS | Code::PO | Code::N2L1D => false,
+        _ => true,
     }
-}
-
-/// The blinds of a hand. The ante is examined for its form alone: what is posted counts.
-#[tactic(auto, unfolding(crate::specs::Blinds::blinds_said))]
-pub fn read_blinds(ohh: &Value, code: Code) -> Result<Blinds, Stop<Fault>>
-    ensures said { Gives (λ blinds. blinds) result (blinds_said code (view ohh.now)) }
-    ensures least { IfOk result (λ blinds. 1 ≤ blinds.small) }
-    ensures order { IfOk result (λ blinds. blinds.small ≤ blinds.big) }
-    ensures most { IfOk result (λ blinds. blinds.big ≤ MOST_CHIPS) }
-    ensures fixed { IfOk result (λ blinds. is_fixed_game_said code ≡ true
-        → 2 * blinds.big ≤ MOST_CHIPS) }
-{
-    let _ante = read_ante(ohh)?;
-    let small = needed(ohh, Path::SmallBlindAmount)?;
-    let small = read_number(small, 1, MOST_CHIPS, Path::SmallBlindAmount)?;
-    let big = needed(ohh, Path::BigBlindAmount)?;
-    let big = read_number(big, 1, MOST_CHIPS, Path::BigBlindAmount)?;
-    fit(code, small, big)
 }

@@ -137,6 +137,16 @@ impl PlayerMember {
 }
 
 impl ActionMember {
+    // How the member is spelled behind its action.
+    fn text(self, alloc: Global) -> Result<String, AllocError>
+        ensures { IfOk result (λ text. string_bytes text ≡ action_text self) }
+    {
+        match self {
+            ActionMember::Card { index } => format!(in alloc; ".cards[{index}]"),
+            _ => behind_point(alloc, self.name()),
+        }
+    }
+
     // The name of the member; the action itself and one of its cards have none.
     fn name(self) -> &'static str
         ensures { result.now ≡ action_name self }
@@ -150,33 +160,9 @@ impl ActionMember {
             ActionMember::Card { .. } => "",
         }
     }
-
-    // How the member is spelled behind its action.
-    fn text(self, alloc: Global) -> Result<String, AllocError>
-        ensures { IfOk result (λ text. string_bytes text ≡ action_text self) }
-    {
-        match self {
-            ActionMember::Card { index } => format!(in alloc; ".cards[{index}]"),
-            _ => behind_point(alloc, self.name()),
-        }
-    }
 }
 
 impl RoundMember {
-    // The name of the member; the round itself and an item of its lists have none.
-    fn name(self) -> &'static str
-        ensures { result.now ≡ round_name self }
-    {
-        match self {
-            RoundMember::Itself => "",
-            RoundMember::Street => "street",
-            RoundMember::Cards => "cards",
-            RoundMember::Card { .. } => "",
-            RoundMember::Actions => "actions",
-            RoundMember::Action { member, .. } => member.name(),
-        }
-    }
-
     // How the member is spelled behind its round.
     fn text(self, alloc: Global) -> Result<String, AllocError>
         ensures { IfOk result (λ text. string_bytes text ≡ round_text self) }
@@ -188,6 +174,20 @@ impl RoundMember {
                 format!(in alloc; ".actions[{index}]{text}")
             }
             _ => behind_point(alloc, self.name()),
+        }
+    }
+
+    // The name of the member; the round itself and an item of its lists have none.
+    fn name(self) -> &'static str
+        ensures { result.now ≡ round_name self }
+    {
+        match self {
+            RoundMember::Itself => "",
+            RoundMember::Street => "street",
+            RoundMember::Cards => "cards",
+            RoundMember::Card { .. } => "",
+            RoundMember::Actions => "actions",
+            RoundMember::Action { member, .. } => member.name(),
         }
     }
 }
@@ -206,19 +206,6 @@ impl WinMember {
 }
 
 impl PotMember {
-    // The name of the member; the pot itself has none.
-    fn name(self) -> &'static str
-        ensures { result.now ≡ pot_name self }
-    {
-        match self {
-            PotMember::Itself => "",
-            PotMember::Amount => "amount",
-            PotMember::Rake => "rake",
-            PotMember::PlayerWins => "player_wins",
-            PotMember::Win { member, .. } => member.name(),
-        }
-    }
-
     // How the member is spelled behind its pot.
     fn text(self, alloc: Global) -> Result<String, AllocError>
         ensures { IfOk result (λ text. string_bytes text ≡ pot_text self) }
@@ -229,6 +216,19 @@ impl PotMember {
                 format!(in alloc; ".player_wins[{index}]{text}")
             }
             _ => behind_point(alloc, self.name()),
+        }
+    }
+
+    // The name of the member; the pot itself has none.
+    fn name(self) -> &'static str
+        ensures { result.now ≡ pot_name self }
+    {
+        match self {
+            PotMember::Itself => "",
+            PotMember::Amount => "amount",
+            PotMember::Rake => "rake",
+            PotMember::PlayerWins => "player_wins",
+            PotMember::Win { member, .. } => member.name(),
         }
     }
 }
@@ -245,34 +245,6 @@ fn behind_point(alloc: Global, name: &str) -> Result<String, AllocError>
 }
 
 impl Path {
-    /// The name of the member that the path ends with. An item of a list has none.
-    pub fn name(self) -> &'static str
-        ensures { result.now ≡ member_name self }
-    {
-        match self {
-            Path::Ohh => "ohh",
-            Path::GameType => "game_type",
-            Path::BetLimit => "bet_limit",
-            Path::BetType => "bet_type",
-            Path::Players => "players",
-            Path::Player { member, .. } => member.name(),
-            Path::DealerSeat => "dealer_seat",
-            Path::AnteAmount => "ante_amount",
-            Path::SmallBlindAmount => "small_blind_amount",
-            Path::BigBlindAmount => "big_blind_amount",
-            Path::Rounds => "rounds",
-            Path::Round { member, .. } => member.name(),
-            Path::Pots => "pots",
-            Path::Pot { member, .. } => member.name(),
-            Path::GameNumber => "game_number",
-            Path::TableName => "table_name",
-            Path::TableSize => "table_size",
-            Path::StartDate => "start_date_utc",
-            Path::Currency => "currency",
-            Path::SiteName => "site_name",
-        }
-    }
-
     /// The path of one of the cards, from 0, where this is the path of a list of cards.
     pub fn card(self, index: u64) -> Path
         ensures { result ≡ card_path self index }
@@ -299,6 +271,34 @@ impl Path {
                 },
             },
             _ => self,
+        }
+    }
+
+    /// The name of the member that the path ends with. An item of a list has none.
+    pub fn name(self) -> &'static str
+        ensures { result.now ≡ member_name self }
+    {
+        match self {
+            Path::Ohh => "ohh",
+            Path::GameType => "game_type",
+            Path::BetLimit => "bet_limit",
+            Path::BetType => "bet_type",
+            Path::Players => "players",
+            Path::Player { member, .. } => member.name(),
+            Path::DealerSeat => "dealer_seat",
+            Path::AnteAmount => "ante_amount",
+            Path::SmallBlindAmount => "small_blind_amount",
+            Path::BigBlindAmount => "big_blind_amount",
+            Path::Rounds => "rounds",
+            Path::Round { member, .. } => member.name(),
+            Path::Pots => "pots",
+            Path::Pot { member, .. } => member.name(),
+            Path::GameNumber => "game_number",
+            Path::TableName => "table_name",
+            Path::TableSize => "table_size",
+            Path::StartDate => "start_date_utc",
+            Path::Currency => "currency",
+            Path::SiteName => "site_name",
         }
     }
 

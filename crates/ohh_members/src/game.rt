@@ -10,6 +10,21 @@ use first_fault::Stop;
 use play_event::Code;
 use serde_json::Value;
 
+/// The game of a hand: hold'em in fixed limit or no limit, Omaha in pot limit, or Omaha eight-or-better in fixed limit.
+#[tactic(auto, unfolding(crate::specs::Game::game_said))]
+pub fn read_game(ohh: &Value) -> Result<Code, Stop<Fault>>
+    ensures said { Gives (λ code. code) result (game_said (view ohh.now)) }
+    ensures read { IfOk result IsReadGame }
+{
+    let game = read_text(needed(ohh, Path::GameType)?, Path::GameType)?;
+    let limits = read_object(needed(ohh, Path::BetLimit)?, Path::BetLimit)?;
+    let limit = read_text(needed(limits, Path::BetType)?, Path::BetType)?;
+    match game_named(game, limit) {
+        Some(code) => Ok(code),
+        None => Err(wrong(What::UnsupportedGame, Path::GameType)),
+    }
+}
+
 // The game of a type and a limit.
 fn game_named(game: &str, limit: &str) -> Option<Code>
     ensures said { result ≡ game_named_said game.now limit.now }
@@ -25,20 +40,5 @@ fn game_named(game: &str, limit: &str) -> Option<Code>
         Some(Code::FO8)
     } else {
         None
-    }
-}
-
-/// The game of a hand: hold'em in fixed limit or no limit, Omaha in pot limit, or Omaha eight-or-better in fixed limit.
-#[tactic(auto, unfolding(crate::specs::Game::game_said))]
-pub fn read_game(ohh: &Value) -> Result<Code, Stop<Fault>>
-    ensures said { Gives (λ code. code) result (game_said (view ohh.now)) }
-    ensures read { IfOk result IsReadGame }
-{
-    let game = read_text(needed(ohh, Path::GameType)?, Path::GameType)?;
-    let limits = read_object(needed(ohh, Path::BetLimit)?, Path::BetLimit)?;
-    let limit = read_text(needed(limits, Path::BetType)?, Path::BetType)?;
-    match game_named(game, limit) {
-        Some(code) => Ok(code),
-        None => Err(wrong(What::UnsupportedGame, Path::GameType)),
     }
 }

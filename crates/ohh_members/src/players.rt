@@ -18,110 +18,48 @@ use first_fault::{MOST_TEXT_BYTES, Quantity, Stop};
 use serde_json::Value;
 use std::alloc::Global;
 
-// Whether some player has the id.
-fn has_id(id: i128, players: &[Player]) -> bool
-    ensures { result ≡ has_id_said id (map plain_player players.now) }
+/// Two to ten players, in the order in which they are listed.
+#[tactic(auto, unfolding(crate::specs::Players::players_said))]
+pub fn list_players<'a>(alloc: Global, ohh: &'a Value) -> Result<Vec<Player<'a>>, Stop<Fault>>
+    ensures said { Gives (λ found. map plain_player found.items) result
+        (players_said (view ohh.now)) }
+    ensures some { IfOk result (λ found. 2 ≤ length found.items) }
+    ensures few { IfOk result (λ found. length found.items ≤ 10) }
 {
-    for player in players {
-        if id == player.id {
-            return true;
-        }
+    let values = read_list(needed(ohh, Path::Players)?, Path::Players)?;
+    if !has_count(values, 2, 10) {
+        return Err(wrong(What::BadPlayer, Path::Players));
     }
-    false
+    add_players(alloc, values)
 }
 
-// Whether some player has the seat.
-fn has_seat(seat: u8, players: &[Player]) -> bool
-    ensures { result ≡ has_seat_said seat (map plain_player players.now) }
+// The players of a list.
+fn add_players<'a>(alloc: Global, values: &'a [Value]) -> Result<Vec<Player<'a>>, Stop<Fault>>
+    ensures said { Gives (λ found. map plain_player found.items) result
+        (added_from player_added [] 0 (map view values.now)) }
+    ensures count { IfOk result (λ found. length found.items ≡ length values.now) }
 {
-    for player in players {
-        if seat == player.seat {
-            return true;
-        }
+    let mut players = Vec::new(alloc);
+    for (index, value) in values.iter().enumerate() {
+        players = add_player(players, index as u64, value)?;
     }
-    false
+    Ok(players)
 }
 
-// The id of a player, which no player before it has.
-#[tactic(auto, unfolding(crate::specs::Players::id_said))]
-fn read_id(earlier: &[Player], index: u64, player: &Value) -> Result<i128, Stop<Fault>>
-    ensures { Gives (λ id. id) result
-        (id_said (map plain_player earlier.now) index (view player.now)) }
+// The players with one more.
+#[tactic(auto, unfolding(crate::specs::Players::player_added))]
+fn add_player<'a>(
+    mut players: Vec<Player<'a>>,
+    index: u64,
+    value: &'a Value,
+) -> Result<Vec<Player<'a>>, Stop<Fault>>
+    ensures said { Gives (λ found. map plain_player found.items) result
+        (player_added (map plain_player players.entry.items) index (view value.now)) }
+    ensures count { IfOk result (λ found. length found.items ≡ length players.entry.items + 1) }
 {
-    let path = Path::Player {
-        index,
-        member: PlayerMember::Id,
-    };
-    let id = read_integer(needed(player, path)?, path)?;
-    if has_id(id, earlier) {
-        return Err(wrong(What::BadPlayer, path));
-    }
-    Ok(id)
-}
-
-// The seat of a player, which no player before it has.
-#[tactic(auto, unfolding(crate::specs::Players::seat_said))]
-fn read_seat(earlier: &[Player], index: u64, player: &Value) -> Result<u8, Stop<Fault>>
-    ensures said { Gives (λ seat. seat) result
-        (seat_said (map plain_player earlier.now) index (view player.now)) }
-    ensures first { IfOk result (λ seat. 1 ≤ seat) }
-{
-    let path = Path::Player {
-        index,
-        member: PlayerMember::Seat,
-    };
-    let seat = read_number(needed(player, path)?, 1, 255, path)? as u8;
-    if has_seat(seat, earlier) {
-        return Err(wrong(What::BadPlayer, path));
-    }
-    Ok(seat)
-}
-
-/// A text of at most 255 bytes.
-#[tactic(auto, unfolding(crate::specs::Players::short_text_said))]
-pub fn read_short_text(value: &Value, path: Path) -> Result<&str, Stop<Fault>>
-    ensures said { Gives (λ text. text.now) result (short_text_said path (view value.now)) }
-    ensures short { IfOk result (λ text. length text.now ≤ MOST_TEXT_BYTES) }
-{
-    let text = read_text(value, path)?;
-    if text.len() > MOST_TEXT_BYTES {
-        let quantity = Quantity::TextBytes;
-        return Err(wrong(What::TooMany { quantity }, path));
-    }
-    Ok(text)
-}
-
-// The name of a player, if it has one.
-fn read_name(index: u64, player: &Value) -> Result<Option<&str>, Stop<Fault>>
-    ensures said { Gives (option_map (λ name. name.now)) result
-        (name_said index (view player.now)) }
-    ensures short { IfOk result (λ name. ForSome name (λ text.
-        length text.now ≤ MOST_TEXT_BYTES)) }
-{
-    let path = Path::Player {
-        index,
-        member: PlayerMember::Name,
-    };
-    match field(player, path) {
-        Some(value) => {
-            let name = read_short_text(value, path)?;
-            Ok(Some(name))
-        }
-        None => Ok(None),
-    }
-}
-
-// The starting stack of a player.
-#[tactic(auto, unfolding(crate::specs::Players::stack_said))]
-fn read_stack(index: u64, player: &Value) -> Result<u64, Stop<Fault>>
-    ensures said { Gives (λ stack. stack) result (stack_said index (view player.now)) }
-    ensures within { IfOk result (λ stack. (1 ≤ stack) × (stack ≤ MOST_CHIPS)) }
-{
-    let path = Path::Player {
-        index,
-        member: PlayerMember::StartingStack,
-    };
-    read_number(needed(player, path)?, 1, MOST_CHIPS, path)
+    let player = read_player(&players, index, value)?;
+    players.push(player)?;
+    Ok(players)
 }
 
 // A player, after those before it.
@@ -151,46 +89,108 @@ fn read_player<'a>(
     })
 }
 
-// The players with one more.
-#[tactic(auto, unfolding(crate::specs::Players::player_added))]
-fn add_player<'a>(
-    mut players: Vec<Player<'a>>,
-    index: u64,
-    value: &'a Value,
-) -> Result<Vec<Player<'a>>, Stop<Fault>>
-    ensures said { Gives (λ found. map plain_player found.items) result
-        (player_added (map plain_player players.entry.items) index (view value.now)) }
-    ensures count { IfOk result (λ found. length found.items ≡ length players.entry.items + 1) }
+// The id of a player, which no player before it has.
+#[tactic(auto, unfolding(crate::specs::Players::id_said))]
+fn read_id(earlier: &[Player], index: u64, player: &Value) -> Result<i128, Stop<Fault>>
+    ensures { Gives (λ id. id) result
+        (id_said (map plain_player earlier.now) index (view player.now)) }
 {
-    let player = read_player(&players, index, value)?;
-    players.push(player)?;
-    Ok(players)
+    let path = Path::Player {
+        index,
+        member: PlayerMember::Id,
+    };
+    let id = read_integer(needed(player, path)?, path)?;
+    if has_id(id, earlier) {
+        return Err(wrong(What::BadPlayer, path));
+    }
+    Ok(id)
 }
 
-// The players of a list.
-fn add_players<'a>(alloc: Global, values: &'a [Value]) -> Result<Vec<Player<'a>>, Stop<Fault>>
-    ensures said { Gives (λ found. map plain_player found.items) result
-        (added_from player_added [] 0 (map view values.now)) }
-    ensures count { IfOk result (λ found. length found.items ≡ length values.now) }
+// Whether some player has the id.
+fn has_id(id: i128, players: &[Player]) -> bool
+    ensures { result ≡ has_id_said id (map plain_player players.now) }
 {
-    let mut players = Vec::new(alloc);
-    for (index, value) in values.iter().enumerate() {
-        players = add_player(players, index as u64, value)?;
+    for player in players {
+        if id == player.id {
+            return true;
+        }
     }
-    Ok(players)
+    false
 }
 
-/// Two to ten players, in the order in which they are listed.
-#[tactic(auto, unfolding(crate::specs::Players::players_said))]
-pub fn list_players<'a>(alloc: Global, ohh: &'a Value) -> Result<Vec<Player<'a>>, Stop<Fault>>
-    ensures said { Gives (λ found. map plain_player found.items) result
-        (players_said (view ohh.now)) }
-    ensures some { IfOk result (λ found. 2 ≤ length found.items) }
-    ensures few { IfOk result (λ found. length found.items ≤ 10) }
+// The seat of a player, which no player before it has.
+#[tactic(auto, unfolding(crate::specs::Players::seat_said))]
+fn read_seat(earlier: &[Player], index: u64, player: &Value) -> Result<u8, Stop<Fault>>
+    ensures said { Gives (λ seat. seat) result
+        (seat_said (map plain_player earlier.now) index (view player.now)) }
+    ensures first { IfOk result (λ seat. 1 ≤ seat) }
 {
-    let values = read_list(needed(ohh, Path::Players)?, Path::Players)?;
-    if !has_count(values, 2, 10) {
-        return Err(wrong(What::BadPlayer, Path::Players));
+    let path = Path::Player {
+        index,
+        member: PlayerMember::Seat,
+    };
+    let seat = read_number(needed(player, path)?, 1, 255, path)? as u8;
+    if has_seat(seat, earlier) {
+        return Err(wrong(What::BadPlayer, path));
     }
-    add_players(alloc, values)
+    Ok(seat)
+}
+
+// Whether some player has the seat.
+fn has_seat(seat: u8, players: &[Player]) -> bool
+    ensures { result ≡ has_seat_said seat (map plain_player players.now) }
+{
+    for player in players {
+        if seat == player.seat {
+            return true;
+        }
+    }
+    false
+}
+
+// The name of a player, if it has one.
+fn read_name(index: u64, player: &Value) -> Result<Option<&str>, Stop<Fault>>
+    ensures said { Gives (option_map (λ name. name.now)) result
+        (name_said index (view player.now)) }
+    ensures short { IfOk result (λ name. ForSome name (λ text.
+        length text.now ≤ MOST_TEXT_BYTES)) }
+{
+    let path = Path::Player {
+        index,
+        member: PlayerMember::Name,
+    };
+    match field(player, path) {
+        Some(value) => {
+            let name = read_short_text(value, path)?;
+            Ok(Some(name))
+        }
+        None => Ok(None),
+    }
+}
+
+/// A text of at most 255 bytes.
+#[tactic(auto, unfolding(crate::specs::Players::short_text_said))]
+pub fn read_short_text(value: &Value, path: Path) -> Result<&str, Stop<Fault>>
+    ensures said { Gives (λ text. text.now) result (short_text_said path (view value.now)) }
+    ensures short { IfOk result (λ text. length text.now ≤ MOST_TEXT_BYTES) }
+{
+    let text = read_text(value, path)?;
+    if text.len() > MOST_TEXT_BYTES {
+        let quantity = Quantity::TextBytes;
+        return Err(wrong(What::TooMany { quantity }, path));
+    }
+    Ok(text)
+}
+
+// The starting stack of a player.
+#[tactic(auto, unfolding(crate::specs::Players::stack_said))]
+fn read_stack(index: u64, player: &Value) -> Result<u64, Stop<Fault>>
+    ensures said { Gives (λ stack. stack) result (stack_said index (view player.now)) }
+    ensures within { IfOk result (λ stack. (1 ≤ stack) × (stack ≤ MOST_CHIPS)) }
+{
+    let path = Path::Player {
+        index,
+        member: PlayerMember::StartingStack,
+    };
+    read_number(needed(player, path)?, 1, MOST_CHIPS, path)
 }

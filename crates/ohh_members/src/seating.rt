@@ -13,17 +13,18 @@ use first_fault::Stop;
 use serde_json::Value;
 use std::alloc::Global;
 
-// The player in a seat of the table.
-fn player_at<'a>(seat: i128, players: &[Player<'a>]) -> Option<Player<'a>>
-    ensures { option_map plain_player result
-        ≡ player_at_said seat (map plain_player players.now) }
+/// The players of a hand by their seats in it: the first sits after the button, and the last is on it.
+#[tactic(auto, unfolding(crate::specs::Players::seated_said))]
+pub fn read_players<'a>(alloc: Global, ohh: &'a Value) -> Result<Vec<Player<'a>>, Stop<Fault>>
+    ensures said { Gives (λ found. map plain_player found.items) result
+        (seated_said (view ohh.now)) }
+    ensures some { IfOk result (λ found. 2 ≤ length found.items) }
+    ensures few { IfOk result (λ found. length found.items ≤ 10) }
 {
-    for player in players {
-        if i128::from(player.seat) == seat {
-            return Some(*player);
-        }
-    }
-    None
+    let players = list_players(alloc, ohh)?;
+    let button = read_button(&players, ohh)?;
+    let found = sit(alloc, &players, button)?;
+    Ok(found)
 }
 
 // The player on the button.
@@ -39,61 +40,17 @@ fn read_button<'a>(players: &[Player<'a>], ohh: &Value) -> Result<Player<'a>, St
     }
 }
 
-// Of two players, the one of the lower seat.
-fn lower<'a>(found: Option<Player<'a>>, player: Player<'a>) -> Option<Player<'a>>
+// The player in a seat of the table.
+fn player_at<'a>(seat: i128, players: &[Player<'a>]) -> Option<Player<'a>>
     ensures { option_map plain_player result
-        ≡ lower_said (option_map plain_player found.entry) (plain_player player.entry) }
+        ≡ player_at_said seat (map plain_player players.now) }
 {
-    match found {
-        None => Some(player),
-        Some(other) => {
-            if player.seat < other.seat {
-                Some(player)
-            } else {
-                Some(other)
-            }
+    for player in players {
+        if i128::from(player.seat) == seat {
+            return Some(*player);
         }
     }
-}
-
-// The same, where a player counts whose seat is higher than this one.
-fn lower_above<'a>(found: Option<Player<'a>>, player: Player<'a>, seat: u8) -> Option<Player<'a>>
-    ensures { (rest : List PlainPlayer)
-        → fold lower_said (option_map plain_player result) (above seat rest)
-        ≡ fold lower_said (option_map plain_player found.entry)
-        (above seat (plain_player player.entry ∷ rest)) }
-{
-    if seat < player.seat {
-        lower(found, player)
-    } else {
-        found
-    }
-}
-
-// The player of the lowest seat that is higher than this one.
-fn lowest_above<'a>(players: &[Player<'a>], seat: u8) -> Option<Player<'a>>
-    ensures { option_map plain_player result
-        ≡ lowest (above seat (map plain_player players.now)) }
-{
-    let mut found = None;
-    for player in players {
-        found = lower_above(found, *player, seat);
-    }
-    found
-}
-
-// The player of the next higher seat, going round.
-fn next_player<'a>(players: &[Player<'a>], player: Player<'a>) -> Player<'a>
-    ensures { plain_player result
-        ≡ next_player_said (map plain_player players.now) (plain_player player.entry) }
-{
-    match lowest_above(players, player.seat) {
-        Some(next) => next,
-        None => match lowest_above(players, 0) {
-            Some(first) => first,
-            None => player,
-        },
-    }
+    None
 }
 
 // The players by their seats in the hand, the first after the button.
@@ -115,16 +72,59 @@ fn sit<'a>(
     Ok(found)
 }
 
-/// The players of a hand by their seats in it: the first sits after the button, and the last is on it.
-#[tactic(auto, unfolding(crate::specs::Players::seated_said))]
-pub fn read_players<'a>(alloc: Global, ohh: &'a Value) -> Result<Vec<Player<'a>>, Stop<Fault>>
-    ensures said { Gives (λ found. map plain_player found.items) result
-        (seated_said (view ohh.now)) }
-    ensures some { IfOk result (λ found. 2 ≤ length found.items) }
-    ensures few { IfOk result (λ found. length found.items ≤ 10) }
+// The player of the next higher seat, going round.
+fn next_player<'a>(players: &[Player<'a>], player: Player<'a>) -> Player<'a>
+    ensures { plain_player result
+        ≡ next_player_said (map plain_player players.now) (plain_player player.entry) }
 {
-    let players = list_players(alloc, ohh)?;
-    let button = read_button(&players, ohh)?;
-    let found = sit(alloc, &players, button)?;
-    Ok(found)
+    match lowest_above(players, player.seat) {
+        Some(next) => next,
+        None => match lowest_above(players, 0) {
+            Some(first) => first,
+            None => player,
+        },
+    }
+}
+
+// The player of the lowest seat that is higher than this one.
+fn lowest_above<'a>(players: &[Player<'a>], seat: u8) -> Option<Player<'a>>
+    ensures { option_map plain_player result
+        ≡ lowest (above seat (map plain_player players.now)) }
+{
+    let mut found = None;
+    for player in players {
+        found = lower_above(found, *player, seat);
+    }
+    found
+}
+
+// The same, where a player counts whose seat is higher than this one.
+fn lower_above<'a>(found: Option<Player<'a>>, player: Player<'a>, seat: u8) -> Option<Player<'a>>
+    ensures { (rest : List PlainPlayer)
+        → fold lower_said (option_map plain_player result) (above seat rest)
+        ≡ fold lower_said (option_map plain_player found.entry)
+        (above seat (plain_player player.entry ∷ rest)) }
+{
+    if seat < player.seat {
+        lower(found, player)
+    } else {
+        found
+    }
+}
+
+// Of two players, the one of the lower seat.
+fn lower<'a>(found: Option<Player<'a>>, player: Player<'a>) -> Option<Player<'a>>
+    ensures { option_map plain_player result
+        ≡ lower_said (option_map plain_player found.entry) (plain_player player.entry) }
+{
+    match found {
+        None => Some(player),
+        Some(other) => {
+            if player.seat < other.seat {
+                Some(player)
+            } else {
+                Some(other)
+            }
+        }
+    }
 }

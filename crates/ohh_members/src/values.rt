@@ -12,27 +12,6 @@ use chip_ledger::Seat;
 use first_fault::Stop;
 use serde_json::Value;
 
-/// A fault at the path.
-pub fn wrong(what: What, path: Path) -> Stop<Fault>
-    ensures { result ≡ Stop.At (record { what = what; path = path }) }
-{
-    Stop::At(Fault { what, path })
-}
-
-// The member of an object with this name.
-fn find_member<'a>(value: &'a Value, name: &str) -> Option<&'a Value>
-    ensures { option_map (λ found. view found.now) result ≡ get name.now (view value.now) }
-{
-    value.get(name)
-}
-
-/// The value of the member that the path ends with, if the object has one.
-pub fn field<'a>(value: &'a Value, path: Path) -> Option<&'a Value>
-    ensures { option_map (λ found. view found.now) result ≡ field_said path (view value.now) }
-{
-    find_member(value, path.name())
-}
-
 /// The value of a member that is needed.
 #[tactic(auto, unfolding(crate::specs::Values::needed))]
 pub fn needed<'a>(value: &'a Value, path: Path) -> Result<&'a Value, Stop<Fault>>
@@ -44,15 +23,18 @@ pub fn needed<'a>(value: &'a Value, path: Path) -> Result<&'a Value, Stop<Fault>
     }
 }
 
-/// A text.
-#[tactic(auto, unfolding(crate::specs::Values::text_said))]
-pub fn read_text(value: &Value, path: Path) -> Result<&str, Stop<Fault>>
-    ensures { Gives (λ text. text.now) result (text_said path (view value.now)) }
+/// The value of the member that the path ends with, if the object has one.
+pub fn field<'a>(value: &'a Value, path: Path) -> Option<&'a Value>
+    ensures { option_map (λ found. view found.now) result ≡ field_said path (view value.now) }
 {
-    match value {
-        Value::String(text) => Ok(text.as_str()),
-        _ => Err(wrong(What::WrongType, path)),
-    }
+    find_member(value, path.name())
+}
+
+// The member of an object with this name.
+fn find_member<'a>(value: &'a Value, name: &str) -> Option<&'a Value>
+    ensures { option_map (λ found. view found.now) result ≡ get name.now (view value.now) }
+{
+    value.get(name)
 }
 
 /// An object.
@@ -64,27 +46,6 @@ pub fn read_object(value: &Value, path: Path) -> Result<&Value, Stop<Fault>>
         Value::Object(_) => Ok(value),
         _ => Err(wrong(What::WrongType, path)),
     }
-}
-
-// A list.
-#[tactic(auto, unfolding(crate::specs::Values::list_said))]
-fn read_array(value: &Value, path: Path) -> Result<&[Value], Stop<Fault>>
-    ensures { Gives (λ values. listed (items_view values.now)) result
-        (list_said path (view value.now)) }
-{
-    match value {
-        Value::Array(values) => Ok(values.as_slice()),
-        _ => Err(wrong(What::WrongType, path)),
-    }
-}
-
-/// The values of a list.
-#[tactic(auto, using(crate::proofs::Lists::listed_view))]
-pub fn read_list(value: &Value, path: Path) -> Result<&[Value], Stop<Fault>>
-    ensures { Gives (λ values. map view values.now) result (list_said path (view value.now)) }
-{
-    let values = read_array(value, path)?;
-    Ok(values)
 }
 
 /// Whether there are so many values.
@@ -119,6 +80,34 @@ pub fn read_number(value: &Value, least: u64, most: u64, path: Path) -> Result<u
     }
 }
 
+/// The seat of a player who is named by the id.
+#[tactic(auto, unfolding(crate::specs::Values::player_said))]
+pub fn read_player(value: &Value, ids: &[i128], path: Path) -> Result<Seat, Stop<Fault>>
+    requires { length ids.now ≤ 10 }
+    ensures said { Gives (λ seat. seat.number) result
+        (player_said ids.now path (view value.now)) }
+    ensures seated { IfOk result (λ seat. seat.number ≤ length ids.now) }
+{
+    match seat_of(ids, read_integer(value, path)?) {
+        Some(seat) => Ok(seat),
+        None => Err(wrong(What::BadPlayer, path)),
+    }
+}
+
+/// The seat of the player with this id, where the ids are those of the players in the order of their seats.
+pub fn seat_of(ids: &[i128], id: i128) -> Option<Seat>
+    requires { length ids.now ≤ 10 }
+    ensures said { option_map (λ seat. seat.number) result ≡ seat_of_said ids.now id }
+    ensures seated { IfSome result (λ seat. seat.number ≤ length ids.now) }
+{
+    for (index, other) in ids.iter().enumerate() {
+        if id == *other {
+            return Seat::new(index as u8 + 1);
+        }
+    }
+    None
+}
+
 /// Any whole number that a tree holds.
 #[tactic(auto, unfolding(crate::specs::Values::integer_said))]
 pub fn read_integer(value: &Value, path: Path) -> Result<i128, Stop<Fault>>
@@ -138,32 +127,86 @@ pub fn read_integer(value: &Value, path: Path) -> Result<i128, Stop<Fault>>
     }
 }
 
-/// The seat of the player with this id, where the ids are those of the players in the order of their seats.
-pub fn seat_of(ids: &[i128], id: i128) -> Option<Seat>
-    requires { length ids.now ≤ 10 }
-    ensures said { option_map (λ seat. seat.number) result ≡ seat_of_said ids.now id }
-    ensures seated { IfSome result (λ seat. seat.number ≤ length ids.now) }
+/// At most seven known cards.
+#[tactic(auto, unfolding(crate::specs::Values::cards_said))]
+pub fn read_cards(value: &Value, path: Path) -> Result<CardRow, Stop<Fault>>
+    ensures { Gives cards_of result (cards_said path (view value.now)) }
 {
-    for (index, other) in ids.iter().enumerate() {
-        if id == *other {
-            return Seat::new(index as u8 + 1);
-        }
-    }
-    None
+    let values = read_few(value, path)?;
+    fill_cards(values, path)
 }
 
-/// The seat of a player who is named by the id.
-#[tactic(auto, unfolding(crate::specs::Values::player_said))]
-pub fn read_player(value: &Value, ids: &[i128], path: Path) -> Result<Seat, Stop<Fault>>
-    requires { length ids.now ≤ 10 }
-    ensures said { Gives (λ seat. seat.number) result
-        (player_said ids.now path (view value.now)) }
-    ensures seated { IfOk result (λ seat. seat.number ≤ length ids.now) }
+// The known cards of a list.
+fn fill_cards(values: &[Value], path: Path) -> Result<CardRow, Stop<Fault>>
+    requires { length values.now ≤ 7 }
+    ensures { Gives cards_of result (cards_from path (map view values.now)) }
 {
-    match seat_of(ids, read_integer(value, path)?) {
-        Some(seat) => Ok(seat),
-        None => Err(wrong(What::BadPlayer, path)),
+    let mut row = CardRow::new();
+    for (index, value) in values.iter().enumerate() {
+        let card = read_card(value, path.card(index as u64))?;
+        row.push(card);
     }
+    Ok(row)
+}
+
+/// A known card.
+#[tactic(auto, unfolding(crate::specs::Values::card_said))]
+pub fn read_card(value: &Value, path: Path) -> Result<Card, Stop<Fault>>
+    ensures { Gives (λ card. card) result (card_said path (view value.now)) }
+{
+    match known_in(read_slot(value, path)?) {
+        Some(card) => Ok(card),
+        None => Err(wrong(What::WrongType, path)),
+    }
+}
+
+// A slot that is known.
+fn known_in(slot: Slot) -> Option<Card>
+    ensures { result ≡ known_in_said slot }
+{
+    match slot {
+        Slot::Known(card) => Some(card),
+        Slot::Unknown => None,
+    }
+}
+
+/// A fault at the path.
+pub fn wrong(what: What, path: Path) -> Stop<Fault>
+    ensures { result ≡ Stop.At (record { what = what; path = path }) }
+{
+    Stop::At(Fault { what, path })
+}
+
+/// A text.
+#[tactic(auto, unfolding(crate::specs::Values::text_said))]
+pub fn read_text(value: &Value, path: Path) -> Result<&str, Stop<Fault>>
+    ensures { Gives (λ text. text.now) result (text_said path (view value.now)) }
+{
+    match value {
+        Value::String(text) => Ok(text.as_str()),
+        _ => Err(wrong(What::WrongType, path)),
+    }
+}
+
+// A list.
+#[tactic(auto, unfolding(crate::specs::Values::list_said))]
+fn read_array(value: &Value, path: Path) -> Result<&[Value], Stop<Fault>>
+    ensures { Gives (λ values. listed (items_view values.now)) result
+        (list_said path (view value.now)) }
+{
+    match value {
+        Value::Array(values) => Ok(values.as_slice()),
+        _ => Err(wrong(What::WrongType, path)),
+    }
+}
+
+/// The values of a list.
+#[tactic(auto, using(crate::proofs::Lists::listed_view))]
+pub fn read_list(value: &Value, path: Path) -> Result<&[Value], Stop<Fault>>
+    ensures { Gives (λ values. map view values.now) result (list_said path (view value.now)) }
+{
+    let values = read_array(value, path)?;
+    Ok(values)
 }
 
 // The slot of a list of one slot.
@@ -186,36 +229,13 @@ fn slot_in(text: &str) -> Option<Slot>
     }
 }
 
-// A slot that is known.
-fn known_in(slot: Slot) -> Option<Card>
-    ensures { result ≡ known_in_said slot }
+/// At most seven cards, each known or unknown.
+#[tactic(auto, unfolding(crate::specs::Values::slots_said))]
+pub fn read_slots(value: &Value, path: Path) -> Result<SlotRow, Stop<Fault>>
+    ensures { Gives slots_of result (slots_said path (view value.now)) }
 {
-    match slot {
-        Slot::Known(card) => Some(card),
-        Slot::Unknown => None,
-    }
-}
-
-/// A card, or two question marks for an unknown one.
-#[tactic(auto, unfolding(crate::specs::Values::slot_said))]
-pub fn read_slot(value: &Value, path: Path) -> Result<Slot, Stop<Fault>>
-    ensures { Gives (λ slot. slot) result (slot_said path (view value.now)) }
-{
-    match slot_in(read_text(value, path)?) {
-        Some(slot) => Ok(slot),
-        None => Err(wrong(What::WrongType, path)),
-    }
-}
-
-/// A known card.
-#[tactic(auto, unfolding(crate::specs::Values::card_said))]
-pub fn read_card(value: &Value, path: Path) -> Result<Card, Stop<Fault>>
-    ensures { Gives (λ card. card) result (card_said path (view value.now)) }
-{
-    match known_in(read_slot(value, path)?) {
-        Some(card) => Ok(card),
-        None => Err(wrong(What::WrongType, path)),
-    }
+    let values = read_few(value, path)?;
+    fill_slots(values, path)
 }
 
 /// The values of a list of at most seven cards.
@@ -244,33 +264,13 @@ fn fill_slots(values: &[Value], path: Path) -> Result<SlotRow, Stop<Fault>>
     Ok(row)
 }
 
-/// At most seven cards, each known or unknown.
-#[tactic(auto, unfolding(crate::specs::Values::slots_said))]
-pub fn read_slots(value: &Value, path: Path) -> Result<SlotRow, Stop<Fault>>
-    ensures { Gives slots_of result (slots_said path (view value.now)) }
+/// A card, or two question marks for an unknown one.
+#[tactic(auto, unfolding(crate::specs::Values::slot_said))]
+pub fn read_slot(value: &Value, path: Path) -> Result<Slot, Stop<Fault>>
+    ensures { Gives (λ slot. slot) result (slot_said path (view value.now)) }
 {
-    let values = read_few(value, path)?;
-    fill_slots(values, path)
-}
-
-// The known cards of a list.
-fn fill_cards(values: &[Value], path: Path) -> Result<CardRow, Stop<Fault>>
-    requires { length values.now ≤ 7 }
-    ensures { Gives cards_of result (cards_from path (map view values.now)) }
-{
-    let mut row = CardRow::new();
-    for (index, value) in values.iter().enumerate() {
-        let card = read_card(value, path.card(index as u64))?;
-        row.push(card);
+    match slot_in(read_text(value, path)?) {
+        Some(slot) => Ok(slot),
+        None => Err(wrong(What::WrongType, path)),
     }
-    Ok(row)
-}
-
-/// At most seven known cards.
-#[tactic(auto, unfolding(crate::specs::Values::cards_said))]
-pub fn read_cards(value: &Value, path: Path) -> Result<CardRow, Stop<Fault>>
-    ensures { Gives cards_of result (cards_said path (view value.now)) }
-{
-    let values = read_few(value, path)?;
-    fill_cards(values, path)
 }

@@ -8,17 +8,6 @@ use crate::firsts::FirstPosts;
 use crate::table::Table;
 use chip_ledger::Seat;
 
-/// The first ante of a seat, or 0 where it has none.
-pub fn ante_or_zero(firsts: &FirstPosts, seat: Seat) -> u64
-    ensures { (posts : List PlainPost) → AreFirst posts firsts.now
-        → result ≡ ante_of posts seat.number }
-{
-    match firsts.ante(seat) {
-        Some(ante) => ante.number,
-        None => 0,
-    }
-}
-
 /// Whether each of the first so many seats posts an ante.
 pub fn all_post(table: &Table, firsts: &FirstPosts) -> bool
     ensures { (posts : List PlainPost) → AreFirst posts firsts.now
@@ -45,6 +34,17 @@ pub fn greatest(table: &Table, firsts: &FirstPosts) -> u64
         }
     }
     greatest
+}
+
+/// The first ante of a seat, or 0 where it has none.
+pub fn ante_or_zero(firsts: &FirstPosts, seat: Seat) -> u64
+    ensures { (posts : List PlainPost) → AreFirst posts firsts.now
+        → result ≡ ante_of posts seat.number }
+{
+    match firsts.ante(seat) {
+        Some(ante) => ante.number,
+        None => 0,
+    }
 }
 
 /// The lesser of two numbers of chips.

@@ -41,14 +41,6 @@ pub struct Facts {
 }
 
 impl Facts {
-    // The ante of a seat, or 0.
-    fn ante(&self, seat: Seat) -> u64
-        ensures { (posts : List PlainPost) → AreFacts posts self.now
-            → result ≡ ante_of posts seat.number }
-    {
-        ante_or_zero(&self.firsts, seat)
-    }
-
     // The stack of a seat less its ante.
     fn left(&self, seat: Seat) -> u64
         ensures { (posts : List PlainPost) → AreFacts posts self.now
@@ -56,6 +48,31 @@ impl Facts {
     {
         self.table.stack(seat).saturating_sub(self.ante(seat))
     }
+
+    // The ante of a seat, or 0.
+    fn ante(&self, seat: Seat) -> u64
+        ensures { (posts : List PlainPost) → AreFacts posts self.now
+            → result ≡ ante_of posts seat.number }
+    {
+        ante_or_zero(&self.firsts, seat)
+    }
+}
+
+/// Tries the conditions of the posts of a hand, one after the other, or names the first post that breaks the first
+/// condition that is broken.
+#[tactic(auto, unfolding(crate::specs::Conditions::posts_checked))]
+pub fn check_posts(table: &Table, posts: &[Post]) -> Result<(), PostFault>
+    ensures { result ≡ posts_checked (plain_table table.now) (map plain_post posts.now) }
+{
+    let facts = facts_of(table, posts);
+    hold(Condition::Early, &facts, posts)?;
+    have_blinds(&facts.firsts)?;
+    hold(Condition::OneOfEachBlind, &facts, posts)?;
+    hold(Condition::BlindSeats, &facts, posts)?;
+    hold(Condition::BlindAmounts, &facts, posts)?;
+    hold(Condition::Straddles, &facts, posts)?;
+    hold(Condition::Antes, &facts, posts)?;
+    hold(Condition::EvenAntes, &facts, posts)
 }
 
 // What is known of all posts.
@@ -69,6 +86,52 @@ fn facts_of(table: &Table, posts: &[Post]) -> Facts
         firsts,
         all_post: all_post(table, &firsts),
         greatest_ante: greatest(table, &firsts),
+    }
+}
+
+// A condition holds of all posts, or the first that breaks it is named.
+fn hold(condition: Condition, facts: &Facts, posts: &[Post]) -> Result<(), PostFault>
+    requires { AreFacts (map plain_post posts.now) facts.now }
+    ensures { result ≡ holds condition (plain_table facts.now.table) (map plain_post posts.now) }
+{
+    match first_break(condition, facts, posts) {
+        Some(place) => Err(PostFault::At(place)),
+        None => Ok(()),
+    }
+}
+
+// Where the first post stands that breaks a condition.
+fn first_break(condition: Condition, facts: &Facts, posts: &[Post]) -> Option<ActionPlace>
+    requires { AreFacts (map plain_post posts.now) facts.now }
+    ensures { result ≡ first_breaking condition (plain_table facts.now.table)
+        (map plain_post posts.now) [] (map plain_post posts.now) }
+{
+    let mut before = FirstPosts::none();
+    for post in posts {
+        if is_breaking(condition, facts, &before, post) {
+            return Some(post.place);
+        }
+        before.note(post);
+    }
+    None
+}
+
+// Whether a post breaks a condition, where these were posted before it.
+#[tactic(auto, unfolding(crate::specs::Conditions::is_breaking))]
+fn is_breaking(condition: Condition, facts: &Facts, before: &FirstPosts, post: &Post) -> bool
+    ensures { (posts earlier : List PlainPost) → AreFacts posts facts.now
+        → AreFirst earlier before.now
+        → result ≡ conditions.is_breaking condition (plain_table facts.now.table) posts earlier
+        (plain_post post.now) }
+{
+    match condition {
+        Condition::Early => !post.early,
+        Condition::OneOfEachBlind => is_second_blind(before, post),
+        Condition::BlindSeats => is_misplaced_blind(&facts.table, post),
+        Condition::BlindAmounts => is_wrong_blind(facts, post),
+        Condition::Straddles => is_wrong_straddle(facts, before, post),
+        Condition::Antes => is_wrong_ante(&facts.table, before, post),
+        Condition::EvenAntes => is_uneven_ante(facts, post),
     }
 }
 
@@ -156,52 +219,6 @@ fn is_uneven_ante(facts: &Facts, post: &Post) -> bool
     }
 }
 
-// Whether a post breaks a condition, where these were posted before it.
-#[tactic(auto, unfolding(crate::specs::Conditions::is_breaking))]
-fn is_breaking(condition: Condition, facts: &Facts, before: &FirstPosts, post: &Post) -> bool
-    ensures { (posts earlier : List PlainPost) → AreFacts posts facts.now
-        → AreFirst earlier before.now
-        → result ≡ conditions.is_breaking condition (plain_table facts.now.table) posts earlier
-        (plain_post post.now) }
-{
-    match condition {
-        Condition::Early => !post.early,
-        Condition::OneOfEachBlind => is_second_blind(before, post),
-        Condition::BlindSeats => is_misplaced_blind(&facts.table, post),
-        Condition::BlindAmounts => is_wrong_blind(facts, post),
-        Condition::Straddles => is_wrong_straddle(facts, before, post),
-        Condition::Antes => is_wrong_ante(&facts.table, before, post),
-        Condition::EvenAntes => is_uneven_ante(facts, post),
-    }
-}
-
-// Where the first post stands that breaks a condition.
-fn first_break(condition: Condition, facts: &Facts, posts: &[Post]) -> Option<ActionPlace>
-    requires { AreFacts (map plain_post posts.now) facts.now }
-    ensures { result ≡ first_breaking condition (plain_table facts.now.table)
-        (map plain_post posts.now) [] (map plain_post posts.now) }
-{
-    let mut before = FirstPosts::none();
-    for post in posts {
-        if is_breaking(condition, facts, &before, post) {
-            return Some(post.place);
-        }
-        before.note(post);
-    }
-    None
-}
-
-// A condition holds of all posts, or the first that breaks it is named.
-fn hold(condition: Condition, facts: &Facts, posts: &[Post]) -> Result<(), PostFault>
-    requires { AreFacts (map plain_post posts.now) facts.now }
-    ensures { result ≡ holds condition (plain_table facts.now.table) (map plain_post posts.now) }
-{
-    match first_break(condition, facts, posts) {
-        Some(place) => Err(PostFault::At(place)),
-        None => Ok(()),
-    }
-}
-
 // Both blinds are posted.
 fn have_blinds(firsts: &FirstPosts) -> Result<(), PostFault>
     ensures { (posts : List PlainPost) → AreFirst posts firsts.now → result ≡ has_blinds posts }
@@ -211,21 +228,4 @@ fn have_blinds(firsts: &FirstPosts) -> Result<(), PostFault>
     } else {
         Err(PostFault::MissingBlind)
     }
-}
-
-/// Tries the conditions of the posts of a hand, one after the other, or names the first post that breaks the first
-/// condition that is broken.
-#[tactic(auto, unfolding(crate::specs::Conditions::posts_checked))]
-pub fn check_posts(table: &Table, posts: &[Post]) -> Result<(), PostFault>
-    ensures { result ≡ posts_checked (plain_table table.now) (map plain_post posts.now) }
-{
-    let facts = facts_of(table, posts);
-    hold(Condition::Early, &facts, posts)?;
-    have_blinds(&facts.firsts)?;
-    hold(Condition::OneOfEachBlind, &facts, posts)?;
-    hold(Condition::BlindSeats, &facts, posts)?;
-    hold(Condition::BlindAmounts, &facts, posts)?;
-    hold(Condition::Straddles, &facts, posts)?;
-    hold(Condition::Antes, &facts, posts)?;
-    hold(Condition::EvenAntes, &facts, posts)
 }

@@ -24,18 +24,6 @@ impl FirstPosts {
     ghost use Rattle.std.specs.Prelude.{◌∷◌, ◌++◌, [], List, map, option_map};
     ghost use Rattle.ohh_posts.specs.Posts.{AreFirst, PlainPost, first_ante, first_straddle, plain_post};
 
-    /// Nothing is posted yet.
-    pub fn none() -> Self
-        ensures { AreFirst [] result }
-    {
-        FirstPosts {
-            antes: [None; 10],
-            straddles: [None; 10],
-            small_blind: false,
-            big_blind: false,
-        }
-    }
-
     /// The first ante of a seat, if it posted one.
     pub fn ante(&self, seat: Seat) -> Option<Chips>
         ensures { (posts : List PlainPost) → AreFirst posts self.now
@@ -52,6 +40,29 @@ impl FirstPosts {
         self.straddles[seat.number as usize - 1]
     }
 
+    /// The first posts of a list of them.
+    pub fn of(posts: &[Post]) -> Self
+        ensures { AreFirst (map plain_post posts.now) result }
+    {
+        let mut firsts = FirstPosts::none();
+        for post in posts {
+            firsts.note(post);
+        }
+        firsts
+    }
+
+    /// Nothing is posted yet.
+    pub fn none() -> Self
+        ensures { AreFirst [] result }
+    {
+        FirstPosts {
+            antes: [None; 10],
+            straddles: [None; 10],
+            small_blind: false,
+            big_blind: false,
+        }
+    }
+
     /// Takes one more post.
     pub fn note(&mut self, post: &Post)
         ensures { (posts : List PlainPost) → AreFirst posts self.old
@@ -66,17 +77,6 @@ impl FirstPosts {
             PostKind::SmallBlind => self.small_blind = true,
             PostKind::BigBlind => self.big_blind = true,
         }
-    }
-
-    /// The first posts of a list of them.
-    pub fn of(posts: &[Post]) -> Self
-        ensures { AreFirst (map plain_post posts.now) result }
-    {
-        let mut firsts = FirstPosts::none();
-        for post in posts {
-            firsts.note(post);
-        }
-        firsts
     }
 }
 

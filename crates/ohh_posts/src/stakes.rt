@@ -25,15 +25,6 @@ pub struct Stakes {
     pub blinds: SeatRow,
 }
 
-// The ante of a seat, held as the lesser of what it posts and its stack.
-fn held(table: &Table, firsts: &FirstPosts, seat: Seat) -> u64
-    ensures ante { (posts : List PlainPost) → AreFirst posts firsts.now
-        → result ≡ held_ante (plain_table table.now) posts seat.number }
-    ensures most { result ≤ amount_of table.now.stacks seat.number }
-{
-    lesser(ante_or_zero(firsts, seat), table.stack(seat))
-}
-
 // The antes of all seats.
 fn antes_of(table: &Table, firsts: &FirstPosts) -> SeatRow
     ensures seats { result.seats ≡ table.now.stacks.seats }
@@ -46,6 +37,31 @@ fn antes_of(table: &Table, firsts: &FirstPosts) -> SeatRow
     for index in 0..table.stacks.seats {
         let seat = Seat { number: index + 1 };
         row.set(seat, held(table, firsts, seat));
+    }
+    row
+}
+
+// The ante of a seat, held as the lesser of what it posts and its stack.
+fn held(table: &Table, firsts: &FirstPosts, seat: Seat) -> u64
+    ensures ante { (posts : List PlainPost) → AreFirst posts firsts.now
+        → result ≡ held_ante (plain_table table.now) posts seat.number }
+    ensures most { result ≤ amount_of table.now.stacks seat.number }
+{
+    lesser(ante_or_zero(firsts, seat), table.stack(seat))
+}
+
+// The blinds of all seats.
+fn blinds_of(table: &Table, firsts: &FirstPosts) -> SeatRow
+    ensures seats { result.seats ≡ table.now.stacks.seats }
+    ensures blinds { (posts : List PlainPost) → AreFirst posts firsts.now → (seat : ℕ) → 1 ≤ seat
+        → seat ≤ table.now.stacks.seats
+        → amount_of result seat ≡ named_blind (plain_table table.now) posts seat }
+    ensures most { (seat : ℕ) → amount_of result seat ≤ MOST_CHIPS }
+{
+    let mut row = SeatRow::new(table.stacks.seats);
+    for index in 0..table.stacks.seats {
+        let seat = Seat { number: index + 1 };
+        row.set(seat, named(table, firsts, seat));
     }
     row
 }
@@ -75,22 +91,6 @@ fn straddle_or_zero(firsts: &FirstPosts, seat: Seat) -> u64
         Some(straddle) => straddle.number,
         None => 0,
     }
-}
-
-// The blinds of all seats.
-fn blinds_of(table: &Table, firsts: &FirstPosts) -> SeatRow
-    ensures seats { result.seats ≡ table.now.stacks.seats }
-    ensures blinds { (posts : List PlainPost) → AreFirst posts firsts.now → (seat : ℕ) → 1 ≤ seat
-        → seat ≤ table.now.stacks.seats
-        → amount_of result seat ≡ named_blind (plain_table table.now) posts seat }
-    ensures most { (seat : ℕ) → amount_of result seat ≤ MOST_CHIPS }
-{
-    let mut row = SeatRow::new(table.stacks.seats);
-    for index in 0..table.stacks.seats {
-        let seat = Seat { number: index + 1 };
-        row.set(seat, named(table, firsts, seat));
-    }
-    row
 }
 
 // Whether some seats post an ante, and not all.

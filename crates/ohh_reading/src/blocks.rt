@@ -7,16 +7,23 @@ ghost use Rattle.ohh_reading.specs.Blocks.{blocks_from, blocks_of, is_blank as i
 use card_set::Memory;
 use std::alloc::Global;
 
-// How many bytes stand before the end of the first line.
-fn line_len(text: &[u8]) -> usize
-    ensures { result ≡ position_or_len (λ sign. sign == 10) text.now }
+/// The blocks of a text, in order.
+pub fn cut_blocks(alloc: Global, text: &[u8]) -> Result<Vec<Vec<u8>>, Memory>
+    ensures { IfOk result (λ found. map (λ block. block.items) found.items
+        ≡ blocks_of text.now) }
 {
-    for (index, sign) in text.iter().enumerate() {
-        if *sign == b'\n' {
-            return index;
-        }
+    let mut found = Vec::new(alloc);
+    let mut begun = None;
+    let mut rest = Some(text);
+    while let Some(left) = rest {
+        let (line, more) = cut_line(left);
+        let (ended, next) = take_line(alloc, begun, line)?;
+        push_block(&mut found, ended)?;
+        begun = next;
+        rest = more;
     }
-    text.len()
+    push_block(&mut found, begun)?;
+    Ok(found)
 }
 
 // The first line, and what stands behind its end, if it has one.
@@ -35,16 +42,16 @@ fn cut_line(text: &[u8]) -> (&[u8], Option<&[u8]>)
     (line, Some(behind))
 }
 
-// Whether the line divides blocks.
-fn is_blank(line: &[u8]) -> bool
-    ensures { result ≡ is_blank_said line.now }
+// How many bytes stand before the end of the first line.
+fn line_len(text: &[u8]) -> usize
+    ensures { result ≡ position_or_len (λ sign. sign == 10) text.now }
 {
-    for sign in line {
-        if *sign != b' ' && *sign != b'\t' && *sign != b'\r' {
-            return false;
+    for (index, sign) in text.iter().enumerate() {
+        if *sign == b'\n' {
+            return index;
         }
     }
-    true
+    text.len()
 }
 
 // A line is taken to the block that is not ended, or ends it.
@@ -74,6 +81,18 @@ fn take_line(
     }
 }
 
+// Whether the line divides blocks.
+fn is_blank(line: &[u8]) -> bool
+    ensures { result ≡ is_blank_said line.now }
+{
+    for sign in line {
+        if *sign != b' ' && *sign != b'\t' && *sign != b'\r' {
+            return false;
+        }
+    }
+    true
+}
+
 // The blocks with one more, if there is one.
 fn push_block(found: &mut Vec<Vec<u8>>, block: Option<Vec<u8>>) -> Result<(), Memory>
     ensures { OnOk result (map (λ block. block.items) found.new.items
@@ -84,23 +103,4 @@ fn push_block(found: &mut Vec<Vec<u8>>, block: Option<Vec<u8>>) -> Result<(), Me
         Some(block) => Ok(found.push(block)?),
         None => Ok(()),
     }
-}
-
-/// The blocks of a text, in order.
-pub fn cut_blocks(alloc: Global, text: &[u8]) -> Result<Vec<Vec<u8>>, Memory>
-    ensures { IfOk result (λ found. map (λ block. block.items) found.items
-        ≡ blocks_of text.now) }
-{
-    let mut found = Vec::new(alloc);
-    let mut begun = None;
-    let mut rest = Some(text);
-    while let Some(left) = rest {
-        let (line, more) = cut_line(left);
-        let (ended, next) = take_line(alloc, begun, line)?;
-        push_block(&mut found, ended)?;
-        begun = next;
-        rest = more;
-    }
-    push_block(&mut found, begun)?;
-    Ok(found)
 }

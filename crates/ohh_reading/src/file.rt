@@ -22,115 +22,44 @@ use ohh_members::values::{field, wrong};
 use serde_json::Value;
 use std::alloc::Global;
 
-// The object of the hand in a tree.
-fn object_in(tree: &Value) -> Result<&Value, Stop<Fault>>
-    ensures { Gives (λ ohh. view ohh.now) result
-        (object_of (field_said paths.Ohh (view tree.now))) }
-{
-    match field(tree, Path::Ohh) {
-        Some(value) => object_or_none(value),
-        None => Err(wrong(What::MissingMember, Path::Ohh)),
-    }
-}
-
-// The object that a value is.
-fn object_or_none(value: &Value) -> Result<&Value, Stop<Fault>>
-    ensures { Gives (λ ohh. view ohh.now) result (object_of (Some (view value.now))) }
-{
-    match value {
-        Value::Object(_) => Ok(value),
-        _ => Err(wrong(What::MissingMember, Path::Ohh)),
-    }
-}
-
-// The hand of a tree at this place of its file, from 0, after so many moves of the file.
-#[tactic(auto, unfolding(crate::specs::Reading::tree_said))]
-fn read_tree(
+/// The hands of a file in a dialect, and its moves.
+pub fn read_file(
     alloc: Global,
     dialect: Dialect,
-    tree: &Value,
-    place: u32,
-    file_moves: usize,
-) -> Result<(Record, usize), Stop<Fault>>
-    requires { file_moves ≤ MOST_FILE_MOVES }
-    ensures said { Gives (λ found. (plain found.0, found.1)) result
-        (tree_said dialect file_moves place (view tree.now)) }
-    ensures sound { IfOk result (λ found. IsHistory found.0) }
-    ensures moves { IfOk result (λ found. found.1 ≡ file_moves + moves_of found.0) }
-    ensures few { IfOk result (λ found. found.1 ≤ MOST_FILE_MOVES) }
+    bytes: &[u8],
+) -> Result<(Records, usize), Stop<HandFault>>
+    ensures said { Gives (λ found. (map plain found.0, found.1)) result
+        (hands_said dialect (blocks_of bytes.now)) }
+    ensures sound { IfOk result (λ found. AllByRecursion IsHistory found.0) }
+    ensures few { IfOk result (λ found. length found.0 ≤ MOST_HANDS) }
+    ensures moves { IfOk result (λ found. sum_by moves_of found.0 ≤ MOST_FILE_MOVES) }
 {
-    let ohh = object_in(tree)?;
-    read_hand(alloc, dialect, ohh, place, file_moves)
+    let blocks = cut_blocks(alloc, bytes)?;
+    let found = read_blocks(alloc, dialect, blocks.as_slice())?;
+    Ok(found)
 }
 
-// The same, of the hand with this number, from 1.
-#[tactic(auto, unfolding(crate::specs::Reading::found_said))]
-fn read_found(
+// The hands of blocks, in order, and the moves of the file after them.
+fn read_blocks(
     alloc: Global,
     dialect: Dialect,
-    tree: &Value,
-    number: u32,
-    file_moves: usize,
-) -> Result<(Record, usize), Stop<HandFault>>
-    requires first { 1 ≤ number }
-    requires few { file_moves ≤ MOST_FILE_MOVES }
-    ensures said { Gives (λ found. (plain found.0, found.1)) result
-        (found_said dialect file_moves number (Some (view tree.now))) }
-    ensures sound { IfOk result (λ found. IsHistory found.0) }
-    ensures moves { IfOk result (λ found. found.1 ≡ file_moves + moves_of found.0) }
-    ensures few { IfOk result (λ found. found.1 ≤ MOST_FILE_MOVES) }
+    blocks: &[Vec<u8>],
+) -> Result<(Records, usize), Stop<HandFault>>
+    ensures said { Gives (λ found. (map plain found.0, found.1)) result
+        (hands_said dialect (map (λ block. block.items) blocks.now)) }
+    ensures sound { IfOk result (λ found. AllByRecursion IsHistory found.0) }
+    ensures few { IfOk result (λ found. length found.0 ≤ MOST_HANDS) }
+    ensures moves { IfOk result (λ found. sum_by moves_of found.0 ≤ MOST_FILE_MOVES) }
 {
-    match read_tree(alloc, dialect, tree, number - 1, file_moves) {
-        Ok(found) => Ok(found),
-        Err(Stop::Memory) => Err(Stop::Memory),
-        Err(Stop::At(fault)) => Err(Stop::At(HandFault {
-            hand: number,
-            what: Wrongness::Member(fault),
-        })),
+    let mut records = Records::new(alloc);
+    let mut file_moves = 0;
+    for (index, block) in blocks.iter().enumerate() {
+        let number = index as u32 + 1;
+        let (record, moves) = read_numbered(alloc, dialect, block, number, file_moves)?;
+        records.push(record)?;
+        file_moves = moves;
     }
-}
-
-// The tree that a block is, or nothing where it is none.
-#[tactic(auto, using(crate::proofs::Trees::no_tree))]
-fn parse(alloc: Global, block: &[u8]) -> Result<Option<Value>, Memory>
-    ensures { IfOk result (λ tree. option_map view tree ≡ tree_of block.now) }
-{
-    match Value::from_slice(alloc, block) {
-        Ok(tree) => Ok(Some(tree)),
-        Err(error) => {
-            if error.is_memory() {
-                Err(Memory)
-            } else {
-                Ok(None)
-            }
-        }
-    }
-}
-
-// The hand of a block.
-#[tactic(auto, unfolding(crate::specs::Reading::found_said))]
-fn read_block(
-    alloc: Global,
-    dialect: Dialect,
-    block: &[u8],
-    number: u32,
-    file_moves: usize,
-) -> Result<(Record, usize), Stop<HandFault>>
-    requires first { 1 ≤ number }
-    requires few { file_moves ≤ MOST_FILE_MOVES }
-    ensures said { Gives (λ found. (plain found.0, found.1)) result
-        (found_said dialect file_moves number (tree_of block.now)) }
-    ensures sound { IfOk result (λ found. IsHistory found.0) }
-    ensures moves { IfOk result (λ found. found.1 ≡ file_moves + moves_of found.0) }
-    ensures few { IfOk result (λ found. found.1 ≤ MOST_FILE_MOVES) }
-{
-    match parse(alloc, block)? {
-        Some(tree) => read_found(alloc, dialect, &tree, number, file_moves),
-        None => Err(Stop::At(HandFault {
-            hand: number,
-            what: Wrongness::Text,
-        })),
-    }
+    Ok((records, file_moves))
 }
 
 // The hand with this number, from 1, after so many moves of the file.
@@ -165,42 +94,113 @@ fn read_numbered(
     read_block(alloc, dialect, block, number, file_moves)
 }
 
-// The hands of blocks, in order, and the moves of the file after them.
-fn read_blocks(
+// The hand of a block.
+#[tactic(auto, unfolding(crate::specs::Reading::found_said))]
+fn read_block(
     alloc: Global,
     dialect: Dialect,
-    blocks: &[Vec<u8>],
-) -> Result<(Records, usize), Stop<HandFault>>
-    ensures said { Gives (λ found. (map plain found.0, found.1)) result
-        (hands_said dialect (map (λ block. block.items) blocks.now)) }
-    ensures sound { IfOk result (λ found. AllByRecursion IsHistory found.0) }
-    ensures few { IfOk result (λ found. length found.0 ≤ MOST_HANDS) }
-    ensures moves { IfOk result (λ found. sum_by moves_of found.0 ≤ MOST_FILE_MOVES) }
+    block: &[u8],
+    number: u32,
+    file_moves: usize,
+) -> Result<(Record, usize), Stop<HandFault>>
+    requires first { 1 ≤ number }
+    requires few { file_moves ≤ MOST_FILE_MOVES }
+    ensures said { Gives (λ found. (plain found.0, found.1)) result
+        (found_said dialect file_moves number (tree_of block.now)) }
+    ensures sound { IfOk result (λ found. IsHistory found.0) }
+    ensures moves { IfOk result (λ found. found.1 ≡ file_moves + moves_of found.0) }
+    ensures few { IfOk result (λ found. found.1 ≤ MOST_FILE_MOVES) }
 {
-    let mut records = Records::new(alloc);
-    let mut file_moves = 0;
-    for (index, block) in blocks.iter().enumerate() {
-        let number = index as u32 + 1;
-        let (record, moves) = read_numbered(alloc, dialect, block, number, file_moves)?;
-        records.push(record)?;
-        file_moves = moves;
+    match parse(alloc, block)? {
+        Some(tree) => read_found(alloc, dialect, &tree, number, file_moves),
+        None => Err(Stop::At(HandFault {
+            hand: number,
+            what: Wrongness::Text,
+        })),
     }
-    Ok((records, file_moves))
 }
 
-/// The hands of a file in a dialect, and its moves.
-pub fn read_file(
+// The tree that a block is, or nothing where it is none.
+#[tactic(auto, using(crate::proofs::Trees::no_tree))]
+fn parse(alloc: Global, block: &[u8]) -> Result<Option<Value>, Memory>
+    ensures { IfOk result (λ tree. option_map view tree ≡ tree_of block.now) }
+{
+    match Value::from_slice(alloc, block) {
+        Ok(tree) => Ok(Some(tree)),
+        Err(error) => {
+            if error.is_memory() {
+                Err(Memory)
+            } else {
+                Ok(None)
+            }
+        }
+    }
+}
+
+// The same, of the hand with this number, from 1.
+#[tactic(auto, unfolding(crate::specs::Reading::found_said))]
+fn read_found(
     alloc: Global,
     dialect: Dialect,
-    bytes: &[u8],
-) -> Result<(Records, usize), Stop<HandFault>>
-    ensures said { Gives (λ found. (map plain found.0, found.1)) result
-        (hands_said dialect (blocks_of bytes.now)) }
-    ensures sound { IfOk result (λ found. AllByRecursion IsHistory found.0) }
-    ensures few { IfOk result (λ found. length found.0 ≤ MOST_HANDS) }
-    ensures moves { IfOk result (λ found. sum_by moves_of found.0 ≤ MOST_FILE_MOVES) }
+    tree: &Value,
+    number: u32,
+    file_moves: usize,
+) -> Result<(Record, usize), Stop<HandFault>>
+    requires first { 1 ≤ number }
+    requires few { file_moves ≤ MOST_FILE_MOVES }
+    ensures said { Gives (λ found. (plain found.0, found.1)) result
+        (found_said dialect file_moves number (Some (view tree.now))) }
+    ensures sound { IfOk result (λ found. IsHistory found.0) }
+    ensures moves { IfOk result (λ found. found.1 ≡ file_moves + moves_of found.0) }
+    ensures few { IfOk result (λ found. found.1 ≤ MOST_FILE_MOVES) }
 {
-    let blocks = cut_blocks(alloc, bytes)?;
-    let found = read_blocks(alloc, dialect, blocks.as_slice())?;
-    Ok(found)
+    match read_tree(alloc, dialect, tree, number - 1, file_moves) {
+        Ok(found) => Ok(found),
+        Err(Stop::Memory) => Err(Stop::Memory),
+        Err(Stop::At(fault)) => Err(Stop::At(HandFault {
+            hand: number,
+            what: Wrongness::Member(fault),
+        })),
+    }
+}
+
+// The hand of a tree at this place of its file, from 0, after so many moves of the file.
+#[tactic(auto, unfolding(crate::specs::Reading::tree_said))]
+fn read_tree(
+    alloc: Global,
+    dialect: Dialect,
+    tree: &Value,
+    place: u32,
+    file_moves: usize,
+) -> Result<(Record, usize), Stop<Fault>>
+    requires { file_moves ≤ MOST_FILE_MOVES }
+    ensures said { Gives (λ found. (plain found.0, found.1)) result
+        (tree_said dialect file_moves place (view tree.now)) }
+    ensures sound { IfOk result (λ found. IsHistory found.0) }
+    ensures moves { IfOk result (λ found. found.1 ≡ file_moves + moves_of found.0) }
+    ensures few { IfOk result (λ found. found.1 ≤ MOST_FILE_MOVES) }
+{
+    let ohh = object_in(tree)?;
+    read_hand(alloc, dialect, ohh, place, file_moves)
+}
+
+// The object of the hand in a tree.
+fn object_in(tree: &Value) -> Result<&Value, Stop<Fault>>
+    ensures { Gives (λ ohh. view ohh.now) result
+        (object_of (field_said paths.Ohh (view tree.now))) }
+{
+    match field(tree, Path::Ohh) {
+        Some(value) => object_or_none(value),
+        None => Err(wrong(What::MissingMember, Path::Ohh)),
+    }
+}
+
+// The object that a value is.
+fn object_or_none(value: &Value) -> Result<&Value, Stop<Fault>>
+    ensures { Gives (λ ohh. view ohh.now) result (object_of (Some (view value.now))) }
+{
+    match value {
+        Value::Object(_) => Ok(value),
+        _ => Err(wrong(What::MissingMember, Path::Ohh)),
+    }
 }

@@ -13,6 +13,43 @@ use ohh_members::Dialect;
 use ohh_members::fault::{Fault, What};
 use std::alloc::Global;
 
+/// The records that bytes in Open Hand History say in a dialect, one for each hand in the order of reading; or their
+/// first fault. Each record is sound, and under the rules of hand histories.
+#[tactic(auto, unfolding(crate::specs::Reading::reading))]
+pub fn read(alloc: Global, dialect: Dialect, bytes: &[u8]) -> Result<Records, OhhFault>
+    ensures reads { Reads result (reading dialect bytes.now) }
+    ensures sound { IfOk result (AllByRecursion IsHistory) }
+    ensures few { IfOk result (λ records. length records ≤ MOST_HANDS) }
+    ensures moves { IfOk result (λ records. sum_by moves_of records ≤ MOST_FILE_MOVES) }
+{
+    match read_file(alloc, dialect, bytes) {
+        Ok((records, _moves)) => Ok(records),
+        Err(Stop::Memory) => Err(OhhFault::Memory),
+        Err(Stop::At(found)) => Err(spelled(alloc, found)),
+    }
+}
+
+// A fault of a hand, with its path as it is spelled.
+fn spelled(alloc: Global, found: HandFault) -> OhhFault
+    ensures { IfSome (wrong_of result) (λ wrong. wrong ≡ spelled_said found.hand found.what) }
+{
+    match found.what {
+        Wrongness::Text => OhhFault::Text { hand: found.hand },
+        Wrongness::Member(fault) => spelled_at(alloc, found.hand, fault),
+    }
+}
+
+// A fault of a member of a hand, with its path as it is spelled.
+fn spelled_at(alloc: Global, hand: u32, fault: Fault) -> OhhFault
+    ensures { IfSome (wrong_of result) (λ wrong.
+        wrong ≡ InHand hand (path_text fault.path) fault.what) }
+{
+    match fault.path.text(alloc) {
+        Ok(path) => wrong_at(hand, path, fault.what),
+        Err(_) => OhhFault::Memory,
+    }
+}
+
 // What is wrong at a path of a hand.
 fn wrong_at(hand: u32, path: Text, what: What) -> OhhFault
     ensures { wrong_of result ≡ Some (InHand hand path what) }
@@ -33,42 +70,5 @@ fn wrong_at(hand: u32, path: Text, what: What) -> OhhFault
             path,
             quantity,
         },
-    }
-}
-
-// A fault of a member of a hand, with its path as it is spelled.
-fn spelled_at(alloc: Global, hand: u32, fault: Fault) -> OhhFault
-    ensures { IfSome (wrong_of result) (λ wrong.
-        wrong ≡ InHand hand (path_text fault.path) fault.what) }
-{
-    match fault.path.text(alloc) {
-        Ok(path) => wrong_at(hand, path, fault.what),
-        Err(_) => OhhFault::Memory,
-    }
-}
-
-// A fault of a hand, with its path as it is spelled.
-fn spelled(alloc: Global, found: HandFault) -> OhhFault
-    ensures { IfSome (wrong_of result) (λ wrong. wrong ≡ spelled_said found.hand found.what) }
-{
-    match found.what {
-        Wrongness::Text => OhhFault::Text { hand: found.hand },
-        Wrongness::Member(fault) => spelled_at(alloc, found.hand, fault),
-    }
-}
-
-/// The records that bytes in Open Hand History say in a dialect, one for each hand in the order of reading; or their
-/// first fault. Each record is sound, and under the rules of hand histories.
-#[tactic(auto, unfolding(crate::specs::Reading::reading))]
-pub fn read(alloc: Global, dialect: Dialect, bytes: &[u8]) -> Result<Records, OhhFault>
-    ensures reads { Reads result (reading dialect bytes.now) }
-    ensures sound { IfOk result (AllByRecursion IsHistory) }
-    ensures few { IfOk result (λ records. length records ≤ MOST_HANDS) }
-    ensures moves { IfOk result (λ records. sum_by moves_of records ≤ MOST_FILE_MOVES) }
-{
-    match read_file(alloc, dialect, bytes) {
-        Ok((records, _moves)) => Ok(records),
-        Err(Stop::Memory) => Err(OhhFault::Memory),
-        Err(Stop::At(found)) => Err(spelled(alloc, found)),
     }
 }

@@ -25,17 +25,48 @@ use ohh_posts::{ActionPlace, Post, PostKind};
 use play_event::{Kind, Spelled};
 use serde_json::Value;
 
-/// The path of a member of an action.
-pub fn path_of(place: ActionPlace, member: ActionMember) -> Path
-    ensures { result ≡ at_action place member }
+/// An action after what was told.
+#[tactic(auto, unfolding(crate::specs::Actions::step_said))]
+pub fn read_step(
+    ids: &[i128],
+    told: &Told,
+    place: ActionPlace,
+    value: &Value,
+) -> Result<Step, Stop<Fault>>
+    requires { length ids.now ≤ 10 }
+    ensures said { Gives plain_step result (step_said (plain_setting ids.now told.now.setting)
+        (map plain_step told.now.steps.items) place (view value.now)) }
+    ensures few { IfOk result (λ step. LeavesFew (map plain_step told.now.steps.items)
+        (plain_deed step.deed)) }
+    ensures within { IfOk result (λ step. IsWithin told.now.setting.table.stacks.seats
+        told.now.setting.file_moves (map plain_step told.now.steps.items)
+        (plain_deed step.deed)) }
 {
-    Path::Round {
-        index: place.round,
-        member: RoundMember::Action {
-            index: place.action,
-            member,
-        },
-    }
+    let path = path_of(place, ActionMember::Itself);
+    let action = read_object(value, path)?;
+    let deed = read_members(ids, told, place, action)?;
+    count_deed(ids, told, path, deed)?;
+    let number = told.next;
+    Ok(Step { number, deed })
+}
+
+// The members of an action.
+#[tactic(auto, unfolding(crate::specs::Actions::members_said))]
+fn read_members(
+    ids: &[i128],
+    told: &Told,
+    place: ActionPlace,
+    action: &Value,
+) -> Result<Deed, Stop<Fault>>
+    requires { length ids.now ≤ 10 }
+    ensures said { Gives plain_deed result (members_said (plain_setting ids.now told.now.setting)
+        (map plain_step told.now.steps.items) place (view action.now)) }
+    ensures few { IfOk result (λ deed. LeavesFew (map plain_step told.now.steps.items)
+        (plain_deed deed)) }
+{
+    let word = read_word(place, action)?;
+    let seat = read_seat(ids, told, place, action)?;
+    read_deed(ids, told, place, seat, action, word)
 }
 
 // The word of an action.
@@ -68,151 +99,6 @@ fn read_seat(
 {
     let path = path_of(place, ActionMember::PlayerId);
     read_player(needed(action, path)?, ids, path)
-}
-
-// The amount of an action.
-#[tactic(auto, unfolding(crate::specs::Actions::chips_said))]
-fn read_chips(place: ActionPlace, action: &Value) -> Result<Chips, Stop<Fault>>
-    ensures { Gives (λ chips. chips.number) result (chips_said place (view action.now)) }
-{
-    let path = path_of(place, ActionMember::Amount);
-    let number = read_number(needed(action, path)?, 0, MOST_CHIPS, path)?;
-    Ok(Chips { number })
-}
-
-// A post.
-#[tactic(auto, unfolding(crate::specs::Actions::posted))]
-fn read_post(
-    kind: PostKind,
-    told: &Told,
-    place: ActionPlace,
-    seat: Seat,
-    action: &Value,
-) -> Result<Deed, Stop<Fault>>
-    ensures said { Gives plain_deed result
-        (posted kind (map plain_step told.now.steps.items) place seat.number (view action.now)) }
-    ensures few { IfOk result (λ deed. LeavesFew (map plain_step told.now.steps.items)
-        (plain_deed deed)) }
-{
-    let amount = read_chips(place, action)?;
-    let early = place.round == 0 && told.moves == 0;
-    Ok(Deed::Posted(Post {
-        kind,
-        seat,
-        amount,
-        early,
-        place,
-    }))
-}
-
-// Hole cards that are listed.
-#[tactic(auto, unfolding(crate::specs::Actions::listed_cards, ohh_members::specs::Values::slots_said))]
-fn read_listed(told: &Told, path: Path, seat: Seat, cards: &Value) -> Result<Deed, Stop<Fault>>
-    ensures said { Gives plain_deed result
-        (listed_cards (map plain_step told.now.steps.items) path seat.number (view cards.now)) }
-    ensures few { IfOk result (λ deed. LeavesFew (map plain_step told.now.steps.items)
-        (plain_deed deed)) }
-{
-    let values = read_few(cards, path)?;
-    if told.cards_dealt(seat) + values.len() > 7 {
-        return Err(wrong(What::WrongType, path));
-    }
-    let cards = read_slots(cards, path)?;
-    Ok(Deed::Dealt { seat, cards })
-}
-
-// Hole cards, or none where they lack.
-#[tactic(auto, unfolding(crate::specs::Actions::dealt_cards))]
-fn read_dealt(
-    told: &Told,
-    place: ActionPlace,
-    seat: Seat,
-    action: &Value,
-) -> Result<Deed, Stop<Fault>>
-    ensures said { Gives plain_deed result
-        (dealt_cards (map plain_step told.now.steps.items) place seat.number (view action.now)) }
-    ensures few { IfOk result (λ deed. LeavesFew (map plain_step told.now.steps.items)
-        (plain_deed deed)) }
-{
-    let path = path_of(place, ActionMember::Cards);
-    match field(action, path) {
-        Some(cards) => read_listed(told, path, seat, cards),
-        None => Ok(no_cards(told, seat)),
-    }
-}
-
-// No hole cards.
-fn no_cards(told: &Told, seat: Seat) -> Deed
-    ensures said { plain_deed result ≡ Dealt seat.number [] }
-    ensures few { LeavesFew (map plain_step told.now.steps.items) (plain_deed result) }
-{
-    let cards = SlotRow::new();
-    let _most = told.cards_dealt(seat);
-    Deed::Dealt { seat, cards }
-}
-
-// How the amount of a raise is meant.
-fn raise_of(dialect: Dialect, amount: Chips) -> Spelled
-    ensures { result ≡ raise_by dialect amount.number }
-{
-    match dialect {
-        Dialect::Added => Spelled::Added(amount.number),
-        Dialect::To => Spelled::To(amount.number),
-    }
-}
-
-// A call that states the chips that it adds.
-#[tactic(auto, unfolding(crate::specs::Actions::called))]
-fn read_call(place: ActionPlace, seat: Seat, action: &Value) -> Result<Kind, Stop<Fault>>
-    ensures { Gives (λ kind. Happened (kind_said kind)) result
-        (called place seat.number (view action.now)) }
-{
-    let amount = read_chips(place, action)?;
-    Ok(Kind::Call {
-        actor: Some(seat),
-        stated: Some(amount.number),
-    })
-}
-
-// A bet or a raise.
-#[tactic(auto, unfolding(crate::specs::Actions::raised))]
-fn read_raise(
-    dialect: Dialect,
-    place: ActionPlace,
-    seat: Seat,
-    action: &Value,
-) -> Result<Kind, Stop<Fault>>
-    ensures { Gives (λ kind. Happened (kind_said kind)) result
-        (raised dialect place seat.number (view action.now)) }
-{
-    let amount = read_chips(place, action)?;
-    Ok(Kind::Raise {
-        actor: Some(seat),
-        amount: raise_of(dialect, amount),
-    })
-}
-
-// A show of cards.
-#[tactic(auto, unfolding(crate::specs::Actions::shown))]
-fn read_show(place: ActionPlace, seat: Seat, action: &Value) -> Result<Kind, Stop<Fault>>
-    ensures { Gives (λ kind. Happened (kind_said kind)) result
-        (shown place seat.number (view action.now)) }
-{
-    let path = path_of(place, ActionMember::Cards);
-    let cards = read_cards(needed(action, path)?, path)?;
-    Ok(Kind::Show { seat, cards })
-}
-
-// A muck, which is passed over where the player folded before.
-fn muck(told: &Told, seat: Seat) -> Deed
-    ensures said { plain_deed result ≡ mucked (map plain_step told.now.steps.items) seat.number }
-    ensures few { LeavesFew (map plain_step told.now.steps.items) (plain_deed result) }
-{
-    if told.has_folded(seat) {
-        Deed::Passed
-    } else {
-        Deed::Happened(Kind::Muck { seat })
-    }
 }
 
 // What a word says of a player.
@@ -251,11 +137,175 @@ fn read_deed(
     }
 }
 
-// A fault of a quantity that passes its limit.
-fn too_many(quantity: Quantity, path: Path) -> Stop<Fault>
-    ensures { result ≡ Stop.At (record { what = What.TooMany quantity; path = path }) }
+// A post.
+#[tactic(auto, unfolding(crate::specs::Actions::posted))]
+fn read_post(
+    kind: PostKind,
+    told: &Told,
+    place: ActionPlace,
+    seat: Seat,
+    action: &Value,
+) -> Result<Deed, Stop<Fault>>
+    ensures said { Gives plain_deed result
+        (posted kind (map plain_step told.now.steps.items) place seat.number (view action.now)) }
+    ensures few { IfOk result (λ deed. LeavesFew (map plain_step told.now.steps.items)
+        (plain_deed deed)) }
 {
-    wrong(What::TooMany { quantity }, path)
+    let amount = read_chips(place, action)?;
+    let early = place.round == 0 && told.moves == 0;
+    Ok(Deed::Posted(Post {
+        kind,
+        seat,
+        amount,
+        early,
+        place,
+    }))
+}
+
+// Hole cards, or none where they lack.
+#[tactic(auto, unfolding(crate::specs::Actions::dealt_cards))]
+fn read_dealt(
+    told: &Told,
+    place: ActionPlace,
+    seat: Seat,
+    action: &Value,
+) -> Result<Deed, Stop<Fault>>
+    ensures said { Gives plain_deed result
+        (dealt_cards (map plain_step told.now.steps.items) place seat.number (view action.now)) }
+    ensures few { IfOk result (λ deed. LeavesFew (map plain_step told.now.steps.items)
+        (plain_deed deed)) }
+{
+    let path = path_of(place, ActionMember::Cards);
+    match field(action, path) {
+        Some(cards) => read_listed(told, path, seat, cards),
+        None => Ok(no_cards(told, seat)),
+    }
+}
+
+// Hole cards that are listed.
+#[tactic(auto, unfolding(crate::specs::Actions::listed_cards, ohh_members::specs::Values::slots_said))]
+fn read_listed(told: &Told, path: Path, seat: Seat, cards: &Value) -> Result<Deed, Stop<Fault>>
+    ensures said { Gives plain_deed result
+        (listed_cards (map plain_step told.now.steps.items) path seat.number (view cards.now)) }
+    ensures few { IfOk result (λ deed. LeavesFew (map plain_step told.now.steps.items)
+        (plain_deed deed)) }
+{
+    let values = read_few(cards, path)?;
+    if told.cards_dealt(seat) + values.len() > 7 {
+        return Err(wrong(What::WrongType, path));
+    }
+    let cards = read_slots(cards, path)?;
+    Ok(Deed::Dealt { seat, cards })
+}
+
+// No hole cards.
+fn no_cards(told: &Told, seat: Seat) -> Deed
+    ensures said { plain_deed result ≡ Dealt seat.number [] }
+    ensures few { LeavesFew (map plain_step told.now.steps.items) (plain_deed result) }
+{
+    let cards = SlotRow::new();
+    let _most = told.cards_dealt(seat);
+    Deed::Dealt { seat, cards }
+}
+
+// A call that states the chips that it adds.
+#[tactic(auto, unfolding(crate::specs::Actions::called))]
+fn read_call(place: ActionPlace, seat: Seat, action: &Value) -> Result<Kind, Stop<Fault>>
+    ensures { Gives (λ kind. Happened (kind_said kind)) result
+        (called place seat.number (view action.now)) }
+{
+    let amount = read_chips(place, action)?;
+    Ok(Kind::Call {
+        actor: Some(seat),
+        stated: Some(amount.number),
+    })
+}
+
+// A bet or a raise.
+#[tactic(auto, unfolding(crate::specs::Actions::raised))]
+fn read_raise(
+    dialect: Dialect,
+    place: ActionPlace,
+    seat: Seat,
+    action: &Value,
+) -> Result<Kind, Stop<Fault>>
+    ensures { Gives (λ kind. Happened (kind_said kind)) result
+        (raised dialect place seat.number (view action.now)) }
+{
+    let amount = read_chips(place, action)?;
+    Ok(Kind::Raise {
+        actor: Some(seat),
+        amount: raise_of(dialect, amount),
+    })
+}
+
+// The amount of an action.
+#[tactic(auto, unfolding(crate::specs::Actions::chips_said))]
+fn read_chips(place: ActionPlace, action: &Value) -> Result<Chips, Stop<Fault>>
+    ensures { Gives (λ chips. chips.number) result (chips_said place (view action.now)) }
+{
+    let path = path_of(place, ActionMember::Amount);
+    let number = read_number(needed(action, path)?, 0, MOST_CHIPS, path)?;
+    Ok(Chips { number })
+}
+
+// How the amount of a raise is meant.
+fn raise_of(dialect: Dialect, amount: Chips) -> Spelled
+    ensures { result ≡ raise_by dialect amount.number }
+{
+    match dialect {
+        Dialect::Added => Spelled::Added(amount.number),
+        Dialect::To => Spelled::To(amount.number),
+    }
+}
+
+// A show of cards.
+#[tactic(auto, unfolding(crate::specs::Actions::shown))]
+fn read_show(place: ActionPlace, seat: Seat, action: &Value) -> Result<Kind, Stop<Fault>>
+    ensures { Gives (λ kind. Happened (kind_said kind)) result
+        (shown place seat.number (view action.now)) }
+{
+    let path = path_of(place, ActionMember::Cards);
+    let cards = read_cards(needed(action, path)?, path)?;
+    Ok(Kind::Show { seat, cards })
+}
+
+/// The path of a member of an action.
+pub fn path_of(place: ActionPlace, member: ActionMember) -> Path
+    ensures { result ≡ at_action place member }
+{
+    Path::Round {
+        index: place.round,
+        member: RoundMember::Action {
+            index: place.action,
+            member,
+        },
+    }
+}
+
+// A muck, which is passed over where the player folded before.
+fn muck(told: &Told, seat: Seat) -> Deed
+    ensures said { plain_deed result ≡ mucked (map plain_step told.now.steps.items) seat.number }
+    ensures few { LeavesFew (map plain_step told.now.steps.items) (plain_deed result) }
+{
+    if told.has_folded(seat) {
+        Deed::Passed
+    } else {
+        Deed::Happened(Kind::Muck { seat })
+    }
+}
+
+// What was done passes no limit.
+fn count_deed(ids: &[i128], told: &Told, path: Path, deed: Deed) -> Result<(), Stop<Fault>>
+    ensures said { Gives (λ x. x) result (deed_counted (plain_setting ids.now told.now.setting)
+        (map plain_step told.now.steps.items) path (plain_deed deed)) }
+    ensures within { IfOk result (λ x. IsWithin told.now.setting.table.stacks.seats
+        told.now.setting.file_moves (map plain_step told.now.steps.items) (plain_deed deed)) }
+{
+    match deed {
+        Deed::Happened(kind) => count_event(ids, told, path, kind),
+        Deed::Posted(_) | Deed::Dealt { .. } | Deed::Passed => Ok(()),
+    }
 }
 
 /// An event passes no limit.
@@ -283,59 +333,9 @@ pub fn count_event(ids: &[i128], told: &Told, path: Path, kind: Kind) -> Result<
     }
 }
 
-// What was done passes no limit.
-fn count_deed(ids: &[i128], told: &Told, path: Path, deed: Deed) -> Result<(), Stop<Fault>>
-    ensures said { Gives (λ x. x) result (deed_counted (plain_setting ids.now told.now.setting)
-        (map plain_step told.now.steps.items) path (plain_deed deed)) }
-    ensures within { IfOk result (λ x. IsWithin told.now.setting.table.stacks.seats
-        told.now.setting.file_moves (map plain_step told.now.steps.items) (plain_deed deed)) }
+// A fault of a quantity that passes its limit.
+fn too_many(quantity: Quantity, path: Path) -> Stop<Fault>
+    ensures { result ≡ Stop.At (record { what = What.TooMany quantity; path = path }) }
 {
-    match deed {
-        Deed::Happened(kind) => count_event(ids, told, path, kind),
-        Deed::Posted(_) | Deed::Dealt { .. } | Deed::Passed => Ok(()),
-    }
-}
-
-// The members of an action.
-#[tactic(auto, unfolding(crate::specs::Actions::members_said))]
-fn read_members(
-    ids: &[i128],
-    told: &Told,
-    place: ActionPlace,
-    action: &Value,
-) -> Result<Deed, Stop<Fault>>
-    requires { length ids.now ≤ 10 }
-    ensures said { Gives plain_deed result (members_said (plain_setting ids.now told.now.setting)
-        (map plain_step told.now.steps.items) place (view action.now)) }
-    ensures few { IfOk result (λ deed. LeavesFew (map plain_step told.now.steps.items)
-        (plain_deed deed)) }
-{
-    let word = read_word(place, action)?;
-    let seat = read_seat(ids, told, place, action)?;
-    read_deed(ids, told, place, seat, action, word)
-}
-
-/// An action after what was told.
-#[tactic(auto, unfolding(crate::specs::Actions::step_said))]
-pub fn read_step(
-    ids: &[i128],
-    told: &Told,
-    place: ActionPlace,
-    value: &Value,
-) -> Result<Step, Stop<Fault>>
-    requires { length ids.now ≤ 10 }
-    ensures said { Gives plain_step result (step_said (plain_setting ids.now told.now.setting)
-        (map plain_step told.now.steps.items) place (view value.now)) }
-    ensures few { IfOk result (λ step. LeavesFew (map plain_step told.now.steps.items)
-        (plain_deed step.deed)) }
-    ensures within { IfOk result (λ step. IsWithin told.now.setting.table.stacks.seats
-        told.now.setting.file_moves (map plain_step told.now.steps.items)
-        (plain_deed step.deed)) }
-{
-    let path = path_of(place, ActionMember::Itself);
-    let action = read_object(value, path)?;
-    let deed = read_members(ids, told, place, action)?;
-    count_deed(ids, told, path, deed)?;
-    let number = told.next;
-    Ok(Step { number, deed })
+    wrong(What::TooMany { quantity }, path)
 }

@@ -12,63 +12,23 @@ use card_set::SlotRow;
 use chip_ledger::Seat;
 use play_event::Kind;
 
-// The seat folded.
-fn with_fold(told: SeatTold) -> SeatTold
-    ensures { result ≡ record {
-      folded = true;
-      cards = told.cards;
-      first_deal = told.first_deal;
-    } }
-{
-    SeatTold {
-        folded: true,
-        ..told
-    }
-}
-
-// The number of the first deal, where one more has this number.
-fn first_of(first: Option<u32>, number: u32) -> Option<u32>
-    ensures { result ≡ option_or first (Some number) }
-{
-    match first {
-        Some(first) => Some(first),
-        None => Some(number),
-    }
-}
-
-// Cards and more cards behind them.
-fn joined(cards: SlotRow, more: SlotRow) -> SlotRow
-    requires { cards.len + more.len ≤ 7 }
-    ensures { slots_of result ≡ slots_of cards ++ slots_of more }
-{
-    let mut all = cards;
-    for slot in more.as_slice() {
-        all.push(*slot);
-    }
-    all
-}
-
-// The seat that folds, if the event is a fold.
-fn folder(kind: Kind) -> Option<Seat>
-    ensures { option_map (λ seat. seat.number) result ≡ folder_said (kind_said kind) }
-{
-    match kind {
-        Kind::Fold { actor } => actor,
-        _ => None,
-    }
-}
-
-// What is told of each seat, after a step in which this seat folds.
-fn after_fold(mut seats: [SeatTold; 10], seat: Seat, step: Step, steps: &[Step]) -> [SeatTold; 10]
+/// What is told of each seat, with one step more.
+pub fn seats_after(seats: [SeatTold; 10], step: Step, steps: &[Step]) -> [SeatTold; 10]
     requires told { AreTold (map plain_step steps.now) seats }
     requires ten { length seats ≡ 10 }
-    requires folds { IsFoldBy seat.number (plain_deed step.deed) }
+    requires few { LeavesFew (map plain_step steps.now) (plain_deed step.deed) }
     ensures told { AreTold (map plain_step steps.now ++ plain_step step ∷ []) result }
     ensures ten { length result ≡ 10 }
 {
-    let index = seat.number as usize - 1;
-    seats[index] = with_fold(seats[index]);
-    seats
+    match step.deed {
+        Deed::Posted(_) => seats,
+        Deed::Passed => seats,
+        Deed::Dealt { seat, cards } => after_deal(seats, seat, cards, step.number, steps),
+        Deed::Happened(kind) => match folder(kind) {
+            Some(seat) => after_fold(seats, seat, step, steps),
+            None => seats,
+        },
+    }
 }
 
 // What is told of each seat, after a step that deals hole cards to this seat.
@@ -96,21 +56,61 @@ fn after_deal(
     seats
 }
 
-/// What is told of each seat, with one step more.
-pub fn seats_after(seats: [SeatTold; 10], step: Step, steps: &[Step]) -> [SeatTold; 10]
+// Cards and more cards behind them.
+fn joined(cards: SlotRow, more: SlotRow) -> SlotRow
+    requires { cards.len + more.len ≤ 7 }
+    ensures { slots_of result ≡ slots_of cards ++ slots_of more }
+{
+    let mut all = cards;
+    for slot in more.as_slice() {
+        all.push(*slot);
+    }
+    all
+}
+
+// The number of the first deal, where one more has this number.
+fn first_of(first: Option<u32>, number: u32) -> Option<u32>
+    ensures { result ≡ option_or first (Some number) }
+{
+    match first {
+        Some(first) => Some(first),
+        None => Some(number),
+    }
+}
+
+// The seat that folds, if the event is a fold.
+fn folder(kind: Kind) -> Option<Seat>
+    ensures { option_map (λ seat. seat.number) result ≡ folder_said (kind_said kind) }
+{
+    match kind {
+        Kind::Fold { actor } => actor,
+        _ => None,
+    }
+}
+
+// What is told of each seat, after a step in which this seat folds.
+fn after_fold(mut seats: [SeatTold; 10], seat: Seat, step: Step, steps: &[Step]) -> [SeatTold; 10]
     requires told { AreTold (map plain_step steps.now) seats }
     requires ten { length seats ≡ 10 }
-    requires few { LeavesFew (map plain_step steps.now) (plain_deed step.deed) }
+    requires folds { IsFoldBy seat.number (plain_deed step.deed) }
     ensures told { AreTold (map plain_step steps.now ++ plain_step step ∷ []) result }
     ensures ten { length result ≡ 10 }
 {
-    match step.deed {
-        Deed::Posted(_) => seats,
-        Deed::Passed => seats,
-        Deed::Dealt { seat, cards } => after_deal(seats, seat, cards, step.number, steps),
-        Deed::Happened(kind) => match folder(kind) {
-            Some(seat) => after_fold(seats, seat, step, steps),
-            None => seats,
-        },
+    let index = seat.number as usize - 1;
+    seats[index] = with_fold(seats[index]);
+    seats
+}
+
+// The seat folded.
+fn with_fold(told: SeatTold) -> SeatTold
+    ensures { result ≡ record {
+      folded = true;
+      cards = told.cards;
+      first_deal = told.first_deal;
+    } }
+{
+    SeatTold {
+        folded: true,
+        ..told
     }
 }

@@ -41,125 +41,6 @@ pub struct RoundsPlay {
     pub file_moves: usize,
 }
 
-// The posts with that of a step, if it is one.
-fn push_post(posts: &mut Vec<Post>, deed: Deed) -> Result<(), Memory>
-    ensures { OnOk result (map plain_post posts.new.items
-        ≡ map plain_post posts.old.items ++ post_in (plain_deed deed)) }
-{
-    match deed {
-        Deed::Posted(post) => {
-            posts.push(post)?;
-            Ok(())
-        }
-        Deed::Dealt { .. } | Deed::Happened(_) | Deed::Passed => Ok(()),
-    }
-}
-
-// The posts, in order.
-fn posts_of(alloc: Global, steps: &[Step]) -> Result<Vec<Post>, Memory>
-    ensures { IfOk result (λ posts. map plain_post posts.items
-        ≡ posts_in (map plain_step steps.now)) }
-{
-    let mut posts = Vec::new(alloc);
-    for step in steps {
-        push_post(&mut posts, step.deed)?;
-    }
-    Ok(posts)
-}
-
-// The posts meet their conditions, or the first that does not is told at its action.
-fn check(table: &Table, posts: &[Post]) -> Result<(), Stop<Fault>>
-    ensures { Gives (λ x. x) result
-        (at_posts (posts_checked (plain_table table.now) (map plain_post posts.now))) }
-{
-    match check_posts(table, posts) {
-        Ok(()) => Ok(()),
-        Err(PostFault::MissingBlind) => Err(wrong(What::BadPost, Path::Rounds)),
-        Err(PostFault::At(place)) => {
-            Err(wrong(What::BadPost, path_of(place, ActionMember::Itself)))
-        }
-    }
-}
-
-// The cards, and unknown ones up to so many.
-fn filled(cards: SlotRow, count: u8) -> SlotRow
-    requires { count ≤ 7 }
-    ensures { slots_of result ≡ hole_cards_said count (slots_of cards) }
-{
-    let mut all = cards;
-    for _index in cards.len..count {
-        all.push(Slot::Unknown);
-    }
-    all
-}
-
-// The deal of a seat's hole cards.
-fn hole_deal(told: &Told, seat: Seat) -> Event
-    ensures { numbered result ≡ hole_deal_said told.now.setting.hole_cards
-        (map plain_step told.now.steps.items) seat.number }
-{
-    let kept = told.seat(seat);
-    let cards = filled(kept.cards, told.setting.hole_cards);
-    let at = match kept.first_deal {
-        Some(number) => number,
-        None => 0,
-    };
-    Event {
-        at,
-        kind: Kind::Hole { seat, cards },
-    }
-}
-
-// The hole deals of all seats.
-fn hole_deals(alloc: Global, told: &Told) -> Result<Script, Memory>
-    ensures { IfOk result (λ script. map numbered script
-        ≡ map (hole_deal_said told.now.setting.hole_cards (map plain_step told.now.steps.items))
-        (seats_of told.now.setting.table.stacks.seats)) }
-{
-    let mut script = Script::new(alloc);
-    for index in 0..told.setting.table.stacks.seats {
-        script.push(hole_deal(told, Seat { number: index + 1 }))?;
-    }
-    Ok(script)
-}
-
-// The script with the event of a step, if it is one.
-fn push_event(script: &mut Script, step: Step) -> Result<(), Memory>
-    ensures { OnOk result (map numbered script.new
-        ≡ map numbered script.old ++ event_in (plain_step step) (plain_deed step.deed)) }
-{
-    match step.deed {
-        Deed::Happened(kind) => script.push(Event {
-            at: step.number,
-            kind,
-        }),
-        Deed::Posted(_) | Deed::Dealt { .. } | Deed::Passed => Ok(()),
-    }
-}
-
-// The script with what happened.
-fn push_events(script: &mut Script, steps: &[Step]) -> Result<(), Memory>
-    ensures { OnOk result (map numbered script.new
-        ≡ map numbered script.old ++ events_in (map plain_step steps.now)) }
-{
-    for step in steps {
-        push_event(script, *step)?;
-    }
-    Ok(())
-}
-
-// The script.
-#[tactic(auto, unfolding(crate::specs::Play::script_said))]
-fn script_of(alloc: Global, told: &Told) -> Result<Script, Memory>
-    ensures script { IfOk result (λ script. map numbered script
-        ≡ script_said told.now.setting.table.stacks.seats told.now.setting.hole_cards
-        (map plain_step told.now.steps.items)) }
-{
-    let mut script = hole_deals(alloc, told)?;
-    push_events(&mut script, told.steps.as_slice())?;
-    Ok(script)
-}
-
 /// What the rounds of a hand say, whose object this is: its posts are checked, and its script is put together. The ids are
 /// those of the players by seat, the first seat's first.
 #[tactic(auto, unfolding(crate::specs::Play::rounds_said))]
@@ -188,4 +69,123 @@ pub fn read_rounds(
         script,
         file_moves: setting.file_moves + told.moves,
     })
+}
+
+// The posts, in order.
+fn posts_of(alloc: Global, steps: &[Step]) -> Result<Vec<Post>, Memory>
+    ensures { IfOk result (λ posts. map plain_post posts.items
+        ≡ posts_in (map plain_step steps.now)) }
+{
+    let mut posts = Vec::new(alloc);
+    for step in steps {
+        push_post(&mut posts, step.deed)?;
+    }
+    Ok(posts)
+}
+
+// The posts with that of a step, if it is one.
+fn push_post(posts: &mut Vec<Post>, deed: Deed) -> Result<(), Memory>
+    ensures { OnOk result (map plain_post posts.new.items
+        ≡ map plain_post posts.old.items ++ post_in (plain_deed deed)) }
+{
+    match deed {
+        Deed::Posted(post) => {
+            posts.push(post)?;
+            Ok(())
+        }
+        Deed::Dealt { .. } | Deed::Happened(_) | Deed::Passed => Ok(()),
+    }
+}
+
+// The posts meet their conditions, or the first that does not is told at its action.
+fn check(table: &Table, posts: &[Post]) -> Result<(), Stop<Fault>>
+    ensures { Gives (λ x. x) result
+        (at_posts (posts_checked (plain_table table.now) (map plain_post posts.now))) }
+{
+    match check_posts(table, posts) {
+        Ok(()) => Ok(()),
+        Err(PostFault::MissingBlind) => Err(wrong(What::BadPost, Path::Rounds)),
+        Err(PostFault::At(place)) => {
+            Err(wrong(What::BadPost, path_of(place, ActionMember::Itself)))
+        }
+    }
+}
+
+// The script.
+#[tactic(auto, unfolding(crate::specs::Play::script_said))]
+fn script_of(alloc: Global, told: &Told) -> Result<Script, Memory>
+    ensures script { IfOk result (λ script. map numbered script
+        ≡ script_said told.now.setting.table.stacks.seats told.now.setting.hole_cards
+        (map plain_step told.now.steps.items)) }
+{
+    let mut script = hole_deals(alloc, told)?;
+    push_events(&mut script, told.steps.as_slice())?;
+    Ok(script)
+}
+
+// The hole deals of all seats.
+fn hole_deals(alloc: Global, told: &Told) -> Result<Script, Memory>
+    ensures { IfOk result (λ script. map numbered script
+        ≡ map (hole_deal_said told.now.setting.hole_cards (map plain_step told.now.steps.items))
+        (seats_of told.now.setting.table.stacks.seats)) }
+{
+    let mut script = Script::new(alloc);
+    for index in 0..told.setting.table.stacks.seats {
+        script.push(hole_deal(told, Seat { number: index + 1 }))?;
+    }
+    Ok(script)
+}
+
+// The deal of a seat's hole cards.
+fn hole_deal(told: &Told, seat: Seat) -> Event
+    ensures { numbered result ≡ hole_deal_said told.now.setting.hole_cards
+        (map plain_step told.now.steps.items) seat.number }
+{
+    let kept = told.seat(seat);
+    let cards = filled(kept.cards, told.setting.hole_cards);
+    let at = match kept.first_deal {
+        Some(number) => number,
+        None => 0,
+    };
+    Event {
+        at,
+        kind: Kind::Hole { seat, cards },
+    }
+}
+
+// The cards, and unknown ones up to so many.
+fn filled(cards: SlotRow, count: u8) -> SlotRow
+    requires { count ≤ 7 }
+    ensures { slots_of result ≡ hole_cards_said count (slots_of cards) }
+{
+    let mut all = cards;
+    for _index in cards.len..count {
+        all.push(Slot::Unknown);
+    }
+    all
+}
+
+// The script with what happened.
+fn push_events(script: &mut Script, steps: &[Step]) -> Result<(), Memory>
+    ensures { OnOk result (map numbered script.new
+        ≡ map numbered script.old ++ events_in (map plain_step steps.now)) }
+{
+    for step in steps {
+        push_event(script, *step)?;
+    }
+    Ok(())
+}
+
+// The script with the event of a step, if it is one.
+fn push_event(script: &mut Script, step: Step) -> Result<(), Memory>
+    ensures { OnOk result (map numbered script.new
+        ≡ map numbered script.old ++ event_in (plain_step step) (plain_deed step.deed)) }
+{
+    match step.deed {
+        Deed::Happened(kind) => script.push(Event {
+            at: step.number,
+            kind,
+        }),
+        Deed::Posted(_) | Deed::Dealt { .. } | Deed::Passed => Ok(()),
+    }
 }

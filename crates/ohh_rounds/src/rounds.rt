@@ -21,139 +21,21 @@ use play_event::Kind;
 use serde_json::Value;
 use std::alloc::Global;
 
-// The path of a member of a round.
-fn path_of(index: u64, member: RoundMember) -> Path
-    ensures { result ≡ at_round index member }
-{
-    Path::Round { index, member }
-}
-
-// The street of a round after the last one.
-#[tactic(auto, unfolding(crate::specs::Rounds::street_said))]
-fn read_street(last: Option<Street>, index: u64, round: &Value) -> Result<Street, Stop<Fault>>
-    ensures { Gives (λ street. street) result (street_said last index (view round.now)) }
-{
-    let path = path_of(index, RoundMember::Street);
-    let text = read_text(needed(round, path)?, path)?;
-    match street_after(last, text) {
-        Some(street) => Ok(street),
-        None => Err(wrong(What::BadStreet, path)),
-    }
-}
-
-// A list without cards.
-#[tactic(auto, unfolding(crate::specs::Rounds::no_cards))]
-fn read_no_cards(cards: &Value, path: Path) -> Result<CardRow, Stop<Fault>>
-    ensures { Gives cards_of result (no_cards path (view cards.now)) }
-{
-    let values = read_list(cards, path)?;
-    if !values.is_empty() {
-        return Err(wrong(What::BadStreet, path));
-    }
-    Ok(CardRow::new())
-}
-
-// The board cards of a round.
-#[tactic(auto, unfolding(crate::specs::Rounds::board_said))]
-fn read_board(street: Street, index: u64, round: &Value) -> Result<CardRow, Stop<Fault>>
-    ensures { Gives cards_of result (board_said street index (view round.now)) }
-{
-    let path = path_of(index, RoundMember::Cards);
-    match field(round, path) {
-        None => Ok(CardRow::new()),
-        Some(cards) => if has_board_cards(street) {
-            read_cards(cards, path)
-        } else {
-            read_no_cards(cards, path)
-        },
-    }
-}
-
-// A deal to the board is told, where there are cards.
-#[tactic(auto, unfolding(crate::specs::Rounds::board_dealt))]
-fn deal_board(ids: &[i128], told: &mut Told, index: u64, cards: CardRow) -> Result<(), Stop<Fault>>
-    ensures said { Gives (λ x. map plain_step told.new.steps.items) result
-        (board_dealt (plain_setting ids.now told.old.setting)
-        (map plain_step told.old.steps.items) index (cards_of cards)) }
-    ensures setting { told.new.setting ≡ told.old.setting }
-{
-    if cards.as_slice().is_empty() {
-        return Ok(());
-    }
-    let kind = Kind::Board { cards };
-    count_event(ids, told, path_of(index, RoundMember::Cards), kind)?;
-    told.push(Step {
-        number: 0,
-        deed: Deed::Happened(kind),
-    })?;
-    Ok(())
-}
-
-// The actions of a round are told.
-fn read_actions(
+/// What the rounds of the object tell.
+#[tactic(auto, unfolding(crate::specs::Rounds::steps_said))]
+pub fn read_told(
+    alloc: Global,
     ids: &[i128],
-    told: &mut Told,
-    round: u64,
-    values: &[Value],
-) -> Result<(), Stop<Fault>>
+    setting: &Setting,
+    ohh: &Value,
+) -> Result<Told, Stop<Fault>>
     requires { length ids.now ≤ 10 }
-    ensures said { Gives (λ x. map plain_step told.new.steps.items) result
-        (actions_added (plain_setting ids.now told.old.setting) round
-        (map plain_step told.old.steps.items) (map view values.now)) }
-    ensures setting { told.new.setting ≡ told.old.setting }
+    ensures said { Gives (λ told. map plain_step told.steps.items) result
+        (steps_said (plain_setting ids.now setting.now) (view ohh.now)) }
+    ensures setting { IfOk result (λ told. told.setting ≡ setting.now) }
 {
-    for (index, value) in values.iter().enumerate() {
-        let place = ActionPlace {
-            round,
-            action: index as u64,
-        };
-        let step = read_step(ids, told, place, value)?;
-        told.push(step)?;
-    }
-    Ok(())
-}
-
-// The street and the cards of a round.
-#[tactic(auto, unfolding(crate::specs::Rounds::opening_said))]
-fn read_opening(
-    ids: &[i128],
-    told: &mut Told,
-    last: Option<Street>,
-    index: u64,
-    round: &Value,
-) -> Result<Street, Stop<Fault>>
-    ensures said { Gives (λ street. (street, map plain_step told.new.steps.items)) result
-        (opening_said (plain_setting ids.now told.old.setting)
-        (last, map plain_step told.old.steps.items) index (view round.now)) }
-    ensures setting { told.new.setting ≡ told.old.setting }
-{
-    let street = read_street(last, index, round)?;
-    let cards = read_board(street, index, round)?;
-    deal_board(ids, told, index, cards)?;
-    Ok(street)
-}
-
-// One more round is told.
-#[tactic(auto, unfolding(crate::specs::Rounds::round_said))]
-fn read_round(
-    ids: &[i128],
-    told: &mut Told,
-    last: Option<Street>,
-    index: u64,
-    value: &Value,
-) -> Result<Street, Stop<Fault>>
-    requires { length ids.now ≤ 10 }
-    ensures said { Gives (λ street. (Some street, map plain_step told.new.steps.items)) result
-        (round_said (plain_setting ids.now told.old.setting)
-        (last, map plain_step told.old.steps.items) index (view value.now)) }
-    ensures setting { told.new.setting ≡ told.old.setting }
-{
-    let round = read_object(value, path_of(index, RoundMember::Itself))?;
-    let street = read_opening(ids, told, last, index, round)?;
-    let path = path_of(index, RoundMember::Actions);
-    let values = read_list(needed(round, path)?, path)?;
-    read_actions(ids, told, index, values)?;
-    Ok(street)
+    let values = read_listed(ohh)?;
+    read_each(alloc, ids, setting, values)
 }
 
 // The rounds, one at least.
@@ -189,19 +71,137 @@ fn read_each(
     Ok(told)
 }
 
-/// What the rounds of the object tell.
-#[tactic(auto, unfolding(crate::specs::Rounds::steps_said))]
-pub fn read_told(
-    alloc: Global,
+// One more round is told.
+#[tactic(auto, unfolding(crate::specs::Rounds::round_said))]
+fn read_round(
     ids: &[i128],
-    setting: &Setting,
-    ohh: &Value,
-) -> Result<Told, Stop<Fault>>
+    told: &mut Told,
+    last: Option<Street>,
+    index: u64,
+    value: &Value,
+) -> Result<Street, Stop<Fault>>
     requires { length ids.now ≤ 10 }
-    ensures said { Gives (λ told. map plain_step told.steps.items) result
-        (steps_said (plain_setting ids.now setting.now) (view ohh.now)) }
-    ensures setting { IfOk result (λ told. told.setting ≡ setting.now) }
+    ensures said { Gives (λ street. (Some street, map plain_step told.new.steps.items)) result
+        (round_said (plain_setting ids.now told.old.setting)
+        (last, map plain_step told.old.steps.items) index (view value.now)) }
+    ensures setting { told.new.setting ≡ told.old.setting }
 {
-    let values = read_listed(ohh)?;
-    read_each(alloc, ids, setting, values)
+    let round = read_object(value, path_of(index, RoundMember::Itself))?;
+    let street = read_opening(ids, told, last, index, round)?;
+    let path = path_of(index, RoundMember::Actions);
+    let values = read_list(needed(round, path)?, path)?;
+    read_actions(ids, told, index, values)?;
+    Ok(street)
+}
+
+// The street and the cards of a round.
+#[tactic(auto, unfolding(crate::specs::Rounds::opening_said))]
+fn read_opening(
+    ids: &[i128],
+    told: &mut Told,
+    last: Option<Street>,
+    index: u64,
+    round: &Value,
+) -> Result<Street, Stop<Fault>>
+    ensures said { Gives (λ street. (street, map plain_step told.new.steps.items)) result
+        (opening_said (plain_setting ids.now told.old.setting)
+        (last, map plain_step told.old.steps.items) index (view round.now)) }
+    ensures setting { told.new.setting ≡ told.old.setting }
+{
+    let street = read_street(last, index, round)?;
+    let cards = read_board(street, index, round)?;
+    deal_board(ids, told, index, cards)?;
+    Ok(street)
+}
+
+// The street of a round after the last one.
+#[tactic(auto, unfolding(crate::specs::Rounds::street_said))]
+fn read_street(last: Option<Street>, index: u64, round: &Value) -> Result<Street, Stop<Fault>>
+    ensures { Gives (λ street. street) result (street_said last index (view round.now)) }
+{
+    let path = path_of(index, RoundMember::Street);
+    let text = read_text(needed(round, path)?, path)?;
+    match street_after(last, text) {
+        Some(street) => Ok(street),
+        None => Err(wrong(What::BadStreet, path)),
+    }
+}
+
+// The board cards of a round.
+#[tactic(auto, unfolding(crate::specs::Rounds::board_said))]
+fn read_board(street: Street, index: u64, round: &Value) -> Result<CardRow, Stop<Fault>>
+    ensures { Gives cards_of result (board_said street index (view round.now)) }
+{
+    let path = path_of(index, RoundMember::Cards);
+    match field(round, path) {
+        None => Ok(CardRow::new()),
+        Some(cards) => if has_board_cards(street) {
+            read_cards(cards, path)
+        } else {
+            read_no_cards(cards, path)
+        },
+    }
+}
+
+// A list without cards.
+#[tactic(auto, unfolding(crate::specs::Rounds::no_cards))]
+fn read_no_cards(cards: &Value, path: Path) -> Result<CardRow, Stop<Fault>>
+    ensures { Gives cards_of result (no_cards path (view cards.now)) }
+{
+    let values = read_list(cards, path)?;
+    if !values.is_empty() {
+        return Err(wrong(What::BadStreet, path));
+    }
+    Ok(CardRow::new())
+}
+
+// A deal to the board is told, where there are cards.
+#[tactic(auto, unfolding(crate::specs::Rounds::board_dealt))]
+fn deal_board(ids: &[i128], told: &mut Told, index: u64, cards: CardRow) -> Result<(), Stop<Fault>>
+    ensures said { Gives (λ x. map plain_step told.new.steps.items) result
+        (board_dealt (plain_setting ids.now told.old.setting)
+        (map plain_step told.old.steps.items) index (cards_of cards)) }
+    ensures setting { told.new.setting ≡ told.old.setting }
+{
+    if cards.as_slice().is_empty() {
+        return Ok(());
+    }
+    let kind = Kind::Board { cards };
+    count_event(ids, told, path_of(index, RoundMember::Cards), kind)?;
+    told.push(Step {
+        number: 0,
+        deed: Deed::Happened(kind),
+    })?;
+    Ok(())
+}
+
+// The path of a member of a round.
+fn path_of(index: u64, member: RoundMember) -> Path
+    ensures { result ≡ at_round index member }
+{
+    Path::Round { index, member }
+}
+
+// The actions of a round are told.
+fn read_actions(
+    ids: &[i128],
+    told: &mut Told,
+    round: u64,
+    values: &[Value],
+) -> Result<(), Stop<Fault>>
+    requires { length ids.now ≤ 10 }
+    ensures said { Gives (λ x. map plain_step told.new.steps.items) result
+        (actions_added (plain_setting ids.now told.old.setting) round
+        (map plain_step told.old.steps.items) (map view values.now)) }
+    ensures setting { told.new.setting ≡ told.old.setting }
+{
+    for (index, value) in values.iter().enumerate() {
+        let place = ActionPlace {
+            round,
+            action: index as u64,
+        };
+        let step = read_step(ids, told, place, value)?;
+        told.push(step)?;
+    }
+    Ok(())
 }

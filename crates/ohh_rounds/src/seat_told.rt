@@ -1,4 +1,4 @@
-// What is told of a seat so far.
+//! What is told of a seat so far.
 use card_set::SlotRow;
 
 /// What later actions and the script ask of a seat.

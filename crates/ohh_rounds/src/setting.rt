@@ -1,4 +1,4 @@
-// What stands before the rounds of a hand.
+//! What stands before the rounds of a hand.
 ghost use Rattle.std.specs.Prelude.{◌≤◌};
 ghost use Rattle.first_fault.specs.declared.limits.TheConstants.{MOST_FILE_MOVES};
 

@@ -29,16 +29,6 @@ pub struct Step {
     pub deed: Deed,
 }
 
-/// Whether it is a move.
-pub fn is_move(kind: Kind) -> bool
-    ensures { result ≡ is_move_said (kind_said kind) }
-{
-    match kind {
-        Kind::Fold { .. } | Kind::Call { .. } | Kind::Raise { .. } | Kind::BringIn { .. } => true,
-        _ => false,
-    }
-}
-
 /// One where a move was made, else none.
 pub fn moves_of(deed: Deed) -> usize
     ensures { result ≡ cond (is_move_deed (plain_deed deed)) 1 0 }
@@ -56,6 +46,16 @@ pub fn others_of(deed: Deed) -> usize
     match deed {
         Deed::Happened(kind) => if is_move(kind) { 0 } else { 1 },
         Deed::Posted(_) | Deed::Dealt { .. } | Deed::Passed => 0,
+    }
+}
+
+/// Whether it is a move.
+pub fn is_move(kind: Kind) -> bool
+    ensures { result ≡ is_move_said (kind_said kind) }
+{
+    match kind {
+        Kind::Fold { .. } | Kind::Call { .. } | Kind::Raise { .. } | Kind::BringIn { .. } => true,
+        _ => false,
     }
 }
 

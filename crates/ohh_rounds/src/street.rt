@@ -12,30 +12,6 @@ pub enum Street {
     Showdown,
 }
 
-// The name of a street.
-fn name_of(street: Street) -> &'static str
-    ensures { result.now ≡ street_name street }
-{
-    match street {
-        Street::Preflop => "Preflop",
-        Street::Flop => "Flop",
-        Street::Turn => "Turn",
-        Street::River => "River",
-        Street::Showdown => "Showdown",
-    }
-}
-
-// The street, where the text is its name.
-fn named(street: Street, text: &str) -> Option<Street>
-    ensures { result ≡ if_named street text.now }
-{
-    if text == name_of(street) {
-        Some(street)
-    } else {
-        None
-    }
-}
-
 /// The street that a text names, if it may come after the last one.
 #[tactic(auto, unfolding(crate::specs::Streets::street_after))]
 pub fn street_after(last: Option<Street>, text: &str) -> Option<Street>
@@ -54,6 +30,30 @@ pub fn street_after(last: Option<Street>, text: &str) -> Option<Street>
     match named(next, text) {
         Some(street) => Some(street),
         None => named(Street::Showdown, text),
+    }
+}
+
+// The street, where the text is its name.
+fn named(street: Street, text: &str) -> Option<Street>
+    ensures { result ≡ if_named street text.now }
+{
+    if text == name_of(street) {
+        Some(street)
+    } else {
+        None
+    }
+}
+
+// The name of a street.
+fn name_of(street: Street) -> &'static str
+    ensures { result.now ≡ street_name street }
+{
+    match street {
+        Street::Preflop => "Preflop",
+        Street::Flop => "Flop",
+        Street::Turn => "Turn",
+        Street::River => "River",
+        Street::Showdown => "Showdown",
     }
 }
 

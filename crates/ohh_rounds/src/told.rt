@@ -59,13 +59,6 @@ impl Told {
         }
     }
 
-    /// What is told of a seat.
-    pub fn seat(&self, seat: Seat) -> SeatTold
-        ensures { IsToldOf seat.number (map plain_step self.now.steps.items) result }
-    {
-        self.seats[seat.number as usize - 1]
-    }
-
     /// Whether the seat folded.
     pub fn has_folded(&self, seat: Seat) -> bool
         ensures { result ≡ has_folded seat.number (map plain_step self.now.steps.items) }
@@ -81,6 +74,13 @@ impl Told {
     {
         let told = self.seat(seat);
         told.cards.as_slice().len()
+    }
+
+    /// What is told of a seat.
+    pub fn seat(&self, seat: Seat) -> SeatTold
+        ensures { IsToldOf seat.number (map plain_step self.now.steps.items) result }
+    {
+        self.seats[seat.number as usize - 1]
     }
 
     /// Takes one more step, which passes no limit.

@@ -24,36 +24,24 @@ pub struct Day {
     pub day: Option<u8>,
 }
 
-// Whether the numbers are a date.
-fn is_date(year: u16, month: u8, day: u8) -> bool
-    requires year { year ≤ 9999 }
-    requires month { month ≤ 12 }
-    requires day { day ≤ 31 }
-    ensures { IsTrue result ↔ IsDate (pos year) (pos month) (pos day) }
+/// The day on which the hand was played.
+#[tactic(auto, unfolding(crate::specs::NoteFields::day_said))]
+pub fn read_day(table: &Table) -> Result<Day, Stop<Fault>>
+    ensures said { Gives (λ day. day) result (day_said (table_view table.now)) }
+    ensures year { IfOk result (λ date. IfSome date.year (IsWithin 1 9999)) }
+    ensures month { IfOk result (λ date. IfSome date.month (IsWithin 1 12)) }
+    ensures day { IfOk result (λ date. IfSome date.day (IsWithin 1 31)) }
+    ensures civil { IfOk result (λ date.
+        is_in_calendar_said date.year date.month date.day ≡ true) }
 {
-    Date::new(year as i16, month as i8, day as i8).is_ok()
-}
-
-// Whether the calendar has the day.
-fn has_day(year: u16, month: u8, day: u8) -> bool
-    requires year { IsWithin 1 9999 year }
-    requires month { IsWithin 1 12 month }
-    requires day { IsWithin 1 31 day }
-    ensures { result ≡ nat_le day (days_in_month year month) }
-{
-    is_date(year, month, day)
-}
-
-// Whether year, month and day are a day of the calendar where all three stand.
-fn is_in_calendar(date: Day) -> bool
-    requires year { IfSome date.year (IsWithin 1 9999) }
-    requires month { IfSome date.month (IsWithin 1 12) }
-    requires day { IfSome date.day (IsWithin 1 31) }
-    ensures { result ≡ is_in_calendar_said date.year date.month date.day }
-{
-    match (date.year, date.month, date.day) {
-        (Some(year), Some(month), Some(day)) => has_day(year, month, day),
-        _ => true,
+    let year = read_year(table)?;
+    let month = read_part(table, Key::Month, 12)?;
+    let day = read_part(table, Key::Day, 31)?;
+    let date = Day { year, month, day };
+    if is_in_calendar(date) {
+        Ok(date)
+    } else {
+        Err(wrong(What::WrongType, Place::at_key(Key::Day)))
     }
 }
 
@@ -88,34 +76,80 @@ fn read_part(table: &Table, key: Key, most: u8) -> Result<Option<u8>, Stop<Fault
     }
 }
 
-/// The day on which the hand was played.
-#[tactic(auto, unfolding(crate::specs::NoteFields::day_said))]
-pub fn read_day(table: &Table) -> Result<Day, Stop<Fault>>
-    ensures said { Gives (λ day. day) result (day_said (table_view table.now)) }
-    ensures year { IfOk result (λ date. IfSome date.year (IsWithin 1 9999)) }
-    ensures month { IfOk result (λ date. IfSome date.month (IsWithin 1 12)) }
-    ensures day { IfOk result (λ date. IfSome date.day (IsWithin 1 31)) }
-    ensures civil { IfOk result (λ date.
-        is_in_calendar_said date.year date.month date.day ≡ true) }
+// Whether year, month and day are a day of the calendar where all three stand.
+fn is_in_calendar(date: Day) -> bool
+    requires year { IfSome date.year (IsWithin 1 9999) }
+    requires month { IfSome date.month (IsWithin 1 12) }
+    requires day { IfSome date.day (IsWithin 1 31) }
+    ensures { result ≡ is_in_calendar_said date.year date.month date.day }
 {
-    let year = read_year(table)?;
-    let month = read_part(table, Key::Month, 12)?;
-    let day = read_part(table, Key::Day, 31)?;
-    let date = Day { year, month, day };
-    if is_in_calendar(date) {
-        Ok(date)
-    } else {
-        Err(wrong(What::WrongType, Place::at_key(Key::Day)))
+    match (date.year, date.month, date.day) {
+        (Some(year), Some(month), Some(day)) => has_day(year, month, day),
+        _ => true,
     }
 }
 
-// The local time that a date-time is, if it has no day and no zone.
-fn time_alone(said: &Datetime) -> Option<Time>
-    ensures { result ≡ time_alone_said said.now.date said.now.time said.now.offset }
+// Whether the calendar has the day.
+fn has_day(year: u16, month: u8, day: u8) -> bool
+    requires year { IsWithin 1 9999 year }
+    requires month { IsWithin 1 12 month }
+    requires day { IsWithin 1 31 day }
+    ensures { result ≡ nat_le day (days_in_month year month) }
 {
-    match (said.date, said.time, said.offset) {
-        (None, Some(time), None) => Some(time),
-        _ => None,
+    is_date(year, month, day)
+}
+
+// Whether the numbers are a date.
+fn is_date(year: u16, month: u8, day: u8) -> bool
+    requires year { year ≤ 9999 }
+    requires month { month ≤ 12 }
+    requires day { day ≤ 31 }
+    ensures { IsTrue result ↔ IsDate (pos year) (pos month) (pos day) }
+{
+    Date::new(year as i16, month as i8, day as i8).is_ok()
+}
+
+/// The time of the day, if it is said.
+pub fn read_time_at(table: &Table) -> Result<Option<Clock>, Stop<Fault>>
+    ensures said { Gives (λ clock. clock) result
+        (read_if time_said (field_said keys.Time (table_view table.now))) }
+    ensures allowed { IfOk result (λ clock. IfSome clock IsTime) }
+{
+    match field(table, Key::Time) {
+        Some(value) => Ok(Some(read_time(value)?)),
+        None => Ok(None),
+    }
+}
+
+// The time of the day.
+#[tactic(auto, unfolding(crate::specs::NoteFields::time_said))]
+fn read_time(value: &Value) -> Result<Clock, Stop<Fault>>
+    ensures said { Gives (λ clock. clock) result (time_said (view value.now)) }
+    ensures allowed { IfOk result IsTime }
+{
+    match value {
+        Value::Datetime(said) => read_clock(time_alone(said)),
+        _ => Err(wrong(What::WrongType, Place::at_key(Key::Time))),
+    }
+}
+
+// The time of a day that a local time says.
+#[tactic(auto, unfolding(crate::specs::NoteFields::clock_said))]
+fn read_clock(time: Option<Time>) -> Result<Clock, Stop<Fault>>
+    ensures said { Gives (λ clock. clock) result (clock_said time) }
+    ensures allowed { IfOk result IsTime }
+{
+    let place = Place::at_key(Key::Time);
+    match time {
+        None => Err(wrong(What::WrongType, place)),
+        Some(time) => {
+            let clock = clock_of(time);
+            if is_clock(clock) {
+                Ok(clock)
+            } else {
+                Err(wrong(What::WrongType, place))
+            }
+        }
     }
 }
 
@@ -144,46 +178,12 @@ fn is_clock(clock: Clock) -> bool
     (clock.hour <= 23 && clock.minute <= 59) && (clock.second <= 59 && clock.nano <= 999_999_999)
 }
 
-// The time of a day that a local time says.
-#[tactic(auto, unfolding(crate::specs::NoteFields::clock_said))]
-fn read_clock(time: Option<Time>) -> Result<Clock, Stop<Fault>>
-    ensures said { Gives (λ clock. clock) result (clock_said time) }
-    ensures allowed { IfOk result IsTime }
+// The local time that a date-time is, if it has no day and no zone.
+fn time_alone(said: &Datetime) -> Option<Time>
+    ensures { result ≡ time_alone_said said.now.date said.now.time said.now.offset }
 {
-    let place = Place::at_key(Key::Time);
-    match time {
-        None => Err(wrong(What::WrongType, place)),
-        Some(time) => {
-            let clock = clock_of(time);
-            if is_clock(clock) {
-                Ok(clock)
-            } else {
-                Err(wrong(What::WrongType, place))
-            }
-        }
-    }
-}
-
-// The time of the day.
-#[tactic(auto, unfolding(crate::specs::NoteFields::time_said))]
-fn read_time(value: &Value) -> Result<Clock, Stop<Fault>>
-    ensures said { Gives (λ clock. clock) result (time_said (view value.now)) }
-    ensures allowed { IfOk result IsTime }
-{
-    match value {
-        Value::Datetime(said) => read_clock(time_alone(said)),
-        _ => Err(wrong(What::WrongType, Place::at_key(Key::Time))),
-    }
-}
-
-/// The time of the day, if it is said.
-pub fn read_time_at(table: &Table) -> Result<Option<Clock>, Stop<Fault>>
-    ensures said { Gives (λ clock. clock) result
-        (read_if time_said (field_said keys.Time (table_view table.now))) }
-    ensures allowed { IfOk result (λ clock. IfSome clock IsTime) }
-{
-    match field(table, Key::Time) {
-        Some(value) => Ok(Some(read_time(value)?)),
-        None => Ok(None),
+    match (said.date, said.time, said.offset) {
+        (None, Some(time), None) => Some(time),
+        _ => None,
     }
 }

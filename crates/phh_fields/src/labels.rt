@@ -24,6 +24,44 @@ pub struct Labels {
     pub currency: Option<Text>,
 }
 
+/// The labels of the hand at this place of its file, from 0.
+#[tactic(auto, unfolding(crate::specs::NoteFields::labels_said))]
+pub fn read_labels(alloc: Global, table: &Table, place: u32) -> Result<Labels, Stop<Fault>>
+    ensures said { Gives plain_labels result (labels_said place (table_view table.now)) }
+    ensures hand { IfOk result (λ labels. IfSome labels.hand IsNoteText) }
+    ensures table { IfOk result (λ labels. IfSome labels.table IsNoteText) }
+    ensures venue { IfOk result (λ labels. IfSome labels.venue IsNoteText) }
+    ensures currency { IfOk result (λ labels. IfSome labels.currency IsNoteText) }
+{
+    let hand = hand_at(alloc, table, place)?;
+    let label = label_at(alloc, table, Key::Table)?;
+    let venue = text_at(alloc, table, Key::Venue)?;
+    let currency = text_at(alloc, table, Key::Currency)?;
+    Ok(Labels {
+        hand,
+        table: label,
+        venue,
+        currency,
+    })
+}
+
+// The name of the hand at this place of its file, from 0, if there is one. Most files say none, and the number of a place
+// is spelled only where one is.
+fn hand_at(alloc: Global, table: &Table, place: u32) -> Result<Option<Text>, Stop<Fault>>
+    ensures said { Gives (λ note. note) result
+        (or_none (label_said (decimal place) (at_key keys.Hand))
+        (field_said keys.Hand (table_view table.now))) }
+    ensures allowed { IfOk result (λ note. IfSome note IsNoteText) }
+{
+    match field(table, Key::Hand) {
+        Some(value) => {
+            let usual = place.to_string(alloc)?;
+            read_label(alloc, value, usual.as_str(), Place::at_key(Key::Hand))
+        }
+        None => Ok(None),
+    }
+}
+
 // The label at a key, if there is one that is not empty.
 fn label_at(alloc: Global, table: &Table, key: Key) -> Result<Option<Text>, Stop<Fault>>
     ensures said { Gives (λ note. note) result
@@ -46,42 +84,4 @@ pub fn text_at(alloc: Global, table: &Table, key: Key) -> Result<Option<Text>, S
         Some(value) => read_text_note(alloc, value, "", Place::at_key(key)),
         None => Ok(None),
     }
-}
-
-// The name of the hand at this place of its file, from 0, if there is one. Most files say none, and the number of a place
-// is spelled only where one is.
-fn hand_at(alloc: Global, table: &Table, place: u32) -> Result<Option<Text>, Stop<Fault>>
-    ensures said { Gives (λ note. note) result
-        (or_none (label_said (decimal place) (at_key keys.Hand))
-        (field_said keys.Hand (table_view table.now))) }
-    ensures allowed { IfOk result (λ note. IfSome note IsNoteText) }
-{
-    match field(table, Key::Hand) {
-        Some(value) => {
-            let usual = place.to_string(alloc)?;
-            read_label(alloc, value, usual.as_str(), Place::at_key(Key::Hand))
-        }
-        None => Ok(None),
-    }
-}
-
-/// The labels of the hand at this place of its file, from 0.
-#[tactic(auto, unfolding(crate::specs::NoteFields::labels_said))]
-pub fn read_labels(alloc: Global, table: &Table, place: u32) -> Result<Labels, Stop<Fault>>
-    ensures said { Gives plain_labels result (labels_said place (table_view table.now)) }
-    ensures hand { IfOk result (λ labels. IfSome labels.hand IsNoteText) }
-    ensures table { IfOk result (λ labels. IfSome labels.table IsNoteText) }
-    ensures venue { IfOk result (λ labels. IfSome labels.venue IsNoteText) }
-    ensures currency { IfOk result (λ labels. IfSome labels.currency IsNoteText) }
-{
-    let hand = hand_at(alloc, table, place)?;
-    let label = label_at(alloc, table, Key::Table)?;
-    let venue = text_at(alloc, table, Key::Venue)?;
-    let currency = text_at(alloc, table, Key::Currency)?;
-    Ok(Labels {
-        hand,
-        table: label,
-        venue,
-        currency,
-    })
 }

@@ -14,31 +14,6 @@ use chip_ledger::{MOST_AMOUNT, MOST_CHIPS, RakeRow, SeatRow};
 use first_fault::Stop;
 use toml::Value;
 
-// A row of two to ten amounts.
-fn read_amounts(values: &[Value], least: u64, most: u64, key: Key) -> Result<SeatRow, Stop<Fault>>
-    requires some { 2 ≤ length values.now }
-    requires few { length values.now ≤ 10 }
-    requires bounded { most ≤ MOST_AMOUNT }
-    ensures amounts { Gives amounts_in result (amounts_said least most key (map view values.now)) }
-    ensures seats { IfOk result (λ row. row.seats ≡ length values.now) }
-    ensures least { IfOk result (λ row. (k : ℕ)
-        → k < length values.now → least ≤ slice_index row.amounts k) }
-    ensures most { IfOk result (λ row. (k : ℕ) → slice_index row.amounts k ≤ most) }
-{
-    let mut amounts = [0; 10];
-    for (index, value) in values.iter().enumerate() {
-        let place = Place {
-            key,
-            item: index as u64 + 1,
-        };
-        amounts[index] = read_amount(value, least, most, place)?;
-    }
-    Ok(SeatRow {
-        seats: values.len() as u8,
-        amounts,
-    })
-}
-
 /// A row of so many seats, each with an amount of up to `most` chips.
 #[tactic(auto, unfolding(crate::specs::Rows::row_said))]
 pub fn read_row(value: &Value, seats: u8, most: u64, key: Key) -> Result<SeatRow, Stop<Fault>>
@@ -70,14 +45,29 @@ pub fn read_stacks(value: &Value, most_seats: u8) -> Result<SeatRow, Stop<Fault>
     read_amounts(values, 1, MOST_CHIPS, Key::StartingStacks)
 }
 
-// An ante, held as the lesser of what is named and the stack.
-#[tactic(auto, unfolding(crate::specs::Rows::ante_said))]
-fn read_ante(value: &Value, stack: u64, place: Place) -> Result<u64, Stop<Fault>>
-    ensures within { IfOk result (λ ante. ante ≤ stack) }
-    ensures said { Gives (λ ante. ante) result (ante_said stack place (view value.now)) }
+// A row of two to ten amounts.
+fn read_amounts(values: &[Value], least: u64, most: u64, key: Key) -> Result<SeatRow, Stop<Fault>>
+    requires some { 2 ≤ length values.now }
+    requires few { length values.now ≤ 10 }
+    requires bounded { most ≤ MOST_AMOUNT }
+    ensures amounts { Gives amounts_in result (amounts_said least most key (map view values.now)) }
+    ensures seats { IfOk result (λ row. row.seats ≡ length values.now) }
+    ensures least { IfOk result (λ row. (k : ℕ)
+        → k < length values.now → least ≤ slice_index row.amounts k) }
+    ensures most { IfOk result (λ row. (k : ℕ) → slice_index row.amounts k ≤ most) }
 {
-    let ante = read_amount(value, 0, MOST_CHIPS, place)?;
-    Ok(if ante < stack { ante } else { stack })
+    let mut amounts = [0; 10];
+    for (index, value) in values.iter().enumerate() {
+        let place = Place {
+            key,
+            item: index as u64 + 1,
+        };
+        amounts[index] = read_amount(value, least, most, place)?;
+    }
+    Ok(SeatRow {
+        seats: values.len() as u8,
+        amounts,
+    })
 }
 
 /// The antes of seats with these stacks.
@@ -114,6 +104,16 @@ fn fill_antes(values: &[Value], stacks: &SeatRow) -> Result<SeatRow, Stop<Fault>
         seats: stacks.seats,
         amounts,
     })
+}
+
+// An ante, held as the lesser of what is named and the stack.
+#[tactic(auto, unfolding(crate::specs::Rows::ante_said))]
+fn read_ante(value: &Value, stack: u64, place: Place) -> Result<u64, Stop<Fault>>
+    ensures within { IfOk result (λ ante. ante ≤ stack) }
+    ensures said { Gives (λ ante. ante) result (ante_said stack place (view value.now)) }
+{
+    let ante = read_amount(value, 0, MOST_CHIPS, place)?;
+    Ok(if ante < stack { ante } else { stack })
 }
 
 /// Of two blinds the greater is the first seat's.

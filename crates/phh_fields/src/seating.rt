@@ -26,45 +26,26 @@ pub struct Seating {
 // The numbers of ten seats where none are said.
 const USUAL: [u8; 10] = [1, 2, 3, 4, 5, 6, 7, 8, 9, 10];
 
-// The name of a seat's player.
-fn read_name(alloc: Global, value: &Value, seat: u8) -> Result<Option<Text>, Stop<Fault>>
-    ensures said { Gives (λ name. name) result
-        (text_note_said (default_name seat) (at_item keys.Players seat) (view value.now)) }
-    ensures allowed { IfOk result (λ name. IfSome name (IsName seat)) }
-{
-    let place = Place {
-        key: Key::Players,
-        item: u64::from(seat),
-    };
-    let usual = format!(in alloc; "p{seat}")?;
-    read_text_note(alloc, value, usual.as_str(), place)
-}
-
-// No names, of which the first are those of so many seats.
-fn no_names(seats: u8) -> [Option<Text>; 10]
+/// Who sits where in a hand with so many seats.
+#[tactic(auto, unfolding(crate::specs::NoteFields::seating_said))]
+pub fn read_seating(alloc: Global, table: &Table, seats: u8) -> Result<Seating, Stop<Fault>>
     requires { seats ≤ 10 }
-    ensures none { (index : ℕ) → slice_index_or result index None ≡ None }
-    ensures seats { take seats result ≡ replicate seats None }
-    ensures ten { length result ≡ 10 }
+    ensures said { Gives (plain_seating seats) result (seating_said seats (table_view table.now)) }
+    ensures each { IfOk result (λ seating. (seat : ℕ) → 1 ≤ seat → seat ≤ seats
+        → IfSome (slice_index_or seating.names (seat - 1) None) (IsName seat)) }
+    ensures no_more { IfOk result (λ seating. (index : ℕ) → seats ≤ index
+        → slice_index_or seating.names index None ≡ None) }
+    ensures seats { IfOk result (λ seating. IfSome seating.seats (AreSeatNumbers seats)) }
+    ensures seat_count { IfOk result (λ seating. IfSome seating.seat_count (IsSeatCount seats)) }
 {
-    [None, None, None, None, None, None, None, None, None, None]
-}
-
-// The names of as many players as there are values.
-fn fill_names(alloc: Global, values: &[Value]) -> Result<[Option<Text>; 10], Stop<Fault>>
-    requires { length values.now ≤ 10 }
-    ensures said { Gives (take (length values.now)) result
-        (names_from (map view values.now)) }
-    ensures each { IfOk result (λ names. (seat : ℕ) → 1 ≤ seat → seat ≤ length values.now
-        → IfSome (slice_index_or names (seat - 1) None) (IsName seat)) }
-    ensures no_more { IfOk result (λ names. (index : ℕ) → length values.now ≤ index
-        → slice_index_or names index None ≡ None) }
-{
-    let mut names = no_names(10);
-    for (index, value) in values.iter().enumerate() {
-        names[index] = read_name(alloc, value, index as u8 + 1)?;
-    }
-    Ok(names)
+    let names = read_names(alloc, table, seats)?;
+    let numbers = read_seats_at(table, seats)?;
+    let seat_count = read_seat_count_at(table, seats)?;
+    Ok(Seating {
+        names,
+        seats: numbers,
+        seat_count,
+    })
 }
 
 // The names of the players of so many seats.
@@ -84,6 +65,76 @@ fn read_names(alloc: Global, table: &Table, seats: u8) -> Result<[Option<Text>; 
             let values = read_items(value, seats, Key::Players)?;
             fill_names(alloc, values)
         }
+    }
+}
+
+// The names of as many players as there are values.
+fn fill_names(alloc: Global, values: &[Value]) -> Result<[Option<Text>; 10], Stop<Fault>>
+    requires { length values.now ≤ 10 }
+    ensures said { Gives (take (length values.now)) result
+        (names_from (map view values.now)) }
+    ensures each { IfOk result (λ names. (seat : ℕ) → 1 ≤ seat → seat ≤ length values.now
+        → IfSome (slice_index_or names (seat - 1) None) (IsName seat)) }
+    ensures no_more { IfOk result (λ names. (index : ℕ) → length values.now ≤ index
+        → slice_index_or names index None ≡ None) }
+{
+    let mut names = no_names(10);
+    for (index, value) in values.iter().enumerate() {
+        names[index] = read_name(alloc, value, index as u8 + 1)?;
+    }
+    Ok(names)
+}
+
+// No names, of which the first are those of so many seats.
+fn no_names(seats: u8) -> [Option<Text>; 10]
+    requires { seats ≤ 10 }
+    ensures none { (index : ℕ) → slice_index_or result index None ≡ None }
+    ensures seats { take seats result ≡ replicate seats None }
+    ensures ten { length result ≡ 10 }
+{
+    [None, None, None, None, None, None, None, None, None, None]
+}
+
+// The name of a seat's player.
+fn read_name(alloc: Global, value: &Value, seat: u8) -> Result<Option<Text>, Stop<Fault>>
+    ensures said { Gives (λ name. name) result
+        (text_note_said (default_name seat) (at_item keys.Players seat) (view value.now)) }
+    ensures allowed { IfOk result (λ name. IfSome name (IsName seat)) }
+{
+    let place = Place {
+        key: Key::Players,
+        item: u64::from(seat),
+    };
+    let usual = format!(in alloc; "p{seat}")?;
+    read_text_note(alloc, value, usual.as_str(), place)
+}
+
+// The numbers of the seats, if they are said.
+fn read_seats_at(table: &Table, seats: u8) -> Result<Option<[u8; 10]>, Stop<Fault>>
+    requires { seats ≤ 10 }
+    ensures said { Gives (option_map (take seats)) result
+        (or_none (seats_said seats) (field_said keys.Seats (table_view table.now))) }
+    ensures allowed { IfOk result (λ numbers. IfSome numbers (AreSeatNumbers seats)) }
+{
+    match field(table, Key::Seats) {
+        Some(value) => read_seats(value, seats),
+        None => Ok(None),
+    }
+}
+
+// The numbers of so many seats, unless they are the usual ones.
+#[tactic(auto, unfolding(crate::specs::NoteFields::seats_said))]
+fn read_seats(value: &Value, seats: u8) -> Result<Option<[u8; 10]>, Stop<Fault>>
+    requires { seats ≤ 10 }
+    ensures said { Gives (option_map (take seats)) result (seats_said seats (view value.now)) }
+    ensures allowed { IfOk result (λ numbers. IfSome numbers (AreSeatNumbers seats)) }
+{
+    let values = read_items(value, seats, Key::Seats)?;
+    let numbers = fill_numbers(values)?;
+    if are_usual(numbers, seats) {
+        Ok(None)
+    } else {
+        Ok(Some(numbers))
     }
 }
 
@@ -118,31 +169,14 @@ fn are_usual(numbers: [u8; 10], seats: u8) -> bool
     said == usual
 }
 
-// The numbers of so many seats, unless they are the usual ones.
-#[tactic(auto, unfolding(crate::specs::NoteFields::seats_said))]
-fn read_seats(value: &Value, seats: u8) -> Result<Option<[u8; 10]>, Stop<Fault>>
-    requires { seats ≤ 10 }
-    ensures said { Gives (option_map (take seats)) result (seats_said seats (view value.now)) }
-    ensures allowed { IfOk result (λ numbers. IfSome numbers (AreSeatNumbers seats)) }
+// How many seats the table has, if that is said.
+fn read_seat_count_at(table: &Table, seats: u8) -> Result<Option<u8>, Stop<Fault>>
+    ensures said { Gives (λ count. count) result
+        (or_none (seat_count_said seats) (field_said keys.SeatCount (table_view table.now))) }
+    ensures allowed { IfOk result (λ count. IfSome count (IsSeatCount seats)) }
 {
-    let values = read_items(value, seats, Key::Seats)?;
-    let numbers = fill_numbers(values)?;
-    if are_usual(numbers, seats) {
-        Ok(None)
-    } else {
-        Ok(Some(numbers))
-    }
-}
-
-// The numbers of the seats, if they are said.
-fn read_seats_at(table: &Table, seats: u8) -> Result<Option<[u8; 10]>, Stop<Fault>>
-    requires { seats ≤ 10 }
-    ensures said { Gives (option_map (take seats)) result
-        (or_none (seats_said seats) (field_said keys.Seats (table_view table.now))) }
-    ensures allowed { IfOk result (λ numbers. IfSome numbers (AreSeatNumbers seats)) }
-{
-    match field(table, Key::Seats) {
-        Some(value) => read_seats(value, seats),
+    match field(table, Key::SeatCount) {
+        Some(value) => read_seat_count(value, seats),
         None => Ok(None),
     }
 }
@@ -159,38 +193,4 @@ fn read_seat_count(value: &Value, seats: u8) -> Result<Option<u8>, Stop<Fault>>
     } else {
         Ok(Some(count))
     }
-}
-
-// How many seats the table has, if that is said.
-fn read_seat_count_at(table: &Table, seats: u8) -> Result<Option<u8>, Stop<Fault>>
-    ensures said { Gives (λ count. count) result
-        (or_none (seat_count_said seats) (field_said keys.SeatCount (table_view table.now))) }
-    ensures allowed { IfOk result (λ count. IfSome count (IsSeatCount seats)) }
-{
-    match field(table, Key::SeatCount) {
-        Some(value) => read_seat_count(value, seats),
-        None => Ok(None),
-    }
-}
-
-/// Who sits where in a hand with so many seats.
-#[tactic(auto, unfolding(crate::specs::NoteFields::seating_said))]
-pub fn read_seating(alloc: Global, table: &Table, seats: u8) -> Result<Seating, Stop<Fault>>
-    requires { seats ≤ 10 }
-    ensures said { Gives (plain_seating seats) result (seating_said seats (table_view table.now)) }
-    ensures each { IfOk result (λ seating. (seat : ℕ) → 1 ≤ seat → seat ≤ seats
-        → IfSome (slice_index_or seating.names (seat - 1) None) (IsName seat)) }
-    ensures no_more { IfOk result (λ seating. (index : ℕ) → seats ≤ index
-        → slice_index_or seating.names index None ≡ None) }
-    ensures seats { IfOk result (λ seating. IfSome seating.seats (AreSeatNumbers seats)) }
-    ensures seat_count { IfOk result (λ seating. IfSome seating.seat_count (IsSeatCount seats)) }
-{
-    let names = read_names(alloc, table, seats)?;
-    let numbers = read_seats_at(table, seats)?;
-    let seat_count = read_seat_count_at(table, seats)?;
-    Ok(Seating {
-        names,
-        seats: numbers,
-        seat_count,
-    })
 }

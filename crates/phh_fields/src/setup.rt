@@ -20,83 +20,6 @@ use first_fault::Stop;
 use play_event::{Code, Setup};
 use toml::{Table, Value};
 
-// The game whose code the text is.
-fn game(text: &str) -> Option<Code>
-    ensures { result ≡ game_named text.now }
-{
-    Code::read(text)
-}
-
-// The variant.
-#[tactic(auto, unfolding(crate::specs::SetupFields::variant_said))]
-fn read_variant(value: &Value) -> Result<Code, Stop<Fault>>
-    ensures { Gives (λ code. code) result (variant_said (view value.now)) }
-{
-    let place = Place::at_key(Key::Variant);
-    match game(read_text(value, place)?) {
-        Some(code) => Ok(code),
-        None => Err(wrong(What::UnknownVariant, place)),
-    }
-}
-
-// Whether the antes are said to be trimmed.
-#[tactic(auto, unfolding(crate::specs::SetupFields::trimming_said))]
-fn read_trimming(table: &Table) -> Result<bool, Stop<Fault>>
-    ensures { Gives (λ trimmed. trimmed) result (trimming_said (table_view table.now)) }
-{
-    match field(table, Key::AnteTrimmingStatus) {
-        Some(value) => read_flag(value, Place::at_key(Key::AnteTrimmingStatus)),
-        None => Ok(false),
-    }
-}
-
-// Whether some seat posts an ante.
-fn has_some(antes: &SeatRow) -> bool
-    ensures { result ≡ list_any (λ ante. nat_lt 0 ante) (amounts_in antes.now) }
-{
-    let (antes, _fillers) = antes.amounts.split_at(antes.seats as usize);
-    for ante in antes {
-        if *ante > 0 {
-            return true;
-        }
-    }
-    false
-}
-
-// Whether antes are dead.
-#[tactic(auto, using(crate::proofs::Taken::any_seat))]
-fn are_dead(trimmed: bool, antes: &SeatRow) -> bool
-    ensures said { result ≡ are_dead_said trimmed (amounts_in antes.now) }
-    ensures some { result ≡ true → list_any (λ seat. nat_lt 0 (amount_of antes.now seat))
-        (seats_of antes.now.seats) ≡ true }
-{
-    !trimmed && has_some(antes)
-}
-
-// The blinds of so many seats; stud has none.
-#[tactic(auto, unfolding(crate::specs::SetupFields::blinds_said))]
-fn read_blinds(table: &Table, code: Code, seats: u8) -> Result<SeatRow, Stop<Fault>>
-    requires some { 2 ≤ seats }
-    requires few { seats ≤ 10 }
-    ensures said { Gives amounts_in result (blinds_said code seats (table_view table.now)) }
-    ensures seats { IfOk result (λ row. row.seats ≡ seats) }
-    ensures most { IfOk result (λ row. (k : ℕ) → slice_index row.amounts k ≤ MOST_CHIPS) }
-    ensures heads_up { IfOk result (λ row. seats ≡ 2
-        → slice_index row.amounts 1 ≤ slice_index row.amounts 0) }
-    ensures stud { IfOk result (λ row. is_stud_said code ≡ true
-        → (k : ℕ) → slice_index row.amounts k ≡ 0) }
-{
-    if is_stud(code) {
-        return Ok(SeatRow {
-            seats,
-            amounts: [0; 10],
-        });
-    }
-    let value = needed(table, Key::BlindsOrStraddles)?;
-    let blinds = read_row(value, seats, MOST_CHIPS, Key::BlindsOrStraddles)?;
-    Ok(posted(blinds))
-}
-
 /// The setup that a hand's fields say, from its variant to its least bet; it has no rakes yet.
 #[tactic(auto, unfolding(crate::specs::SetupFields::setup_said))]
 pub fn read_setup(table: &Table) -> Result<Setup, Stop<Fault>>
@@ -127,4 +50,81 @@ pub fn read_setup(table: &Table) -> Result<Setup, Stop<Fault>>
         min_bet,
         rakes: RakeRow::none(),
     })
+}
+
+// The variant.
+#[tactic(auto, unfolding(crate::specs::SetupFields::variant_said))]
+fn read_variant(value: &Value) -> Result<Code, Stop<Fault>>
+    ensures { Gives (λ code. code) result (variant_said (view value.now)) }
+{
+    let place = Place::at_key(Key::Variant);
+    match game(read_text(value, place)?) {
+        Some(code) => Ok(code),
+        None => Err(wrong(What::UnknownVariant, place)),
+    }
+}
+
+// The game whose code the text is.
+fn game(text: &str) -> Option<Code>
+    ensures { result ≡ game_named text.now }
+{
+    Code::read(text)
+}
+
+// Whether the antes are said to be trimmed.
+#[tactic(auto, unfolding(crate::specs::SetupFields::trimming_said))]
+fn read_trimming(table: &Table) -> Result<bool, Stop<Fault>>
+    ensures { Gives (λ trimmed. trimmed) result (trimming_said (table_view table.now)) }
+{
+    match field(table, Key::AnteTrimmingStatus) {
+        Some(value) => read_flag(value, Place::at_key(Key::AnteTrimmingStatus)),
+        None => Ok(false),
+    }
+}
+
+// The blinds of so many seats; stud has none.
+#[tactic(auto, unfolding(crate::specs::SetupFields::blinds_said))]
+fn read_blinds(table: &Table, code: Code, seats: u8) -> Result<SeatRow, Stop<Fault>>
+    requires some { 2 ≤ seats }
+    requires few { seats ≤ 10 }
+    ensures said { Gives amounts_in result (blinds_said code seats (table_view table.now)) }
+    ensures seats { IfOk result (λ row. row.seats ≡ seats) }
+    ensures most { IfOk result (λ row. (k : ℕ) → slice_index row.amounts k ≤ MOST_CHIPS) }
+    ensures heads_up { IfOk result (λ row. seats ≡ 2
+        → slice_index row.amounts 1 ≤ slice_index row.amounts 0) }
+    ensures stud { IfOk result (λ row. is_stud_said code ≡ true
+        → (k : ℕ) → slice_index row.amounts k ≡ 0) }
+{
+    if is_stud(code) {
+        return Ok(SeatRow {
+            seats,
+            amounts: [0; 10],
+        });
+    }
+    let value = needed(table, Key::BlindsOrStraddles)?;
+    let blinds = read_row(value, seats, MOST_CHIPS, Key::BlindsOrStraddles)?;
+    Ok(posted(blinds))
+}
+
+// Whether antes are dead.
+#[tactic(auto, using(crate::proofs::Taken::any_seat))]
+fn are_dead(trimmed: bool, antes: &SeatRow) -> bool
+    ensures said { result ≡ are_dead_said trimmed (amounts_in antes.now) }
+    ensures some { result ≡ true → list_any (λ seat. nat_lt 0 (amount_of antes.now seat))
+        (seats_of antes.now.seats) ≡ true }
+{
+    !trimmed && has_some(antes)
+}
+
+// Whether some seat posts an ante.
+fn has_some(antes: &SeatRow) -> bool
+    ensures { result ≡ list_any (λ ante. nat_lt 0 ante) (amounts_in antes.now) }
+{
+    let (antes, _fillers) = antes.amounts.split_at(antes.seats as usize);
+    for ante in antes {
+        if *ante > 0 {
+            return true;
+        }
+    }
+    false
 }

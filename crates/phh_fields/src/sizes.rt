@@ -34,14 +34,29 @@ pub fn most_seats(code: Code) -> u8
     }
 }
 
-/// Whether the game is a stud game.
-pub fn is_stud(code: Code) -> bool
-    ensures { result ≡ is_stud_said code }
+/// The sizes of the game's bets.
+#[tactic(auto, unfolding(crate::specs::SetupFields::sizes_said))]
+pub fn read_sizes(table: &Table, code: Code) -> Result<Sizes, Stop<Fault>>
+    ensures said { Gives (λ sizes. sizes) result (sizes_said code (table_view table.now)) }
+    ensures bring_in { IfOk result (λ sizes. IsSizeWhere (is_stud_said code) sizes.bring_in) }
+    ensures small_bet { IfOk result (λ sizes.
+        IsSizeWhere (is_fixed_said (limit_of code)) sizes.small_bet) }
+    ensures big_bet { IfOk result (λ sizes.
+        IsSizeWhere (is_fixed_said (limit_of code)) sizes.big_bet) }
+    ensures min_bet { IfOk result (λ sizes.
+        IsSizeWhere (not (is_fixed_said (limit_of code))) sizes.min_bet) }
 {
-    match code {
-        Code::F7S | Code::F7S8 | Code::FR => true,
-        _ => false,
-    }
+    let fixed = is_fixed(code);
+    let bring_in = read_size(table, is_stud(code), Key::BringIn)?;
+    let small_bet = read_size(table, fixed, Key::SmallBet)?;
+    let big_bet = read_size(table, fixed, Key::BigBet)?;
+    let min_bet = read_size(table, !fixed, Key::MinBet)?;
+    Ok(Sizes {
+        bring_in,
+        small_bet,
+        big_bet,
+        min_bet,
+    })
 }
 
 // Whether the game is played in fixed limit.
@@ -66,27 +81,12 @@ fn read_size(table: &Table, used: bool, key: Key) -> Result<u64, Stop<Fault>>
     read_amount(needed(table, key)?, 1, MOST_CHIPS, Place::at_key(key))
 }
 
-/// The sizes of the game's bets.
-#[tactic(auto, unfolding(crate::specs::SetupFields::sizes_said))]
-pub fn read_sizes(table: &Table, code: Code) -> Result<Sizes, Stop<Fault>>
-    ensures said { Gives (λ sizes. sizes) result (sizes_said code (table_view table.now)) }
-    ensures bring_in { IfOk result (λ sizes. IsSizeWhere (is_stud_said code) sizes.bring_in) }
-    ensures small_bet { IfOk result (λ sizes.
-        IsSizeWhere (is_fixed_said (limit_of code)) sizes.small_bet) }
-    ensures big_bet { IfOk result (λ sizes.
-        IsSizeWhere (is_fixed_said (limit_of code)) sizes.big_bet) }
-    ensures min_bet { IfOk result (λ sizes.
-        IsSizeWhere (not (is_fixed_said (limit_of code))) sizes.min_bet) }
+/// Whether the game is a stud game.
+pub fn is_stud(code: Code) -> bool
+    ensures { result ≡ is_stud_said code }
 {
-    let fixed = is_fixed(code);
-    let bring_in = read_size(table, is_stud(code), Key::BringIn)?;
-    let small_bet = read_size(table, fixed, Key::SmallBet)?;
-    let big_bet = read_size(table, fixed, Key::BigBet)?;
-    let min_bet = read_size(table, !fixed, Key::MinBet)?;
-    Ok(Sizes {
-        bring_in,
-        small_bet,
-        big_bet,
-        min_bet,
-    })
+    match code {
+        Code::F7S | Code::F7S8 | Code::FR => true,
+        _ => false,
+    }
 }

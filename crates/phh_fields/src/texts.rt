@@ -11,28 +11,6 @@ use first_fault::{MOST_TEXT_BYTES, Quantity, Stop, Text};
 use std::alloc::Global;
 use toml::Value;
 
-// A copy of the text, or nothing where it says no note.
-#[tactic(auto, unfolding(crate::specs::NoteFields::note_said))]
-fn keep_text(
-    alloc: Global,
-    text: &str,
-    default: &str,
-    place: Place,
-) -> Result<Option<Text>, Stop<Fault>>
-    ensures said { Gives (λ note. note) result (note_said default.now place text.now) }
-    ensures allowed { IfOk result (λ note. IfSome note (λ text.
-        IsNoteText text × (text ≢ default.now))) }
-{
-    if text.len() > MOST_TEXT_BYTES {
-        let quantity = Quantity::TextBytes;
-        return Err(wrong(What::TooMany { quantity }, place));
-    }
-    if text.is_empty() || text == default {
-        return Ok(None);
-    }
-    Ok(Some(Text::new(alloc, text)?))
-}
-
 /// The text of a note with this default.
 #[tactic(auto, unfolding(crate::specs::NoteFields::text_note_said))]
 pub fn read_text_note(
@@ -69,4 +47,26 @@ pub fn read_label(
         }
         _ => Err(wrong(What::WrongType, place)),
     }
+}
+
+// A copy of the text, or nothing where it says no note.
+#[tactic(auto, unfolding(crate::specs::NoteFields::note_said))]
+fn keep_text(
+    alloc: Global,
+    text: &str,
+    default: &str,
+    place: Place,
+) -> Result<Option<Text>, Stop<Fault>>
+    ensures said { Gives (λ note. note) result (note_said default.now place text.now) }
+    ensures allowed { IfOk result (λ note. IfSome note (λ text.
+        IsNoteText text × (text ≢ default.now))) }
+{
+    if text.len() > MOST_TEXT_BYTES {
+        let quantity = Quantity::TextBytes;
+        return Err(wrong(What::TooMany { quantity }, place));
+    }
+    if text.is_empty() || text == default {
+        return Ok(None);
+    }
+    Ok(Some(Text::new(alloc, text)?))
 }

@@ -8,21 +8,6 @@ use crate::fault::{Fault, Key, Place, What};
 use first_fault::Stop;
 use toml::{Table, Value};
 
-/// A fault at a place.
-pub fn wrong(what: What, place: Place) -> Stop<Fault>
-    ensures { result ≡ Stop.At (record { what = what; place = place }) }
-{
-    Stop::At(Fault { what, place })
-}
-
-/// The value at a key, if there is one.
-pub fn field<'a>(table: &'a Table, key: Key) -> Option<&'a Value>
-    ensures { option_map (λ value. view value.now) result
-        ≡ field_said key (table_view table.now) }
-{
-    table.get(key.text())
-}
-
 /// The value at a key that is needed.
 #[tactic(auto, unfolding(crate::specs::Fields::needed))]
 pub fn needed<'a>(table: &'a Table, key: Key) -> Result<&'a Value, Stop<Fault>>
@@ -32,6 +17,14 @@ pub fn needed<'a>(table: &'a Table, key: Key) -> Result<&'a Value, Stop<Fault>>
         Some(value) => Ok(value),
         None => Err(wrong(What::MissingField, Place::at_key(key))),
     }
+}
+
+/// The value at a key, if there is one.
+pub fn field<'a>(table: &'a Table, key: Key) -> Option<&'a Value>
+    ensures { option_map (λ value. view value.now) result
+        ≡ field_said key (table_view table.now) }
+{
+    table.get(key.text())
 }
 
 /// A text.
@@ -54,28 +47,6 @@ pub fn read_flag(value: &Value, place: Place) -> Result<bool, Stop<Fault>>
         Value::Boolean(flag) => Ok(*flag),
         _ => Err(wrong(What::WrongType, place)),
     }
-}
-
-// A list.
-#[tactic(auto, unfolding(crate::specs::Fields::list_said))]
-fn read_array(value: &Value, place: Place) -> Result<&Vec<Value>, Stop<Fault>>
-    ensures { Gives (λ values. listed (array_view values.now)) result
-        (list_said place (view value.now)) }
-{
-    match value {
-        Value::Array(values) => Ok(values),
-        _ => Err(wrong(What::WrongType, place)),
-    }
-}
-
-/// The values of a list.
-#[tactic(auto, using(crate::proofs::Lists::listed_view))]
-pub fn read_list(value: &Value, place: Place) -> Result<&Vec<Value>, Stop<Fault>>
-    ensures { Gives (λ values. map view values.now.items) result
-        (list_said place (view value.now)) }
-{
-    let values = read_array(value, place)?;
-    Ok(values)
 }
 
 /// Whether there are so many values.
@@ -101,20 +72,25 @@ pub fn read_items(value: &Value, seats: u8, key: Key) -> Result<&Vec<Value>, Sto
     Ok(values)
 }
 
-// A number from least to most.
-#[tactic(auto, unfolding(crate::specs::Fields::kept_within))]
-fn keep_within(number: i64, least: u64, most: u64, place: Place) -> Result<u64, Stop<Fault>>
-    ensures within { IfOk result (λ number. (least ≤ number) × (number ≤ most)) }
-    ensures said { Gives (λ number. number) result (kept_within least most place number) }
+/// The values of a list.
+#[tactic(auto, using(crate::proofs::Lists::listed_view))]
+pub fn read_list(value: &Value, place: Place) -> Result<&Vec<Value>, Stop<Fault>>
+    ensures { Gives (λ values. map view values.now.items) result
+        (list_said place (view value.now)) }
 {
-    if number < 0 {
-        return Err(wrong(What::AmountLimit, place));
-    }
-    let number = number as u64;
-    if least <= number && number <= most {
-        Ok(number)
-    } else {
-        Err(wrong(What::AmountLimit, place))
+    let values = read_array(value, place)?;
+    Ok(values)
+}
+
+// A list.
+#[tactic(auto, unfolding(crate::specs::Fields::list_said))]
+fn read_array(value: &Value, place: Place) -> Result<&Vec<Value>, Stop<Fault>>
+    ensures { Gives (λ values. listed (array_view values.now)) result
+        (list_said place (view value.now)) }
+{
+    match value {
+        Value::Array(values) => Ok(values),
+        _ => Err(wrong(What::WrongType, place)),
     }
 }
 
@@ -143,4 +119,28 @@ pub fn read_number(value: &Value, least: u64, most: u64, place: Place) -> Result
         Value::Integer(number) => keep_within(*number, least, most, place),
         _ => Err(wrong(What::WrongType, place)),
     }
+}
+
+// A number from least to most.
+#[tactic(auto, unfolding(crate::specs::Fields::kept_within))]
+fn keep_within(number: i64, least: u64, most: u64, place: Place) -> Result<u64, Stop<Fault>>
+    ensures within { IfOk result (λ number. (least ≤ number) × (number ≤ most)) }
+    ensures said { Gives (λ number. number) result (kept_within least most place number) }
+{
+    if number < 0 {
+        return Err(wrong(What::AmountLimit, place));
+    }
+    let number = number as u64;
+    if least <= number && number <= most {
+        Ok(number)
+    } else {
+        Err(wrong(What::AmountLimit, place))
+    }
+}
+
+/// A fault at a place.
+pub fn wrong(what: What, place: Place) -> Stop<Fault>
+    ensures { result ≡ Stop.At (record { what = what; place = place }) }
+{
+    Stop::At(Fault { what, place })
 }

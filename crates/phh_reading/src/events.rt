@@ -26,21 +26,83 @@ pub struct Counts {
     pub file_moves: usize,
 }
 
-// Whether it is a move.
-fn is_move(kind: Kind) -> bool
-    ensures { result ≡ is_move_said (kind_said kind) }
+/// The events of the actions of a hand with so many seats, after so many moves of the file; and the counts after them.
+pub fn read_events(
+    alloc: Global,
+    seats: u8,
+    file_moves: usize,
+    actions: &[Value],
+) -> Result<(Script, Counts), Stop<Fault>>
+    requires seats { seats ≤ 10 }
+    requires few { file_moves ≤ MOST_FILE_MOVES }
+    ensures said { Gives (λ found. (map numbered found.0, found.1)) result
+        (events_said seats (counts_after file_moves) (map view actions.now)) }
+    ensures few { IfOk result (λ found. AreFew found.1) }
+    ensures counted { IfOk result (λ found. AreCounted file_moves found.0 found.1) }
 {
-    match kind {
-        Kind::Fold { .. } | Kind::Call { .. } | Kind::Raise { .. } | Kind::BringIn { .. } => true,
-        _ => false,
+    let mut script = Script::new(alloc);
+    let mut counts = Counts {
+        moves: 0,
+        other_events: 0,
+        file_moves,
+    };
+    for (index, value) in actions.iter().enumerate() {
+        let (event, next) = read_event(seats, counts, index as u64 + 1, value)?;
+        push_if(&mut script, event)?;
+        counts = next;
+    }
+    Ok((script, counts))
+}
+
+// An action.
+#[tactic(auto, unfolding(crate::specs::Events::event_said, crate::specs::Events::added))]
+fn read_event(
+    seats: u8,
+    counts: Counts,
+    number: u64,
+    value: &Value,
+) -> Result<(Option<Event>, Counts), Stop<Fault>>
+    requires { seats ≤ 10 }
+    ensures said { Gives (λ found. (listed_event found.0, found.1)) result
+        (event_said seats counts number (view value.now)) }
+    ensures few { AreFew counts → IfOk result (λ found. AreFew found.1) }
+    ensures after { IfOk result (λ found. IsAfter counts found.0 found.1) }
+{
+    let place = Place {
+        key: Key::Actions,
+        item: number,
+    };
+    let text = read_text(value, place)?;
+    match read_kind(text, seats, place)? {
+        None => Ok((None, counts)),
+        Some(kind) => {
+            let next = count(counts, place, is_move(kind))?;
+            let at = kept(number);
+            Ok((Some(Event { at, kind }), next))
+        }
     }
 }
 
-// A fault of a quantity that passes its limit.
-fn too_many(quantity: Quantity, place: Place) -> Stop<Fault>
-    ensures { result ≡ Stop.At (record { what = What.TooMany quantity; place = place }) }
+// What the text of an action says.
+fn read_kind(text: &str, seats: u8, place: Place) -> Result<Option<Kind>, Stop<Fault>>
+    requires { seats ≤ 10 }
+    ensures { Gives (option_map kind_said) result (at_place place (action_said seats text.now)) }
 {
-    wrong(What::TooMany { quantity }, place)
+    match read_action(text, seats) {
+        Ok(kind) => Ok(kind),
+        Err(fault) => Err(wrong(fault_of(fault), place)),
+    }
+}
+
+// What is wrong with an action.
+fn fault_of(fault: ActionFault) -> What
+    ensures { result ≡ action_fault fault }
+{
+    match fault {
+        ActionFault::BadAction => What::BadAction,
+        ActionFault::AmountNotWhole => What::AmountNotWhole,
+        ActionFault::AmountLimit => What::AmountLimit,
+    }
 }
 
 // The counts after one more event, each within its limit.
@@ -74,6 +136,23 @@ fn count(counts: Counts, place: Place, moves: bool) -> Result<Counts, Stop<Fault
     }
 }
 
+// A fault of a quantity that passes its limit.
+fn too_many(quantity: Quantity, place: Place) -> Stop<Fault>
+    ensures { result ≡ Stop.At (record { what = What.TooMany quantity; place = place }) }
+{
+    wrong(What::TooMany { quantity }, place)
+}
+
+// Whether it is a move.
+fn is_move(kind: Kind) -> bool
+    ensures { result ≡ is_move_said (kind_said kind) }
+{
+    match kind {
+        Kind::Fold { .. } | Kind::Call { .. } | Kind::Raise { .. } | Kind::BringIn { .. } => true,
+        _ => false,
+    }
+}
+
 // The number of an action as it is kept.
 fn kept(number: u64) -> u32
     ensures { result ≡ kept_number number }
@@ -82,57 +161,6 @@ fn kept(number: u64) -> u32
         4_294_967_295
     } else {
         number as u32
-    }
-}
-
-// What is wrong with an action.
-fn fault_of(fault: ActionFault) -> What
-    ensures { result ≡ action_fault fault }
-{
-    match fault {
-        ActionFault::BadAction => What::BadAction,
-        ActionFault::AmountNotWhole => What::AmountNotWhole,
-        ActionFault::AmountLimit => What::AmountLimit,
-    }
-}
-
-// What the text of an action says.
-fn read_kind(text: &str, seats: u8, place: Place) -> Result<Option<Kind>, Stop<Fault>>
-    requires { seats ≤ 10 }
-    ensures { Gives (option_map kind_said) result (at_place place (action_said seats text.now)) }
-{
-    match read_action(text, seats) {
-        Ok(kind) => Ok(kind),
-        Err(fault) => Err(wrong(fault_of(fault), place)),
-    }
-}
-
-// An action.
-#[tactic(auto, unfolding(crate::specs::Events::event_said, crate::specs::Events::added))]
-fn read_event(
-    seats: u8,
-    counts: Counts,
-    number: u64,
-    value: &Value,
-) -> Result<(Option<Event>, Counts), Stop<Fault>>
-    requires { seats ≤ 10 }
-    ensures said { Gives (λ found. (listed_event found.0, found.1)) result
-        (event_said seats counts number (view value.now)) }
-    ensures few { AreFew counts → IfOk result (λ found. AreFew found.1) }
-    ensures after { IfOk result (λ found. IsAfter counts found.0 found.1) }
-{
-    let place = Place {
-        key: Key::Actions,
-        item: number,
-    };
-    let text = read_text(value, place)?;
-    match read_kind(text, seats, place)? {
-        None => Ok((None, counts)),
-        Some(kind) => {
-            let next = count(counts, place, is_move(kind))?;
-            let at = kept(number);
-            Ok((Some(Event { at, kind }), next))
-        }
     }
 }
 
@@ -146,32 +174,4 @@ fn push_if(script: &mut Script, event: Option<Event>) -> Result<(), Memory>
         Some(event) => script.push(event),
         None => Ok(()),
     }
-}
-
-/// The events of the actions of a hand with so many seats, after so many moves of the file; and the counts after them.
-pub fn read_events(
-    alloc: Global,
-    seats: u8,
-    file_moves: usize,
-    actions: &[Value],
-) -> Result<(Script, Counts), Stop<Fault>>
-    requires seats { seats ≤ 10 }
-    requires few { file_moves ≤ MOST_FILE_MOVES }
-    ensures said { Gives (λ found. (map numbered found.0, found.1)) result
-        (events_said seats (counts_after file_moves) (map view actions.now)) }
-    ensures few { IfOk result (λ found. AreFew found.1) }
-    ensures counted { IfOk result (λ found. AreCounted file_moves found.0 found.1) }
-{
-    let mut script = Script::new(alloc);
-    let mut counts = Counts {
-        moves: 0,
-        other_events: 0,
-        file_moves,
-    };
-    for (index, value) in actions.iter().enumerate() {
-        let (event, next) = read_event(seats, counts, index as u64 + 1, value)?;
-        push_if(&mut script, event)?;
-        counts = next;
-    }
-    Ok((script, counts))
 }

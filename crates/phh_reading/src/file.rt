@@ -19,18 +19,52 @@ use phh_fields::values::field;
 use std::alloc::Global;
 use toml::Table;
 
-// What is wrong at a hand's variant.
-fn at_variant(hand: u32, what: What) -> Stop<HandFault>
-    ensures { result ≡ Stop.At (record {
-      hand = hand;
-      fault = record { what = what; place = at_key keys.Variant };
-    }) }
+/// The hands of a document.
+#[tactic(auto, unfolding(crate::specs::Reading::hands_of))]
+pub fn read_hands(alloc: Global, table: &Table) -> Result<Records, Stop<HandFault>>
+    ensures said { Gives (map plain) result (those_said (hands_of (table_view table.now))) }
+    ensures sound { IfOk result (AllByRecursion IsHistory) }
+    ensures few { IfOk result (λ records. length records ≤ MOST_HANDS) }
+    ensures moves { IfOk result (λ records. sum_by moves_of records ≤ MOST_FILE_MOVES) }
 {
-    let place = Place::at_key(Key::Variant);
-    Stop::At(HandFault {
-        hand,
-        fault: Fault { what, place },
-    })
+    if field(table, Key::Variant).is_some() {
+        return read_records(alloc, &[table]);
+    }
+    if !are_hands(table) {
+        return Err(at_variant(1, What::MissingField));
+    }
+    let tables = tables_in_order(alloc, table)?;
+    read_records(alloc, tables.as_slice())
+}
+
+// The hands of tables, in order.
+fn read_records(alloc: Global, tables: &[&Table]) -> Result<Records, Stop<HandFault>>
+    ensures said { Gives (map plain) result
+        (records_said (map (λ hand. table_view hand.now) tables.now)) }
+    ensures sound { IfOk result (AllByRecursion IsHistory) }
+    ensures few { IfOk result (λ records. length records ≤ MOST_HANDS) }
+    ensures moves { IfOk result (λ records. sum_by moves_of records ≤ MOST_FILE_MOVES) }
+{
+    let (records, _moves) = read_tables(alloc, tables)?;
+    Ok(records)
+}
+
+// The hands of tables, in order, and the moves of the file after them.
+fn read_tables(alloc: Global, tables: &[&Table]) -> Result<(Records, usize), Stop<HandFault>>
+    ensures said { Gives (λ found. (map plain found.0, found.1)) result
+        (hands_said (map (λ hand. table_view hand.now) tables.now)) }
+    ensures sound { IfOk result (λ found. AllByRecursion IsHistory found.0) }
+    ensures few { IfOk result (λ found. length found.0 ≤ MOST_HANDS) }
+    ensures moves { IfOk result (λ found. sum_by moves_of found.0 ≤ MOST_FILE_MOVES) }
+{
+    let mut records = Records::new(alloc);
+    let mut file_moves = 0;
+    for (index, hand) in tables.iter().enumerate() {
+        let (record, moves) = read_numbered(alloc, hand, index as u32 + 1, file_moves)?;
+        records.push(record)?;
+        file_moves = moves;
+    }
+    Ok((records, file_moves))
 }
 
 // The hand with this number, from 1, after so many moves of the file.
@@ -64,50 +98,16 @@ fn read_numbered(
     }
 }
 
-// The hands of tables, in order, and the moves of the file after them.
-fn read_tables(alloc: Global, tables: &[&Table]) -> Result<(Records, usize), Stop<HandFault>>
-    ensures said { Gives (λ found. (map plain found.0, found.1)) result
-        (hands_said (map (λ hand. table_view hand.now) tables.now)) }
-    ensures sound { IfOk result (λ found. AllByRecursion IsHistory found.0) }
-    ensures few { IfOk result (λ found. length found.0 ≤ MOST_HANDS) }
-    ensures moves { IfOk result (λ found. sum_by moves_of found.0 ≤ MOST_FILE_MOVES) }
+// What is wrong at a hand's variant.
+fn at_variant(hand: u32, what: What) -> Stop<HandFault>
+    ensures { result ≡ Stop.At (record {
+      hand = hand;
+      fault = record { what = what; place = at_key keys.Variant };
+    }) }
 {
-    let mut records = Records::new(alloc);
-    let mut file_moves = 0;
-    for (index, hand) in tables.iter().enumerate() {
-        let (record, moves) = read_numbered(alloc, hand, index as u32 + 1, file_moves)?;
-        records.push(record)?;
-        file_moves = moves;
-    }
-    Ok((records, file_moves))
-}
-
-// The hands of tables, in order.
-fn read_records(alloc: Global, tables: &[&Table]) -> Result<Records, Stop<HandFault>>
-    ensures said { Gives (map plain) result
-        (records_said (map (λ hand. table_view hand.now) tables.now)) }
-    ensures sound { IfOk result (AllByRecursion IsHistory) }
-    ensures few { IfOk result (λ records. length records ≤ MOST_HANDS) }
-    ensures moves { IfOk result (λ records. sum_by moves_of records ≤ MOST_FILE_MOVES) }
-{
-    let (records, _moves) = read_tables(alloc, tables)?;
-    Ok(records)
-}
-
-/// The hands of a document.
-#[tactic(auto, unfolding(crate::specs::Reading::hands_of))]
-pub fn read_hands(alloc: Global, table: &Table) -> Result<Records, Stop<HandFault>>
-    ensures said { Gives (map plain) result (those_said (hands_of (table_view table.now))) }
-    ensures sound { IfOk result (AllByRecursion IsHistory) }
-    ensures few { IfOk result (λ records. length records ≤ MOST_HANDS) }
-    ensures moves { IfOk result (λ records. sum_by moves_of records ≤ MOST_FILE_MOVES) }
-{
-    if field(table, Key::Variant).is_some() {
-        return read_records(alloc, &[table]);
-    }
-    if !are_hands(table) {
-        return Err(at_variant(1, What::MissingField));
-    }
-    let tables = tables_in_order(alloc, table)?;
-    read_records(alloc, tables.as_slice())
+    let place = Place::at_key(Key::Variant);
+    Stop::At(HandFault {
+        hand,
+        fault: Fault { what, place },
+    })
 }

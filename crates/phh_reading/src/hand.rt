@@ -25,36 +25,6 @@ use play_event::{Reopen, Rules, Setup};
 use std::alloc::Global;
 use toml::Table;
 
-// The finishing stacks of so many seats, if they are stated.
-fn read_finish(table: &Table, seats: u8) -> Result<Option<SeatRow>, Stop<Fault>>
-    requires some { 2 ≤ seats }
-    requires few { seats ≤ 10 }
-    ensures said { Gives (option_map amounts_in) result
-        (read_if (row_said seats MOST_AMOUNT keys.FinishingStacks)
-        (field_said keys.FinishingStacks (table_view table.now))) }
-    ensures seats { IfOk result (λ finish. ForSome finish (λ row. row.seats ≡ seats)) }
-{
-    match field(table, Key::FinishingStacks) {
-        Some(value) => {
-            let finish = read_row(value, seats, MOST_AMOUNT, Key::FinishingStacks)?;
-            Ok(Some(finish))
-        }
-        None => Ok(None),
-    }
-}
-
-// The rakes, or none.
-#[tactic(auto, unfolding(crate::specs::Hand::rakes_at))]
-fn read_rakes_at(table: &Table) -> Result<RakeRow, Stop<Fault>>
-    ensures said { Gives (λ row. row.rakes) result (rakes_at (table_view table.now)) }
-    ensures most { IfOk result (λ row. (pot : ℕ) → rake_of row pot ≤ MOST_AMOUNT) }
-{
-    match field(table, Key::Rakes) {
-        Some(value) => read_rakes(value),
-        None => Ok(RakeRow::none()),
-    }
-}
-
 /// The hand of a table at this place of its file, from 0, after so many moves of the file; and the moves of the file
 /// after it.
 #[tactic(auto, unfolding(crate::specs::Hand::hand_said))]
@@ -95,4 +65,34 @@ pub fn read_hand(
         notes,
     };
     Ok((hand, counts.file_moves))
+}
+
+// The finishing stacks of so many seats, if they are stated.
+fn read_finish(table: &Table, seats: u8) -> Result<Option<SeatRow>, Stop<Fault>>
+    requires some { 2 ≤ seats }
+    requires few { seats ≤ 10 }
+    ensures said { Gives (option_map amounts_in) result
+        (read_if (row_said seats MOST_AMOUNT keys.FinishingStacks)
+        (field_said keys.FinishingStacks (table_view table.now))) }
+    ensures seats { IfOk result (λ finish. ForSome finish (λ row. row.seats ≡ seats)) }
+{
+    match field(table, Key::FinishingStacks) {
+        Some(value) => {
+            let finish = read_row(value, seats, MOST_AMOUNT, Key::FinishingStacks)?;
+            Ok(Some(finish))
+        }
+        None => Ok(None),
+    }
+}
+
+// The rakes, or none.
+#[tactic(auto, unfolding(crate::specs::Hand::rakes_at))]
+fn read_rakes_at(table: &Table) -> Result<RakeRow, Stop<Fault>>
+    ensures said { Gives (λ row. row.rakes) result (rakes_at (table_view table.now)) }
+    ensures most { IfOk result (λ row. (pot : ℕ) → rake_of row pot ≤ MOST_AMOUNT) }
+{
+    match field(table, Key::Rakes) {
+        Some(value) => read_rakes(value),
+        None => Ok(RakeRow::none()),
+    }
 }

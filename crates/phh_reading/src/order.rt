@@ -16,25 +16,23 @@ use toml::{Table, Value};
 // greater.
 type Numbered<'a> = BTreeMap<(usize, &'a [u8], &'a [u8]), &'a Value>;
 
-// How many zeros stand in front.
-fn zeros(key: &[u8]) -> usize
-    ensures { result ≡ prefix_len (λ digit. digit == 48) key.now }
+/// Whether each key is a number and each value a table.
+pub fn are_hands(table: &Table) -> bool
+    ensures { result ≡ are_hands_said (table_view table.now) }
 {
-    for (index, digit) in key.iter().enumerate() {
-        if *digit != b'0' {
-            return index;
+    for (key, value) in table.iter() {
+        if !(is_number(key.as_str()) && is_table(value)) {
+            return false;
         }
     }
-    key.len()
+    true
 }
 
-// The digits without the zeros in front.
-fn without_zeros(key: &[u8]) -> &[u8]
-    ensures { result.now ≡ number_digits key.now }
+// Whether the text is a number.
+fn is_number(key: &str) -> bool
+    ensures { result ≡ are_digits_said key.now }
 {
-    let len = zeros(key);
-    let (_zeros, digits) = key.split_at(len);
-    digits
+    are_digits(key.as_bytes())
 }
 
 // Whether the value is a table.
@@ -47,23 +45,19 @@ fn is_table(value: &Value) -> bool
     }
 }
 
-// Whether the text is a number.
-fn is_number(key: &str) -> bool
-    ensures { result ≡ are_digits_said key.now }
+/// The tables in the order of the numbers of their keys. Ask first that they are hands.
+pub fn tables_in_order<'a>(alloc: Global, table: &'a Table) -> Result<Vec<&'a Table>, Memory>
+    requires { IsTrue (are_hands_said (table_view table.now)) }
+    ensures { IfOk result (λ tables. map (λ hand. table_view hand.now) tables.items
+        ≡ in_order (table_view table.now)) }
 {
-    are_digits(key.as_bytes())
-}
-
-/// Whether each key is a number and each value a table.
-pub fn are_hands(table: &Table) -> bool
-    ensures { result ≡ are_hands_said (table_view table.now) }
-{
-    for (key, value) in table.iter() {
-        if !(is_number(key.as_str()) && is_table(value)) {
-            return false;
-        }
+    let hands = values_in_order(alloc, table)?;
+    let mut tables = Vec::new(alloc);
+    for (key, value) in hands.iter() {
+        let _number = key.0;
+        push_table(&mut tables, *value)?;
     }
-    true
+    Ok(tables)
 }
 
 // The values in the order of the numbers of their keys.
@@ -82,6 +76,27 @@ fn values_in_order<'a>(alloc: Global, table: &'a Table) -> Result<Numbered<'a>, 
     Ok(hands)
 }
 
+// The digits without the zeros in front.
+fn without_zeros(key: &[u8]) -> &[u8]
+    ensures { result.now ≡ number_digits key.now }
+{
+    let len = zeros(key);
+    let (_zeros, digits) = key.split_at(len);
+    digits
+}
+
+// How many zeros stand in front.
+fn zeros(key: &[u8]) -> usize
+    ensures { result ≡ prefix_len (λ digit. digit == 48) key.now }
+{
+    for (index, digit) in key.iter().enumerate() {
+        if *digit != b'0' {
+            return index;
+        }
+    }
+    key.len()
+}
+
 // The tables with one more value, if it is a table.
 fn push_table<'a>(tables: &mut Vec<&'a Table>, value: &'a Value) -> Result<(), Memory>
     ensures { OnOk result (map (λ hand. table_view hand.now) tables.new.items
@@ -95,19 +110,4 @@ fn push_table<'a>(tables: &mut Vec<&'a Table>, value: &'a Value) -> Result<(), M
         }
         _ => Ok(()),
     }
-}
-
-/// The tables in the order of the numbers of their keys. Ask first that they are hands.
-pub fn tables_in_order<'a>(alloc: Global, table: &'a Table) -> Result<Vec<&'a Table>, Memory>
-    requires { IsTrue (are_hands_said (table_view table.now)) }
-    ensures { IfOk result (λ tables. map (λ hand. table_view hand.now) tables.items
-        ≡ in_order (table_view table.now)) }
-{
-    let hands = values_in_order(alloc, table)?;
-    let mut tables = Vec::new(alloc);
-    for (key, value) in hands.iter() {
-        let _number = key.0;
-        push_table(&mut tables, *value)?;
-    }
-    Ok(tables)
 }

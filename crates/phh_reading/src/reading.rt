@@ -15,6 +15,52 @@ use phh_fields::fault::{Place, What};
 use std::alloc::Global;
 use toml::Table;
 
+/// The records that bytes in the Poker Hand History format say, one for each hand in the order of reading; or their
+/// first fault. Each record is sound, and under the rules of hand histories.
+#[tactic(auto, using(crate::proofs::Documents::no_document), unfolding(crate::specs::Reading::reading))]
+pub fn read(alloc: Global, bytes: &[u8]) -> Result<Records, PhhFault>
+    ensures reads { Reads result (reading bytes.now) }
+    ensures sound { IfOk result (AllByRecursion IsHistory) }
+    ensures few { IfOk result (λ records. length records ≤ MOST_HANDS) }
+    ensures moves { IfOk result (λ records. sum_by moves_of records ≤ MOST_FILE_MOVES) }
+{
+    match toml::table_from_slice(alloc, bytes) {
+        Ok(table) => read_document(alloc, &table),
+        Err(error) => {
+            if error.is_memory() {
+                Err(PhhFault::Memory)
+            } else {
+                Err(PhhFault::Text)
+            }
+        }
+    }
+}
+
+// The records that a document says.
+fn read_document(alloc: Global, table: &Table) -> Result<Records, PhhFault>
+    ensures reads { Reads result (document_said (Some (table_view table.now))) }
+    ensures sound { IfOk result (AllByRecursion IsHistory) }
+    ensures few { IfOk result (λ records. length records ≤ MOST_HANDS) }
+    ensures moves { IfOk result (λ records. sum_by moves_of records ≤ MOST_FILE_MOVES) }
+{
+    match read_hands(alloc, table) {
+        Ok(records) => Ok(records),
+        Err(Stop::Memory) => Err(PhhFault::Memory),
+        Err(Stop::At(found)) => Err(spelled(alloc, found)),
+    }
+}
+
+// A fault with its key as it is spelled.
+fn spelled(alloc: Global, found: HandFault) -> PhhFault
+    ensures { IfSome (wrong_of result) (λ wrong.
+        wrong ≡ InHand found.hand (place_text_said found.fault.place) found.fault.what) }
+{
+    match place_text(alloc, found.fault.place) {
+        Ok(key) => wrong_at(found.hand, key, found.fault.what),
+        Err(_) => PhhFault::Memory,
+    }
+}
+
 // How a place is spelled: the key, and for an item a space and its number.
 fn place_text(alloc: Global, place: Place) -> Result<Text, Memory>
     ensures { IfOk result (λ text. text ≡ place_text_said place) }
@@ -46,51 +92,5 @@ fn wrong_at(hand: u32, key: Text, what: What) -> PhhFault
             key,
             quantity,
         },
-    }
-}
-
-// A fault with its key as it is spelled.
-fn spelled(alloc: Global, found: HandFault) -> PhhFault
-    ensures { IfSome (wrong_of result) (λ wrong.
-        wrong ≡ InHand found.hand (place_text_said found.fault.place) found.fault.what) }
-{
-    match place_text(alloc, found.fault.place) {
-        Ok(key) => wrong_at(found.hand, key, found.fault.what),
-        Err(_) => PhhFault::Memory,
-    }
-}
-
-// The records that a document says.
-fn read_document(alloc: Global, table: &Table) -> Result<Records, PhhFault>
-    ensures reads { Reads result (document_said (Some (table_view table.now))) }
-    ensures sound { IfOk result (AllByRecursion IsHistory) }
-    ensures few { IfOk result (λ records. length records ≤ MOST_HANDS) }
-    ensures moves { IfOk result (λ records. sum_by moves_of records ≤ MOST_FILE_MOVES) }
-{
-    match read_hands(alloc, table) {
-        Ok(records) => Ok(records),
-        Err(Stop::Memory) => Err(PhhFault::Memory),
-        Err(Stop::At(found)) => Err(spelled(alloc, found)),
-    }
-}
-
-/// The records that bytes in the Poker Hand History format say, one for each hand in the order of reading; or their
-/// first fault. Each record is sound, and under the rules of hand histories.
-#[tactic(auto, using(crate::proofs::Documents::no_document), unfolding(crate::specs::Reading::reading))]
-pub fn read(alloc: Global, bytes: &[u8]) -> Result<Records, PhhFault>
-    ensures reads { Reads result (reading bytes.now) }
-    ensures sound { IfOk result (AllByRecursion IsHistory) }
-    ensures few { IfOk result (λ records. length records ≤ MOST_HANDS) }
-    ensures moves { IfOk result (λ records. sum_by moves_of records ≤ MOST_FILE_MOVES) }
-{
-    match toml::table_from_slice(alloc, bytes) {
-        Ok(table) => read_document(alloc, &table),
-        Err(error) => {
-            if error.is_memory() {
-                Err(PhhFault::Memory)
-            } else {
-                Err(PhhFault::Text)
-            }
-        }
     }
 }

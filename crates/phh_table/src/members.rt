@@ -11,16 +11,6 @@ use chip_ledger::SeatRow;
 use std::alloc::Global;
 use toml::{Table, Value};
 
-/// Puts a value under a key.
-pub fn put(alloc: Global, table: &mut Table, key: &str, value: Value) -> Result<(), Memory>
-    ensures { OnOk result (table_view table.new
-        ≡ put_said key.now (view value) (table_view table.old)) }
-{
-    let name = String::from_str(alloc, key)?;
-    table.insert(name, value)?;
-    Ok(())
-}
-
 /// Puts a text under a key.
 pub fn put_text(alloc: Global, table: &mut Table, key: &str, text: &str) -> Result<(), Memory>
     ensures { OnOk result (table_view table.new
@@ -37,14 +27,6 @@ pub fn text(text: String) -> Value
     Value::String(text)
 }
 
-/// A whole number as a value.
-pub fn number(amount: u64) -> Value
-    requires { amount < 2 ^ 63 }
-    ensures { view result ≡ integer (pos amount) }
-{
-    Value::Integer(amount as i64)
-}
-
 /// Puts a whole number under a key.
 pub fn put_number(alloc: Global, table: &mut Table, key: &str, amount: u64) -> Result<(), Memory>
     requires { amount < 2 ^ 63 }
@@ -54,18 +36,18 @@ pub fn put_number(alloc: Global, table: &mut Table, key: &str, amount: u64) -> R
     put(alloc, table, key, number(amount))
 }
 
-// The first so many of some amounts, as values.
-fn list_of(alloc: Global, amounts: &[u64], count: usize) -> Result<Vec<Value>, Memory>
-    requires within { count ≤ length amounts.now }
-    requires bounded { (k : ℕ) → slice_index amounts.now k ≤ MOST_AMOUNT }
-    ensures { IfOk result (λ values. map view values.items
-        ≡ map (λ amount. integer (pos amount)) (take count amounts.now)) }
+/// Puts the amounts of a row under a key.
+pub fn put_row(alloc: Global, table: &mut Table, key: &str, row: &SeatRow) -> Result<(), Memory>
+    ensures { OnOk result (table_view table.new
+        ≡ put_said key.now (numbers (amounts_of row.now)) (table_view table.old)) }
 {
-    let mut values = Vec::new(alloc);
-    for index in 0..count {
-        values.push(number(amounts[index]))?;
-    }
-    Ok(values)
+    put_amounts(
+        alloc,
+        table,
+        key,
+        row.amounts.as_slice(),
+        row.seats as usize,
+    )
 }
 
 /// Puts a list of the first so many amounts under a key.
@@ -85,16 +67,34 @@ pub fn put_amounts(
     put(alloc, table, key, Value::Array(values))
 }
 
-/// Puts the amounts of a row under a key.
-pub fn put_row(alloc: Global, table: &mut Table, key: &str, row: &SeatRow) -> Result<(), Memory>
-    ensures { OnOk result (table_view table.new
-        ≡ put_said key.now (numbers (amounts_of row.now)) (table_view table.old)) }
+// The first so many of some amounts, as values.
+fn list_of(alloc: Global, amounts: &[u64], count: usize) -> Result<Vec<Value>, Memory>
+    requires within { count ≤ length amounts.now }
+    requires bounded { (k : ℕ) → slice_index amounts.now k ≤ MOST_AMOUNT }
+    ensures { IfOk result (λ values. map view values.items
+        ≡ map (λ amount. integer (pos amount)) (take count amounts.now)) }
 {
-    put_amounts(
-        alloc,
-        table,
-        key,
-        row.amounts.as_slice(),
-        row.seats as usize,
-    )
+    let mut values = Vec::new(alloc);
+    for index in 0..count {
+        values.push(number(amounts[index]))?;
+    }
+    Ok(values)
+}
+
+/// A whole number as a value.
+pub fn number(amount: u64) -> Value
+    requires { amount < 2 ^ 63 }
+    ensures { view result ≡ integer (pos amount) }
+{
+    Value::Integer(amount as i64)
+}
+
+/// Puts a value under a key.
+pub fn put(alloc: Global, table: &mut Table, key: &str, value: Value) -> Result<(), Memory>
+    ensures { OnOk result (table_view table.new
+        ≡ put_said key.now (view value) (table_view table.old)) }
+{
+    let name = String::from_str(alloc, key)?;
+    table.insert(name, value)?;
+    Ok(())
 }

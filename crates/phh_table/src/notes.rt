@@ -53,6 +53,40 @@ fn put_note(alloc: Global, table: &mut Table, key: &str, note: &Option<Text>) ->
     }
 }
 
+// Puts the time of the day under its key, where it is said.
+fn put_time(alloc: Global, table: &mut Table, said: Option<Clock>) -> Result<(), Memory>
+    ensures { OnOk result (table_view table.new
+        ≡ put_if (codes "time") (option_map time_said said) (table_view table.old)) }
+{
+    match said {
+        Some(clock) => put(alloc, table, "time", local_time(clock)),
+        None => Ok(()),
+    }
+}
+
+// A time of a day as a value.
+fn local_time(clock: Clock) -> Value
+    ensures { view result ≡ time_said clock }
+{
+    Value::Datetime(Datetime {
+        date: None,
+        time: Some(Time {
+            hour: clock.hour,
+            minute: clock.minute,
+            second: Some(clock.second),
+            nanosecond: fraction(clock.nano),
+        }),
+        offset: None,
+    })
+}
+
+// A part of a second, where there is one.
+fn fraction(nano: u32) -> Option<u32>
+    ensures { result ≡ fraction_said nano }
+{
+    if nano == 0 { None } else { Some(nano) }
+}
+
 // Puts a number under a key, where one is said.
 fn put_said(alloc: Global, table: &mut Table, key: &str, said: Option<u32>) -> Result<(), Memory>
     ensures { OnOk result (table_view table.new
@@ -135,40 +169,6 @@ fn number_of(text: &[u8]) -> Option<u64>
         return None;
     }
     read_digits(text, 999_999_999_999_999_999)
-}
-
-// Puts the time of the day under its key, where it is said.
-fn put_time(alloc: Global, table: &mut Table, said: Option<Clock>) -> Result<(), Memory>
-    ensures { OnOk result (table_view table.new
-        ≡ put_if (codes "time") (option_map time_said said) (table_view table.old)) }
-{
-    match said {
-        Some(clock) => put(alloc, table, "time", local_time(clock)),
-        None => Ok(()),
-    }
-}
-
-// A time of a day as a value.
-fn local_time(clock: Clock) -> Value
-    ensures { view result ≡ time_said clock }
-{
-    Value::Datetime(Datetime {
-        date: None,
-        time: Some(Time {
-            hour: clock.hour,
-            minute: clock.minute,
-            second: Some(clock.second),
-            nanosecond: fraction(clock.nano),
-        }),
-        offset: None,
-    })
-}
-
-// A part of a second, where there is one.
-fn fraction(nano: u32) -> Option<u32>
-    ensures { result ≡ fraction_said nano }
-{
-    if nano == 0 { None } else { Some(nano) }
 }
 
 // Puts the numbers of so many seats under their key, where they are said.

@@ -7,6 +7,22 @@ ghost use Rattle.phh_table.specs.Spelled.{first_refusal, unspelled};
 use hand_records::{Keep, Play, Unspelled, WriteRefusal};
 use play_event::Move;
 
+/// The refusal of the first play that the format does not spell. The first hand has the number 1.
+pub fn find_refusal(plays: &[Play], keep: Keep) -> Option<WriteRefusal>
+    requires { length plays.now ≤ MOST_HANDS }
+    ensures { result ≡ first_refusal plays.now }
+{
+    for (index, play) in plays.iter().enumerate() {
+        if let Some(fact) = spells(play, keep) {
+            return Some(WriteRefusal::Unspelled {
+                hand: index as u32 + 1,
+                fact,
+            });
+        }
+    }
+    None
+}
+
 /// The first fact of the play that the format does not spell. It spells all notes, so which of them are kept does not
 /// matter.
 #[tactic(auto, unfolding(crate::specs::Spelled::unspelled))]
@@ -30,20 +46,4 @@ fn has_closed(moves: &[Move]) -> bool
         }
     }
     false
-}
-
-/// The refusal of the first play that the format does not spell. The first hand has the number 1.
-pub fn find_refusal(plays: &[Play], keep: Keep) -> Option<WriteRefusal>
-    requires { length plays.now ≤ MOST_HANDS }
-    ensures { result ≡ first_refusal plays.now }
-{
-    for (index, play) in plays.iter().enumerate() {
-        if let Some(fact) = spells(play, keep) {
-            return Some(WriteRefusal::Unspelled {
-                hand: index as u32 + 1,
-                fact,
-            });
-        }
-    }
-    None
 }

@@ -1,4 +1,4 @@
-// What is wrong with an action.
+//! What is wrong with an action.
 
 /// Why a text is no action of a hand.
 #[derive(Clone, Copy, Debug, PartialEq, Eq)]

@@ -81,6 +81,19 @@ fn is_fraction(word: &[u8]) -> bool
     are_digits(&word[..len]) && are_digits(&word[len + 1..])
 }
 
+/// One to so many cards, each of them known.
+#[tactic(auto, unfolding(crate::specs::Action::cards_said))]
+pub fn read_cards(most: u8, word: &[u8]) -> Result<CardRow, ActionFault>
+    requires { most ≤ 7 }
+    ensures { seen_by cards_of result ≡ cards_said most word.now }
+{
+    let slots = read_slots(most, word)?;
+    if has_unknown(slots.as_slice()) {
+        return Err(ActionFault::BadAction);
+    }
+    Ok(known_row(slots.as_slice()))
+}
+
 /// One to so many slots, two letters each.
 #[tactic(auto, unfolding(crate::specs::Action::slots_said))]
 pub fn read_slots(most: u8, word: &[u8]) -> Result<SlotRow, ActionFault>
@@ -103,19 +116,6 @@ fn keep_within(most: u8, slots: SlotRow) -> Result<SlotRow, ActionFault>
     } else {
         Err(ActionFault::BadAction)
     }
-}
-
-/// One to so many cards, each of them known.
-#[tactic(auto, unfolding(crate::specs::Action::cards_said))]
-pub fn read_cards(most: u8, word: &[u8]) -> Result<CardRow, ActionFault>
-    requires { most ≤ 7 }
-    ensures { seen_by cards_of result ≡ cards_said most word.now }
-{
-    let slots = read_slots(most, word)?;
-    if has_unknown(slots.as_slice()) {
-        return Err(ActionFault::BadAction);
-    }
-    Ok(known_row(slots.as_slice()))
 }
 
 // Whether one of the slots is unknown.

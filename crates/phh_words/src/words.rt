@@ -12,18 +12,6 @@ pub fn before_commentary(text: &[u8]) -> &[u8]
     &text[..len]
 }
 
-/// How many bytes stand before the first such sign.
-pub fn place_of(text: &[u8], sign: u8) -> usize
-    ensures { result ≡ position_or_len (λ other. other == sign) text.now }
-{
-    for (index, other) in text.iter().enumerate() {
-        if *other == sign {
-            return index;
-        }
-    }
-    text.len()
-}
-
 /// The first word of a text, and what stands behind it; `None` where the text has no word.
 pub fn next_word(text: &[u8]) -> Option<(&[u8], &[u8])>
     ensures { words_of text.now ≡ option_map_or (λ cut. cut.0.now ∷ words_of cut.1.now) result [] }
@@ -46,6 +34,18 @@ fn skip_spaces(text: &[u8]) -> &[u8]
         rest = behind;
     }
     rest
+}
+
+/// How many bytes stand before the first such sign.
+pub fn place_of(text: &[u8], sign: u8) -> usize
+    ensures { result ≡ position_or_len (λ other. other == sign) text.now }
+{
+    for (index, other) in text.iter().enumerate() {
+        if *other == sign {
+            return index;
+        }
+    }
+    text.len()
 }
 
 /// Whether the word is this one.

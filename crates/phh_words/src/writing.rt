@@ -32,27 +32,6 @@ pub fn event_text(alloc: Global, kind: Kind) -> Result<String, Memory>
     }
 }
 
-// What a seat does, in one word.
-fn act_text(alloc: Global, seat: Seat, act: &str) -> Result<String, Memory>
-    ensures { IfOk result (λ text. string_bytes text ≡ seat_name seat.number ++ 32 ∷ act.now) }
-{
-    let number = seat.number();
-    Ok(format!(in alloc; "p{number} {act}")?)
-}
-
-#[tactic(auto, unfolding(crate::specs::Written::event_text))]
-fn raise_text(alloc: Global, seat: Seat, amount: Spelled) -> Result<String, Memory>
-    requires { IsTrue (has_words (Raise (Some seat.number) amount)) }
-    ensures { IfOk result (λ text. string_bytes text
-        ≡ text_said (Raise (Some seat.number) amount)) }
-{
-    let number = seat.number();
-    match amount {
-        Spelled::To(amount) => Ok(format!(in alloc; "p{number} cbr {amount}")?),
-        _ => unreachable!(),
-    }
-}
-
 #[tactic(auto, unfolding(crate::specs::Written::event_text))]
 fn hole_text(alloc: Global, seat: Seat, slots: &[Slot]) -> Result<String, Memory>
     ensures { IfOk result (λ text. string_bytes text ≡ text_said (Hole seat.number slots.now)) }
@@ -73,6 +52,19 @@ fn board_text(alloc: Global, cards: &[Card]) -> Result<String, Memory>
 }
 
 #[tactic(auto, unfolding(crate::specs::Written::event_text))]
+fn raise_text(alloc: Global, seat: Seat, amount: Spelled) -> Result<String, Memory>
+    requires { IsTrue (has_words (Raise (Some seat.number) amount)) }
+    ensures { IfOk result (λ text. string_bytes text
+        ≡ text_said (Raise (Some seat.number) amount)) }
+{
+    let number = seat.number();
+    match amount {
+        Spelled::To(amount) => Ok(format!(in alloc; "p{number} cbr {amount}")?),
+        _ => unreachable!(),
+    }
+}
+
+#[tactic(auto, unfolding(crate::specs::Written::event_text))]
 fn discard_text(alloc: Global, seat: Seat, slots: &[Slot]) -> Result<String, Memory>
     ensures { IfOk result (λ text. string_bytes text ≡ text_said (Discard seat.number slots.now)) }
 {
@@ -84,6 +76,16 @@ fn discard_text(alloc: Global, seat: Seat, slots: &[Slot]) -> Result<String, Mem
     Ok(text)
 }
 
+// The letters of slots.
+fn push_slots(text: &mut String, slots: &[Slot]) -> Result<(), Memory>
+    ensures { OnOk result (string_bytes text.new ≡ string_bytes text.old ++ spelling slots.now) }
+{
+    for slot in slots {
+        push_slot(text, *slot)?;
+    }
+    Ok(())
+}
+
 #[tactic(auto, unfolding(crate::specs::Written::event_text))]
 fn show_text(alloc: Global, seat: Seat, cards: &[Card]) -> Result<String, Memory>
     ensures { IfOk result (λ text. string_bytes text ≡ text_said (Show seat.number cards.now)) }
@@ -93,14 +95,12 @@ fn show_text(alloc: Global, seat: Seat, cards: &[Card]) -> Result<String, Memory
     Ok(text)
 }
 
-// The letters of slots.
-fn push_slots(text: &mut String, slots: &[Slot]) -> Result<(), Memory>
-    ensures { OnOk result (string_bytes text.new ≡ string_bytes text.old ++ spelling slots.now) }
+// What a seat does, in one word.
+fn act_text(alloc: Global, seat: Seat, act: &str) -> Result<String, Memory>
+    ensures { IfOk result (λ text. string_bytes text ≡ seat_name seat.number ++ 32 ∷ act.now) }
 {
-    for slot in slots {
-        push_slot(text, *slot)?;
-    }
-    Ok(())
+    let number = seat.number();
+    Ok(format!(in alloc; "p{number} {act}")?)
 }
 
 // The letters of cards.

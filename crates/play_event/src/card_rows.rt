@@ -1,4 +1,4 @@
-// A row of slots for each of up to ten seats, and rows without slots past the last seat.
+//! A row of slots for each of up to ten seats, and rows without slots past the last seat.
 ghost use Rattle.std.specs.Prelude.{◌≡◌, ◌≢◌, ℕ, ◌≤◌, [], length};
 ghost use Rattle.card_set.specs.Row.{slots_of};
 ghost use Rattle.play_event.specs.SlotRows.{slots_at};

@@ -1,4 +1,4 @@
-// Eleven games are known, each by its code.
+//! Eleven games are known, each by its code.
 ghost use Rattle.std.specs.Prelude.{◌≡◌, IfSome, IfNone};
 ghost use Rattle.play_event.specs.declared.code.Code.{Code};
 ghost use Rattle.play_event.specs.Code.{code_text};

@@ -1,4 +1,4 @@
-// An event is one thing that happened in a hand, as its notation says it.
+//! An event is one thing that happened in a hand, as its notation says it.
 use card_set::{CardRow, SlotRow};
 use chip_ledger::Seat;
 

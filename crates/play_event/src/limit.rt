@@ -1,4 +1,4 @@
-// What bounds a raise, and who moves first.
+//! What bounds a raise, and who moves first.
 
 /// What bounds a bet or raise.
 #[derive(Clone, Copy, Debug, PartialEq, Eq, Hash)]

@@ -30,15 +30,6 @@ impl PackedEvent {
         }
     }
 
-    /// Puts a byte behind the others.
-    pub(crate) fn push(&mut self, byte: u8)
-        requires { length self.old < 15 }
-        ensures { self.new ≡ self.old ++ byte ∷ [] }
-    {
-        self.bytes[self.len] = byte;
-        self.len += 1;
-    }
-
     /// Puts bytes behind the others, in order.
     pub(crate) fn extend(&mut self, bytes: &[u8])
         requires { length self.old + length bytes.now ≤ 15 }
@@ -47,6 +38,15 @@ impl PackedEvent {
         for byte in bytes {
             self.push(*byte);
         }
+    }
+
+    /// Puts a byte behind the others.
+    pub(crate) fn push(&mut self, byte: u8)
+        requires { length self.old < 15 }
+        ensures { self.new ≡ self.old ++ byte ∷ [] }
+    {
+        self.bytes[self.len] = byte;
+        self.len += 1;
     }
 
     pub(crate) fn as_slice(&self) -> &[u8]

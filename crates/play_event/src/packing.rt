@@ -66,6 +66,35 @@ fn pack_kind(packed: &mut PackedEvent, kind: Kind)
     }
 }
 
+fn pack_slots_of(packed: &mut PackedEvent, seat: Seat, cards: &SlotRow)
+    requires { length packed.old ≤ 5 }
+    ensures { packed.new
+        ≡ packed.old ++ seat.number ∷ counted (map slot_byte (slots_of cards.now)) }
+{
+    packed.push(seat.number());
+    pack_slots(packed, cards.as_slice());
+}
+
+fn pack_slots(packed: &mut PackedEvent, slots: &[Slot])
+    requires room { length packed.old ≤ 6 }
+    requires few { length slots.now ≤ 7 }
+    ensures { packed.new ≡ packed.old ++ counted (map slot_byte slots.now) }
+{
+    packed.push(slots.len() as u8);
+    for slot in slots {
+        packed.push(number_of_slot(*slot));
+    }
+}
+
+fn number_of_slot(slot: Slot) -> u8
+    ensures { result ≡ slot_byte slot }
+{
+    match slot {
+        Slot::Known(card) => number_of_card(card),
+        Slot::Unknown => 0,
+    }
+}
+
 fn pack_call(packed: &mut PackedEvent, actor: Option<Seat>, stated: Option<u64>)
     requires { length packed.old ≤ 5 }
     ensures packed { packed.new ≡ packed.old ++ actor_byte actor ∷ stated_bytes stated }
@@ -92,6 +121,15 @@ fn pack_raise(packed: &mut PackedEvent, actor: Option<Seat>, amount: Spelled)
     }
 }
 
+fn number_of_actor(actor: Option<Seat>) -> u8
+    ensures { result ≡ actor_byte actor }
+{
+    match actor {
+        None => 0,
+        Some(seat) => seat.number(),
+    }
+}
+
 // A byte, and chips behind it.
 fn pack_chips(packed: &mut PackedEvent, first: u8, chips: u64)
     requires { length packed.old ≤ 6 }
@@ -99,15 +137,6 @@ fn pack_chips(packed: &mut PackedEvent, first: u8, chips: u64)
 {
     packed.push(first);
     packed.extend(&chips.to_be_bytes());
-}
-
-fn pack_slots_of(packed: &mut PackedEvent, seat: Seat, cards: &SlotRow)
-    requires { length packed.old ≤ 5 }
-    ensures { packed.new
-        ≡ packed.old ++ seat.number ∷ counted (map slot_byte (slots_of cards.now)) }
-{
-    packed.push(seat.number());
-    pack_slots(packed, cards.as_slice());
 }
 
 fn pack_cards_of(packed: &mut PackedEvent, seat: Seat, cards: &CardRow)
@@ -119,17 +148,6 @@ fn pack_cards_of(packed: &mut PackedEvent, seat: Seat, cards: &CardRow)
     pack_cards(packed, cards.as_slice());
 }
 
-fn pack_slots(packed: &mut PackedEvent, slots: &[Slot])
-    requires room { length packed.old ≤ 6 }
-    requires few { length slots.now ≤ 7 }
-    ensures { packed.new ≡ packed.old ++ counted (map slot_byte slots.now) }
-{
-    packed.push(slots.len() as u8);
-    for slot in slots {
-        packed.push(number_of_slot(*slot));
-    }
-}
-
 fn pack_cards(packed: &mut PackedEvent, cards: &[Card])
     requires room { length packed.old ≤ 6 }
     requires few { length cards.now ≤ 7 }
@@ -138,24 +156,6 @@ fn pack_cards(packed: &mut PackedEvent, cards: &[Card])
     packed.push(cards.len() as u8);
     for card in cards {
         packed.push(number_of_card(*card));
-    }
-}
-
-fn number_of_actor(actor: Option<Seat>) -> u8
-    ensures { result ≡ actor_byte actor }
-{
-    match actor {
-        None => 0,
-        Some(seat) => seat.number(),
-    }
-}
-
-fn number_of_slot(slot: Slot) -> u8
-    ensures { result ≡ slot_byte slot }
-{
-    match slot {
-        Slot::Known(card) => number_of_card(card),
-        Slot::Unknown => 0,
     }
 }
 

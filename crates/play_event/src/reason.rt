@@ -1,4 +1,4 @@
-// What may come next in a hand, and why an event may not.
+//! What may come next in a hand, and why an event may not.
 
 /// What is due. Streets count from 1.
 #[derive(Clone, Copy, Debug, PartialEq, Eq)]

@@ -32,16 +32,6 @@ impl Script {
     ghost use Rattle.std.specs.Prelude.{◌≡◌, ◌<◌, [], ◌∷◌, ◌++◌, length, slice_get, Some, OnOk, OnErr};
     ghost use Rattle.play_event.specs.PackedForm.{packed_events};
 
-    /// A script without events.
-    pub fn new(alloc: Global) -> Self
-        ensures { result ≡ [] }
-    {
-        Script {
-            bytes: Vec::new(alloc),
-            count: 0,
-        }
-    }
-
     /// Puts an event after the others. Without memory for it the script stays as it was.
     pub fn push(&mut self, event: Event) -> Result<(), Memory>
         ensures pushed { OnOk result (self.new ≡ self.old ++ event ∷ []) }
@@ -66,18 +56,28 @@ impl Script {
         cursor.next().unwrap()
     }
 
-    /// How many events there are.
-    pub fn len(&self) -> usize
-        ensures { result ≡ length self.now }
-    {
-        self.count
-    }
-
     /// A cursor before the first event.
     pub fn cursor(&self) -> Cursor<'_>
         ensures { result ≡ self.now }
     {
         Cursor::new(self.bytes.as_slice())
+    }
+
+    /// A script without events.
+    pub fn new(alloc: Global) -> Self
+        ensures { result ≡ [] }
+    {
+        Script {
+            bytes: Vec::new(alloc),
+            count: 0,
+        }
+    }
+
+    /// How many events there are.
+    pub fn len(&self) -> usize
+        ensures { result ≡ length self.now }
+    {
+        self.count
     }
 
     /// The packed forms of the events, one after the other.

@@ -1,4 +1,4 @@
-// A setup is what stands before the first card: the game, the stacks, what is posted, the bet sizes, and the rakes.
+//! A setup is what stands before the first card: the game, the stacks, what is posted, the bet sizes, and the rakes.
 use crate::code::Code;
 use chip_ledger::{RakeRow, SeatRow};
 

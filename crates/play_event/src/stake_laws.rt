@@ -1,4 +1,4 @@
-// What the stakes of a hand come to, proved over the definitions.
+//! What the stakes of a hand come to, proved over the definitions.
 ghost use Rattle.std.specs.Prelude.{◌≡◌, ℕ, ◌+◌, ◌≤◌, true, false, List};
 ghost use Rattle.chip_ledger.specs.RakeRow.{rake_of};
 ghost use Rattle.chip_ledger.specs.Rakes.{HaveRakes};

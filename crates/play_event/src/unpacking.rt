@@ -21,6 +21,19 @@ pub(crate) fn read_event(bytes: &[u8]) -> Option<(Event, &[u8])>
     Some((Event { at, kind }, rest))
 }
 
+// The number of an action.
+#[tactic(auto, unfolding(crate::specs::PackedReading::number_at))]
+fn read_at(bytes: &[u8]) -> Option<(u32, &[u8])>
+    ensures { option_map (λ read. (read.0, read.1.now)) result ≡ number_at w32 bytes.now }
+{
+    if bytes.len() < 4 {
+        return None;
+    }
+    let (front, rest) = bytes.split_at(4);
+    let number = u32::from_be_bytes([front[0], front[1], front[2], front[3]]);
+    Some((number, rest))
+}
+
 // What an event of the kind with this number says.
 #[tactic(auto, unfolding(crate::specs::PackedReading::kind_at))]
 fn read_kind(number: u8, bytes: &[u8]) -> Option<(Kind, &[u8])>
@@ -43,6 +56,19 @@ fn read_kind(number: u8, bytes: &[u8]) -> Option<(Kind, &[u8])>
     }
 }
 
+// An actor, who may be unnamed.
+#[tactic(auto, unfolding(crate::specs::PackedReading::actor_at))]
+fn read_actor(bytes: &[u8]) -> Option<(Option<Seat>, &[u8])>
+    ensures { option_map (λ read. (seat_named read.0, read.1.now)) result ≡ actor_at bytes.now }
+{
+    let (number, rest) = read_byte(bytes)?;
+    if number == 0 {
+        return Some((None, rest));
+    }
+    let seat = seat_of(number)?;
+    Some((Some(seat), rest))
+}
+
 // What an event of the kind with this number says of an actor.
 #[tactic(auto, unfolding(crate::specs::PackedReading::move_at))]
 fn read_move(number: u8, actor: Option<Seat>, bytes: &[u8]) -> Option<(Kind, &[u8])>
@@ -62,6 +88,65 @@ fn read_move(number: u8, actor: Option<Seat>, bytes: &[u8]) -> Option<(Kind, &[u
         6 => Some((Kind::BringIn { actor }, bytes)),
         _ => None,
     }
+}
+
+// The chips of a call, which may be unstated.
+#[tactic(auto, unfolding(crate::specs::PackedReading::stated_at))]
+fn read_stated(bytes: &[u8]) -> Option<(Option<u64>, &[u8])>
+    ensures { option_map (λ read. (read.0, read.1.now)) result ≡ stated_at bytes.now }
+{
+    let (flag, rest) = read_byte(bytes)?;
+    if flag == 0 {
+        return Some((None, rest));
+    }
+    let (chips, rest) = read_chips(rest)?;
+    Some((Some(chips), rest))
+}
+
+// The amount of a raise.
+#[tactic(auto, unfolding(crate::specs::PackedReading::amount_at))]
+fn read_amount(bytes: &[u8]) -> Option<(Spelled, &[u8])>
+    ensures { option_map (λ read. (read.0, read.1.now)) result ≡ amount_at bytes.now }
+{
+    let (spelling, rest) = read_byte(bytes)?;
+    if spelling == 4 {
+        return Some((Spelled::Unit, rest));
+    }
+    let (chips, rest) = read_chips(rest)?;
+    Some(match spelling {
+        1 => (Spelled::To(chips), rest),
+        2 => (Spelled::Added(chips), rest),
+        _ => (Spelled::HandTotal(chips), rest),
+    })
+}
+
+#[tactic(auto, unfolding(crate::specs::PackedReading::number_at))]
+fn read_chips(bytes: &[u8]) -> Option<(u64, &[u8])>
+    ensures { option_map (λ read. (read.0, read.1.now)) result ≡ number_at w64 bytes.now }
+{
+    if bytes.len() < 8 {
+        return None;
+    }
+    let (front, rest) = bytes.split_at(8);
+    let chips = u64::from_be_bytes([
+        front[0], front[1], front[2], front[3], front[4], front[5], front[6], front[7],
+    ]);
+    Some((chips, rest))
+}
+
+#[tactic(auto, unfolding(crate::specs::PackedReading::seat_at))]
+fn read_seat(bytes: &[u8]) -> Option<(Seat, &[u8])>
+    ensures { option_map (λ read. (read.0.number, read.1.now)) result ≡ seat_at bytes.now }
+{
+    let (number, rest) = read_byte(bytes)?;
+    let seat = seat_of(number)?;
+    Some((seat, rest))
+}
+
+fn seat_of(number: u8) -> Option<Seat>
+    ensures { option_map (λ seat. seat.number) result ≡ seat_numbered number }
+{
+    Seat::new(number)
 }
 
 // What an event of the kind with this number says of the cards of a seat.
@@ -88,78 +173,12 @@ fn read_hand(number: u8, seat: Seat, bytes: &[u8]) -> Option<(Kind, &[u8])>
     }
 }
 
-// The amount of a raise.
-#[tactic(auto, unfolding(crate::specs::PackedReading::amount_at))]
-fn read_amount(bytes: &[u8]) -> Option<(Spelled, &[u8])>
-    ensures { option_map (λ read. (read.0, read.1.now)) result ≡ amount_at bytes.now }
-{
-    let (spelling, rest) = read_byte(bytes)?;
-    if spelling == 4 {
-        return Some((Spelled::Unit, rest));
-    }
-    let (chips, rest) = read_chips(rest)?;
-    Some(match spelling {
-        1 => (Spelled::To(chips), rest),
-        2 => (Spelled::Added(chips), rest),
-        _ => (Spelled::HandTotal(chips), rest),
-    })
-}
-
-// The chips of a call, which may be unstated.
-#[tactic(auto, unfolding(crate::specs::PackedReading::stated_at))]
-fn read_stated(bytes: &[u8]) -> Option<(Option<u64>, &[u8])>
-    ensures { option_map (λ read. (read.0, read.1.now)) result ≡ stated_at bytes.now }
-{
-    let (flag, rest) = read_byte(bytes)?;
-    if flag == 0 {
-        return Some((None, rest));
-    }
-    let (chips, rest) = read_chips(rest)?;
-    Some((Some(chips), rest))
-}
-
-// An actor, who may be unnamed.
-#[tactic(auto, unfolding(crate::specs::PackedReading::actor_at))]
-fn read_actor(bytes: &[u8]) -> Option<(Option<Seat>, &[u8])>
-    ensures { option_map (λ read. (seat_named read.0, read.1.now)) result ≡ actor_at bytes.now }
-{
-    let (number, rest) = read_byte(bytes)?;
-    if number == 0 {
-        return Some((None, rest));
-    }
-    let seat = seat_of(number)?;
-    Some((Some(seat), rest))
-}
-
-#[tactic(auto, unfolding(crate::specs::PackedReading::seat_at))]
-fn read_seat(bytes: &[u8]) -> Option<(Seat, &[u8])>
-    ensures { option_map (λ read. (read.0.number, read.1.now)) result ≡ seat_at bytes.now }
-{
-    let (number, rest) = read_byte(bytes)?;
-    let seat = seat_of(number)?;
-    Some((seat, rest))
-}
-
-fn seat_of(number: u8) -> Option<Seat>
-    ensures { option_map (λ seat. seat.number) result ≡ seat_numbered number }
-{
-    Seat::new(number)
-}
-
 #[tactic(auto, unfolding(crate::specs::PackedReading::slots_at))]
 fn read_slots(bytes: &[u8]) -> Option<(SlotRow, &[u8])>
     ensures { option_map (λ read. (slots_of read.0, read.1.now)) result ≡ slots_at bytes.now }
 {
     let (row, rest) = read_counted(bytes)?;
     Some((slot_row(row), rest))
-}
-
-#[tactic(auto, unfolding(crate::specs::PackedReading::cards_at))]
-fn read_cards(bytes: &[u8]) -> Option<(CardRow, &[u8])>
-    ensures { option_map (λ read. (cards_of read.0, read.1.now)) result ≡ cards_at bytes.now }
-{
-    let (row, rest) = read_counted(bytes)?;
-    Some((card_row(row), rest))
 }
 
 // The slots of up to seven bytes.
@@ -174,18 +193,6 @@ fn slot_row(bytes: &[u8]) -> SlotRow
     row
 }
 
-// The cards of up to seven bytes.
-fn card_row(bytes: &[u8]) -> CardRow
-    requires { length bytes.now ≤ 7 }
-    ensures { cards_of result ≡ map card_of bytes.now }
-{
-    let mut row = CardRow::new();
-    for byte in bytes {
-        row.push(card_named(*byte));
-    }
-    row
-}
-
 fn slot_named(byte: u8) -> Slot
     ensures { result ≡ slot_of byte }
 {
@@ -196,11 +203,12 @@ fn slot_named(byte: u8) -> Slot
     }
 }
 
-// The card of a byte from 1 to 52.
-fn card_named(byte: u8) -> Card
-    ensures { result ≡ card_of byte }
+#[tactic(auto, unfolding(crate::specs::PackedReading::cards_at))]
+fn read_cards(bytes: &[u8]) -> Option<(CardRow, &[u8])>
+    ensures { option_map (λ read. (cards_of read.0, read.1.now)) result ≡ cards_at bytes.now }
 {
-    card_placed(byte.saturating_sub(1))
+    let (row, rest) = read_counted(bytes)?;
+    Some((card_row(row), rest))
 }
 
 // Up to seven bytes that stand behind their count.
@@ -218,33 +226,6 @@ fn read_counted(bytes: &[u8]) -> Option<(&[u8], &[u8])>
     }
 }
 
-// The number of an action.
-#[tactic(auto, unfolding(crate::specs::PackedReading::number_at))]
-fn read_at(bytes: &[u8]) -> Option<(u32, &[u8])>
-    ensures { option_map (λ read. (read.0, read.1.now)) result ≡ number_at w32 bytes.now }
-{
-    if bytes.len() < 4 {
-        return None;
-    }
-    let (front, rest) = bytes.split_at(4);
-    let number = u32::from_be_bytes([front[0], front[1], front[2], front[3]]);
-    Some((number, rest))
-}
-
-#[tactic(auto, unfolding(crate::specs::PackedReading::number_at))]
-fn read_chips(bytes: &[u8]) -> Option<(u64, &[u8])>
-    ensures { option_map (λ read. (read.0, read.1.now)) result ≡ number_at w64 bytes.now }
-{
-    if bytes.len() < 8 {
-        return None;
-    }
-    let (front, rest) = bytes.split_at(8);
-    let chips = u64::from_be_bytes([
-        front[0], front[1], front[2], front[3], front[4], front[5], front[6], front[7],
-    ]);
-    Some((chips, rest))
-}
-
 fn read_byte(bytes: &[u8]) -> Option<(u8, &[u8])>
     ensures { option_map (λ read. (read.0, read.1.now)) result ≡ byte_at bytes.now }
 {
@@ -252,4 +233,23 @@ fn read_byte(bytes: &[u8]) -> Option<(u8, &[u8])>
         [] => None,
         [byte, rest @ ..] => Some((*byte, rest)),
     }
+}
+
+// The cards of up to seven bytes.
+fn card_row(bytes: &[u8]) -> CardRow
+    requires { length bytes.now ≤ 7 }
+    ensures { cards_of result ≡ map card_of bytes.now }
+{
+    let mut row = CardRow::new();
+    for byte in bytes {
+        row.push(card_named(*byte));
+    }
+    row
+}
+
+// The card of a byte from 1 to 52.
+fn card_named(byte: u8) -> Card
+    ensures { result ≡ card_of byte }
+{
+    card_placed(byte.saturating_sub(1))
 }

@@ -1,4 +1,4 @@
-// What every legal past guarantees.
+//! What every legal past guarantees.
 ghost use Rattle.std.specs.Prelude.{◌↔◌, List, reverse};
 ghost use Rattle.play_event.specs.Laws.{AreLegal, moves_by};
 ghost use Rattle.play_event.specs.Past.{newest_street};

@@ -1,4 +1,4 @@
-// One play, however it is spelled.
+//! One play, however it is spelled.
 ghost use Rattle.std.specs.Prelude.{◌≡◌, ◌↔◌, ℕ, List, Option};
 ghost use Rattle.play_event.specs.Laws.{AreLegal, IsInTurn};
 ghost use Rattle.play_event.specs.Past.{Past};

@@ -5,6 +5,14 @@ ghost use Rattle.printed_hands.specs.Amounts.{amounts_in, amounts_text};
 use card_set::Memory;
 use chip_ledger::SeatRow;
 
+/// Puts the amounts of a row at the end of a text, from p1 upward.
+pub fn push_row(text: &mut String, row: &SeatRow) -> Result<(), Memory>
+    ensures { OnOk result (string_bytes text.new
+        ≡ string_bytes text.old ++ amounts_text (amounts_in row.now)) }
+{
+    push_amounts(text, &row.amounts[..row.seats as usize])
+}
+
 /// Puts the amounts at the end of a text, each behind a space.
 pub fn push_amounts(text: &mut String, amounts: &[u64]) -> Result<(), Memory>
     ensures { OnOk result (string_bytes text.new
@@ -18,12 +26,4 @@ pub fn push_amounts(text: &mut String, amounts: &[u64]) -> Result<(), Memory>
             push_amounts(text, rest)
         }
     }
-}
-
-/// Puts the amounts of a row at the end of a text, from p1 upward.
-pub fn push_row(text: &mut String, row: &SeatRow) -> Result<(), Memory>
-    ensures { OnOk result (string_bytes text.new
-        ≡ string_bytes text.old ++ amounts_text (amounts_in row.now)) }
-{
-    push_amounts(text, &row.amounts[..row.seats as usize])
 }

@@ -53,21 +53,6 @@ pub fn add(put: &mut SeatRow, moved: &Move)
     }
 }
 
-// What each seat has left of its stack.
-fn left_row(setup: &Setup, put: &SeatRow) -> SeatRow
-    requires { put.now.seats ≡ setup.now.stacks.seats }
-    ensures seats { result.seats ≡ setup.now.stacks.seats }
-    ensures amounts { (n : ℕ) → 1 ≤ n → n ≤ setup.now.stacks.seats
-        → amount_of result n ≡ amount_of setup.now.stacks n - amount_of put.now n }
-{
-    let mut row = SeatRow::new(setup.stacks.seats);
-    for index in 0..setup.stacks.seats {
-        let seat = Seat { number: index + 1 };
-        row.set(seat, setup.stacks.get(seat).saturating_sub(put.get(seat)));
-    }
-    row
-}
-
 /// Puts the chips of the seats at the end of a text: what each has left, and what each has put.
 pub fn push_chips(text: &mut String, setup: &Setup, put: &SeatRow) -> Result<(), Memory>
     requires { put.now.seats ≡ setup.now.stacks.seats }
@@ -81,4 +66,19 @@ pub fn push_chips(text: &mut String, setup: &Setup, put: &SeatRow) -> Result<(),
     push_row(text, put)?;
     text.push_str("\n")?;
     Ok(())
+}
+
+// What each seat has left of its stack.
+fn left_row(setup: &Setup, put: &SeatRow) -> SeatRow
+    requires { put.now.seats ≡ setup.now.stacks.seats }
+    ensures seats { result.seats ≡ setup.now.stacks.seats }
+    ensures amounts { (n : ℕ) → 1 ≤ n → n ≤ setup.now.stacks.seats
+        → amount_of result n ≡ amount_of setup.now.stacks n - amount_of put.now n }
+{
+    let mut row = SeatRow::new(setup.stacks.seats);
+    for index in 0..setup.stacks.seats {
+        let seat = Seat { number: index + 1 };
+        row.set(seat, setup.stacks.get(seat).saturating_sub(put.get(seat)));
+    }
+    row
 }

@@ -114,26 +114,6 @@ fn push_move(
     Ok(())
 }
 
-// A move as an event that names its actor and its target.
-fn named(moved: &Move) -> Kind
-    ensures named { kind_said result ≡ move_named (plain_move (move_said moved.now)) }
-    ensures words { IsTrue (has_words (kind_said result)) }
-{
-    let actor = Some(moved.seat);
-    match moved.act {
-        Act::Fold => Kind::Fold { actor },
-        Act::Call => Kind::Call {
-            actor,
-            stated: None,
-        },
-        Act::Raise => Kind::Raise {
-            actor,
-            amount: Spelled::To(moved.to),
-        },
-        Act::BringIn => Kind::BringIn { actor },
-    }
-}
-
 // Puts the line of an event, with the chips after it.
 fn push_event(
     alloc: Global,
@@ -155,4 +135,24 @@ fn push_event(
     write!(text, "{number} {event}")?;
     push_chips(text, setup, put)?;
     Ok(())
+}
+
+// A move as an event that names its actor and its target.
+fn named(moved: &Move) -> Kind
+    ensures named { kind_said result ≡ move_named (plain_move (move_said moved.now)) }
+    ensures words { IsTrue (has_words (kind_said result)) }
+{
+    let actor = Some(moved.seat);
+    match moved.act {
+        Act::Fold => Kind::Fold { actor },
+        Act::Call => Kind::Call {
+            actor,
+            stated: None,
+        },
+        Act::Raise => Kind::Raise {
+            actor,
+            amount: Spelled::To(moved.to),
+        },
+        Act::BringIn => Kind::BringIn { actor },
+    }
 }

@@ -28,6 +28,15 @@ pub fn push_hands_line(
     Ok(())
 }
 
+// Puts what is shown at the left of so many places.
+fn push_left(text: &mut String, shown: &str, places: usize) -> Result<(), Memory>
+    ensures { OnOk result (string_bytes text.new
+        ≡ string_bytes text.old ++ left_in places shown.now) }
+{
+    text.push_str(shown)?;
+    push_spaces(text, places.saturating_sub(shown.len()))
+}
+
 /// Puts the line of a name at the end of a text: its net chips, how many hands it has, and the name.
 pub fn push_name_line(
     alloc: Global,
@@ -47,14 +56,6 @@ pub fn push_name_line(
     Ok(())
 }
 
-// What a name won or lost.
-fn net_of(tally: Tally) -> i64
-    requires { IsWithin MOST_SEATS tally }
-    ensures { result ≡ pos tally.finished -ℤ pos tally.started }
-{
-    tally.finished as i64 - tally.started as i64
-}
-
 // Puts a number with its sign at the right of so many places.
 fn push_signed(alloc: Global, text: &mut String, number: i64, places: usize) -> Result<(), Memory>
     ensures { OnOk result (string_bytes text.new
@@ -62,6 +63,14 @@ fn push_signed(alloc: Global, text: &mut String, number: i64, places: usize) -> 
 {
     let number = format!(in alloc; "{number}")?;
     push_right(text, number.as_str(), places)
+}
+
+// What a name won or lost.
+fn net_of(tally: Tally) -> i64
+    requires { IsWithin MOST_SEATS tally }
+    ensures { result ≡ pos tally.finished -ℤ pos tally.started }
+{
+    tally.finished as i64 - tally.started as i64
 }
 
 // Puts a number at the right of so many places.
@@ -81,15 +90,6 @@ fn push_right(text: &mut String, shown: &str, places: usize) -> Result<(), Memor
     push_spaces(text, places.saturating_sub(shown.len()))?;
     text.push_str(shown)?;
     Ok(())
-}
-
-// Puts what is shown at the left of so many places.
-fn push_left(text: &mut String, shown: &str, places: usize) -> Result<(), Memory>
-    ensures { OnOk result (string_bytes text.new
-        ≡ string_bytes text.old ++ left_in places shown.now) }
-{
-    text.push_str(shown)?;
-    push_spaces(text, places.saturating_sub(shown.len()))
 }
 
 // Puts so many spaces.

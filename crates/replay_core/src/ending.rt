@@ -1,4 +1,4 @@
-// The end of a hand: what the machines leave, in rows.
+//! The end of a hand: what the machines leave, in rows.
 ghost use Rattle.std.specs.Prelude.{◌≡◌, List, IfOk};
 ghost use Rattle.play_event.specs.Said.{Said};
 ghost use Rattle.play_event.specs.Scripts.{past_at_end};

@@ -1,4 +1,4 @@
-// Why a script has no trace.
+//! Why a script has no trace.
 use play_event::Illegal;
 
 /// Why a script has no trace, in the order in which it is looked for. Want of memory may stand in place of each.

@@ -1,4 +1,4 @@
-// The law of faults.
+//! The law of faults.
 ghost use Rattle.std.specs.Prelude.{◌≡◌, ◌≢◌, List};
 ghost use Rattle.hand_canon.specs.LegalHand.{IsLegalHand};
 ghost use Rattle.play_event.specs.declared.event.Event.{Event};

@@ -1,22 +1,10 @@
-// What each seat ends with.
+//! What each seat ends with.
 ghost use Rattle.std.specs.Prelude.{◌≡◌, ◌+◌, ◌≤◌, ℕ, All, sum_by};
 ghost use Rattle.chip_ledger.specs.PotRow.{shares_in};
 ghost use Rattle.chip_ledger.specs.SeatRow.{amount_of};
 ghost use Rattle.chip_ledger.specs.declared.rows.TheConstants.{MOST_AMOUNT};
 
 use chip_ledger::{Seat, SeatRow, ShareRow};
-
-// The shares of the seat together.
-fn won(shares: &ShareRow, seat: Seat) -> u64
-    requires { All (λ row. seat.number ≤ row.seats) (shares_in shares.now) }
-    ensures { result ≡ sum_by (λ row. amount_of row seat.number) (shares_in shares.now) }
-{
-    let mut all = 0;
-    for row in &shares.shares[..shares.count as usize] {
-        all += row.get(seat);
-    }
-    all
-}
 
 /// What each seat ends with: the chips that it has left, those returned to it, and its shares.
 pub fn finish_row(left: &SeatRow, returned: &SeatRow, shares: &ShareRow) -> SeatRow
@@ -37,4 +25,16 @@ pub fn finish_row(left: &SeatRow, returned: &SeatRow, shares: &ShareRow) -> Seat
         row.set(seat, left.get(seat) + back);
     }
     row
+}
+
+// The shares of the seat together.
+fn won(shares: &ShareRow, seat: Seat) -> u64
+    requires { All (λ row. seat.number ≤ row.seats) (shares_in shares.now) }
+    ensures { result ≡ sum_by (λ row. amount_of row seat.number) (shares_in shares.now) }
+{
+    let mut all = 0;
+    for row in &shares.shares[..shares.count as usize] {
+        all += row.get(seat);
+    }
+    all
 }

@@ -1,4 +1,4 @@
-// The betting and the cards of a hand, and one event more of it.
+//! The betting and the cards of a hand, and one event more of it.
 ghost use Rattle.std.specs.Prelude.{◌≡◌, [], ℕ, true, false, None, Some, IfErr, IfOk, OnErr, OnOk};
 ghost use Rattle.betting_numbers.specs.LegalMoves.{past_with, reason_after};
 ghost use Rattle.chip_ledger.specs.LiveRow.{flag_of};
@@ -114,24 +114,6 @@ impl<V: Variant> HandInPlay<V> {
         }
     }
 
-    /// What is due.
-    pub fn due(&self) -> Due
-        ensures { WhereTogether self.now.betting.table self.now.cards.state
-            (λ past. result ≡ (turn self.now.betting.table.setup past).1) }
-    {
-        self.betting.due()
-    }
-
-    /// Which seats are live: those that have not folded.
-    pub fn live(&self) -> LiveRow
-        ensures seats { result.seats ≡ self.now.betting.table.setup.stacks.seats }
-        ensures lives { WhereTogether self.now.betting.table self.now.cards.state
-            (λ past. (seat : ℕ) → IsSeat self.now.betting.table.setup seat
-            → flag_of result seat ≡ is_live (moves_of past) seat) }
-    {
-        self.betting.live()
-    }
-
     /// The chips that each seat has put in this hand, antes included.
     pub fn puts(&self) -> SeatRow
         ensures seats { result.seats ≡ self.now.betting.table.setup.stacks.seats }
@@ -152,120 +134,6 @@ impl<V: Variant> HandInPlay<V> {
             ≡ chips_left self.now.betting.table.setup (moves_of past) seat) }
     {
         self.betting.stacks()
-    }
-
-    // A move, and for a fold what it does to the cards.
-    fn bet(&mut self, event: &Event) -> Result<Option<Move>, Illegal>
-        requires seats { self.old.betting.table.setup.stacks.seats ≡ self.old.cards.state.seats }
-        requires kind { is_card_said (said_of event.now) ≡ false }
-        ensures refused { WhereTogether self.old.betting.table self.old.cards.state
-            (λ past. IfErr result (λ reason.
-            reason_after self.old.betting.table past (said_of event.now) ≡ Some reason)) }
-        ensures legal { WhereTogether self.old.betting.table self.old.cards.state
-            (λ past. OnOk result
-            (reason_after self.old.betting.table past (said_of event.now) ≡ None)) }
-        ensures stands { WhereTogether self.old.betting.table self.old.cards.state
-            (λ past. OnOk result
-            (StandTogether self.new.betting.table self.new.cards.state
-            (past_with self.old.betting.table past (said_of event.now)))) }
-        ensures told { WhereTogether self.old.betting.table self.old.cards.state
-            (λ past. IfOk result
-            (IsToldOf self.old.betting.table (said_of event.now) past)) }
-        ensures unchanged { OnErr result (self.new ≡ self.old) }
-        ensures seats { self.new.cards.state.seats ≡ self.old.cards.state.seats }
-        ensures setup { self.new.betting.table.setup ≡ self.old.betting.table.setup }
-        ensures rules { self.new.betting.table.rules ≡ self.old.betting.table.rules }
-    {
-        let up = up_row(&self.cards);
-        let moved = match self.betting.step(&up, event) {
-            Ok(moved) => moved,
-            Err(reason) => return Err(reason),
-        };
-        if folds(moved.act) {
-            self.cards.folded(moved.seat);
-        }
-        Ok(Some(moved))
-    }
-
-    // Ends the deal, the draw or the show that is due, if it is complete.
-    fn end_one(&mut self) -> bool
-        requires seats { self.old.betting.table.setup.stacks.seats ≡ self.old.cards.state.seats }
-        ensures up_to { (past : Past)
-            → StandUpToDue self.old.betting.table self.old.cards.state past
-            → StandUpToDue self.new.betting.table self.new.cards.state past }
-        ensures done { (past : Past)
-            → StandUpToDue self.old.betting.table self.old.cards.state past → result ≡ true
-            → is_done self.old.betting.table.setup past self.old.betting.table.due ≡ true }
-        ensures next { (past : Past)
-            → StandUpToDue self.old.betting.table self.old.cards.state past → result ≡ true
-            → is_done self.new.betting.table.setup past self.new.betting.table.due ≡ true
-            → self.new.betting.table.due ≡ dues.Show }
-        ensures over { result ≡ true → self.old.betting.table.due ≡ dues.Show
-            → self.new.betting.table.due ≡ dues.Over }
-        ensures undone { (past : Past)
-            → StandUpToDue self.old.betting.table self.old.cards.state past → result ≡ false
-            → StandTogether self.new.betting.table self.new.cards.state past }
-        ensures seats { self.new.cards.state.seats ≡ self.old.cards.state.seats }
-        ensures setup { self.new.betting.table.setup ≡ self.old.betting.table.setup }
-        ensures rules { self.new.betting.table.rules ≡ self.old.betting.table.rules }
-    {
-        let due = self.betting.due();
-        let live = self.betting.live();
-        if self.cards.done(due, &live) {
-            self.betting.dealt();
-            true
-        } else {
-            false
-        }
-    }
-
-    // Ends what is due, and the showdown behind it, where they are complete.
-    fn end(&mut self)
-        requires seats { self.old.betting.table.setup.stacks.seats ≡ self.old.cards.state.seats }
-        ensures stands { (past : Past)
-            → StandUpToDue self.old.betting.table self.old.cards.state past
-            → StandTogether self.new.betting.table self.new.cards.state past }
-        ensures seats { self.new.cards.state.seats ≡ self.old.cards.state.seats }
-        ensures setup { self.new.betting.table.setup ≡ self.old.betting.table.setup }
-        ensures rules { self.new.betting.table.rules ≡ self.old.betting.table.rules }
-    {
-        if self.end_one() {
-            self.end_one();
-        }
-    }
-
-    // An event of cards, and the end of what it completes.
-    fn take_cards(&mut self, event: &Event) -> Result<Option<Move>, Illegal>
-        requires seats { self.old.betting.table.setup.stacks.seats ≡ self.old.cards.state.seats }
-        requires kind { is_card_said (said_of event.now) ≡ true }
-        ensures refused { WhereTogether self.old.betting.table self.old.cards.state
-            (λ past. IfErr result (λ reason.
-            reason_after self.old.betting.table past (said_of event.now) ≡ Some reason)) }
-        ensures legal { WhereTogether self.old.betting.table self.old.cards.state
-            (λ past. OnOk result
-            (reason_after self.old.betting.table past (said_of event.now) ≡ None)) }
-        ensures stands { WhereTogether self.old.betting.table self.old.cards.state
-            (λ past. OnOk result
-            (StandTogether self.new.betting.table self.new.cards.state
-            (past_with self.old.betting.table past (said_of event.now)))) }
-        ensures told { WhereTogether self.old.betting.table self.old.cards.state
-            (λ past. IfOk result
-            (IsToldOf self.old.betting.table (said_of event.now) past)) }
-        ensures unchanged { OnErr result (self.new ≡ self.old) }
-        ensures seats { self.new.cards.state.seats ≡ self.old.cards.state.seats }
-        ensures setup { self.new.betting.table.setup ≡ self.old.betting.table.setup }
-        ensures rules { self.new.betting.table.rules ≡ self.old.betting.table.rules }
-    {
-        let due = self.betting.due();
-        let live = self.betting.live();
-        let settled = self.betting.settled();
-        match lay(&mut self.cards, due, &live, settled, event) {
-            Ok(()) => {
-                self.end();
-                Ok(None)
-            }
-            Err(reason) => Err(reason),
-        }
     }
 
     /// One event more. It is illegal exactly by the rules, and the hand is then as it was. A fold, a call, a raise or a
@@ -307,5 +175,137 @@ impl<V: Variant> HandInPlay<V> {
             | Kind::Show { seat: _, cards: _ }
             | Kind::Muck { seat: _ } => self.take_cards(event),
         }
+    }
+
+    // A move, and for a fold what it does to the cards.
+    fn bet(&mut self, event: &Event) -> Result<Option<Move>, Illegal>
+        requires seats { self.old.betting.table.setup.stacks.seats ≡ self.old.cards.state.seats }
+        requires kind { is_card_said (said_of event.now) ≡ false }
+        ensures refused { WhereTogether self.old.betting.table self.old.cards.state
+            (λ past. IfErr result (λ reason.
+            reason_after self.old.betting.table past (said_of event.now) ≡ Some reason)) }
+        ensures legal { WhereTogether self.old.betting.table self.old.cards.state
+            (λ past. OnOk result
+            (reason_after self.old.betting.table past (said_of event.now) ≡ None)) }
+        ensures stands { WhereTogether self.old.betting.table self.old.cards.state
+            (λ past. OnOk result
+            (StandTogether self.new.betting.table self.new.cards.state
+            (past_with self.old.betting.table past (said_of event.now)))) }
+        ensures told { WhereTogether self.old.betting.table self.old.cards.state
+            (λ past. IfOk result
+            (IsToldOf self.old.betting.table (said_of event.now) past)) }
+        ensures unchanged { OnErr result (self.new ≡ self.old) }
+        ensures seats { self.new.cards.state.seats ≡ self.old.cards.state.seats }
+        ensures setup { self.new.betting.table.setup ≡ self.old.betting.table.setup }
+        ensures rules { self.new.betting.table.rules ≡ self.old.betting.table.rules }
+    {
+        let up = up_row(&self.cards);
+        let moved = match self.betting.step(&up, event) {
+            Ok(moved) => moved,
+            Err(reason) => return Err(reason),
+        };
+        if folds(moved.act) {
+            self.cards.folded(moved.seat);
+        }
+        Ok(Some(moved))
+    }
+
+    // An event of cards, and the end of what it completes.
+    fn take_cards(&mut self, event: &Event) -> Result<Option<Move>, Illegal>
+        requires seats { self.old.betting.table.setup.stacks.seats ≡ self.old.cards.state.seats }
+        requires kind { is_card_said (said_of event.now) ≡ true }
+        ensures refused { WhereTogether self.old.betting.table self.old.cards.state
+            (λ past. IfErr result (λ reason.
+            reason_after self.old.betting.table past (said_of event.now) ≡ Some reason)) }
+        ensures legal { WhereTogether self.old.betting.table self.old.cards.state
+            (λ past. OnOk result
+            (reason_after self.old.betting.table past (said_of event.now) ≡ None)) }
+        ensures stands { WhereTogether self.old.betting.table self.old.cards.state
+            (λ past. OnOk result
+            (StandTogether self.new.betting.table self.new.cards.state
+            (past_with self.old.betting.table past (said_of event.now)))) }
+        ensures told { WhereTogether self.old.betting.table self.old.cards.state
+            (λ past. IfOk result
+            (IsToldOf self.old.betting.table (said_of event.now) past)) }
+        ensures unchanged { OnErr result (self.new ≡ self.old) }
+        ensures seats { self.new.cards.state.seats ≡ self.old.cards.state.seats }
+        ensures setup { self.new.betting.table.setup ≡ self.old.betting.table.setup }
+        ensures rules { self.new.betting.table.rules ≡ self.old.betting.table.rules }
+    {
+        let due = self.betting.due();
+        let live = self.betting.live();
+        let settled = self.betting.settled();
+        match lay(&mut self.cards, due, &live, settled, event) {
+            Ok(()) => {
+                self.end();
+                Ok(None)
+            }
+            Err(reason) => Err(reason),
+        }
+    }
+
+    // Ends what is due, and the showdown behind it, where they are complete.
+    fn end(&mut self)
+        requires seats { self.old.betting.table.setup.stacks.seats ≡ self.old.cards.state.seats }
+        ensures stands { (past : Past)
+            → StandUpToDue self.old.betting.table self.old.cards.state past
+            → StandTogether self.new.betting.table self.new.cards.state past }
+        ensures seats { self.new.cards.state.seats ≡ self.old.cards.state.seats }
+        ensures setup { self.new.betting.table.setup ≡ self.old.betting.table.setup }
+        ensures rules { self.new.betting.table.rules ≡ self.old.betting.table.rules }
+    {
+        if self.end_one() {
+            self.end_one();
+        }
+    }
+
+    // Ends the deal, the draw or the show that is due, if it is complete.
+    fn end_one(&mut self) -> bool
+        requires seats { self.old.betting.table.setup.stacks.seats ≡ self.old.cards.state.seats }
+        ensures up_to { (past : Past)
+            → StandUpToDue self.old.betting.table self.old.cards.state past
+            → StandUpToDue self.new.betting.table self.new.cards.state past }
+        ensures done { (past : Past)
+            → StandUpToDue self.old.betting.table self.old.cards.state past → result ≡ true
+            → is_done self.old.betting.table.setup past self.old.betting.table.due ≡ true }
+        ensures next { (past : Past)
+            → StandUpToDue self.old.betting.table self.old.cards.state past → result ≡ true
+            → is_done self.new.betting.table.setup past self.new.betting.table.due ≡ true
+            → self.new.betting.table.due ≡ dues.Show }
+        ensures over { result ≡ true → self.old.betting.table.due ≡ dues.Show
+            → self.new.betting.table.due ≡ dues.Over }
+        ensures undone { (past : Past)
+            → StandUpToDue self.old.betting.table self.old.cards.state past → result ≡ false
+            → StandTogether self.new.betting.table self.new.cards.state past }
+        ensures seats { self.new.cards.state.seats ≡ self.old.cards.state.seats }
+        ensures setup { self.new.betting.table.setup ≡ self.old.betting.table.setup }
+        ensures rules { self.new.betting.table.rules ≡ self.old.betting.table.rules }
+    {
+        let due = self.betting.due();
+        let live = self.betting.live();
+        if self.cards.done(due, &live) {
+            self.betting.dealt();
+            true
+        } else {
+            false
+        }
+    }
+
+    /// What is due.
+    pub fn due(&self) -> Due
+        ensures { WhereTogether self.now.betting.table self.now.cards.state
+            (λ past. result ≡ (turn self.now.betting.table.setup past).1) }
+    {
+        self.betting.due()
+    }
+
+    /// Which seats are live: those that have not folded.
+    pub fn live(&self) -> LiveRow
+        ensures seats { result.seats ≡ self.now.betting.table.setup.stacks.seats }
+        ensures lives { WhereTogether self.now.betting.table self.now.cards.state
+            (λ past. (seat : ℕ) → IsSeat self.now.betting.table.setup seat
+            → flag_of result seat ≡ is_live (moves_of past) seat) }
+    {
+        self.betting.live()
     }
 }

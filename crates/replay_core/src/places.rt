@@ -1,4 +1,4 @@
-// The places of the trace.
+//! The places of the trace.
 ghost use Rattle.std.specs.Prelude.{◌≡◌, ◌+◌, ◌++◌, ◌≤◌, [], ◌∷◌, IfOk, OnOk, map};
 ghost use Rattle.card_places.specs.Ordered.{group, on_seats, on_street, on_streets};
 ghost use Rattle.card_places.specs.Plain.{place_of, seat_of};

@@ -1,4 +1,4 @@
-// The events of a script, one after the other.
+//! The events of a script, one after the other.
 ghost use Rattle.std.specs.Prelude.{◌≡◌, ◌<◌, ◌^◌, ◌++◌, [], length, map, reverse, None, IfErr, IfOk, OnOk};
 ghost use Rattle.betting_numbers.specs.LegalMoves.{past_with, reason_after};
 ghost use Rattle.replay_core.specs.Together.{StandTogether};
@@ -23,14 +23,67 @@ use play_event::{Due, Event, Move, Rules, Script, Setup};
 use std::alloc::Global;
 use variant_table::Variant;
 
-// Puts a move that is told after the others.
-fn tell(moves: &mut Moves, told: Option<Move>) -> Result<(), Memory>
-    ensures { OnOk result (map move_said moves.new ≡ map move_said moves.old ++ moves_told told) }
+/// Plays a script to its end, or tells what keeps it from that.
+pub fn play_out<V: Variant>(
+    alloc: Global,
+    setup: &Setup,
+    rules: &Rules,
+    script: &Script,
+) -> Result<HandAtEnd, ReplayFault>
+    requires valid { IsValid setup.now }
+    requires code { setup.now.code ≡ V.CODE }
+    requires within { IsWithinLimits (said_by script.now) }
+    ensures fault { IfErr result (IsFaultOf setup.now rules.now script.now) }
+    ensures played { OnOk result (IsPlayed setup.now rules.now (said_by script.now)) }
+    ensures ended { IfOk result (IsAtEnd setup.now (past_at_end setup.now (said_by script.now))) }
 {
-    match told {
-        Some(moved) => moves.push(moved),
-        None => Ok(()),
+    let mut hand = HandInPlay::<V>::start(setup, rules);
+    let mut moves = Moves::new(alloc);
+    let events = match play_events(&mut hand, &mut moves, script) {
+        Ok(events) => events,
+        Err(fault) => return Err(fault),
+    };
+    if is_unfinished(hand.due()) {
+        return Err(ReplayFault::EndsEarly { events });
     }
+    match at_end(alloc, &hand, moves) {
+        Ok(ended) => Ok(ended),
+        Err(_) => Err(ReplayFault::Memory),
+    }
+}
+
+// Plays the events of a script from the first to the last, and counts them.
+fn play_events<V: Variant>(
+    hand: &mut HandInPlay<V>,
+    moves: &mut Moves,
+    script: &Script,
+) -> Result<u32, ReplayFault>
+    requires seats { hand.old.betting.table.setup.stacks.seats ≡ hand.old.cards.state.seats }
+    requires start { StandTogether hand.old.betting.table hand.old.cards.state [] }
+    requires none { moves.old ≡ [] }
+    requires few { length script.now < 2 ^ 32 }
+    ensures fault { IfErr result
+        (AreRefused hand.old.betting.table.setup hand.old.betting.table.rules script.now) }
+    ensures legal { OnOk result (AreLegal hand.old.betting.table.setup
+        hand.old.betting.table.rules (reverse (said_by script.now))) }
+    ensures count { IfOk result (λ count. count ≡ length script.now) }
+    ensures stands { OnOk result (StandTogether hand.new.betting.table hand.new.cards.state
+        (past_at_end hand.old.betting.table.setup (said_by script.now))) }
+    ensures moves { OnOk result (AreMovesOf hand.old.betting.table.setup
+        (past_at_end hand.old.betting.table.setup (said_by script.now)) moves.new) }
+    ensures seats { hand.new.cards.state.seats ≡ hand.old.cards.state.seats }
+    ensures setup { hand.new.betting.table.setup ≡ hand.old.betting.table.setup }
+{
+    let mut cursor = script.cursor();
+    let mut count: u32 = 0;
+    while let Some(event) = cursor.next() {
+        match play_event(hand, moves, &event, count + 1) {
+            Ok(()) => {}
+            Err(fault) => return Err(fault),
+        }
+        count += 1;
+    }
+    Ok(count)
 }
 
 // Plays one event more, the one with this number.
@@ -70,38 +123,14 @@ fn play_event<V: Variant>(
     }
 }
 
-// Plays the events of a script from the first to the last, and counts them.
-fn play_events<V: Variant>(
-    hand: &mut HandInPlay<V>,
-    moves: &mut Moves,
-    script: &Script,
-) -> Result<u32, ReplayFault>
-    requires seats { hand.old.betting.table.setup.stacks.seats ≡ hand.old.cards.state.seats }
-    requires start { StandTogether hand.old.betting.table hand.old.cards.state [] }
-    requires none { moves.old ≡ [] }
-    requires few { length script.now < 2 ^ 32 }
-    ensures fault { IfErr result
-        (AreRefused hand.old.betting.table.setup hand.old.betting.table.rules script.now) }
-    ensures legal { OnOk result (AreLegal hand.old.betting.table.setup
-        hand.old.betting.table.rules (reverse (said_by script.now))) }
-    ensures count { IfOk result (λ count. count ≡ length script.now) }
-    ensures stands { OnOk result (StandTogether hand.new.betting.table hand.new.cards.state
-        (past_at_end hand.old.betting.table.setup (said_by script.now))) }
-    ensures moves { OnOk result (AreMovesOf hand.old.betting.table.setup
-        (past_at_end hand.old.betting.table.setup (said_by script.now)) moves.new) }
-    ensures seats { hand.new.cards.state.seats ≡ hand.old.cards.state.seats }
-    ensures setup { hand.new.betting.table.setup ≡ hand.old.betting.table.setup }
+// Puts a move that is told after the others.
+fn tell(moves: &mut Moves, told: Option<Move>) -> Result<(), Memory>
+    ensures { OnOk result (map move_said moves.new ≡ map move_said moves.old ++ moves_told told) }
 {
-    let mut cursor = script.cursor();
-    let mut count: u32 = 0;
-    while let Some(event) = cursor.next() {
-        match play_event(hand, moves, &event, count + 1) {
-            Ok(()) => {}
-            Err(fault) => return Err(fault),
-        }
-        count += 1;
+    match told {
+        Some(moved) => moves.push(moved),
+        None => Ok(()),
     }
-    Ok(count)
 }
 
 // A script may not end while this is due.
@@ -111,34 +140,5 @@ fn is_unfinished(due: Due) -> bool
     match due {
         Due::Deal(_) | Due::Draw(_) | Due::BringIn | Due::Move => true,
         Due::Show | Due::Over => false,
-    }
-}
-
-/// Plays a script to its end, or tells what keeps it from that.
-pub fn play_out<V: Variant>(
-    alloc: Global,
-    setup: &Setup,
-    rules: &Rules,
-    script: &Script,
-) -> Result<HandAtEnd, ReplayFault>
-    requires valid { IsValid setup.now }
-    requires code { setup.now.code ≡ V.CODE }
-    requires within { IsWithinLimits (said_by script.now) }
-    ensures fault { IfErr result (IsFaultOf setup.now rules.now script.now) }
-    ensures played { OnOk result (IsPlayed setup.now rules.now (said_by script.now)) }
-    ensures ended { IfOk result (IsAtEnd setup.now (past_at_end setup.now (said_by script.now))) }
-{
-    let mut hand = HandInPlay::<V>::start(setup, rules);
-    let mut moves = Moves::new(alloc);
-    let events = match play_events(&mut hand, &mut moves, script) {
-        Ok(events) => events,
-        Err(fault) => return Err(fault),
-    };
-    if is_unfinished(hand.due()) {
-        return Err(ReplayFault::EndsEarly { events });
-    }
-    match at_end(alloc, &hand, moves) {
-        Ok(ended) => Ok(ended),
-        Err(_) => Err(ReplayFault::Memory),
     }
 }

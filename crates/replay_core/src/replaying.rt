@@ -1,4 +1,4 @@
-// A script under its setup and rules, to its trace.
+//! A script under its setup and rules, to its trace.
 ghost use Rattle.std.specs.Prelude.{◌≡◌, IfErr, IfOk, OnOk};
 ghost use Rattle.hand_canon.specs.Agreement.{HasBoundedPots};
 ghost use Rattle.canonical_play.specs.PlayedScript.{IsWithinLimits};
@@ -22,6 +22,60 @@ use play_event::{Code, Rules, Script, Setup};
 use showdown_split::{first_rake_above, split};
 use std::alloc::Global;
 use variant_table::{F2L3D, F7S, F7S8, FB, FO8, FR, FT, N2L1D, NS, NT, PO, Variant};
+
+/// The trace of a script under its setup and rules, or what is wrong with the script.
+///
+/// It goes over the events once. Ask for a valid setup and for a script within the limits of a hand.
+pub fn replay(
+    alloc: Global,
+    setup: &Setup,
+    rules: &Rules,
+    script: &Script,
+) -> Result<Trace, ReplayFault>
+    requires valid { IsValid setup.now }
+    requires within { IsWithinLimits (said_by script.now) }
+
+    // The trace of the rules, where the hand is legal; else what is wrong first.
+    ensures trace { IfOk result (IsTraceOf setup.now (past_at_end setup.now (said_by script.now))) }
+    ensures legal { OnOk result (IsLegalHand setup.now rules.now (said_by script.now)) }
+    ensures fault { IfErr result (IsFaultOf setup.now rules.now script.now) }
+
+    // What follows: no chip is made or lost, the canonical script can be written, and stated facts can be compared.
+    ensures conserved { IfOk result
+        (IsConserved setup.now (past_at_end setup.now (said_by script.now))) }
+    ensures tidy { IfOk result (λ trace. IsTidy (core_said trace)) }
+    ensures bounded { IfOk result HasBoundedPots }
+{
+    replay_by_code(alloc, setup, rules, script)
+}
+
+// A script of the game that its setup names.
+fn replay_by_code(
+    alloc: Global,
+    setup: &Setup,
+    rules: &Rules,
+    script: &Script,
+) -> Result<Trace, ReplayFault>
+    requires valid { IsValid setup.now }
+    requires within { IsWithinLimits (said_by script.now) }
+    ensures replayed { IfOk result
+        (IsReplayOf setup.now rules.now (said_by script.now)) }
+    ensures fault { IfErr result (IsFaultOf setup.now rules.now script.now) }
+{
+    match setup.code {
+        Code::FT => replay_of::<FT>(alloc, setup, rules, script),
+        Code::NT => replay_of::<NT>(alloc, setup, rules, script),
+        Code::NS => replay_of::<NS>(alloc, setup, rules, script),
+        Code::PO => replay_of::<PO>(alloc, setup, rules, script),
+        Code::FO8 => replay_of::<FO8>(alloc, setup, rules, script),
+        Code::F7S => replay_of::<F7S>(alloc, setup, rules, script),
+        Code::F7S8 => replay_of::<F7S8>(alloc, setup, rules, script),
+        Code::FR => replay_of::<FR>(alloc, setup, rules, script),
+        Code::N2L1D => replay_of::<N2L1D>(alloc, setup, rules, script),
+        Code::F2L3D => replay_of::<F2L3D>(alloc, setup, rules, script),
+        Code::FB => replay_of::<FB>(alloc, setup, rules, script),
+    }
+}
 
 // A script of the game `V`.
 fn replay_of<V: Variant>(
@@ -60,58 +114,4 @@ fn replay_of<V: Variant>(
         shares,
         finish,
     })
-}
-
-// A script of the game that its setup names.
-fn replay_by_code(
-    alloc: Global,
-    setup: &Setup,
-    rules: &Rules,
-    script: &Script,
-) -> Result<Trace, ReplayFault>
-    requires valid { IsValid setup.now }
-    requires within { IsWithinLimits (said_by script.now) }
-    ensures replayed { IfOk result
-        (IsReplayOf setup.now rules.now (said_by script.now)) }
-    ensures fault { IfErr result (IsFaultOf setup.now rules.now script.now) }
-{
-    match setup.code {
-        Code::FT => replay_of::<FT>(alloc, setup, rules, script),
-        Code::NT => replay_of::<NT>(alloc, setup, rules, script),
-        Code::NS => replay_of::<NS>(alloc, setup, rules, script),
-        Code::PO => replay_of::<PO>(alloc, setup, rules, script),
-        Code::FO8 => replay_of::<FO8>(alloc, setup, rules, script),
-        Code::F7S => replay_of::<F7S>(alloc, setup, rules, script),
-        Code::F7S8 => replay_of::<F7S8>(alloc, setup, rules, script),
-        Code::FR => replay_of::<FR>(alloc, setup, rules, script),
-        Code::N2L1D => replay_of::<N2L1D>(alloc, setup, rules, script),
-        Code::F2L3D => replay_of::<F2L3D>(alloc, setup, rules, script),
-        Code::FB => replay_of::<FB>(alloc, setup, rules, script),
-    }
-}
-
-/// The trace of a script under its setup and rules, or what is wrong with the script.
-///
-/// It goes over the events once. Ask for a valid setup and for a script within the limits of a hand.
-pub fn replay(
-    alloc: Global,
-    setup: &Setup,
-    rules: &Rules,
-    script: &Script,
-) -> Result<Trace, ReplayFault>
-    requires valid { IsValid setup.now }
-    requires within { IsWithinLimits (said_by script.now) }
-
-    // The trace of the rules, where the hand is legal; else what is wrong first.
-    ensures trace { IfOk result (IsTraceOf setup.now (past_at_end setup.now (said_by script.now))) }
-    ensures legal { OnOk result (IsLegalHand setup.now rules.now (said_by script.now)) }
-    ensures fault { IfErr result (IsFaultOf setup.now rules.now script.now) }
-
-    // What follows: no chip is made or lost, the canonical script can be written, and stated facts can be compared.
-    ensures conserved { IfOk result
-        (IsConserved setup.now (past_at_end setup.now (said_by script.now))) }
-    ensures tidy { IfOk result (λ trace. IsTidy (core_said trace)) }
-    ensures bounded { IfOk result HasBoundedPots }
-{
-    replay_by_code(alloc, setup, rules, script)
 }

@@ -1,24 +1,9 @@
-// Who is shown at the end of a hand, and who mucks, seat by seat.
+//! Who is shown at the end of a hand, and who mucks, seat by seat.
 ghost use Rattle.std.specs.Prelude.{◌≡◌, ◌≤◌, ℕ};
 ghost use Rattle.chip_ledger.specs.LiveRow.{flag_of};
 ghost use Rattle.replay_core.specs.EndRows.{flag_count, is_mucked_by, is_shown_by};
 
 use chip_ledger::{LiveRow, Seat};
-
-// How many seats of the row are flagged.
-#[tactic(auto, using(chip_ledger::proofs::SeatLists::count_more))]
-fn flag_count(row: &LiveRow) -> u8
-    ensures { result ≡ flag_count row.now }
-{
-    let mut count: u8 = 0;
-    for index in 0..row.seats {
-        let seat = Seat { number: index + 1 };
-        if row.get(seat) {
-            count += 1;
-        }
-    }
-    count
-}
 
 /// Which seats are shown: the live seats of a contested hand that did not muck, and all of whose cards are known.
 pub fn shown_row(live: &LiveRow, mucked: &LiveRow, unknown: &LiveRow) -> LiveRow
@@ -56,4 +41,19 @@ pub fn mucked_row(live: &LiveRow, shown: &LiveRow) -> LiveRow
         row.set(seat, contested && is_live && !is_shown);
     }
     row
+}
+
+// How many seats of the row are flagged.
+#[tactic(auto, using(chip_ledger::proofs::SeatLists::count_more))]
+fn flag_count(row: &LiveRow) -> u8
+    ensures { result ≡ flag_count row.now }
+{
+    let mut count: u8 = 0;
+    for index in 0..row.seats {
+        let seat = Seat { number: index + 1 };
+        if row.get(seat) {
+            count += 1;
+        }
+    }
+    count
 }

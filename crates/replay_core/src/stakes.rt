@@ -1,4 +1,4 @@
-// The pots of a hand, from what its seats put.
+//! The pots of a hand, from what its seats put.
 ghost use Rattle.std.specs.Prelude.{◌≡◌, ◌≢◌, ◌+◌, ◌≤◌, ℕ, [], All, sum_by};
 ghost use Rattle.chip_ledger.specs.LiveRow.{flagged};
 ghost use Rattle.chip_ledger.specs.PotRow.{pots_in};
@@ -13,6 +13,34 @@ ghost use Rattle.replay_core.specs.EndRows.{ArePotsOf, AreRowsOf};
 use chip_ledger::{LiveRow, PotRow, Seat, SeatRow, total};
 use play_event::Setup;
 use side_pots::pots;
+
+/// The pots of a hand after which each seat has put so much and these seats are live, and what is returned.
+pub fn pots_of(setup: &Setup, puts: &SeatRow, live: &LiveRow) -> PotRow
+    requires valid { IsValid setup.now }
+    requires puts { puts.now.seats ≡ setup.now.stacks.seats }
+    requires live { live.now.seats ≡ setup.now.stacks.seats }
+    requires someone { flagged live.now ≢ [] }
+    requires within { (n : ℕ) → 1 ≤ n → n ≤ setup.now.stacks.seats
+        → amount_of puts.now n ≤ amount_of setup.now.stacks n }
+    requires posted { (n : ℕ) → 1 ≤ n → n ≤ setup.now.stacks.seats
+        → amount_of setup.now.antes n ≤ amount_of puts.now n }
+
+    // The rule, exactly.
+    ensures pots { (past : Past) → AreRowsOf setup.now (moves_of past) puts.now live.now
+        → ArePotsOf setup.now past result }
+
+    // What follows from it.
+    ensures conserved { sum_by (λ pot. pot.chips) (pots_in result) + total_of result.returned
+        ≡ total_of puts.now }
+    ensures eligible { All (λ pot. pot.eligible.seats ≡ setup.now.stacks.seats) (pots_in result) }
+    ensures returned_seats { result.returned.seats ≡ setup.now.stacks.seats }
+    ensures each_is_bounded { All (λ pot. pot.chips ≤ MOST_AMOUNT) (pots_in result) }
+    ensures each_has_a_seat { All (λ pot. flagged pot.eligible ≢ []) (pots_in result) }
+{
+    let counted = counted_row(setup, puts);
+    let dead = dead_antes(setup);
+    pots(&counted, dead, live)
+}
 
 // The chips of each seat that count: all that it put, but for its ante where antes are dead.
 fn counted_row(setup: &Setup, puts: &SeatRow) -> SeatRow
@@ -54,32 +82,4 @@ fn dead_antes(setup: &Setup) -> u64
     } else {
         0
     }
-}
-
-/// The pots of a hand after which each seat has put so much and these seats are live, and what is returned.
-pub fn pots_of(setup: &Setup, puts: &SeatRow, live: &LiveRow) -> PotRow
-    requires valid { IsValid setup.now }
-    requires puts { puts.now.seats ≡ setup.now.stacks.seats }
-    requires live { live.now.seats ≡ setup.now.stacks.seats }
-    requires someone { flagged live.now ≢ [] }
-    requires within { (n : ℕ) → 1 ≤ n → n ≤ setup.now.stacks.seats
-        → amount_of puts.now n ≤ amount_of setup.now.stacks n }
-    requires posted { (n : ℕ) → 1 ≤ n → n ≤ setup.now.stacks.seats
-        → amount_of setup.now.antes n ≤ amount_of puts.now n }
-
-    // The rule, exactly.
-    ensures pots { (past : Past) → AreRowsOf setup.now (moves_of past) puts.now live.now
-        → ArePotsOf setup.now past result }
-
-    // What follows from it.
-    ensures conserved { sum_by (λ pot. pot.chips) (pots_in result) + total_of result.returned
-        ≡ total_of puts.now }
-    ensures eligible { All (λ pot. pot.eligible.seats ≡ setup.now.stacks.seats) (pots_in result) }
-    ensures returned_seats { result.returned.seats ≡ setup.now.stacks.seats }
-    ensures each_is_bounded { All (λ pot. pot.chips ≤ MOST_AMOUNT) (pots_in result) }
-    ensures each_has_a_seat { All (λ pot. flagged pot.eligible ≢ []) (pots_in result) }
-{
-    let counted = counted_row(setup, puts);
-    let dead = dead_antes(setup);
-    pots(&counted, dead, live)
 }

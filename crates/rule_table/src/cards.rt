@@ -1,5 +1,5 @@
-// How hands compare in each order: `cards best ORDER CARDS CARDS`, `cards up ORDER CARDS CARDS`,
-// and `cards deal PICK HOLE BOARD CARDS`, in which the last cards are a hand of the high order.
+//! How hands compare in each order: `cards best ORDER CARDS CARDS`, `cards up ORDER CARDS CARDS`,
+//! and `cards deal PICK HOLE BOARD CARDS`, in which the last cards are a hand of the high order.
 ghost use Rattle.std.specs.Prelude.{◌≡◌, ◌≢◌, ◌≤◌, IfSome, take, drop, length};
 ghost use Rattle.card_set.specs.Different.{AllDifferent};
 ghost use Rattle.card_set.specs.Row.{cards_of};
@@ -46,17 +46,6 @@ fn by_order(name: &str, hands: &str) -> Option<&'static str> {
     }
 }
 
-// The best of the cards, and none where these cards cannot be asked for.
-fn best<O: HandOrder>(text: &str) -> Option<Option<Score>> {
-    let cards = CardSet::of(&different_cards(text)?);
-    let count = cards.len();
-    if count == O::HELD || O::HELD == 5 && count >= 5 && count <= 7 {
-        Some(O::best_set(&cards))
-    } else {
-        None
-    }
-}
-
 // How up-cards compare, those that are as many.
 fn by_up_cards(name: &str, hands: &str) -> Option<&'static str> {
     let (first, second) = words::first_and_rest(hands);
@@ -65,6 +54,18 @@ fn by_up_cards(name: &str, hands: &str) -> Option<&'static str> {
         b"high" => Some(compared(Some(up_high(&first)), Some(up_high(&second)))),
         b"low" => Some(compared(Some(up_low(&first)), Some(up_low(&second)))),
         _ => None,
+    }
+}
+
+// One to four different cards.
+fn up_cards(text: &str) -> Option<CardRow>
+    ensures { IfSome result (λ row. AreUpCards (cards_of row)) }
+{
+    let row = different_cards(text)?;
+    if row.len >= 1 && row.len <= 4 {
+        Some(row)
+    } else {
+        None
     }
 }
 
@@ -97,29 +98,36 @@ fn best_dealt(text: &str, count: usize, pick: Pick) -> Option<Option<Score>>
     Some(best_of::<High>(&hole, &board, pick))
 }
 
-// What the first hand is beside the second.
-fn compared(first: Option<Score>, second: Option<Score>) -> &'static str {
-    match (first, second) {
-        (Some(x), Some(y)) => if x > y {
-            "better"
-        } else if x < y {
-            "weaker"
-        } else {
-            "even"
-        },
-        (Some(_), None) => "the second is no hand",
-        (None, Some(_)) => "the first is no hand",
-        (None, None) => "no hands",
+// So many of the first cards of a row.
+fn first_cards(row: &CardRow, count: usize) -> CardRow
+    requires { count ≤ length (cards_of row.now) }
+    ensures { cards_of result ≡ take count (cards_of row.now) }
+{
+    let mut first = CardRow::new();
+    for card in &row.as_slice()[..count] {
+        first.push(*card);
     }
+    first
 }
 
-// One to four different cards.
-fn up_cards(text: &str) -> Option<CardRow>
-    ensures { IfSome result (λ row. AreUpCards (cards_of row)) }
+// The cards of a row after so many.
+fn last_cards(row: &CardRow, count: usize) -> CardRow
+    requires { count ≤ length (cards_of row.now) }
+    ensures { cards_of result ≡ drop count (cards_of row.now) }
 {
-    let row = different_cards(text)?;
-    if row.len >= 1 && row.len <= 4 {
-        Some(row)
+    let mut last = CardRow::new();
+    for card in &row.as_slice()[count..] {
+        last.push(*card);
+    }
+    last
+}
+
+// The best of the cards, and none where these cards cannot be asked for.
+fn best<O: HandOrder>(text: &str) -> Option<Option<Score>> {
+    let cards = CardSet::of(&different_cards(text)?);
+    let count = cards.len();
+    if count == O::HELD || O::HELD == 5 && count >= 5 && count <= 7 {
+        Some(O::best_set(&cards))
     } else {
         None
     }
@@ -147,26 +155,18 @@ fn different_cards(text: &str) -> Option<CardRow>
     Some(row)
 }
 
-// So many of the first cards of a row.
-fn first_cards(row: &CardRow, count: usize) -> CardRow
-    requires { count ≤ length (cards_of row.now) }
-    ensures { cards_of result ≡ take count (cards_of row.now) }
-{
-    let mut first = CardRow::new();
-    for card in &row.as_slice()[..count] {
-        first.push(*card);
+// What the first hand is beside the second.
+fn compared(first: Option<Score>, second: Option<Score>) -> &'static str {
+    match (first, second) {
+        (Some(x), Some(y)) => if x > y {
+            "better"
+        } else if x < y {
+            "weaker"
+        } else {
+            "even"
+        },
+        (Some(_), None) => "the second is no hand",
+        (None, Some(_)) => "the first is no hand",
+        (None, None) => "no hands",
     }
-    first
-}
-
-// The cards of a row after so many.
-fn last_cards(row: &CardRow, count: usize) -> CardRow
-    requires { count ≤ length (cards_of row.now) }
-    ensures { cards_of result ≡ drop count (cards_of row.now) }
-{
-    let mut last = CardRow::new();
-    for card in &row.as_slice()[count..] {
-        last.push(*card);
-    }
-    last
 }

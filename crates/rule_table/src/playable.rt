@@ -1,4 +1,4 @@
-// Whether hands and pots are ones that can be split.
+//! Whether hands and pots are ones that can be split.
 ghost use Rattle.std.specs.Prelude.{◌≡◌, ◌≢◌, ◌≤◌, ◌++◌, [], IsTrue};
 ghost use Rattle.card_set.specs.Different.{AllDifferent, Lacks};
 ghost use Rattle.card_set.specs.Row.{cards_of};

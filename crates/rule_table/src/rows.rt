@@ -1,4 +1,4 @@
-// Rows of amounts, seats and cards as a row of the table writes them: parts with commas between them, `-` for nothing.
+//! Rows of amounts, seats and cards as a row of the table writes them: parts with commas between them, `-` for nothing.
 ghost use Rattle.std.specs.Prelude.{◌<◌};
 
 use card_set::{CardRow, SlotRow, known_row, read_slots};
@@ -88,6 +88,14 @@ pub fn hands(text: &str) -> Option<(HandRow, LiveRow)> {
     Some((held, shown))
 }
 
+fn part_count(text: &str) -> u8 {
+    let mut count: u8 = 0;
+    for _part in text.split(',') {
+        count = count.saturating_add(1);
+    }
+    count
+}
+
 /// The cards of a board, as `KhKdQs`.
 pub fn board(text: &str) -> Option<CardRow> {
     Some(known_row(&slots(text)?))
@@ -96,12 +104,4 @@ pub fn board(text: &str) -> Option<CardRow> {
 fn slots(text: &str) -> Option<SlotRow> {
     let cards = if text == "-" { "" } else { text };
     read_slots(cards.as_bytes()).ok()
-}
-
-fn part_count(text: &str) -> u8 {
-    let mut count: u8 = 0;
-    for _part in text.split(',') {
-        count = count.saturating_add(1);
-    }
-    count
 }

@@ -19,6 +19,14 @@ pub fn answer_to(alloc: Global, row: &str) -> Result<Option<String>, AllocError>
     }
 }
 
+fn script_of(alloc: Global, events: &str) -> Option<Script> {
+    let mut script = Script::new(alloc);
+    for text in events.split("; ") {
+        script.push(event_of(text)?).ok()?;
+    }
+    Some(script)
+}
+
 // The bytes in hexadecimal, two digits each, with a space between them, and how many they are.
 fn packed_text(alloc: Global, script: &Script) -> Result<String, AllocError> {
     let bytes = script.packed();
@@ -51,14 +59,6 @@ fn read_text(alloc: Global, script: &Script, events: &str) -> Result<String, All
         "then more"
     };
     format!(in alloc; "{count} events, {by_cursor} by cursor, {by_index} by index, {end}")
-}
-
-fn script_of(alloc: Global, events: &str) -> Option<Script> {
-    let mut script = Script::new(alloc);
-    for text in events.split("; ") {
-        script.push(event_of(text)?).ok()?;
-    }
-    Some(script)
 }
 
 fn event_of(text: &str) -> Option<Event> {
@@ -108,8 +108,20 @@ fn kind_of(word: &str, rest: &str) -> Option<Kind> {
     }
 }
 
-fn seat_of(word: &str) -> Option<Seat> {
-    Seat::new(word.parse::<u8>().ok()?)
+fn cards_of(word: &str) -> Option<CardRow> {
+    let slots = slots_of(word)?;
+    let mut row = CardRow::new();
+    for slot in slots.as_slice() {
+        match slot {
+            Slot::Known(card) if row.len < ROW_ENTRIES => row.push(*card),
+            _ => return None,
+        }
+    }
+    Some(row)
+}
+
+fn slots_of(word: &str) -> Option<SlotRow> {
+    read_slots(word.as_bytes()).ok()
 }
 
 // The named seat, or `-` for an actor that is not named.
@@ -118,6 +130,10 @@ fn actor_of(word: &str) -> Option<Option<Seat>> {
         b"-" => Some(None),
         _ => Some(Some(seat_of(word)?)),
     }
+}
+
+fn seat_of(word: &str) -> Option<Seat> {
+    Seat::new(word.parse::<u8>().ok()?)
 }
 
 // The chips, or `-` where they are not stated.
@@ -137,20 +153,4 @@ fn amount_of(words: &str) -> Option<Spelled> {
         b"unit" => Some(Spelled::Unit),
         _ => None,
     }
-}
-
-fn slots_of(word: &str) -> Option<SlotRow> {
-    read_slots(word.as_bytes()).ok()
-}
-
-fn cards_of(word: &str) -> Option<CardRow> {
-    let slots = slots_of(word)?;
-    let mut row = CardRow::new();
-    for slot in slots.as_slice() {
-        match slot {
-            Slot::Known(card) if row.len < ROW_ENTRIES => row.push(*card),
-            _ => return None,
-        }
-    }
-    Some(row)
 }

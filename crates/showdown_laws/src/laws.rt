@@ -1,4 +1,4 @@
-// What lies on the table where a contested hand ends. The functions do nothing: each contract is a law.
+//! What lies on the table where a contested hand ends. The functions do nothing: each contract is a law.
 ghost use Rattle.std.specs.Prelude.{◌≡◌, ◌≤◌, ℕ, ◌++◌, true, List, Some, None, length};
 ghost use Rattle.play_event.specs.Held.{held_slots};
 ghost use Rattle.card_set.specs.Different.{AllDifferent};

@@ -1,4 +1,6 @@
 //! Where a contested hand ends, each live seat has a whole hand, the board is full, and the cards are all different.
 #![tactic(auto)]
 
-pub mod laws;
+mod laws;
+
+pub use laws::{law_of_different_cards, law_of_whole_hands};

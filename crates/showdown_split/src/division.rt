@@ -1,4 +1,4 @@
-// Chips are divided evenly among winners, and the chips that remain go one each to the first of them.
+//! Chips are divided evenly among winners, and the chips that remain go one each to the first of them.
 ghost use Rattle.std.specs.Prelude.{◌≡◌, ◌≤◌, ◌<◌, ◌+◌, ℕ};
 ghost use Rattle.chip_ledger.specs.declared.rows.TheConstants.{MOST_AMOUNT};
 ghost use Rattle.chip_ledger.specs.LiveRow.{flag_of};
@@ -7,19 +7,22 @@ ghost use Rattle.variant_table.specs.Division.{count_to, divided};
 
 use chip_ledger::{LiveRow, Seat, SeatRow};
 
-/// How many seats up to this one have the flag.
-pub fn flags_to(row: &LiveRow, last: u8) -> u8
-    requires { last ≤ row.now.seats }
-    ensures number { result ≡ count_to (flag_of row.now) last }
-    ensures within { result ≤ last }
+/// What each seat gets of chips that are divided among the winners.
+pub fn divide(winners: &LiveRow, chips: u64) -> SeatRow
+    requires some { 0 < count_to (flag_of winners.now) winners.now.seats }
+    requires bounded { chips ≤ MOST_AMOUNT }
+    ensures seats { result.seats ≡ winners.now.seats }
+    ensures parts { (n : ℕ) → 1 ≤ n → n ≤ winners.now.seats
+        → amount_of result n ≡ divided winners.now.seats (flag_of winners.now) chips n }
+    ensures within { (n : ℕ) → 1 ≤ n → n ≤ winners.now.seats → amount_of result n ≤ chips }
+    ensures total { total_of result ≡ chips }
 {
-    let mut count = 0;
-    for index in 0..last {
-        if row.get(Seat { number: index + 1 }) {
-            count += 1;
-        }
+    let mut row = SeatRow::new(winners.seats);
+    for index in 0..winners.seats {
+        let seat = Seat { number: index + 1 };
+        row.set(seat, part(winners, chips, seat));
     }
-    count
+    row
 }
 
 // What a seat gets of chips that are divided among the winners.
@@ -38,22 +41,19 @@ fn part(winners: &LiveRow, chips: u64, seat: Seat) -> u64
     }
 }
 
-/// What each seat gets of chips that are divided among the winners.
-pub fn divide(winners: &LiveRow, chips: u64) -> SeatRow
-    requires some { 0 < count_to (flag_of winners.now) winners.now.seats }
-    requires bounded { chips ≤ MOST_AMOUNT }
-    ensures seats { result.seats ≡ winners.now.seats }
-    ensures parts { (n : ℕ) → 1 ≤ n → n ≤ winners.now.seats
-        → amount_of result n ≡ divided winners.now.seats (flag_of winners.now) chips n }
-    ensures within { (n : ℕ) → 1 ≤ n → n ≤ winners.now.seats → amount_of result n ≤ chips }
-    ensures total { total_of result ≡ chips }
+/// How many seats up to this one have the flag.
+pub fn flags_to(row: &LiveRow, last: u8) -> u8
+    requires { last ≤ row.now.seats }
+    ensures number { result ≡ count_to (flag_of row.now) last }
+    ensures within { result ≤ last }
 {
-    let mut row = SeatRow::new(winners.seats);
-    for index in 0..winners.seats {
-        let seat = Seat { number: index + 1 };
-        row.set(seat, part(winners, chips, seat));
+    let mut count = 0;
+    for index in 0..last {
+        if row.get(Seat { number: index + 1 }) {
+            count += 1;
+        }
     }
-    row
+    count
 }
 
 /// What each seat gets in two rows together.

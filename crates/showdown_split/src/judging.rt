@@ -1,4 +1,4 @@
-// Each shown seat has the score of the best choice of its cards and the board's.
+//! Each shown seat has the score of the best choice of its cards and the board's.
 ghost use Rattle.std.specs.Prelude.{◌≡◌, ◌≤◌, ◌++◌, ℕ, true, false, None};
 ghost use Rattle.std.specs.Option.{option_map};
 ghost use Rattle.card_set.specs.Different.{AllDifferent};
@@ -18,17 +18,33 @@ use hand_order::{HandOrder, Pick, Score, best_of};
 use play_event::HandRow;
 use variant_table::Variant;
 
-// The score of a seat.
-fn score_of<O: HandOrder>(hands: &HandRow, board: &CardRow, pick: Pick, seat: Seat) -> Option<Score>
-    requires in_row { seat.number ≤ hands.now.seats }
-    requires usable { CanPick O.HELD pick (holding hands.now seat.number) (cards_of board.now) }
-    requires different { AllDifferent (holding hands.now seat.number ++ cards_of board.now) }
-    ensures { IsPointsOfHolding O.is_hand O.is_weaker O.points
-        (allowed pick (holding hands.now seat.number) (cards_of board.now))
-        (option_map (λ s. s.points) result) }
+/// The scores of the shown seats in a game: in its first order, and in the second where it pays by two.
+pub fn judged<V: Variant>(hands: &HandRow, board: &CardRow, shown: &LiveRow) -> (Scores, Scores)
+    requires seats { hands.now.seats ≡ shown.now.seats }
+    requires playable { ArePlayable V.Award.HELD V.PICK hands.now board.now shown.now }
+    ensures { AreJudged V.CODE (showdown_of hands.now board.now shown.now)
+        (points_of result.0) (points_of result.1) }
 {
-    let hole = known_row(&hands.get(seat));
-    best_of::<O>(&hole, board, pick)
+    let high = scores_of::<V::Award>(hands, board, shown, V::PICK);
+    let low = low_scores::<V>(hands, board, shown);
+    (high, low)
+}
+
+// The scores of the shown seats in the second order, in a game that pays by two; in another game none.
+fn low_scores<V: Variant>(hands: &HandRow, board: &CardRow, shown: &LiveRow) -> Scores
+    requires seats { hands.now.seats ≡ shown.now.seats }
+    requires playable { ArePlayable V.Second.HELD V.PICK hands.now board.now shown.now }
+    ensures two { V.SPLIT ≡ true
+        → (n : ℕ) → 1 ≤ n → n ≤ shown.now.seats → flag_of shown.now n ≡ true
+        → IsPointsOfHolding V.Second.is_hand V.Second.is_weaker V.Second.points
+        (allowed V.PICK (holding hands.now n) (cards_of board.now)) (points_of result n) }
+    ensures one { V.SPLIT ≡ false → (n : ℕ) → points_of result n ≡ None }
+{
+    if V::SPLIT {
+        scores_of::<V::Second>(hands, board, shown, V::PICK)
+    } else {
+        Scores::new()
+    }
 }
 
 // The scores of the shown seats in an order.
@@ -49,31 +65,15 @@ fn scores_of<O: HandOrder>(hands: &HandRow, board: &CardRow, shown: &LiveRow, pi
     scores
 }
 
-// The scores of the shown seats in the second order, in a game that pays by two; in another game none.
-fn low_scores<V: Variant>(hands: &HandRow, board: &CardRow, shown: &LiveRow) -> Scores
-    requires seats { hands.now.seats ≡ shown.now.seats }
-    requires playable { ArePlayable V.Second.HELD V.PICK hands.now board.now shown.now }
-    ensures two { V.SPLIT ≡ true
-        → (n : ℕ) → 1 ≤ n → n ≤ shown.now.seats → flag_of shown.now n ≡ true
-        → IsPointsOfHolding V.Second.is_hand V.Second.is_weaker V.Second.points
-        (allowed V.PICK (holding hands.now n) (cards_of board.now)) (points_of result n) }
-    ensures one { V.SPLIT ≡ false → (n : ℕ) → points_of result n ≡ None }
+// The score of a seat.
+fn score_of<O: HandOrder>(hands: &HandRow, board: &CardRow, pick: Pick, seat: Seat) -> Option<Score>
+    requires in_row { seat.number ≤ hands.now.seats }
+    requires usable { CanPick O.HELD pick (holding hands.now seat.number) (cards_of board.now) }
+    requires different { AllDifferent (holding hands.now seat.number ++ cards_of board.now) }
+    ensures { IsPointsOfHolding O.is_hand O.is_weaker O.points
+        (allowed pick (holding hands.now seat.number) (cards_of board.now))
+        (option_map (λ s. s.points) result) }
 {
-    if V::SPLIT {
-        scores_of::<V::Second>(hands, board, shown, V::PICK)
-    } else {
-        Scores::new()
-    }
-}
-
-/// The scores of the shown seats in a game: in its first order, and in the second where it pays by two.
-pub fn judged<V: Variant>(hands: &HandRow, board: &CardRow, shown: &LiveRow) -> (Scores, Scores)
-    requires seats { hands.now.seats ≡ shown.now.seats }
-    requires playable { ArePlayable V.Award.HELD V.PICK hands.now board.now shown.now }
-    ensures { AreJudged V.CODE (showdown_of hands.now board.now shown.now)
-        (points_of result.0) (points_of result.1) }
-{
-    let high = scores_of::<V::Award>(hands, board, shown, V::PICK);
-    let low = low_scores::<V>(hands, board, shown);
-    (high, low)
+    let hole = known_row(&hands.get(seat));
+    best_of::<O>(&hole, board, pick)
 }

@@ -12,7 +12,7 @@ ghost use Rattle.showdown_split.specs.Playable.{ArePlayable, AreWinnable};
 
 mod division;
 mod judging;
-pub mod laws;
+mod laws;
 mod net;
 mod pot;
 mod rakes;
@@ -22,6 +22,7 @@ mod winners;
 use card_set::CardRow;
 use chip_ledger::{LiveRow, PotRow, RakeRow, ShareRow};
 use judging::judged;
+pub use laws::{no_winner_is_left_out, only_the_best_shown_hands_win, the_last_live_seat_wins};
 use net::net_of;
 use play_event::HandRow;
 use pot::shares_of;

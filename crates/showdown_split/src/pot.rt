@@ -1,4 +1,4 @@
-// A pot goes to the one seat that may win it, or to the shown seats among those that may.
+//! A pot goes to the one seat that may win it, or to the shown seats among those that may.
 ghost use Rattle.std.specs.Prelude.{◌≡◌, ◌≢◌, ◌≤◌, ◌&&◌, ℕ, true, [], IfSome, IfNone, OnSome, false, if◌then◌else◌};
 ghost use Rattle.chip_ledger.specs.declared.rows.TheConstants.{MOST_AMOUNT};
 ghost use Rattle.chip_ledger.specs.LiveRow.{flag_of, flagged};
@@ -13,19 +13,27 @@ use crate::scores::Scores;
 use crate::winners::{best, winners};
 use chip_ledger::{LiveRow, Pot, Seat, SeatRow};
 
-// The seats that may win the pot and are shown.
-fn contending(pot: &Pot, shown: &LiveRow) -> LiveRow
-    requires { pot.now.eligible.seats ≡ shown.now.seats }
-    ensures seats { result.seats ≡ shown.now.seats }
-    ensures flags { (n : ℕ) → 1 ≤ n → n ≤ shown.now.seats
-        → flag_of result n ≡ (flag_of pot.now.eligible n && flag_of shown.now n) }
+/// What each seat gets of the pot, none where two or more seats may win it and none of them is shown.
+pub fn shares_of(pot: &Pot, shown: &LiveRow, high: &Scores, low: &Scores) -> Option<SeatRow>
+    requires seats { pot.now.eligible.seats ≡ shown.now.seats }
+    requires some { flagged pot.now.eligible ≢ [] }
+    requires bounded { pot.now.chips ≤ MOST_AMOUNT }
+    ensures seats { IfSome result (λ row. row.seats ≡ shown.now.seats) }
+    ensures none { IfNone result (is_unshown (shown_only shown.now) (plain pot.now) ≡ true) }
+    ensures some { OnSome result (is_unshown (shown_only shown.now) (plain pot.now) ≡ false) }
+    ensures shares { IfSome result (λ row. AreShares shown.now.seats
+        (is_contender (shown_only shown.now) (plain pot.now))
+        (ranking_by (points_of high.now) (points_of low.now)) (plain pot.now) (amount_of row)) }
+    ensures total { IfSome result (λ row. total_of row ≡ pot.now.chips) }
 {
-    let mut row = LiveRow::new(shown.seats);
-    for index in 0..shown.seats {
-        let seat = Seat { number: index + 1 };
-        row.set(seat, pot.eligible.get(seat) && shown.get(seat));
+    if flags_to(&pot.eligible, pot.eligible.seats) == 1 {
+        return Some(whole(pot));
     }
-    row
+    let rivals = contending(pot, shown);
+    if !rivals.any() {
+        return None;
+    }
+    Some(contested(pot.chips, &rivals, high, low))
 }
 
 // All chips of the pot, for the seats that may win it.
@@ -49,6 +57,21 @@ fn chips_if(flag: bool, chips: u64) -> u64
     if flag { chips } else { 0 }
 }
 
+// The seats that may win the pot and are shown.
+fn contending(pot: &Pot, shown: &LiveRow) -> LiveRow
+    requires { pot.now.eligible.seats ≡ shown.now.seats }
+    ensures seats { result.seats ≡ shown.now.seats }
+    ensures flags { (n : ℕ) → 1 ≤ n → n ≤ shown.now.seats
+        → flag_of result n ≡ (flag_of pot.now.eligible n && flag_of shown.now n) }
+{
+    let mut row = LiveRow::new(shown.seats);
+    for index in 0..shown.seats {
+        let seat = Seat { number: index + 1 };
+        row.set(seat, pot.eligible.get(seat) && shown.get(seat));
+    }
+    row
+}
+
 // What each seat gets of chips for which some seats contend: where one of them has a low hand, the chips are
 // halved, and the high half has the odd one.
 fn contested(chips: u64, contending: &LiveRow, high: &Scores, low: &Scores) -> SeatRow
@@ -66,27 +89,4 @@ fn contested(chips: u64, contending: &LiveRow, high: &Scores, low: &Scores) -> S
             &divide(&winners(contending, low), chips / 2),
         ),
     }
-}
-
-/// What each seat gets of the pot, none where two or more seats may win it and none of them is shown.
-pub fn shares_of(pot: &Pot, shown: &LiveRow, high: &Scores, low: &Scores) -> Option<SeatRow>
-    requires seats { pot.now.eligible.seats ≡ shown.now.seats }
-    requires some { flagged pot.now.eligible ≢ [] }
-    requires bounded { pot.now.chips ≤ MOST_AMOUNT }
-    ensures seats { IfSome result (λ row. row.seats ≡ shown.now.seats) }
-    ensures none { IfNone result (is_unshown (shown_only shown.now) (plain pot.now) ≡ true) }
-    ensures some { OnSome result (is_unshown (shown_only shown.now) (plain pot.now) ≡ false) }
-    ensures shares { IfSome result (λ row. AreShares shown.now.seats
-        (is_contender (shown_only shown.now) (plain pot.now))
-        (ranking_by (points_of high.now) (points_of low.now)) (plain pot.now) (amount_of row)) }
-    ensures total { IfSome result (λ row. total_of row ≡ pot.now.chips) }
-{
-    if flags_to(&pot.eligible, pot.eligible.seats) == 1 {
-        return Some(whole(pot));
-    }
-    let rivals = contending(pot, shown);
-    if !rivals.any() {
-        return None;
-    }
-    Some(contested(pot.chips, &rivals, high, low))
 }

@@ -1,21 +1,9 @@
-// The rakes that pots have the chips for, pot by pot.
+//! The rakes that pots have the chips for, pot by pot.
 ghost use Rattle.std.specs.Prelude.{◌≡◌, ◌+◌, ◌<◌, IfNone};
 ghost use Rattle.chip_ledger.specs.PotRow.{plain_pots};
 ghost use Rattle.chip_ledger.specs.Rakes.{HaveRakes, chips_in, first_rake_above};
 
 use chip_ledger::{PotRow, RakeRow};
-
-// The chips of the pot at this index. There are none past the last pot.
-fn chips_at(pots: &PotRow, index: u8) -> u64
-    requires { index < 11 }
-    ensures { result ≡ chips_in (plain_pots pots.now) (index + 1) }
-{
-    if index < pots.count {
-        pots.pots[index as usize].chips
-    } else {
-        0
-    }
-}
 
 /// The number of the first pot whose rake is above its chips, none where [`split`](crate::split) takes these rakes.
 pub fn first_rake_above(pots: &PotRow, rakes: &RakeRow) -> Option<u8>
@@ -28,4 +16,16 @@ pub fn first_rake_above(pots: &PotRow, rakes: &RakeRow) -> Option<u8>
         }
     }
     None
+}
+
+// The chips of the pot at this index. There are none past the last pot.
+fn chips_at(pots: &PotRow, index: u8) -> u64
+    requires { index < 11 }
+    ensures { result ≡ chips_in (plain_pots pots.now) (index + 1) }
+{
+    if index < pots.count {
+        pots.pots[index as usize].chips
+    } else {
+        0
+    }
 }

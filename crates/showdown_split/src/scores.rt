@@ -1,4 +1,4 @@
-// A row of scores has one for each seat that has a hand.
+//! A row of scores has one for each seat that has a hand.
 ghost use Rattle.std.specs.Prelude.{◌≡◌, ◌≢◌, ◌≤◌, ℕ, None, length};
 ghost use Rattle.std.specs.Option.{option_map};
 

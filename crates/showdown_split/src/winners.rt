@@ -1,4 +1,4 @@
-// The winners are the seats that contend and that have as many points as the best of them.
+//! The winners are the seats that contend and that have as many points as the best of them.
 ghost use Rattle.std.specs.Prelude.{◌≡◌, ◌≤◌, ◌&&◌, ℕ, if◌then◌else◌};
 ghost use Rattle.std.specs.Option.{option_map};
 ghost use Rattle.chip_ledger.specs.LiveRow.{flag_of};
@@ -9,6 +9,25 @@ ghost use Rattle.showdown_split.specs.SeatPoints.{best_to, is_same};
 use crate::scores::Scores;
 use chip_ledger::{LiveRow, Seat};
 use hand_order::{Score, better_score};
+
+/// The seats that contend and that have the best score.
+pub fn winners(contending: &LiveRow, scores: &Scores) -> LiveRow
+    ensures seats { result.seats ≡ contending.now.seats }
+    ensures flags { (n : ℕ) → 1 ≤ n → n ≤ contending.now.seats → flag_of result n
+        ≡ (flag_of contending.now n && is_same (points_of scores.now n)
+        (best_to (flag_of contending.now) (points_of scores.now) contending.now.seats)) }
+{
+    let most = best(contending, scores);
+    let mut row = LiveRow::new(contending.seats);
+    for index in 0..contending.seats {
+        let seat = Seat { number: index + 1 };
+        row.set(
+            seat,
+            contending.get(seat) && is_same(scores.get(seat), most),
+        );
+    }
+    row
+}
 
 /// The best score of the seats that contend, none where none of them has a hand.
 pub fn best(contending: &LiveRow, scores: &Scores) -> Option<Score>
@@ -41,25 +60,6 @@ fn better_of_seat(
     } else {
         score
     }
-}
-
-/// The seats that contend and that have the best score.
-pub fn winners(contending: &LiveRow, scores: &Scores) -> LiveRow
-    ensures seats { result.seats ≡ contending.now.seats }
-    ensures flags { (n : ℕ) → 1 ≤ n → n ≤ contending.now.seats → flag_of result n
-        ≡ (flag_of contending.now n && is_same (points_of scores.now n)
-        (best_to (flag_of contending.now) (points_of scores.now) contending.now.seats)) }
-{
-    let most = best(contending, scores);
-    let mut row = LiveRow::new(contending.seats);
-    for index in 0..contending.seats {
-        let seat = Seat { number: index + 1 };
-        row.set(
-            seat,
-            contending.get(seat) && is_same(scores.get(seat), most),
-        );
-    }
-    row
 }
 
 // Both are the same score, or none.

@@ -9,43 +9,6 @@ use crate::layers::{layer_chips, reaching_row};
 use crate::levels::{every_live_seat_reaches, next_level};
 use chip_ledger::{LiveRow, Pot, PotRow, SeatRow, total};
 
-/// Puts a pot above the others, unless it has no chips.
-fn add_pot(row: &mut PotRow, pot: Pot)
-    requires { row.old.count < 11 }
-    ensures pots { pots_in row.new
-        ≡ (if nat_lt 0 pot.chips then pots_in row.old ++ pot ∷ [] else pots_in row.old) }
-    ensures count { row.new.count ≤ row.old.count + 1 }
-    ensures returned { row.new.returned ≡ row.old.returned }
-{
-    if pot.chips > 0 {
-        row.push(pot);
-    }
-}
-
-/// Puts a pot for each level above the others, with the dead chips in the first of them.
-fn add_layers(row: &mut PotRow, left: &SeatRow, live: &LiveRow, dead: u64)
-    requires seats { live.now.seats ≡ left.now.seats }
-    requires room { row.old.count ≤ 1 }
-    requires bounded { dead ≤ MOST_AMOUNT }
-    ensures pots { let stakes = stakes_of left.now live.now in
-        map plain (pots_in row.new)
-        ≡ map plain (pots_in row.old)
-        ++ with_chips (with_dead dead (layers stakes 0 (levels stakes))) }
-    ensures seats { All (λ pot. pot.eligible.seats ≡ left.now.seats) (pots_in row.old)
-        → All (λ pot. pot.eligible.seats ≡ left.now.seats) (pots_in row.new) }
-    ensures returned { row.new.returned ≡ row.old.returned }
-{
-    let mut below = 0;
-    let mut unplaced = dead;
-    while let Some(level) = next_level(left, live, below) {
-        let chips = layer_chips(left, live, below, level) + unplaced;
-        let eligible = reaching_row(left, live, level);
-        add_pot(row, Pot { chips, eligible });
-        below = level;
-        unplaced = 0;
-    }
-}
-
 /// The pots of what is left of each seat's chips, and of the dead chips.
 pub fn cut(left: &SeatRow, dead: u64, live: &LiveRow, returned: SeatRow) -> PotRow
     requires seats { live.now.seats ≡ left.now.seats }
@@ -80,4 +43,41 @@ pub fn cut(left: &SeatRow, dead: u64, live: &LiveRow, returned: SeatRow) -> PotR
         add_layers(&mut row, left, live, 0);
     }
     row
+}
+
+/// Puts a pot for each level above the others, with the dead chips in the first of them.
+fn add_layers(row: &mut PotRow, left: &SeatRow, live: &LiveRow, dead: u64)
+    requires seats { live.now.seats ≡ left.now.seats }
+    requires room { row.old.count ≤ 1 }
+    requires bounded { dead ≤ MOST_AMOUNT }
+    ensures pots { let stakes = stakes_of left.now live.now in
+        map plain (pots_in row.new)
+        ≡ map plain (pots_in row.old)
+        ++ with_chips (with_dead dead (layers stakes 0 (levels stakes))) }
+    ensures seats { All (λ pot. pot.eligible.seats ≡ left.now.seats) (pots_in row.old)
+        → All (λ pot. pot.eligible.seats ≡ left.now.seats) (pots_in row.new) }
+    ensures returned { row.new.returned ≡ row.old.returned }
+{
+    let mut below = 0;
+    let mut unplaced = dead;
+    while let Some(level) = next_level(left, live, below) {
+        let chips = layer_chips(left, live, below, level) + unplaced;
+        let eligible = reaching_row(left, live, level);
+        add_pot(row, Pot { chips, eligible });
+        below = level;
+        unplaced = 0;
+    }
+}
+
+/// Puts a pot above the others, unless it has no chips.
+fn add_pot(row: &mut PotRow, pot: Pot)
+    requires { row.old.count < 11 }
+    ensures pots { pots_in row.new
+        ≡ (if nat_lt 0 pot.chips then pots_in row.old ++ pot ∷ [] else pots_in row.old) }
+    ensures count { row.new.count ≤ row.old.count + 1 }
+    ensures returned { row.new.returned ≡ row.old.returned }
+{
+    if pot.chips > 0 {
+        row.push(pot);
+    }
 }

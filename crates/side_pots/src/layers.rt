@@ -11,6 +11,16 @@ ghost use Rattle.side_pots.specs.Levels.{levels_above};
 use crate::levels::next_level;
 use chip_ledger::{LiveRow, Seat, SeatRow};
 
+/// The chips of a level's pot.
+pub fn layer_chips(left: &SeatRow, live: &LiveRow, below: u64, level: u64) -> u64
+    requires { live.now.seats ≡ left.now.seats }
+    ensures sum { let stakes = stakes_of left.now live.now in
+        result ≡ between stakes below level + joining stakes level (levels_above stakes level) }
+    ensures bounded { result ≤ 20 * MOST_AMOUNT }
+{
+    chips_between(left, below, level) + joining_chips(left, live, level)
+}
+
 /// Every seat's chips above one level and up to another.
 #[tactic(auto, using(chip_ledger::proofs::Stakes::between_more))]
 fn chips_between(left: &SeatRow, below: u64, level: u64) -> u64
@@ -21,23 +31,6 @@ fn chips_between(left: &SeatRow, below: u64, level: u64) -> u64
     for index in 0..left.seats {
         let seat = Seat { number: index + 1 };
         chips += left.get(seat).min(level).saturating_sub(below);
-    }
-    chips
-}
-
-/// The chips of folded seats above a level.
-#[tactic(auto, using(chip_ledger::proofs::Stakes::folded_above_more))]
-fn folded_chips_above(left: &SeatRow, live: &LiveRow, level: u64) -> u64
-    requires { live.now.seats ≡ left.now.seats }
-    ensures sum { result ≡ folded_above (stakes_of left.now live.now) level }
-    ensures bounded { result ≤ 10 * MOST_AMOUNT }
-{
-    let mut chips = 0;
-    for index in 0..left.seats {
-        let seat = Seat { number: index + 1 };
-        if !live.get(seat) {
-            chips += left.get(seat).saturating_sub(level);
-        }
     }
     chips
 }
@@ -55,14 +48,21 @@ fn joining_chips(left: &SeatRow, live: &LiveRow, level: u64) -> u64
     }
 }
 
-/// The chips of a level's pot.
-pub fn layer_chips(left: &SeatRow, live: &LiveRow, below: u64, level: u64) -> u64
+/// The chips of folded seats above a level.
+#[tactic(auto, using(chip_ledger::proofs::Stakes::folded_above_more))]
+fn folded_chips_above(left: &SeatRow, live: &LiveRow, level: u64) -> u64
     requires { live.now.seats ≡ left.now.seats }
-    ensures sum { let stakes = stakes_of left.now live.now in
-        result ≡ between stakes below level + joining stakes level (levels_above stakes level) }
-    ensures bounded { result ≤ 20 * MOST_AMOUNT }
+    ensures sum { result ≡ folded_above (stakes_of left.now live.now) level }
+    ensures bounded { result ≤ 10 * MOST_AMOUNT }
 {
-    chips_between(left, below, level) + joining_chips(left, live, level)
+    let mut chips = 0;
+    for index in 0..left.seats {
+        let seat = Seat { number: index + 1 };
+        if !live.get(seat) {
+            chips += left.get(seat).saturating_sub(level);
+        }
+    }
+    chips
 }
 
 /// The live seats that reach a level.

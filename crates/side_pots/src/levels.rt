@@ -7,15 +7,6 @@ ghost use Rattle.side_pots.specs.Levels.{levels_above};
 
 use chip_ledger::{LiveRow, Seat, SeatRow};
 
-fn lesser(chips: u64, next: Option<u64>) -> u64
-    ensures { result ≡ option_map_or (λ level. min chips level) next chips }
-{
-    match next {
-        Some(level) => chips.min(level),
-        None => chips,
-    }
-}
-
 /// The next level above so many chips, if there is one.
 #[tactic(auto, using(chip_ledger::proofs::Stakes::first_level_more))]
 pub fn next_level(left: &SeatRow, live: &LiveRow, below: u64) -> Option<u64>
@@ -31,6 +22,15 @@ pub fn next_level(left: &SeatRow, live: &LiveRow, below: u64) -> Option<u64>
         }
     }
     next
+}
+
+fn lesser(chips: u64, next: Option<u64>) -> u64
+    ensures { result ≡ option_map_or (λ level. min chips level) next chips }
+{
+    match next {
+        Some(level) => chips.min(level),
+        None => chips,
+    }
 }
 
 /// Whether every live seat has so many chips.

@@ -9,12 +9,13 @@ ghost use Rattle.chip_ledger.specs.PotRow.{plain, pots_in, stake_of, stakes_of};
 ghost use Rattle.chip_ledger.specs.Pots.{pots_of, returned};
 
 mod cut;
-pub mod laws;
+mod laws;
 mod layers;
 mod levels;
 mod returns;
 
 use chip_ledger::{LiveRow, PotRow, SeatRow};
+pub use laws::levels_are_the_chips_of_live_seats;
 
 /// The pots of a hand, the lowest first, and what returns to each seat.
 ///

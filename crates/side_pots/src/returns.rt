@@ -7,19 +7,20 @@ ghost use Rattle.chip_ledger.specs.Pots.{greatest_other, returned};
 
 use chip_ledger::{LiveRow, Seat, SeatRow};
 
-/// The greatest amount of a seat other than this one, whether it folded or not.
-#[tactic(auto, using(chip_ledger::proofs::Stakes::greatest_other_more))]
-fn greatest_of_others(puts: &SeatRow, own: Seat) -> u64
-    ensures { (live : LiveRow) → result ≡ greatest_other (stakes_of puts.now live) own.number }
+/// What each seat gets back.
+pub fn returned_row(puts: &SeatRow, live: &LiveRow) -> SeatRow
+    requires { live.now.seats ≡ puts.now.seats }
+    ensures seats { result.seats ≡ puts.now.seats }
+    ensures amounts { (n : ℕ) → 1 ≤ n → n ≤ puts.now.seats
+        → amount_of result n
+        ≡ returned (stakes_of puts.now live.now) (stake_of puts.now live.now n) }
 {
-    let mut greatest = 0;
+    let mut row = SeatRow::new(puts.seats);
     for index in 0..puts.seats {
         let seat = Seat { number: index + 1 };
-        if seat.number != own.number {
-            greatest = puts.get(seat).max(greatest);
-        }
+        row.set(seat, returned_to(puts, live, seat));
     }
-    greatest
+    row
 }
 
 /// What the seat gets back.
@@ -38,20 +39,19 @@ fn returned_to(puts: &SeatRow, live: &LiveRow, seat: Seat) -> u64
     }
 }
 
-/// What each seat gets back.
-pub fn returned_row(puts: &SeatRow, live: &LiveRow) -> SeatRow
-    requires { live.now.seats ≡ puts.now.seats }
-    ensures seats { result.seats ≡ puts.now.seats }
-    ensures amounts { (n : ℕ) → 1 ≤ n → n ≤ puts.now.seats
-        → amount_of result n
-        ≡ returned (stakes_of puts.now live.now) (stake_of puts.now live.now n) }
+/// The greatest amount of a seat other than this one, whether it folded or not.
+#[tactic(auto, using(chip_ledger::proofs::Stakes::greatest_other_more))]
+fn greatest_of_others(puts: &SeatRow, own: Seat) -> u64
+    ensures { (live : LiveRow) → result ≡ greatest_other (stakes_of puts.now live) own.number }
 {
-    let mut row = SeatRow::new(puts.seats);
+    let mut greatest = 0;
     for index in 0..puts.seats {
         let seat = Seat { number: index + 1 };
-        row.set(seat, returned_to(puts, live, seat));
+        if seat.number != own.number {
+            greatest = puts.get(seat).max(greatest);
+        }
     }
-    row
+    greatest
 }
 
 /// What is left of each seat's chips.

@@ -1,4 +1,4 @@
-// Laws of whole traces.
+//! Laws of whole traces.
 ghost use Rattle.std.specs.Prelude.{◌≡◌, ◌↔◌, ℕ, List};
 ghost use Rattle.play_event.specs.Past.{Past};
 ghost use Rattle.play_event.specs.Played.{IsPlace};

@@ -1,4 +1,4 @@
-// Which up-cards open before others, whatever cards they are.
+//! Which up-cards open before others, whatever cards they are.
 ghost use Rattle.std.specs.Prelude.{false, ◌≡◌, ◌+◌, ◌*◌, ◌<◌, ◌≤◌, ◌++◌, length};
 ghost use Rattle.std.specs.List.{list_any};
 ghost use Rattle.card_set.specs.Deck as deck;
@@ -30,6 +30,15 @@ pub fn has_unknown(slots: &[Slot]) -> bool
     }
 }
 
+/// The known cards of a row.
+pub fn known(row: &SlotRow) -> CardRow
+    ensures { cards_of result ≡ known_cards (slots_of row.now) }
+{
+    let mut cards = CardRow::new();
+    push_known(&mut cards, row.as_slice());
+    cards
+}
+
 // Puts the known cards of some slots after the others.
 fn push_known(cards: &mut CardRow, slots: &[Slot])
     requires { cards.old.len + length slots.now ≤ 7 }
@@ -42,231 +51,6 @@ fn push_known(cards: &mut CardRow, slots: &[Slot])
             cards.push(*card);
             push_known(cards, rest);
         }
-    }
-}
-
-/// The known cards of a row.
-pub fn known(row: &SlotRow) -> CardRow
-    ensures { cards_of result ≡ known_cards (slots_of row.now) }
-{
-    let mut cards = CardRow::new();
-    push_known(&mut cards, row.as_slice());
-    cards
-}
-
-// All heights, from the greatest.
-#[tactic(auto, unfolding(card_set::specs::Ranks::falling_heights))]
-fn all_heights() -> [u8; 14]
-    ensures { result ≡ falling_heights }
-{
-    [14, 13, 12, 11, 10, 9, 8, 7, 6, 5, 4, 3, 2, 1]
-}
-
-// How many of the cards have this height.
-#[tactic(auto, unfolding(card_set::specs::Ranks::times))]
-fn times_of(cards: &CardRow, ace: Ace, height: u8) -> usize
-    ensures { result ≡ times (height_with ace) (cards_of cards.now) height }
-{
-    cards
-        .as_slice()
-        .iter()
-        .filter(|card| height_of(card.rank, ace) == height)
-        .count()
-}
-
-// Puts the heights that occur so many times after the others.
-fn push_occurring(row: &mut Heights, cards: &CardRow, ace: Ace, occurrences: usize)
-    requires { row.old.len ≤ 42 }
-    ensures entries { heights_in row.new
-        ≡ heights_in row.old ++ occurring (height_with ace) (cards_of cards.now) occurrences }
-    ensures longer { row.new.len ≤ row.old.len + 14 }
-{
-    let heights = all_heights();
-    for height in heights {
-        if times_of(cards, ace, height) == occurrences {
-            row.push(height);
-        }
-    }
-}
-
-// The different heights of the cards, first those that occur oftener, then the greater.
-#[tactic(auto, unfolding(card_set::specs::Ranks::ranks_of))]
-fn heights_of(cards: &CardRow, ace: Ace) -> Heights
-    ensures { heights_in result ≡ ranks_of (height_with ace) (cards_of cards.now) }
-{
-    let mut row = Heights::new();
-    push_occurring(&mut row, cards, ace, 4);
-    push_occurring(&mut row, cards, ace, 3);
-    push_occurring(&mut row, cards, ace, 2);
-    push_occurring(&mut row, cards, ace, 1);
-    row
-}
-
-// At the first place where the heights differ the left one is lower.
-fn lower(a: &[u8], b: &[u8]) -> bool
-    ensures { result ≡ is_lower a.now b.now }
-{
-    match a {
-        [] => false,
-        [height, rest @ ..] => match b {
-            [] => false,
-            [other, others @ ..] => { height < other || (height == other && lower(rest, others)) }
-        },
-    }
-}
-
-// At the first place where the heights differ the left one is higher, or it alone goes on.
-fn as_high(a: &[u8], b: &[u8]) -> bool
-    ensures { result ≡ earliest.is_as_high a.now b.now }
-{
-    match b {
-        [] => true,
-        [other, others @ ..] => match a {
-            [] => false,
-            [height, rest @ ..] => { other < height || (other == height && as_high(rest, others)) }
-        },
-    }
-}
-
-// At the first place where the heights differ the left one is lower, or it alone goes on.
-fn as_low(a: &[u8], b: &[u8]) -> bool
-    ensures { result ≡ earliest.is_as_low a.now b.now }
-{
-    match b {
-        [] => true,
-        [other, others @ ..] => match a {
-            [] => false,
-            [height, rest @ ..] => { height < other || (height == other && as_low(rest, others)) }
-        },
-    }
-}
-
-// The classes of high up-cards, from the best.
-fn high_class(fours: usize, threes: usize, pairs: usize) -> u8
-    ensures { result ≡ high_class_by fours threes pairs }
-{
-    if fours == 1 {
-        0
-    } else if threes == 1 && pairs == 0 {
-        1
-    } else if pairs == 2 {
-        2
-    } else if pairs == 1 && threes == 0 {
-        3
-    } else if fours == 0 && threes == 0 && pairs == 0 {
-        4
-    } else {
-        5
-    }
-}
-
-// The classes of low cards, from the best.
-fn low_class(fours: usize, threes: usize, pairs: usize) -> u8
-    ensures { result ≡ low_class_by fours threes pairs }
-{
-    if fours == 0 && threes == 0 && pairs == 0 {
-        0
-    } else if pairs == 1 && threes == 0 {
-        1
-    } else if pairs == 2 {
-        2
-    } else if threes == 1 && pairs == 0 {
-        3
-    } else if threes == 1 && pairs == 1 {
-        4
-    } else if fours == 1 {
-        5
-    } else {
-        6
-    }
-}
-
-// The class of high up-cards.
-#[tactic(auto, unfolding(card_set::specs::UpCards::up_high_class))]
-fn high_class_of(cards: &CardRow) -> u8
-    ensures { result ≡ up_cards.up_high_class (cards_of cards.now) }
-{
-    high_class(
-        count_of_ranks(cards, Ace::High, 4),
-        count_of_ranks(cards, Ace::High, 3),
-        count_of_ranks(cards, Ace::High, 2),
-    )
-}
-
-// The class of low up-cards.
-#[tactic(auto, unfolding(card_set::specs::UpCards::low_class))]
-fn low_class_of(cards: &CardRow) -> u8
-    ensures { result ≡ up_cards.low_class (cards_of cards.now) }
-{
-    low_class(
-        count_of_ranks(cards, Ace::Low, 4),
-        count_of_ranks(cards, Ace::Low, 3),
-        count_of_ranks(cards, Ace::Low, 2),
-    )
-}
-
-// The up-cards are worse, the ace high.
-fn worse_high(a: &CardRow, b: &CardRow) -> bool
-    ensures { result ≡ openers.is_weaker_up_high (cards_of a.now) (cards_of b.now) }
-{
-    let class = high_class_of(a);
-    let other = high_class_of(b);
-    let ranks = heights_of(a, Ace::High);
-    let others = heights_of(b, Ace::High);
-    other < class || (class == other && lower(ranks.as_slice(), others.as_slice()))
-}
-
-// The up-cards are worse in razz.
-fn worse_low(a: &CardRow, b: &CardRow) -> bool
-    ensures { result ≡ openers.is_weaker_low (cards_of a.now) (cards_of b.now) }
-{
-    let class = low_class_of(a);
-    let other = low_class_of(b);
-    let ranks = heights_of(a, Ace::Low);
-    let others = heights_of(b, Ace::Low);
-    other < class || (class == other && lower(others.as_slice(), ranks.as_slice()))
-}
-
-// The up-cards are better than others, the ace high, or open before all that those open before.
-fn as_good_high(a: &CardRow, b: &CardRow) -> bool
-    ensures { result ≡ earliest.is_as_early openings.LowUp false (cards_of a.now) (cards_of b.now) }
-{
-    let class = high_class_of(a);
-    let other = high_class_of(b);
-    let ranks = heights_of(a, Ace::High);
-    let others = heights_of(b, Ace::High);
-    class < other || (other == class && as_high(ranks.as_slice(), others.as_slice()))
-}
-
-// The up-cards are better than others in razz, or open before all that those open before.
-fn as_good_low(a: &CardRow, b: &CardRow) -> bool
-    ensures { result
-        ≡ earliest.is_as_early openings.HighUp false (cards_of a.now) (cards_of b.now) }
-{
-    let class = low_class_of(a);
-    let other = low_class_of(b);
-    let ranks = heights_of(a, Ace::Low);
-    let others = heights_of(b, Ace::Low);
-    class < other || (other == class && as_low(ranks.as_slice(), others.as_slice()))
-}
-
-// Where the first card stands in the deck.
-fn deck_stand(cards: &CardRow) -> u8
-    ensures { result ≡ card_stands deck.deck_place (cards_of cards.now) }
-{
-    match cards.as_slice() {
-        [] => 0,
-        [card, ..] => place_in_deck(*card),
-    }
-}
-
-// Where the first card stands in razz.
-fn razz_stand(cards: &CardRow) -> u8
-    ensures { result ≡ card_stands razz_place (cards_of cards.now) }
-{
-    match cards.as_slice() {
-        [] => 0,
-        [card, ..] => 4 * height_of(card.rank, Ace::Low) + place_of_suit(card.suit),
     }
 }
 
@@ -293,6 +77,41 @@ pub fn is_opener_before(opener: Opener, first: bool, a: &CardRow, b: &CardRow) -
     }
 }
 
+// The up-cards are worse, the ace high.
+fn worse_high(a: &CardRow, b: &CardRow) -> bool
+    ensures { result ≡ openers.is_weaker_up_high (cards_of a.now) (cards_of b.now) }
+{
+    let class = high_class_of(a);
+    let other = high_class_of(b);
+    let ranks = heights_of(a, Ace::High);
+    let others = heights_of(b, Ace::High);
+    other < class || (class == other && lower(ranks.as_slice(), others.as_slice()))
+}
+
+// The up-cards are worse in razz.
+fn worse_low(a: &CardRow, b: &CardRow) -> bool
+    ensures { result ≡ openers.is_weaker_low (cards_of a.now) (cards_of b.now) }
+{
+    let class = low_class_of(a);
+    let other = low_class_of(b);
+    let ranks = heights_of(a, Ace::Low);
+    let others = heights_of(b, Ace::Low);
+    other < class || (class == other && lower(others.as_slice(), ranks.as_slice()))
+}
+
+// At the first place where the heights differ the left one is lower.
+fn lower(a: &[u8], b: &[u8]) -> bool
+    ensures { result ≡ is_lower a.now b.now }
+{
+    match a {
+        [] => false,
+        [height, rest @ ..] => match b {
+            [] => false,
+            [other, others @ ..] => { height < other || (height == other && lower(rest, others)) }
+        },
+    }
+}
+
 /// The up-cards of one seat open before all that those of another open before. Of all seats, one
 /// that is as early as each other opens before each seat before which some seat opens.
 pub fn is_as_early(opener: Opener, first: bool, a: &CardRow, b: &CardRow) -> bool
@@ -314,5 +133,186 @@ pub fn is_as_early(opener: Opener, first: bool, a: &CardRow, b: &CardRow) -> boo
                 as_good_low(a, b)
             }
         }
+    }
+}
+
+// Where the first card stands in the deck.
+fn deck_stand(cards: &CardRow) -> u8
+    ensures { result ≡ card_stands deck.deck_place (cards_of cards.now) }
+{
+    match cards.as_slice() {
+        [] => 0,
+        [card, ..] => place_in_deck(*card),
+    }
+}
+
+// The up-cards are better than others, the ace high, or open before all that those open before.
+fn as_good_high(a: &CardRow, b: &CardRow) -> bool
+    ensures { result ≡ earliest.is_as_early openings.LowUp false (cards_of a.now) (cards_of b.now) }
+{
+    let class = high_class_of(a);
+    let other = high_class_of(b);
+    let ranks = heights_of(a, Ace::High);
+    let others = heights_of(b, Ace::High);
+    class < other || (other == class && as_high(ranks.as_slice(), others.as_slice()))
+}
+
+// The class of high up-cards.
+#[tactic(auto, unfolding(card_set::specs::UpCards::up_high_class))]
+fn high_class_of(cards: &CardRow) -> u8
+    ensures { result ≡ up_cards.up_high_class (cards_of cards.now) }
+{
+    high_class(
+        count_of_ranks(cards, Ace::High, 4),
+        count_of_ranks(cards, Ace::High, 3),
+        count_of_ranks(cards, Ace::High, 2),
+    )
+}
+
+// The classes of high up-cards, from the best.
+fn high_class(fours: usize, threes: usize, pairs: usize) -> u8
+    ensures { result ≡ high_class_by fours threes pairs }
+{
+    if fours == 1 {
+        0
+    } else if threes == 1 && pairs == 0 {
+        1
+    } else if pairs == 2 {
+        2
+    } else if pairs == 1 && threes == 0 {
+        3
+    } else if fours == 0 && threes == 0 && pairs == 0 {
+        4
+    } else {
+        5
+    }
+}
+
+// At the first place where the heights differ the left one is higher, or it alone goes on.
+fn as_high(a: &[u8], b: &[u8]) -> bool
+    ensures { result ≡ earliest.is_as_high a.now b.now }
+{
+    match b {
+        [] => true,
+        [other, others @ ..] => match a {
+            [] => false,
+            [height, rest @ ..] => { other < height || (other == height && as_high(rest, others)) }
+        },
+    }
+}
+
+// Where the first card stands in razz.
+fn razz_stand(cards: &CardRow) -> u8
+    ensures { result ≡ card_stands razz_place (cards_of cards.now) }
+{
+    match cards.as_slice() {
+        [] => 0,
+        [card, ..] => 4 * height_of(card.rank, Ace::Low) + place_of_suit(card.suit),
+    }
+}
+
+// The up-cards are better than others in razz, or open before all that those open before.
+fn as_good_low(a: &CardRow, b: &CardRow) -> bool
+    ensures { result
+        ≡ earliest.is_as_early openings.HighUp false (cards_of a.now) (cards_of b.now) }
+{
+    let class = low_class_of(a);
+    let other = low_class_of(b);
+    let ranks = heights_of(a, Ace::Low);
+    let others = heights_of(b, Ace::Low);
+    class < other || (other == class && as_low(ranks.as_slice(), others.as_slice()))
+}
+
+// The class of low up-cards.
+#[tactic(auto, unfolding(card_set::specs::UpCards::low_class))]
+fn low_class_of(cards: &CardRow) -> u8
+    ensures { result ≡ up_cards.low_class (cards_of cards.now) }
+{
+    low_class(
+        count_of_ranks(cards, Ace::Low, 4),
+        count_of_ranks(cards, Ace::Low, 3),
+        count_of_ranks(cards, Ace::Low, 2),
+    )
+}
+
+// The classes of low cards, from the best.
+fn low_class(fours: usize, threes: usize, pairs: usize) -> u8
+    ensures { result ≡ low_class_by fours threes pairs }
+{
+    if fours == 0 && threes == 0 && pairs == 0 {
+        0
+    } else if pairs == 1 && threes == 0 {
+        1
+    } else if pairs == 2 {
+        2
+    } else if threes == 1 && pairs == 0 {
+        3
+    } else if threes == 1 && pairs == 1 {
+        4
+    } else if fours == 1 {
+        5
+    } else {
+        6
+    }
+}
+
+// The different heights of the cards, first those that occur oftener, then the greater.
+#[tactic(auto, unfolding(card_set::specs::Ranks::ranks_of))]
+fn heights_of(cards: &CardRow, ace: Ace) -> Heights
+    ensures { heights_in result ≡ ranks_of (height_with ace) (cards_of cards.now) }
+{
+    let mut row = Heights::new();
+    push_occurring(&mut row, cards, ace, 4);
+    push_occurring(&mut row, cards, ace, 3);
+    push_occurring(&mut row, cards, ace, 2);
+    push_occurring(&mut row, cards, ace, 1);
+    row
+}
+
+// Puts the heights that occur so many times after the others.
+fn push_occurring(row: &mut Heights, cards: &CardRow, ace: Ace, occurrences: usize)
+    requires { row.old.len ≤ 42 }
+    ensures entries { heights_in row.new
+        ≡ heights_in row.old ++ occurring (height_with ace) (cards_of cards.now) occurrences }
+    ensures longer { row.new.len ≤ row.old.len + 14 }
+{
+    let heights = all_heights();
+    for height in heights {
+        if times_of(cards, ace, height) == occurrences {
+            row.push(height);
+        }
+    }
+}
+
+// All heights, from the greatest.
+#[tactic(auto, unfolding(card_set::specs::Ranks::falling_heights))]
+fn all_heights() -> [u8; 14]
+    ensures { result ≡ falling_heights }
+{
+    [14, 13, 12, 11, 10, 9, 8, 7, 6, 5, 4, 3, 2, 1]
+}
+
+// How many of the cards have this height.
+#[tactic(auto, unfolding(card_set::specs::Ranks::times))]
+fn times_of(cards: &CardRow, ace: Ace, height: u8) -> usize
+    ensures { result ≡ times (height_with ace) (cards_of cards.now) height }
+{
+    cards
+        .as_slice()
+        .iter()
+        .filter(|card| height_of(card.rank, ace) == height)
+        .count()
+}
+
+// At the first place where the heights differ the left one is lower, or it alone goes on.
+fn as_low(a: &[u8], b: &[u8]) -> bool
+    ensures { result ≡ earliest.is_as_low a.now b.now }
+{
+    match b {
+        [] => true,
+        [other, others @ ..] => match a {
+            [] => false,
+            [height, rest @ ..] => { height < other || (height == other && as_low(rest, others)) }
+        },
     }
 }

@@ -1,4 +1,4 @@
-// Heights in order, for any up-cards that a row holds.
+//! Heights in order, for any up-cards that a row holds.
 ghost use Rattle.std.specs.Prelude.{◌≡◌, ◌+◌, ◌<◌, ◌≤◌, [], ◌∷◌, ◌++◌, length};
 
 /// Heights in order: the first `len` of `heights`.

@@ -1,4 +1,4 @@
-// The decks.
+//! The decks.
 
 /// How many cards the whole deck has.
 pub const WHOLE_DECK: u8 = 52;

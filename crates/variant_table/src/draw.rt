@@ -1,4 +1,4 @@
-// Draw: hole cards alone, which a seat may exchange, and all that it holds at the end.
+//! Draw: hole cards alone, which a seat may exchange, and all that it holds at the end.
 ghost use Rattle.std.specs.Prelude.{◌≡◌, ◌≤◌, ◌-◌, Some, slice_get, false};
 ghost use Rattle.play_event.specs.declared.code.Code.TheVariants as codes;
 ghost use Rattle.play_event.specs.Games.{draw_street, draw_streets};

@@ -1,4 +1,4 @@
-// Omaha: four hole cards, a board of five, and exactly two of the hole with three of the board.
+//! Omaha: four hole cards, a board of five, and exactly two of the hole with three of the board.
 ghost use Rattle.std.specs.Prelude.{true, false};
 ghost use Rattle.play_event.specs.declared.code.Code.TheVariants as codes;
 ghost use Rattle.card_set.specs.declared.pick.Pick.TheVariants as picks;

@@ -1,4 +1,4 @@
-// Stud: seven hole cards, of which four are dealt face up, no board, and any five of them.
+//! Stud: seven hole cards, of which four are dealt face up, no board, and any five of them.
 ghost use Rattle.std.specs.Prelude.{◌≡◌, ◌≤◌, ◌-◌, Some, slice_get, true, false};
 ghost use Rattle.play_event.specs.declared.code.Code.TheVariants as codes;
 ghost use Rattle.play_event.specs.Games.{stud_streets};

@@ -1,4 +1,4 @@
-// The table of a game by its code has the values of the type with this code.
+//! The table of a game by its code has the values of the type with this code.
 ghost use Rattle.std.specs.Prelude.{◌≡◌, ◌≤◌};
 ghost use Rattle.play_event.specs.Games.{game_of};
 ghost use Rattle.variant_table.specs.Tables.{IsTableOf, street_at};

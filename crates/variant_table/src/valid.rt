@@ -57,20 +57,6 @@ fn is_stud(opener: Opener) -> bool
     }
 }
 
-// A stack or a bet size.
-fn is_size(chips: u64) -> bool
-    ensures { IsTrue result → IsSize chips }
-{
-    1 <= chips && chips <= MOST_CHIPS
-}
-
-// A bet size that the game uses, or 0 where it does not use it.
-fn is_size_where(used: bool, chips: u64) -> bool
-    ensures { IsTrue result → IsSizeWhere used chips }
-{
-    if used { is_size(chips) } else { chips == 0 }
-}
-
 // Each seat has a size.
 fn are_sizes(row: &SeatRow) -> bool
     ensures { IsTrue result
@@ -83,17 +69,6 @@ fn are_sizes(row: &SeatRow) -> bool
     sizes
 }
 
-// No amount is above this.
-fn are_few(amounts: &[u64], most: u64) -> bool
-    ensures { IsTrue result → (k : ℕ) → slice_index amounts.now k ≤ most }
-{
-    let mut few = true;
-    for amount in amounts {
-        few = few && *amount <= most;
-    }
-    few
-}
-
 // No entry is above the other row's.
 fn are_within(row: &SeatRow, other: &SeatRow) -> bool
     ensures { IsTrue result → (seat : ℕ) → amount_of row.now seat ≤ amount_of other.now seat }
@@ -103,6 +78,28 @@ fn are_within(row: &SeatRow, other: &SeatRow) -> bool
         within = within && *amount <= other.amounts[index];
     }
     within
+}
+
+// A bet size that the game uses, or 0 where it does not use it.
+fn is_size_where(used: bool, chips: u64) -> bool
+    ensures { IsTrue result → IsSizeWhere used chips }
+{
+    if used { is_size(chips) } else { chips == 0 }
+}
+
+// A stack or a bet size.
+fn is_size(chips: u64) -> bool
+    ensures { IsTrue result → IsSize chips }
+{
+    1 <= chips && chips <= MOST_CHIPS
+}
+
+// Some seat has an amount, where it has to be so.
+fn have_some_if(asked: bool, row: &SeatRow) -> bool
+    ensures { IsTrue result → asked ≡ true
+        → list_any (λ seat. nat_lt 0 (amount_of row.now seat)) (seats_of row.now.seats) ≡ true }
+{
+    !asked || has_some(row)
 }
 
 // Some seat has an amount.
@@ -118,14 +115,6 @@ fn has_some(row: &SeatRow) -> bool
     found
 }
 
-// Some seat has an amount, where it has to be so.
-fn have_some_if(asked: bool, row: &SeatRow) -> bool
-    ensures { IsTrue result → asked ≡ true
-        → list_any (λ seat. nat_lt 0 (amount_of row.now seat)) (seats_of row.now.seats) ≡ true }
-{
-    !asked || has_some(row)
-}
-
 // The second seat has no more than the first, where it has to be so.
 fn fall_if(asked: bool, row: &SeatRow) -> bool
     ensures { IsTrue result → asked ≡ true → amount_of row.now 2 ≤ amount_of row.now 1 }
@@ -138,4 +127,15 @@ fn are_none_if(asked: bool, row: &SeatRow) -> bool
     ensures { IsTrue result → asked ≡ true → (seat : ℕ) → amount_of row.now seat ≡ 0 }
 {
     !asked || are_few(&row.amounts, 0)
+}
+
+// No amount is above this.
+fn are_few(amounts: &[u64], most: u64) -> bool
+    ensures { IsTrue result → (k : ℕ) → slice_index amounts.now k ≤ most }
+{
+    let mut few = true;
+    for amount in amounts {
+        few = few && *amount <= most;
+    }
+    few
 }

@@ -1,4 +1,4 @@
-// A variant is a type with the table of a game: generic code above rests on its laws alone.
+//! A variant is a type with the table of a game: generic code above rests on its laws alone.
 ghost use Rattle.std.specs.Prelude.{◌≡◌, ℕ, ◌≤◌, ◌-◌, Bool, Some, slice_get};
 ghost use Rattle.card_set.specs.declared.card.Card.{Card};
 ghost use Rattle.play_event.specs.declared.code.Code.{Code};
