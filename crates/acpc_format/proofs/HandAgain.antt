@@ -43,7 +43,6 @@ use Rattle.acpc_game.specs.declared.game.Game.{Game}
 use Rattle.acpc_line.specs.PlayFacts.{is_open_muck}
 use Rattle.acpc_line.specs.SetupFacts.{is_code_of}
 use Rattle.acpc_line.specs.Spelled.{unspelled}
-use Rattle.acpc_text.specs.Faults.{kept}
 use Rattle.acpc_reading.specs.Logs.{HandSaid}
 use Rattle.acpc_reading.specs.RecordView.{IsOfGame, code_of, record_said, rules_of}
 use Rattle.acpc_format.specs.Again.{hand_again, numbered_from, script_again, street_again}
@@ -59,6 +58,7 @@ use Rattle.acpc_format.proofs.SpelledFacts.{HasPlayOf, spelled}
 use Rattle.acpc_format.proofs.SuitsGame.{play_letters, suits_game}
 use Rattle.acpc_format.proofs.ValuesAgree.{values_agree}
 use Rattle.acpc_format.proofs.WithoutShows.{MucksHide, streets_alone, whole_past, without_shows}
+use Rattle.first_fault.specs.Numbers.{kept_number}
 
 -- ---- the script
 
@@ -161,7 +161,7 @@ events_said n [] = refl
 events_said n (event ∷ rest) = by_move (is_move event) (events_said (n + 1) rest) (events_said n rest)
   where
     by_move : (b : Bool) → map (λ (e : Numbered). e.1) (numbered_from (n + 1) rest) ≡ rest → map (λ (e : Numbered). e.1) (numbered_from n rest) ≡ rest
-        → map (λ (e : Numbered). e.1) (if b then ((kept n, event) ∷ numbered_from (n + 1) rest) else ((0, event) ∷ numbered_from n rest)) ≡ event ∷ rest
+        → map (λ (e : Numbered). e.1) (if b then ((kept_number n, event) ∷ numbered_from (n + 1) rest) else ((0, event) ∷ numbered_from n rest)) ≡ event ∷ rest
     by_move true more same = ap (λ (l : List Said). event ∷ l) more
     by_move false more same = ap (λ (l : List Said). event ∷ l) same
 

@@ -5,7 +5,7 @@ use Rattle.std.proofs.lemmas.Bool.{and_parts, cases_lt, eqb-true}
 use Rattle.std.proofs.lemmas.Slice.Eq.{bytes_eq-Decides}
 use Rattle.chip_ledger.proofs.Same.{seat_row_same_by_seats}
 use Rattle.chip_ledger.specs.Greatest.{greatest}
-use Rattle.chip_ledger.specs.SeatRow.{amount_of}
+use Rattle.chip_ledger.specs.SeatRow.{amount_of, amounts_in}
 use Rattle.chip_ledger.specs.declared.rows.SeatRow.{SeatRow}
 use Rattle.list_laws.proofs.NumbersOfRange.{any_none}
 use Rattle.play_event.specs.declared.code.Code.{Code}
@@ -16,7 +16,7 @@ use Rattle.play_event.specs.ValidSetup.{IsSizeWhere, IsValid, has_antes, is_fixe
 use Rattle.hand_records.specs.declared.trace.Play.{Play}
 use Rattle.hand_records.specs.declared.writing.Keep.{Keep}
 use Rattle.acpc_game.specs.declared.game.Game.{Game}
-use Rattle.acpc_game.specs.Games.{amounts_in, has_fitting_sizes}
+use Rattle.acpc_game.specs.Games.{has_fitting_sizes}
 use Rattle.acpc_line.specs.SetupFacts.{greatest_blind, is_code_of}
 use Rattle.acpc_line.specs.Spelled.{unspelled}
 use Rattle.acpc_reading.specs.RecordView.{IsSetupOf, code_of}

@@ -54,10 +54,9 @@ use Rattle.acpc_game.specs.declared.game.Game.{Game}
 use Rattle.acpc_line.specs.NoteFacts.{text_conditions, time_conditions}
 use Rattle.acpc_line.specs.PlayFacts.{has_unknown_hole_card, is_above_cap, is_above_caps, is_free_fold, is_off_unit, is_open_muck, is_part_known, is_raise_on, is_uneven, play_conditions}
 use Rattle.acpc_line.specs.SetupFacts.{is_code_of, setup_conditions}
-use Rattle.acpc_line.specs.Spelled.{first_where, or_else, unspelled, unspelled_note}
+use Rattle.acpc_line.specs.Spelled.{first_where, unspelled, unspelled_note}
 use Rattle.acpc_reading.specs.Logs.{reading}
 use Rattle.acpc_reading.specs.RecordView.{IsOfGame, record_said, rules_of}
-use Rattle.acpc_format.specs.Sharp.{IsOther, is_sharp}
 use Rattle.acpc_format.proofs.GameSetups.{code_fits, setup_none}
 use Rattle.acpc_format.proofs.HandAgain.{HasNoUpCards, no_up_cards}
 use Rattle.acpc_format.proofs.Holdem.{IsHoldem, holdem}
@@ -65,6 +64,8 @@ use Rattle.acpc_format.proofs.LogEvents.{IsLogEvent, IsLogHand, log_hands, scrip
 use Rattle.acpc_format.proofs.LogPasts.{AreByUnit, all_whole, any_among, by_unit, is_hidden_of, is_open_of, none_mucked, on_first}
 use Rattle.acpc_format.proofs.SuitsGame.{is_off, raises_said}
 use Rattle.list_laws.proofs.Tests.{not_both_still, not_true}
+use Rattle.hand_canon.specs.Sharp.{IsOther, is_sharp}
+use Rattle.hand_records.specs.Refusals.{or_behind}
 
 -- ---- the play, fact by fact
 
@@ -169,7 +170,7 @@ found_blunt ((condition, named) ∷ rest) fact blunt found = by_condition condit
     by_condition true same later = let is : named ≡ fact = cc in sym (ap is_sharp is) ∙ blunt.0
     by_condition false same later = later same
 
-or_blunt : (a b : Option Unspelled) (fact : Unspelled) → (a ≡ Some fact → is_sharp fact ≡ false) → (b ≡ Some fact → is_sharp fact ≡ false) → or_else a b ≡ Some fact → is_sharp fact ≡ false
+or_blunt : (a b : Option Unspelled) (fact : Unspelled) → (a ≡ Some fact → is_sharp fact ≡ false) → (b ≡ Some fact → is_sharp fact ≡ false) → or_behind a b ≡ Some fact → is_sharp fact ≡ false
 or_blunt None b fact one two found = two found
 or_blunt (Some named) b fact one two found = one found
 
@@ -242,7 +243,7 @@ hand_blunt : (game : Game) (keep : Keep) (play : Play) (fact : Unspelled) (hand 
 unfolding unspelled
 hand_blunt game keep play fact hand is each traced found =
     let none : first_where (setup_conditions game play.trace.setup) ≡ None = ap (λ (s : Setup). first_where (setup_conditions game s)) traced.whole.same_setup ∙ setup_none game hand.setup is.setup in
-    or_blunt (first_where (setup_conditions game play.trace.setup)) (or_else (first_where (play_conditions game play.trace)) (unspelled_note keep play.hand.notes)) fact
+    or_blunt (first_where (setup_conditions game play.trace.setup)) (or_behind (first_where (play_conditions game play.trace)) (unspelled_note keep play.hand.notes)) fact
     (none_blunt (first_where (setup_conditions game play.trace.setup)) fact none)
     (or_blunt (first_where (play_conditions game play.trace)) (unspelled_note keep play.hand.notes) fact
     (play_blunt game play.trace fact (sharp_facts game hand play.trace is each traced)) (note_blunt keep play.hand.notes fact)) found

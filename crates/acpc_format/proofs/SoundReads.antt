@@ -35,7 +35,7 @@ use Rattle.acpc_game.specs.declared.game.Game.{Game}
 use Rattle.acpc_line.specs.Line.{log_text}
 use Rattle.acpc_line.specs.PlayFacts.{is_part_known}
 use Rattle.acpc_line.specs.Rounds.{has_board}
-use Rattle.acpc_line.specs.Spelled.{first_refusal, refusal_from, refused_at, unspelled}
+use Rattle.acpc_line.specs.Spelled.{first_refusal, refusal_from, unspelled}
 use Rattle.acpc_line.specs.Texts.{HasTexts}
 use Rattle.acpc_format.proofs.Readable.{HasBoards, HasLetters, IsReadable}
 use Rattle.acpc_reading.specs.Logs.{reading}
@@ -46,6 +46,7 @@ use Rattle.acpc_format.proofs.Holdem.{IsHoldem, holdem}
 use Rattle.acpc_format.proofs.SpelledFacts.{spelled}
 use Rattle.canon_ranges.proofs.StreetsPlayed.{HasStreet, board_known, came_before, first_holes, four_streets, is_passed}
 use Rattle.list_laws.proofs.Lists.{none_from_length}
+use Rattle.hand_records.specs.Refusals.{refused_at}
 
 -- cards of the board, and whether there are some
 board_there : (placed : List TracedPlace) (street : ℕ) → 1 ≤ length (dealt_slots placed None street) → has_board placed street ≡ true

@@ -11,12 +11,13 @@ use Rattle.hand_records.specs.declared.writing.Keep.{Keep}
 use Rattle.hand_records.specs.declared.writing.Unspelled.{Unspelled}
 use Rattle.hand_records.specs.declared.writing.Unspelled.TheVariants as facts
 use Rattle.acpc_game.specs.declared.game.Game.{Game}
-use Rattle.acpc_game.specs.Games.{amounts_in}
 use Rattle.acpc_line.specs.PlayFacts.{is_above_caps, is_free_fold, is_off_unit, is_open_muck, is_part_known, play_conditions}
 use Rattle.acpc_line.specs.SetupFacts.{has_sizes_of, is_code_of, setup_conditions}
-use Rattle.acpc_line.specs.Spelled.{first_where, or_else, unspelled, unspelled_note}
+use Rattle.acpc_line.specs.Spelled.{first_where, unspelled, unspelled_note}
 use Rattle.list_laws.proofs.Options.{from_some_none}
 use Rattle.list_laws.proofs.Tests.{not_not}
+use Rattle.chip_ledger.specs.SeatRow.{amounts_in}
+use Rattle.hand_records.specs.Refusals.{or_behind}
 
 -- the setup has what the game has
 pub record HasSetupOf (game : Game) (setup : Setup) : Type 0 where
@@ -28,7 +29,7 @@ pub record HasSetupOf (game : Game) (setup : Setup) : Type 0 where
   pub blinds : bytes_eq (amounts_in setup.blinds) (amounts_in game.blinds) ≡ true
   pub rakes : list_any (nat_lt 0) setup.rakes.rakes ≡ false
 
-or_none : (a b : Option Unspelled) → or_else a b ≡ None → (a ≡ None) × (b ≡ None)
+or_none : (a b : Option Unspelled) → or_behind a b ≡ None → (a ≡ None) × (b ≡ None)
 or_none None b none = (refl, none)
 or_none (Some fact) b none = from_some_none none
 
@@ -80,6 +81,6 @@ pub record IsSpelled (game : Game) (play : Play) : Type 0 where
 pub spelled : (game : Game) (keep : Keep) (play : Play) → unspelled game keep play ≡ None → IsSpelled game play
 unfolding unspelled
 spelled game keep play none =
-    let first = or_none (first_where (setup_conditions game play.trace.setup)) (or_else (first_where (play_conditions game play.trace)) (unspelled_note keep play.hand.notes)) none in
+    let first = or_none (first_where (setup_conditions game play.trace.setup)) (or_behind (first_where (play_conditions game play.trace)) (unspelled_note keep play.hand.notes)) none in
     let second = or_none (first_where (play_conditions game play.trace)) (unspelled_note keep play.hand.notes) first.1 in
     record { setup = has_setup game play.trace.setup first.0; played = has_play game play.trace second.0 }

@@ -16,10 +16,10 @@ use Rattle.hand_records.specs.TraceRows.{core_said}
 use Rattle.hand_records.specs.declared.notes.Notes.{Notes}
 use Rattle.hand_records.specs.declared.trace.Play.{Play}
 use Rattle.hand_records.specs.declared.trace.Trace.{Trace}
-use Rattle.acpc_text.specs.Faults.{kept}
 use Rattle.acpc_line.specs.Betting.{hand_total}
 use Rattle.acpc_line.specs.Names.{is_spelled_hand, is_spelled_name}
 use Rattle.acpc_reading.specs.Logs.{HandSaid}
+use Rattle.first_fault.specs.Numbers.{kept_number}
 
 -- A move as its letter says it: without its seat, a call without its chips, and a raise by the chips of the whole hand, or by
 -- the unit where the game has a limit. A bring-in has no letter.
@@ -52,7 +52,7 @@ script_again no_limit trace =
 abbrev pub numbered_from : ℕ → List Said → List Numbered
 numbered_from n [] = []
 numbered_from n (event ∷ rest) =
-    if is_move event then (kept n, event) ∷ numbered_from (n + 1) rest else (0, event) ∷ numbered_from n rest
+    if is_move event then (kept_number n, event) ∷ numbered_from (n + 1) rest else (0, event) ∷ numbered_from n rest
 
 -- a name that a line spells; one that it does not spell is none
 abbrev pub kept_name : Option (List ℕ) → Option (List ℕ)

@@ -17,7 +17,7 @@ ghost use Rattle.acpc_reading.specs.RecordView.{IsOfGame, IsSetupOf, record_said
 ghost use Rattle.acpc_format.specs.Again.{hands_again, moves_written};
 ghost use Rattle.hand_canon.specs.ReadAgain.{AreAgain};
 ghost use Rattle.acpc_format.specs.ReadBack.{KeepsNotes};
-ghost use Rattle.acpc_format.specs.Sharp.{IsOther, is_sharp};
+ghost use Rattle.hand_canon.specs.Sharp.{IsOther, is_sharp};
 
 /// The lines of sound plays that the logs of a game spell read as the hands of these plays: with their canonical scripts as
 /// letters say them, their values, and their kept notes. The function does nothing: its contract is a law.

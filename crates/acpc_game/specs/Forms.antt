@@ -2,10 +2,11 @@
 use Rattle.std.specs.Prelude.{ℕ, ◌-◌, ◌==◌, Bool, ◌||◌, ◌&&◌, bytes_eq, if◌then◌else◌, List, [], ◌∷◌, length, slice_index, codes, Option, Some, None, option_and_then}
 use Rattle.std.specs.List.{list_all}
 use Rattle.first_fault.specs.Digits.{are_digits}
-use Rattle.acpc_text.specs.Parts.{parts_of, is_space, words_of}
+use Rattle.acpc_text.specs.Parts.{parts_of}
 use Rattle.acpc_game.specs.declared.key.Key.{Key}
 use Rattle.acpc_game.specs.declared.key.Key.TheVariants as keys
 use Rattle.acpc_game.specs.Keys.{is_word, key_named, has_count}
+use Rattle.first_fault.specs.Words.{is_space, words_of}
 
 -- a line that is passed over: it is empty, or begins with #
 abbrev pub is_passed_over : List ℕ → Bool

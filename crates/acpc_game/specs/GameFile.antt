@@ -7,12 +7,12 @@ use Rattle.first_fault.specs.Reading.{◌>>=◌}
 use Rattle.first_fault.specs.Digits.{number_of}
 use Rattle.acpc_text.specs.declared.fault.AcpcFault.{AcpcFault}
 use Rattle.acpc_text.specs.declared.fault.AcpcFault.TheVariants as faults
-use Rattle.acpc_text.specs.Faults.{kept}
 use Rattle.acpc_text.specs.Parts.{lines_of}
 use Rattle.acpc_game.specs.declared.key.Key.{Key}
 use Rattle.acpc_game.specs.declared.key.Key.TheVariants as keys
 use Rattle.acpc_game.specs.Keys.{key_place, most_of, or_else}
 use Rattle.acpc_game.specs.Forms.{Form, form_of, is_passed_over}
+use Rattle.first_fault.specs.Numbers.{kept_number}
 
 -- ---- the entries
 
@@ -24,11 +24,11 @@ pub record EntrySaid : Type 0 where
 
 -- a line has another form than a line there may have
 abbrev pub bad_shape : {A : Type 0} → ℕ → Result A AcpcFault
-bad_shape line = Err (faults.GameShape (kept line) 1)
+bad_shape line = Err (faults.GameShape (kept_number line) 1)
 
 -- a number of a line is too great
 abbrev pub too_great : {A : Type 0} → ℕ → Result A AcpcFault
-too_great line = Err (faults.AmountLimit (kept line) 1)
+too_great line = Err (faults.AmountLimit (kept_number line) 1)
 
 -- an entry has this key; limit and nolimit count as one
 abbrev pub is_of : Key → EntrySaid → Bool
@@ -225,7 +225,7 @@ game_by entries = record {
 unfoldable pub game_at_end : ℕ → List EntrySaid → Result GameSaid AcpcFault
 game_at_end count entries =
     if is_whole entries
-    then option_map_or (λ key. Err (faults.UnsupportedGame (kept (line_at key entries)) 1)) (first_unsupported entries) (Ok (game_by entries))
+    then option_map_or (λ key. Err (faults.UnsupportedGame (kept_number (line_at key entries)) 1)) (first_unsupported entries) (Ok (game_by entries))
     else bad_shape (end_line count entries)
 
 -- what the bytes of a game file say: the one game, or the first fault

@@ -1,7 +1,7 @@
 -- Games of the code, seen as those of the definitions.
 use Rattle.acpc_game.specs.declared.game.Game.{Game}
 use Rattle.acpc_game.specs.GameFile.{GameSaid}
-use Rattle.acpc_game.specs.Games.{amounts_in}
+use Rattle.chip_ledger.specs.SeatRow.{amounts_in}
 
 -- a game with its numbers as lists
 abbrev pub game_in : Game → GameSaid

@@ -1,12 +1,7 @@
 -- Games that some game file says, and the one spelling of each.
-use Rattle.std.specs.Prelude.{ℕ, ◌==◌, Bool, true, false, nat_lt, nat_le, ◌&&◌, ◌||◌, List, take}
+use Rattle.std.specs.Prelude.{ℕ, ◌==◌, Bool, true, false, nat_lt, nat_le, ◌&&◌, ◌||◌, List}
 use Rattle.std.specs.List.{list_all}
 use Rattle.chip_ledger.specs.declared.numbers.TheConstants.{MOST_CHIPS}
-use Rattle.chip_ledger.specs.declared.rows.SeatRow.{SeatRow}
-
--- the amounts of the seats of a row
-abbrev pub amounts_in : SeatRow → List ℕ
-amounts_in row = take row.seats row.amounts
 
 -- each amount is one that may be stated
 abbrev pub are_chips : List ℕ → Bool

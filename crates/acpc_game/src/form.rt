@@ -1,7 +1,8 @@
 //! A line of a game file is a key alone, or a key, `=`, and numbers divided by spaces.
 ghost use Rattle.std.specs.Prelude.{◌≡◌, ◌∷◌, ◌-◌, length, slice_index, option_map, true, IfSome, if◌then◌else◌, Some, None};
 ghost use Rattle.std.specs.List.{list_all};
-ghost use Rattle.acpc_text.specs.Parts.{is_space, parts_of, words_of};
+ghost use Rattle.acpc_text.specs.Parts.{parts_of};
+ghost use Rattle.first_fault.specs.Words.{is_space, words_of};
 ghost use Rattle.first_fault.specs.Digits.{are_digits as are_digits_said};
 ghost use Rattle.acpc_game.specs.Keys.{has_count};
 ghost use Rattle.acpc_game.specs.Forms.{form_of, is_passed_over as is_passed_over_said, key_and_numbers, key_before as key_before_said, numbers_behind};

@@ -2,7 +2,8 @@
 ghost use Rattle.std.specs.Prelude.{◌≡◌, true, false};
 ghost use Rattle.chip_ledger.specs.Greatest.{greatest};
 ghost use Rattle.acpc_game.specs.GameFile.{has_short_stack, is_reversed};
-ghost use Rattle.acpc_game.specs.Games.{amounts_in, are_chips, has_fitting_sizes};
+ghost use Rattle.acpc_game.specs.Games.{are_chips, has_fitting_sizes};
+ghost use Rattle.chip_ledger.specs.SeatRow.{amounts_in};
 
 use chip_ledger::SeatRow;
 

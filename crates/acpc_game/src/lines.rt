@@ -4,7 +4,7 @@ ghost use Rattle.std.specs.List.{list_all};
 ghost use Rattle.first_fault.specs.Digits.{are_digits};
 ghost use Rattle.first_fault.specs.Reading.{Gives, Fails};
 ghost use Rattle.acpc_text.specs.Faults.{fault_in_line as fault_in_line_said};
-ghost use Rattle.acpc_text.specs.Parts.{words_of};
+ghost use Rattle.first_fault.specs.Words.{words_of};
 ghost use Rattle.acpc_game.specs.Entries.{entry_said};
 ghost use Rattle.acpc_game.specs.GameFile.{entries_after_line, entries_said, may_stand as may_stand_said, number_said, numbers_after};
 

@@ -7,7 +7,8 @@ ghost use Rattle.acpc_game.specs.declared.key.Key.TheVariants as keys;
 ghost use Rattle.acpc_game.specs.Entries.{entry_said};
 ghost use Rattle.acpc_game.specs.GameFile.{found, game_at_end, game_by, game_said, is_whole as is_whole_said, stacks_at};
 ghost use Rattle.acpc_game.specs.GameView.{game_in};
-ghost use Rattle.acpc_game.specs.Games.{amounts_in, are_chips};
+ghost use Rattle.acpc_game.specs.Games.{are_chips};
+ghost use Rattle.chip_ledger.specs.SeatRow.{amounts_in};
 ghost use Rattle.acpc_game.specs.Playable.{IsPlayable};
 
 use crate::entry::Entry;

@@ -8,8 +8,9 @@ use Rattle.play_event.specs.declared.setup.Setup.{Setup}
 use Rattle.hand_records.specs.declared.writing.Unspelled.{Unspelled}
 use Rattle.hand_records.specs.declared.writing.Unspelled.TheVariants as facts
 use Rattle.acpc_game.specs.GameFile.{GameSaid, has_short_stack, is_reversed}
-use Rattle.acpc_game.specs.Games.{amounts_in, are_chips, has_fitting_sizes}
+use Rattle.acpc_game.specs.Games.{are_chips, has_fitting_sizes}
 use Rattle.acpc_line.specs.SetupFacts.{greatest_blind}
+use Rattle.chip_ledger.specs.SeatRow.{amounts_in}
 
 -- whether hold'em with this code has no limit; other games have no logs
 abbrev pub no_limit_of : Code → Option Bool

@@ -18,7 +18,7 @@ use Rattle.hand_records.specs.declared.trace.Trace.{Trace}
 use Rattle.hand_records.specs.declared.writing.Unspelled.{Unspelled}
 use Rattle.hand_records.specs.declared.writing.Unspelled.TheVariants as facts
 use Rattle.acpc_game.specs.declared.game.Game.{Game}
-use Rattle.acpc_game.specs.Games.{amounts_in}
+use Rattle.chip_ledger.specs.SeatRow.{amounts_in}
 
 -- a seat folds where it owes nothing
 abbrev pub is_free_fold : Move → Bool

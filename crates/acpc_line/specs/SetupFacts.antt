@@ -8,7 +8,7 @@ use Rattle.play_event.specs.declared.setup.Setup.{Setup}
 use Rattle.hand_records.specs.declared.writing.Unspelled.{Unspelled}
 use Rattle.hand_records.specs.declared.writing.Unspelled.TheVariants as facts
 use Rattle.acpc_game.specs.declared.game.Game.{Game}
-use Rattle.acpc_game.specs.Games.{amounts_in}
+use Rattle.chip_ledger.specs.SeatRow.{amounts_in}
 
 -- the code is that of a game: no-limit hold'em where it has no limit, and else fixed-limit hold'em
 abbrev pub is_code_of : Bool → Code → Bool

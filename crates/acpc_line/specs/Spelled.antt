@@ -11,32 +11,23 @@ use Rattle.acpc_game.specs.declared.game.Game.{Game}
 use Rattle.acpc_line.specs.NoteFacts.{text_conditions, time_conditions}
 use Rattle.acpc_line.specs.PlayFacts.{play_conditions}
 use Rattle.acpc_line.specs.SetupFacts.{setup_conditions}
+use Rattle.hand_records.specs.Refusals.{or_behind, refused_at}
 
 -- the fact of the first condition that holds
 abbrev pub first_where : List (Bool × Unspelled) → Option Unspelled
 first_where [] = None
 first_where ((condition, fact) ∷ rest) = if condition then Some fact else first_where rest
 
--- a fact, or else another
-abbrev pub or_else : Option Unspelled → Option Unspelled → Option Unspelled
-or_else (Some fact) other = Some fact
-or_else None other = other
-
 -- the first note that is kept and has no spelling; where those that are spelled are kept, there is none
 unfoldable pub unspelled_note : Keep → Notes → Option Unspelled
-unspelled_note keeps.All notes = or_else (first_where (text_conditions notes)) (first_where (time_conditions notes))
+unspelled_note keeps.All notes = or_behind (first_where (text_conditions notes)) (first_where (time_conditions notes))
 unspelled_note keeps.Spelled notes = None
 
 -- the first fact of a play that the logs of a game do not spell: of its setup, of its play, of its notes
 unfoldable pub unspelled : Game → Keep → Play → Option Unspelled
 unspelled game keep play =
-    or_else (first_where (setup_conditions game play.trace.setup))
-    (or_else (first_where (play_conditions game play.trace)) (unspelled_note keep play.hand.notes))
-
--- the refusal of the hand with this number, or of the first one behind it
-abbrev pub refused_at : ℕ → Option Unspelled → Option WriteRefusal → Option WriteRefusal
-refused_at number (Some fact) behind = Some (refusals.Unspelled number fact)
-refused_at number None behind = behind
+    or_behind (first_where (setup_conditions game play.trace.setup))
+    (or_behind (first_where (play_conditions game play.trace)) (unspelled_note keep play.hand.notes))
 
 -- the first refusal of plays, of which the first has this number
 abbrev pub refusal_from : Game → Keep → ℕ → List Play → Option WriteRefusal

@@ -1,7 +1,7 @@
 //! Amounts of a row are compared with others.
 ghost use Rattle.std.specs.Prelude.{◌≡◌, nat_lt, bytes_eq};
 ghost use Rattle.std.specs.List.{list_any};
-ghost use Rattle.acpc_game.specs.Games.{amounts_in};
+ghost use Rattle.chip_ledger.specs.SeatRow.{amounts_in};
 
 use chip_ledger::SeatRow;
 

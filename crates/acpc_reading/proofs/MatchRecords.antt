@@ -11,8 +11,9 @@ use Rattle.hand_records.specs.AllowedNotes.{AreAllowed, IsName, IsNoteText}
 use Rattle.hand_records.specs.SoundRecord.{script_said}
 use Rattle.hand_records.specs.SoundRecord.{IsSoundRecord}
 use Rattle.acpc_game.specs.declared.game.Game.{Game}
-use Rattle.acpc_reading.specs.RecordView.{AreOfGame, IsOfGame, IsSetupOf, NotesNames, StatesValues, moves_of}
+use Rattle.acpc_reading.specs.RecordView.{AreOfGame, IsOfGame, IsSetupOf, NotesNames, StatesValues}
 use Rattle.acpc_reading.proofs.MatchSetups.{setup_valid}
+use Rattle.hand_records.specs.Moves.{moves_of}
 
 -- names and a number that may be noted are allowed notes
 notes_allowed : (players : ℕ) (notes : Notes) → NotesNames notes

@@ -8,14 +8,14 @@ use Rattle.chip_ledger.specs.declared.rakes.RakeRow.{RakeRow}
 use Rattle.chip_ledger.specs.Fillers.{index-replicate}
 use Rattle.chip_ledger.specs.Greatest.{greatest}
 use Rattle.chip_ledger.specs.RakeRow.{rake_of, no_rakes}
-use Rattle.chip_ledger.specs.SeatRow.{amount_of}
+use Rattle.chip_ledger.specs.SeatRow.{amount_of, amounts_in}
 use Rattle.play_event.specs.declared.setup.Setup.{Setup}
 use Rattle.play_event.specs.Games.{game_of}
 use Rattle.play_event.specs.Streets.{limit_of, is_stud}
 use Rattle.play_event.specs.ValidSetup.{IsSize, IsSizeWhere, IsValid, is_fixed}
 use Rattle.acpc_game.specs.declared.game.Game.{Game}
 use Rattle.acpc_game.specs.GameFile.{has_short_stack, is_reversed}
-use Rattle.acpc_game.specs.Games.{amounts_in, are_chips, is_size, has_fitting_sizes}
+use Rattle.acpc_game.specs.Games.{are_chips, is_size, has_fitting_sizes}
 use Rattle.acpc_reading.specs.RecordView.{IsSetupOf, code_of}
 
 -- an amount of the first ones

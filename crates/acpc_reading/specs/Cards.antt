@@ -13,10 +13,11 @@ use Rattle.play_event.specs.Said.{Said, Numbered}
 use Rattle.first_fault.specs.Reading.{◌>>=◌}
 use Rattle.acpc_text.specs.declared.fault.LineFault.{LineFault}
 use Rattle.acpc_text.specs.declared.fault.What.TheVariants as whats
-use Rattle.acpc_text.specs.Faults.{kept, wrong}
+use Rattle.acpc_text.specs.Faults.{wrong}
 use Rattle.acpc_text.specs.Parts.{parts_of}
 use Rattle.acpc_reading.specs.declared.step.Step.{Step}
 use Rattle.acpc_reading.specs.declared.step.Step.TheVariants as steps
+use Rattle.first_fault.specs.Numbers.{kept_number}
 
 -- these slots, if they are so many and all of them known
 abbrev pub only_known : ℕ → List Slot → Option (List Slot)
@@ -57,7 +58,7 @@ pub record Written : Type 0 where
 
 -- one more letter, which leaves its seat unsaid
 abbrev pub with_letter : Written → Said → Written
-with_letter so_far move = record { events = so_far.events ++ (kept so_far.number, move) ∷ []; number = so_far.number + 1; size = so_far.size; boards = so_far.boards }
+with_letter so_far move = record { events = so_far.events ++ (kept_number so_far.number, move) ∷ []; number = so_far.number + 1; size = so_far.size; boards = so_far.boards }
 
 -- the board deal before the next round
 unfoldable pub next_round : ℕ → Written → List (List ℕ) → Result Written LineFault

@@ -1,9 +1,9 @@
 -- Records as the definitions say them, and what each of them has of its game.
-use Rattle.std.specs.Prelude.{◌≡◌, ℕ, Bool, true, false, ◌≤◌, List, [], length, map, take, sum_by, count_by, None, is_some, if◌then◌else◌}
+use Rattle.std.specs.Prelude.{◌≡◌, ℕ, Bool, true, false, ◌≤◌, List, [], length, map, take, sum_by, None, is_some, if◌then◌else◌}
 use Rattle.std.specs.List.{AllByRecursion}
 use Rattle.std.specs.Option.{option_map_or}
 use Rattle.chip_ledger.specs.Greatest.{greatest}
-use Rattle.chip_ledger.specs.SeatRow.{amount_of}
+use Rattle.chip_ledger.specs.SeatRow.{amount_of, amounts_in}
 use Rattle.chip_ledger.specs.RakeRow.{rake_of}
 use Rattle.play_event.specs.declared.code.Code.{Code}
 use Rattle.play_event.specs.declared.code.Code.TheVariants as game_codes
@@ -11,17 +11,15 @@ use Rattle.play_event.specs.declared.setup.Setup.{Setup}
 use Rattle.play_event.specs.declared.setup.Rules.{Rules}
 use Rattle.play_event.specs.declared.setup.Reopen.TheVariants as reopen
 use Rattle.play_event.specs.Said.{numbered}
-use Rattle.canonical_play.specs.PlayedScript.{is_move}
 use Rattle.first_fault.specs.declared.limits.TheConstants.{MOST_FILE_MOVES, MOST_HANDS}
 use Rattle.hand_records.specs.declared.notes.Notes.{Notes}
 use Rattle.hand_records.specs.declared.record.Record.{Record}
 use Rattle.hand_records.specs.declared.record.Stated.{Stated}
-use Rattle.hand_records.specs.SoundRecord.{script_said}
 use Rattle.hand_records.specs.SoundRecord.{IsSoundRecord}
 use Rattle.acpc_game.specs.declared.game.Game.{Game}
-use Rattle.acpc_game.specs.Games.{amounts_in}
 use Rattle.acpc_reading.specs.Logs.{HandSaid}
 use Rattle.acpc_reading.specs.Views.{nets_in}
+use Rattle.hand_records.specs.Moves.{moves_of}
 
 -- a record as a hand that is said
 abbrev pub record_said : Record → HandSaid
@@ -87,10 +85,6 @@ pub record IsOfGame (game : Game) (hand : Record) : Type 0 where
   pub stated : StatesValues hand.stated
   pub notes : NotesNames hand.notes
   pub sound : IsSoundRecord hand
-
--- the moves of a hand
-abbrev pub moves_of : Record → ℕ
-moves_of hand = count_by is_move (script_said hand)
 
 -- the records of a file so far, which have so many moves
 pub record AreOfGame (game : Game) (hands : List Record) (file_moves : ℕ) : Type 0 where

@@ -6,7 +6,8 @@ ghost use Rattle.first_fault.specs.Reading.{Fails, Gives};
 ghost use Rattle.acpc_text.specs.Faults.{Answers};
 ghost use Rattle.acpc_reading.specs.FieldsView.{HasRoom, fields_in};
 ghost use Rattle.acpc_reading.specs.Logs.{hand_of, hands_after_line, is_passed_over as is_passed_over_said, line_said, reading};
-ghost use Rattle.acpc_reading.specs.RecordView.{AreOfGame, IsOfGame, moves_of, record_said};
+ghost use Rattle.acpc_reading.specs.RecordView.{AreOfGame, IsOfGame, record_said};
+ghost use Rattle.hand_records.specs.Moves.{moves_of};
 
 use crate::cutting::cut_fields;
 use crate::fields::Fields;

@@ -1,14 +1,11 @@
 -- Faults of a line, and of a file by the number of the line.
-use Rattle.std.specs.Prelude.{◌≡◌, ℕ, min, Result, Ok, Err}
+use Rattle.std.specs.Prelude.{◌≡◌, ℕ, Result, Ok, Err}
 use Rattle.acpc_text.specs.declared.fault.What.{What}
 use Rattle.acpc_text.specs.declared.fault.What.TheVariants as whats
 use Rattle.acpc_text.specs.declared.fault.LineFault.{LineFault}
 use Rattle.acpc_text.specs.declared.fault.AcpcFault.{AcpcFault}
 use Rattle.acpc_text.specs.declared.fault.AcpcFault.TheVariants as faults
-
--- a line, or a byte of it, as a fault tells it
-abbrev pub kept : ℕ → ℕ
-kept number = min number 4294967295
+use Rattle.first_fault.specs.Numbers.{kept_number}
 
 -- the fault of this kind at a line and a byte
 abbrev pub fault_of : What → ℕ → ℕ → AcpcFault
@@ -24,7 +21,7 @@ fault_of (whats.TooMany quantity) line byte = faults.TooMany quantity line byte
 
 -- a fault of a line, as one of the file
 abbrev pub fault_in_line : ℕ → LineFault → AcpcFault
-fault_in_line line fault = fault_of fault.what (kept line) (kept fault.byte)
+fault_in_line line fault = fault_of fault.what (kept_number line) (kept_number fault.byte)
 
 -- a line is wrong at a byte
 abbrev pub wrong : {A : Type 0} → What → ℕ → Result A LineFault

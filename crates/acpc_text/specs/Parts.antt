@@ -1,5 +1,5 @@
 -- Texts that are cut at a sign: a file at newlines, a line at colons, a field at bars and strokes, numbers at spaces.
-use Rattle.std.specs.Prelude.{ℕ, ◌-◌, ◌==◌, Bool, nat_lt, bytes_eq, if◌then◌else◌, List, [], ◌∷◌, length, take, map, filter, slice_index}
+use Rattle.std.specs.Prelude.{ℕ, ◌-◌, ◌==◌, Bool, bytes_eq, if◌then◌else◌, List, [], ◌∷◌, length, take, map, slice_index}
 use Rattle.std.specs.List.{slice_split}
 
 -- the parts of a text that a sign divides
@@ -23,11 +23,3 @@ lines_of text = map without_return (without_empty_end (parts_of 10 text))
 -- a text begins with these bytes
 abbrev pub has_front : List ℕ → List ℕ → Bool
 has_front front text = bytes_eq (take (length front) text) front
-
--- the sign that divides words: a space
-abbrev pub is_space : ℕ → Bool
-is_space sign = sign == 32
-
--- the words of a text
-abbrev pub words_of : List ℕ → List (List ℕ)
-words_of text = filter (λ part. nat_lt 0 (length part)) (slice_split is_space text)

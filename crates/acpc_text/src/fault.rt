@@ -1,6 +1,7 @@
 //! A fault of a log or a game file names its line, and the byte of it that shows the fault.
 ghost use Rattle.std.specs.Prelude.{◌≡◌};
-ghost use Rattle.acpc_text.specs.Faults.{fault_in_line as fault_in_line_said, kept as kept_said};
+ghost use Rattle.acpc_text.specs.Faults.{fault_in_line as fault_in_line_said};
+ghost use Rattle.first_fault.specs.Numbers.{kept_number as kept_said};
 
 use first_fault::Quantity;
 

@@ -2,7 +2,8 @@
 ghost use Rattle.std.specs.Prelude.{◌≡◌, ◌+◌, ◌<◌, ◌≤◌, ◌==◌, ◌⊎◌, [], ◌∷◌, false, length, slice_index, IfSome};
 ghost use Rattle.std.specs.List.{position_or_len};
 ghost use Rattle.std.specs.Option.{option_map_or};
-ghost use Rattle.acpc_text.specs.Parts.{has_front, is_space, lines_of, parts_of, without_return as without_return_said, words_of};
+ghost use Rattle.acpc_text.specs.Parts.{has_front, lines_of, parts_of, without_return as without_return_said};
+ghost use Rattle.first_fault.specs.Words.{is_space, words_of};
 
 /// Whether the text begins with these bytes.
 pub fn has_prefix(text: &[u8], front: &[u8]) -> bool

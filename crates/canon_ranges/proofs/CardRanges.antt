@@ -38,8 +38,8 @@ use Rattle.canon_laws.proofs.StreetDiscards.{out_finals}
 use Rattle.canon_laws.proofs.TidyTraces.{tidy_cards}
 use Rattle.showdown_laws.specs.ContestedEnd.{EndContested}
 use Rattle.showdown_laws.proofs.WholeHands.{whole_hands}
-use Rattle.canon_ranges.specs.Ranges.{IsSeatOf}
 use Rattle.canon_ranges.proofs.GameSizes.{few_boards, few_drawn}
+use Rattle.chip_ledger.specs.Seat.{IsSeatOf}
 
 -- of slots that are all known as many cards are known
 all_known : (list : List Slot) → list_any is_unknown list ≡ false → length (known_cards list) ≡ length list

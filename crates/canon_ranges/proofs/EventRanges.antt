@@ -23,11 +23,12 @@ use Rattle.canonical_play.specs.PlayedScript.{IsPlayed}
 use Rattle.canonical_play.specs.TraceCore.{TraceCore, core_after, core_of}
 use Rattle.canon_laws.proofs.SameCore.{plain_again}
 use Rattle.canon_laws.proofs.TidyTraces.{tidy_cards}
-use Rattle.canon_ranges.specs.Ranges.{IsInRange, IsSeatOf}
+use Rattle.canon_ranges.specs.Ranges.{IsInRange}
 use Rattle.canon_ranges.proofs.CardRanges.{board_few, board_known, discard_few, shown_whole}
 use Rattle.canon_ranges.proofs.GameSizes.{hand_seven, hand_some}
 use Rattle.canon_ranges.proofs.MoveRanges.{IsMoveInRange, moves_in_range}
 use Rattle.list_laws.proofs.Each.{each_flat, each_joined, each_kept, each_mapped, each_reversed}
+use Rattle.chip_ledger.specs.Seat.{IsSeatOf}
 
 -- numbers in a row lie between the first and the last
 abbrev IsBetween : ℕ → ℕ → ℕ → Type 0

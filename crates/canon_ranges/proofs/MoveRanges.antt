@@ -26,8 +26,8 @@ use Rattle.play_laws.proofs.FittingPasts.{legal_moves}
 use Rattle.play_laws.proofs.MoveKinds.{IsMoveSaid, bring_said, call_said, fold_said, raise_said}
 use Rattle.play_laws.proofs.MovesLaw.{IsMover, MovesLaw, free, shown}
 use Rattle.play_laws.proofs.NamedMoves.{move_reasons, same_actor}
-use Rattle.canon_ranges.specs.Ranges.{IsSeatOf}
 use Rattle.canon_ranges.proofs.MoverSeats.{mover_in_hand}
+use Rattle.chip_ledger.specs.Seat.{IsSeatOf}
 
 -- a move of a seat of the hand, to chips that may be stated
 pub record IsMoveInRange (setup : Setup) (move : Move) : Type 0 where

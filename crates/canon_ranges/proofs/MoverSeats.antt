@@ -15,7 +15,7 @@ use Rattle.play_event.specs.declared.limit.Opener.{Opener}
 use Rattle.play_event.specs.declared.limit.Opener.TheVariants as openers
 use Rattle.play_event.specs.declared.setup.Setup.{Setup}
 use Rattle.play_event.proofs.MoverLaws.{mover_is_able}
-use Rattle.canon_ranges.specs.Ranges.{IsSeatOf}
+use Rattle.chip_ledger.specs.Seat.{IsSeatOf}
 
 -- each of some numbers is at least 1
 abbrev FromOne : List ℕ → Type 0

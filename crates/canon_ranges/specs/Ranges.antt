@@ -4,10 +4,7 @@ use Rattle.chip_ledger.specs.declared.numbers.TheConstants.{MOST_CHIPS}
 use Rattle.play_event.specs.declared.event.Spelled.TheVariants as spelled
 use Rattle.play_event.specs.Said as said
 use Rattle.play_event.specs.Said.{Said}
-
--- a seat of a hand with so many seats
-abbrev pub IsSeatOf : ℕ → ℕ → Type 0
-IsSeatOf seats seat = (1 ≤ seat) × (seat ≤ seats)
+use Rattle.chip_ledger.specs.Seat.{IsSeatOf}
 
 -- An event of a canonical script in a hand with so many seats. Its seat is one of the hand. A deal to a seat has one card to
 -- seven, one to the board one to five; a discard has five at most, and none where the seat stands pat; a show has one to

@@ -1,5 +1,5 @@
 -- What a row of amounts says of its seats.
-use Rattle.std.specs.Prelude.{ℕ, ◌-◌, slice_index, sum_by}
+use Rattle.std.specs.Prelude.{ℕ, ◌-◌, slice_index, sum_by, List, take}
 use Rattle.chip_ledger.specs.declared.rows.SeatRow.{SeatRow}
 use Rattle.chip_ledger.specs.Seat.{seats_of}
 
@@ -10,3 +10,7 @@ amount_of row n = slice_index row.amounts (n - 1)
 -- the amounts of all seats of the row together
 abbrev pub total_of : SeatRow → ℕ
 total_of row = sum_by (amount_of row) (seats_of row.seats)
+
+-- the amounts of a row, the first seat's first
+abbrev pub amounts_in : SeatRow → List ℕ
+amounts_in row = take row.seats row.amounts

@@ -5,11 +5,13 @@ use Rattle.first_fault.specs.declared.limits.TheConstants.{MOST_FILE_MOVES, MOST
 use Rattle.hand_records.specs.declared.record.Record.{Record}
 use Rattle.hand_records.specs.declared.trace.Play.{Play}
 use Rattle.phh_reading.specs.Hand.{plain}
-use Rattle.phh_reading.specs.Reading.{IsHistory, Wrong, moves_of, reading, wrong_of}
+use Rattle.phh_reading.specs.Reading.{Wrong, reading, wrong_of}
 use Rattle.phh_reading.specs.declared.fault.PhhFault.{PhhFault}
 use Rattle.phh_table.specs.Document as written
 use Rattle.convert_core.specs.declared.format_fault.FormatFault.{FormatFault}
 use Rattle.convert_core.specs.declared.format_fault.FormatFault.TheVariants as formats
+use Rattle.hand_records.specs.Histories.{IsHistory}
+use Rattle.hand_records.specs.Moves.{moves_of}
 
 -- bytes say these records: they are what the bytes read as, each as a reader gives it, and no more than a file may have
 pub record Say (bytes : List ℕ) (records : List Record) : Type 0 where

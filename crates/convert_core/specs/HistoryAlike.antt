@@ -7,13 +7,13 @@ use Rattle.hand_records.specs.declared.trace.Play.{Play}
 use Rattle.hand_records.specs.declared.trace.Trace.{Trace}
 use Rattle.hand_records.specs.declared.writing.Unspelled.TheVariants as unspellables
 use Rattle.phh_reading.specs.Hand.{PlainHand, plain}
-use Rattle.phh_reading.specs.Reading.{IsHistory}
 use Rattle.phh_reading.proofs.SamePlay.{same_rules, same_script, same_setup, same_stated}
 use Rattle.phh_table.specs.Spelled as facts
 use Rattle.play_event.specs.declared.setup.Setup.{Setup}
 use Rattle.convert_core.specs.Histories.{Say}
 use Rattle.convert_core.specs.SameParts.{names_same, numbers_same}
 use Rattle.convert_core.specs.SameRecords.{AllAlike, AreAlike, ArePlayedAlike}
+use Rattle.hand_records.specs.Histories.{IsHistory}
 
 module _ (a b : Record) (is : IsHistory a) (it : IsHistory b) (same : plain a ≡ plain b) where
   setups : a.setup ≡ b.setup

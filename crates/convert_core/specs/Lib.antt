@@ -6,7 +6,6 @@ pub mod Records
 pub mod ReadBack
 pub mod SameRecords
 pub mod SameParts
-pub mod Sharp
 pub mod Conversion
 pub mod Histories
 pub mod HistoryAlike

@@ -21,13 +21,14 @@ use Rattle.acpc_game.specs.declared.game.Game.{Game}
 use Rattle.acpc_line.specs.NoteFacts.{is_unspelled_name, text_conditions, time_conditions}
 use Rattle.acpc_line.specs.PlayFacts.{play_conditions}
 use Rattle.acpc_line.specs.SetupFacts.{setup_conditions}
-use Rattle.acpc_line.specs.Spelled.{first_where, or_else, unspelled, unspelled_note}
+use Rattle.acpc_line.specs.Spelled.{first_where, unspelled, unspelled_note}
 use Rattle.acpc_reading.specs.Logs.{HandSaid}
 use Rattle.acpc_reading.specs.RecordView.{IsOfGame, StatesValues, record_said}
 use Rattle.acpc_reading.specs.Views.{nets_in}
 use Rattle.convert_core.specs.Logs.{Say}
 use Rattle.convert_core.specs.SameParts.{names_same, one_script}
 use Rattle.convert_core.specs.SameRecords.{AllAlike, AreAlike, ArePlayedAlike, NoteTheSame, number_at}
+use Rattle.hand_records.specs.Refusals.{or_behind}
 
 -- rows of nets with the same nets are one row
 record KeptNets (seats : ℕ) (nets : List ℤ) : Type 0 where
@@ -182,12 +183,12 @@ times_alike count a b same = cc (same.zone, same.year, same.month, same.day, sam
 notes_alike : (keep : Keep) (count : ℕ) (a b : Notes) → NoteTheSame count a b → unspelled_note keep a ≡ unspelled_note keep b
 unfolding unspelled_note
 notes_alike keeps.All count a b same =
-    ap₂ (λ texts times. or_else (first_where texts) (first_where times)) (texts_alike count a b same) (times_alike count a b same)
+    ap₂ (λ texts times. or_behind (first_where texts) (first_where times)) (texts_alike count a b same) (times_alike count a b same)
 notes_alike keeps.Spelled _ a b same = refl
 
 -- which fact of a play has no spelling is told by its trace and its notes
 pub same_fact : (game : Game) (keep : Keep) (play other : Play) → ArePlayedAlike play other → unspelled game keep play ≡ unspelled game keep other
 unfolding unspelled
 same_fact game keep play other alike =
-    ap₂ (λ (trace : Trace) (note : Option Unspelled). or_else (first_where (setup_conditions game trace.setup)) (or_else (first_where (play_conditions game trace)) note))
+    ap₂ (λ (trace : Trace) (note : Option Unspelled). or_behind (first_where (setup_conditions game trace.setup)) (or_behind (first_where (play_conditions game trace)) note))
     alike.trace (notes_alike keep play.trace.setup.stacks.seats play.hand.notes other.hand.notes alike.notes)

@@ -30,11 +30,13 @@ use Rattle.hand_records.specs.declared.writing.Unspelled.{Unspelled}
 use Rattle.hand_records.specs.declared.writing.WriteRefusal.{WriteRefusal}
 use Rattle.convert_core.specs.Logs.{HaveFault, Say, Spell}
 use Rattle.convert_core.specs.ReadBack.{ReadBack}
-use Rattle.convert_core.specs.Records.{AreFew, AreOfFile, IsUnder, moves_played}
-use Rattle.convert_core.specs.Sharp.{IsOther, is_sharp}
-use Rattle.convert_core.specs.Spelled.{first_refusal, refusal_from, refused_at}
+use Rattle.convert_core.specs.Records.{AreFew, AreOfFile, IsUnder}
+use Rattle.convert_core.specs.Spelled.{first_refusal, refusal_from}
 use Rattle.convert_core.specs.declared.format_fault.FormatFault.{FormatFault}
 use Rattle.convert_core.specs.declared.format_fault.FormatFault.TheVariants as formats
+use Rattle.hand_canon.specs.Sharp.{IsOther, is_sharp}
+use Rattle.hand_records.specs.Moves.{moves_played}
+use Rattle.hand_records.specs.Refusals.{refused_at}
 
 -- what bytes say is what a reader gives of a file
 each_under : (game : Game) (records : List Record) → AllByRecursion (IsOfGame game) records → AllByRecursion (IsUnder (rules_of game)) records
@@ -51,7 +53,7 @@ no_fault game bytes hands (formats.Ohh fault) say have = have
 no_fault game bytes hands (formats.Acpc fault) say have = (let said = say.reads in let had = have.reads in cc)
 
 -- the first refusal of the logs of a game is that of their facts
-same_at : (number : ℕ) (fact : Option Unspelled) (behind other : Option WriteRefusal) → behind ≡ other → facts.refused_at number fact behind ≡ refused_at number fact other
+same_at : (number : ℕ) (fact : Option Unspelled) (behind other : Option WriteRefusal) → behind ≡ other → refused_at number fact behind ≡ refused_at number fact other
 same_at number (Some fact) behind other same = refl
 same_at number None behind other same = same
 

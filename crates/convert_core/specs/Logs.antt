@@ -5,7 +5,7 @@ use Rattle.acpc_game.specs.declared.game.Game.{Game}
 use Rattle.acpc_line.specs.Line.{log_text}
 use Rattle.acpc_line.specs.Texts.{HasTexts}
 use Rattle.acpc_reading.specs.Logs.{reading}
-use Rattle.acpc_reading.specs.RecordView.{IsOfGame, moves_of, record_said}
+use Rattle.acpc_reading.specs.RecordView.{IsOfGame, record_said}
 use Rattle.acpc_text.specs.declared.fault.AcpcFault.{AcpcFault}
 use Rattle.acpc_text.specs.declared.fault.AcpcFault.TheVariants as faults
 use Rattle.first_fault.specs.declared.limits.TheConstants.{MOST_FILE_MOVES, MOST_HANDS}
@@ -13,6 +13,7 @@ use Rattle.hand_records.specs.declared.record.Record.{Record}
 use Rattle.hand_records.specs.declared.trace.Play.{Play}
 use Rattle.convert_core.specs.declared.format_fault.FormatFault.{FormatFault}
 use Rattle.convert_core.specs.declared.format_fault.FormatFault.TheVariants as formats
+use Rattle.hand_records.specs.Moves.{moves_of}
 
 -- bytes say these records under a game: they are what the bytes read as, each one of the game, and no more than a file may have
 pub record Say (game : Game) (bytes : List ℕ) (records : List Record) : Type 0 where

@@ -1,20 +1,12 @@
 -- Records as a notation gives them: sound, under its rules, and no more than a file may have.
-use Rattle.std.specs.Prelude.{◌≡◌, ℕ, ◌≤◌, List, count_by, length, sum_by}
+use Rattle.std.specs.Prelude.{◌≡◌, ◌≤◌, List, length, sum_by}
 use Rattle.std.specs.List.{AllByRecursion}
-use Rattle.canonical_play.specs.PlayedScript.{is_move}
 use Rattle.first_fault.specs.declared.limits.TheConstants.{MOST_FILE_MOVES, MOST_HANDS}
-use Rattle.hand_records.specs.SoundRecord.{IsSoundRecord, script_said}
+use Rattle.hand_records.specs.SoundRecord.{IsSoundRecord}
 use Rattle.hand_records.specs.declared.record.Record.{Record}
 use Rattle.hand_records.specs.declared.trace.Play.{Play}
 use Rattle.play_event.specs.declared.setup.Rules.{Rules}
-
--- the moves of a hand
-abbrev pub moves_of : Record → ℕ
-moves_of hand = count_by is_move (script_said hand)
-
--- the moves of a play
-abbrev pub moves_played : Play → ℕ
-moves_played play = moves_of play.hand
+use Rattle.hand_records.specs.Moves.{moves_of, moves_played}
 
 -- a record is sound, and under these rules
 pub record IsUnder (rules : Rules) (hand : Record) : Type 0 where

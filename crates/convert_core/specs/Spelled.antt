@@ -1,14 +1,10 @@
 -- The first play that a notation does not spell.
-use Rattle.std.specs.Prelude.{ℕ, ◌+◌, List, [], ◌∷◌, Option, Some, None}
+use Rattle.std.specs.Prelude.{ℕ, ◌+◌, List, [], ◌∷◌, Option, None}
 use Rattle.hand_records.specs.declared.trace.Play.{Play}
 use Rattle.hand_records.specs.declared.writing.Unspelled.{Unspelled}
 use Rattle.hand_records.specs.declared.writing.WriteRefusal.{WriteRefusal}
 use Rattle.hand_records.specs.declared.writing.WriteRefusal.TheVariants as refusals
-
--- the refusal of the hand with this number, or of the first one behind it
-abbrev pub refused_at : ℕ → Option Unspelled → Option WriteRefusal → Option WriteRefusal
-refused_at number (Some fact) behind = Some (refusals.Unspelled number fact)
-refused_at number None behind = behind
+use Rattle.hand_records.specs.Refusals.{refused_at}
 
 -- the first refusal of plays, of which the first has this number, in a notation that tells the first fact of a play that it
 -- does not spell

@@ -13,17 +13,18 @@ use Rattle.hand_records.specs.declared.trace.Trace.{Trace}
 use Rattle.hand_records.specs.declared.writing.Keep.{Keep}
 use Rattle.hand_records.specs.declared.writing.Keep.TheVariants as keeps
 use Rattle.ohh_line.specs.Seating.{is_circular, numbers_spelled}
-use Rattle.ohh_line.specs.Spelled.{Tried, first_unspelled, note_facts, or_behind, trace_facts, unspelled}
-use Rattle.ohh_members.specs.Front.{amounts_in}
+use Rattle.ohh_line.specs.Spelled.{Tried, first_unspelled, note_facts, trace_facts, unspelled}
 use Rattle.ohh_members.specs.declared.dialect.Dialect.{Dialect}
 use Rattle.ohh_reading.specs.Hand.{PlainHand, plain}
-use Rattle.ohh_reading.specs.Reading.{IsHistory}
 use Rattle.phh_fields.specs.NoteFields.{plain_notes}
 use Rattle.phh_reading.specs.Hand as histories
 use Rattle.phh_reading.proofs.SamePlay.{same_setup, same_stated}
 use Rattle.convert_core.specs.SameParts.{names_same, numbers_same, one_script}
 use Rattle.convert_core.specs.SameRecords.{AllAlike, AreAlike, ArePlayedAlike, NoteTheSame}
 use Rattle.convert_core.specs.Trees.{Say}
+use Rattle.chip_ledger.specs.SeatRow.{amounts_in}
+use Rattle.hand_records.specs.Histories.{IsHistory}
+use Rattle.hand_records.specs.Refusals.{or_behind}
 
 -- the hand of a history that is that of a record, but for the setup and the count of names
 with_setup : Record → ℕ → PlainHand → histories.PlainHand

@@ -17,14 +17,16 @@ use Rattle.ohh_format.proofs.Sharpness.{sharpness}
 use Rattle.ohh_format.proofs.SoundPlays.{sound_again}
 use Rattle.ohh_line.specs.Spelled as facts
 use Rattle.ohh_members.specs.declared.dialect.Dialect.{Dialect}
-use Rattle.ohh_reading.specs.Reading.{IsHistory, reading}
+use Rattle.ohh_reading.specs.Reading.{reading}
 use Rattle.convert_core.specs.ReadBack.{ReadBack}
 use Rattle.convert_core.specs.Records.{AreFew, AreOfFile, IsUnder}
-use Rattle.convert_core.specs.Sharp.{IsOther, is_sharp}
-use Rattle.convert_core.specs.Spelled.{first_refusal, refusal_from, refused_at}
+use Rattle.convert_core.specs.Spelled.{first_refusal, refusal_from}
 use Rattle.convert_core.specs.Trees.{HaveFault, Say, Spell}
 use Rattle.convert_core.specs.declared.format_fault.FormatFault.{FormatFault}
 use Rattle.convert_core.specs.declared.format_fault.FormatFault.TheVariants as formats
+use Rattle.hand_canon.specs.Sharp.{IsOther, is_sharp}
+use Rattle.hand_records.specs.Histories.{IsHistory}
+use Rattle.hand_records.specs.Refusals.{refused_at}
 
 -- what bytes say is what a reader gives of a file
 each_under : (records : List Record) → AllByRecursion IsHistory records → AllByRecursion (IsUnder history_rules) records
@@ -41,7 +43,7 @@ no_fault dialect bytes hands (formats.Ohh fault) say have = (let said = say.read
 no_fault dialect bytes hands (formats.Acpc fault) say have = have
 
 -- the first refusal of the format is that of its facts
-same_at : (number : ℕ) (fact : Option Unspelled) (behind other : Option WriteRefusal) → behind ≡ other → facts.refused_at number fact behind ≡ refused_at number fact other
+same_at : (number : ℕ) (fact : Option Unspelled) (behind other : Option WriteRefusal) → behind ≡ other → refused_at number fact behind ≡ refused_at number fact other
 same_at number (Some fact) behind other same = refl
 same_at number None behind other same = same
 

@@ -7,10 +7,12 @@ use Rattle.hand_records.specs.declared.trace.Play.{Play}
 use Rattle.ohh_line.specs.Lines.{Spells}
 use Rattle.ohh_members.specs.declared.dialect.Dialect.{Dialect}
 use Rattle.ohh_reading.specs.Hand.{plain}
-use Rattle.ohh_reading.specs.Reading.{IsHistory, Wrong, moves_of, reading, wrong_of}
+use Rattle.ohh_reading.specs.Reading.{Wrong, reading, wrong_of}
 use Rattle.ohh_reading.specs.declared.fault.OhhFault.{OhhFault}
 use Rattle.convert_core.specs.declared.format_fault.FormatFault.{FormatFault}
 use Rattle.convert_core.specs.declared.format_fault.FormatFault.TheVariants as formats
+use Rattle.hand_records.specs.Histories.{IsHistory}
+use Rattle.hand_records.specs.Moves.{moves_of}
 
 -- bytes say these records in a dialect: they are what the bytes read as, each as a reader gives it, and no more than a file may
 -- have

@@ -7,7 +7,7 @@ ghost use Rattle.hand_records.specs.declared.writing.Unspelled.{Unspelled};
 ghost use Rattle.convert_core.specs.Conversion.{HasUnspelled, IsConversion, ReadAsPlays, ReadAsRefused, RefusesNothing};
 ghost use Rattle.convert_core.specs.Judged.{ArePlaysOf, IsFirstRefused};
 ghost use Rattle.convert_core.specs.ReadBack.{ReadBack};
-ghost use Rattle.convert_core.specs.Sharp.{IsOther, is_sharp};
+ghost use Rattle.hand_canon.specs.Sharp.{IsOther, is_sharp};
 ghost use Rattle.convert_core.specs.Spelled.{first_refusal};
 ghost use Rattle.convert_core.specs.declared.convert_fault.ConvertFault.{ConvertFault};
 ghost use Rattle.convert_core.specs.declared.fault.Refusal.{Refusal};

@@ -15,7 +15,7 @@ ghost use Rattle.convert_core.specs.Faults.{is_want_of_memory};
 ghost use Rattle.convert_core.specs.ReadBack.{ReadBack};
 ghost use Rattle.convert_core.specs.Records.{AreFew, AreOfFile};
 ghost use Rattle.convert_core.specs.SameRecords.{AllAlike, ArePlayedAlike};
-ghost use Rattle.convert_core.specs.Sharp.{IsOther, is_sharp};
+ghost use Rattle.hand_canon.specs.Sharp.{IsOther, is_sharp};
 ghost use Rattle.convert_core.specs.Spelled.{first_refusal};
 ghost use Rattle.convert_core.specs.declared.format_fault.FormatFault.{FormatFault as AnyFault};
 

@@ -13,9 +13,9 @@ use Rattle.play_event.specs.Games.{street_count}
 use Rattle.play_event.specs.Trace.{TracedPlace, streets_of}
 use Rattle.canonical_play.specs.TraceCore.{TraceCore}
 use Rattle.canonical_play.specs.CanonScript.{board_said, canonical_script, deal_said, deals_said, dealt_slots, discarded_slots, discards_said, drawing_seats, is_reached, move_named, moves_named, plain_move, plain_moves, showdown_said, showing_said, street_said}
-use Rattle.hand_canon.specs.Numbers.{number_of}
 use Rattle.list_laws.proofs.Lists.{kept_few, maybe_few}
 use Rattle.list_laws.proofs.FlatMaps.{flat_few}
+use Rattle.first_fault.specs.Numbers.{kept_number}
 
 one_deal : (seat : ℕ) (cards : List Slot) → length (deal_said seat cards) ≤ 1
 one_deal seat [] = omega arith
@@ -73,8 +73,8 @@ canon_short setup trace streets few =
     )
 
 -- numbers that do not end are the numbers themselves
-pub numbers_are : (first count : ℕ) → first + count ≤ 4294967296 → map number_of (range_with_len first count) ≡ range_with_len first count
+pub numbers_are : (first count : ℕ) → first + count ≤ 4294967296 → map kept_number (range_with_len first count) ≡ range_with_len first count
 numbers_are first zero few = refl
 numbers_are first (suc count) few =
-    let here : number_of first ≡ first = grind (arith, few) in
-    ap (λ n. n ∷ map number_of (range_with_len (first + 1) count)) here ∙ ap (λ l. first ∷ l) (numbers_are (first + 1) count (omega (arith, few)))
+    let here : kept_number first ≡ first = grind (arith, few) in
+    ap (λ n. n ∷ map kept_number (range_with_len (first + 1) count)) here ∙ ap (λ l. first ∷ l) (numbers_are (first + 1) count (omega (arith, few)))

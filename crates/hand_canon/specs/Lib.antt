@@ -13,3 +13,4 @@ pub mod ReadAgain
 pub mod Numbers
 pub mod Words
 pub mod RowTests
+pub mod Sharp

@@ -1,7 +1,8 @@
 //! The events of a script that is being written have the numbers 1, 2 and so on.
 ghost use Rattle.std.specs.Prelude.{◌≡◌, [], ◌∷◌, ◌++◌, ◌+◌, OnOk};
 ghost use Rattle.play_event.specs.Said.{kind_said};
-ghost use Rattle.hand_canon.specs.Numbers.{AreNumbered, number_of};
+ghost use Rattle.hand_canon.specs.Numbers.{AreNumbered};
+ghost use Rattle.first_fault.specs.Numbers.{kept_number};
 
 use card_set::Memory;
 use play_event::{Event, Kind, Script};
@@ -37,7 +38,7 @@ impl Numbered {
 
 // The number of the event after so many others. Numbers end at the greatest that an event can have.
 fn number_after(count: usize) -> u32
-    ensures { result ≡ number_of (count + 1) }
+    ensures { result ≡ kept_number (count + 1) }
 {
     if count < u32::MAX as usize {
         count as u32 + 1

@@ -1,11 +1,11 @@
 -- Whether a play is spelled, by what is written of it.
 use Rattle.std.proofs.Common.{◌≡◌, ◌⊎◌, ℕ, Option, Some, None, refl, sym, ap, ◌∙◌, inl, inr}
-use Rattle.acpc_line.specs.Spelled.{refused_at}
 use Rattle.hand_records.specs.declared.writing.Unspelled.{Unspelled}
 use Rattle.hand_records.specs.declared.writing.WriteRefusal.{WriteRefusal}
 use Rattle.hand_records.specs.declared.writing.WriteRefusal.TheVariants as refusals
 use Rattle.hand_gen.specs.declared.numbers.Spelled.{Spelled}
 use Rattle.hand_gen.specs.Load.{IsSpelled, bytes_spelled, hands_spelled}
+use Rattle.hand_records.specs.Refusals.{refused_at}
 
 -- a hand that is not refused has no fact without a spelling
 none_refused : (fact : Option Unspelled) → refused_at 1 fact None ≡ None → fact ≡ None

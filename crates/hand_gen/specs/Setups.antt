@@ -1,5 +1,5 @@
 -- The setups of made hands: the games take turns, and seats and stacks are drawn.
-use Rattle.std.specs.Prelude.{◌≡◌, ℕ, ◌+◌, ◌%◌, ◌≤◌, ◌==◌, false, if◌then◌else◌, List, [], ◌∷◌, slice_index_or}
+use Rattle.std.specs.Prelude.{◌≡◌, ℕ, ◌+◌, ◌%◌, ◌≤◌, ◌==◌, false, if◌then◌else◌, [], slice_index_or}
 use Rattle.chip_ledger.specs.RakeRow.{rake_of}
 use Rattle.chip_ledger.specs.SeatRow.{amount_of}
 use Rattle.play_event.specs.declared.code.Code.{Code}
@@ -8,12 +8,7 @@ use Rattle.play_event.specs.declared.setup.Setup.{Setup}
 use Rattle.play_event.specs.Streets.{is_stud, limit_of}
 use Rattle.play_event.specs.ValidSetup.{is_fixed}
 use Rattle.hand_gen.specs.Draws.{drawn, number_after}
-
--- the games, in the order in which they take turns
-abbrev pub all_games : List Code
-all_games =
-    games.FT ∷ games.NT ∷ games.NS ∷ games.PO ∷ games.FO8 ∷ games.F7S ∷ games.F7S8 ∷ games.FR
-    ∷ games.N2L1D ∷ games.F2L3D ∷ games.FB ∷ []
+use Rattle.play_event.specs.Games.{all_games}
 
 -- the game of a hand by its place among the hands, from 0
 abbrev pub game_at : ℕ → Code

@@ -1,5 +1,5 @@
 -- Which notes may stand in a record: texts that are not too long, numbers in their range, a civil date, and no defaults.
-use Rattle.std.specs.Prelude.{◌≡◌, ◌≢◌, ℕ, ◌-◌, ◌%◌, ◌≤◌, ◌==◌, ◌&&◌, ◌||◌, Bool, not, if◌then◌else◌, List, ◌++◌, codes, length, replicate, slice_index, slice_index_or, None, IfSome}
+use Rattle.std.specs.Prelude.{◌≡◌, ◌≢◌, ℕ, ◌-◌, ◌%◌, ◌≤◌, ◌==◌, ◌&&◌, ◌||◌, Bool, not, if◌then◌else◌, List, ◌++◌, codes, length, replicate, slice_index, slice_index_or, None, IfSome, Option, Some, bytes_eq, unwrap_or}
 use Rattle.std.specs.Fmt.{decimal}
 use Rattle.std.specs.List.{range_with_len}
 use Rattle.first_fault.specs.declared.limits.TheConstants.{MOST_TEXT_BYTES}
@@ -76,3 +76,11 @@ pub record AreAllowed (count : ℕ) (notes : Notes) : Type 0 where
   pub date : IfSome notes.year (λ year. IfSome notes.month (λ month. IfSome notes.day (IsDayOf year month)))
   pub time : IfSome notes.time IsTime
   pub zone : IfSome notes.zone IsNoteText
+
+-- the name of a seat's player, or its default where none is said
+abbrev pub name_written : Notes → ℕ → List ℕ
+name_written notes seat = unwrap_or (slice_index_or notes.names (seat - 1) None) (default_name seat)
+
+-- a note that equals its default is none, and an empty text is none
+abbrev pub noted : List ℕ → List ℕ → Option (List ℕ)
+noted default text = if (length text == 0) || bytes_eq text default then None else Some text

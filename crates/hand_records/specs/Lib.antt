@@ -3,3 +3,6 @@ pub mod NetRow
 pub mod TraceRows
 pub mod AllowedNotes
 pub mod SoundRecord
+pub mod Moves
+pub mod Refusals
+pub mod Histories

@@ -2,9 +2,9 @@
 use Rattle.std.proofs.Common.{◌≡◌, ℕ, ◌+◌, ◌<◌, ◌≤◌, List, [], ◌∷◌, ◌++◌, length, map, drop, get_or, Option, refl, sym, ap, ◌∙◌, append_assoc}
 use Rattle.std.proofs.lemmas.List.{append-nil, drop_more, drop_all}
 use Rattle.std.specs.Prelude.{option_and_then}
-use Rattle.hand_records.specs.AllowedNotes.{default_name}
+use Rattle.hand_records.specs.AllowedNotes.{default_name, noted}
 use Rattle.ohh_members.specs.declared.player.Player.{Player}
-use Rattle.ohh_facts.specs.Notes.{names_from, noted}
+use Rattle.ohh_facts.specs.Notes.{names_from}
 use Rattle.ohh_members.specs.Players.{plain_player}
 
 -- one more name

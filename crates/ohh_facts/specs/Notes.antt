@@ -1,5 +1,5 @@
 -- The notes of a hand, examined in this order. A note that equals its default is none.
-use Rattle.std.specs.Prelude.{ℕ, ◌+◌, ◌==◌, ◌||◌, bytes_eq, if◌then◌else◌, List, [], ◌∷◌, codes, length, map, take, Option, Some, None, option_map, option_and_then, nat_le, Result, Ok}
+use Rattle.std.specs.Prelude.{ℕ, ◌+◌, ◌==◌, bytes_eq, if◌then◌else◌, List, [], ◌∷◌, codes, length, map, take, Option, Some, None, option_map, option_and_then, nat_le, Result, Ok}
 use Rattle.std.specs.Fmt.{decimal, signed_decimal}
 use Rattle.std.specs.List.{range_with_len}
 use Rattle.serde_json.specs.Data.{Data, string}
@@ -7,7 +7,7 @@ use Rattle.first_fault.specs.declared.limits.TheConstants.{MOST_TEXT_BYTES}
 use Rattle.first_fault.specs.declared.limits.Quantity.TheVariants as quantities
 use Rattle.hand_records.specs.declared.notes.Clock.{Clock}
 use Rattle.hand_records.specs.declared.notes.Notes.{Notes}
-use Rattle.hand_records.specs.AllowedNotes.{default_name}
+use Rattle.hand_records.specs.AllowedNotes.{default_name, noted}
 use Rattle.first_fault.specs.Reading.{◌>>=◌, read_if}
 use Rattle.ohh_members.specs.declared.fault.What.TheVariants as whats
 use Rattle.ohh_members.specs.declared.fault.Path.{Path}
@@ -18,10 +18,6 @@ use Rattle.ohh_facts.specs.declared.moment.Moment.{Moment}
 use Rattle.ohh_facts.specs.Moments.{moment_said}
 use Rattle.ohh_members.specs.Players.{PlainPlayer}
 use Rattle.ohh_members.specs.Values.{wrong, field, integer_said, number_said, text_said}
-
--- a note that equals its default is none, and an empty text is none
-abbrev pub noted : List ℕ → List ℕ → Option (List ℕ)
-noted default text = if (length text == 0) || bytes_eq text default then None else Some text
 
 -- the text of a note with this default; it is of at most 255 bytes
 unfoldable pub note_said : List ℕ → Path → List ℕ → Result (Option (List ℕ)) Fault

@@ -16,10 +16,10 @@ use Rattle.ohh_members.specs.declared.fault.Path.TheVariants as paths
 use Rattle.ohh_members.specs.declared.fault.Fault.{Fault}
 use Rattle.ohh_facts.specs.declared.found.Found.{Found}
 use Rattle.ohh_facts.specs.declared.found.Paid.{Paid}
-use Rattle.ohh_members.specs.Front.{amounts_in}
 use Rattle.ohh_facts.specs.PotSums.{PlainPot, plain_pot, all_of, rakes_said}
 use Rattle.ohh_members.specs.Values.{wrong, field, needed, object_said, list_said, number_said, player_said, added_from}
 use Rattle.ohh_facts.specs.Won.{PlainWin, plain_win, won_by}
+use Rattle.chip_ledger.specs.SeatRow.{amounts_in}
 
 -- pots, and what is won of them, in the order in which they are listed
 pub record PlainPots : Type 0 where

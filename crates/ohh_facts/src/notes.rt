@@ -5,7 +5,8 @@ ghost use Rattle.serde_json.specs.View.{view};
 ghost use Rattle.hand_records.specs.AllowedNotes.{AreAllowed, AreSeatNumbers, IsName, IsNoteText, IsWithin, default_name};
 ghost use Rattle.first_fault.specs.Reading.{Gives};
 ghost use Rattle.ohh_facts.specs.LabelRanges.{AreLabels};
-ghost use Rattle.ohh_facts.specs.Notes.{names_from, noted, notes_of as notes_of_said, notes_said, plain_labels, plain_notes, unless_usual as unless_usual_said};
+ghost use Rattle.ohh_facts.specs.Notes.{names_from, notes_of as notes_of_said, notes_said, plain_labels, plain_notes, unless_usual as unless_usual_said};
+ghost use Rattle.hand_records.specs.AllowedNotes.{noted};
 ghost use Rattle.ohh_members.specs.Players.{plain_player};
 
 use crate::labels::{Labels, read_labels};

@@ -18,13 +18,14 @@ use Rattle.ohh_line.specs.Actions.{has_known}
 use Rattle.ohh_posts.specs.Posts.{PlainPost}
 use Rattle.ohh_rounds.specs.Actions.{raise_by}
 use Rattle.ohh_rounds.specs.Play.{event_in, events_in, hole_cards, hole_deal, post_in, posts_in}
-use Rattle.ohh_rounds.specs.Steps.{PlainStep, dealt_in, dealt_to, has_folded, is_deal_to, is_fold_of, kept_number}
+use Rattle.ohh_rounds.specs.Steps.{PlainStep, dealt_in, dealt_to, has_folded, is_deal_to, is_fold_of}
 use Rattle.ohh_format.specs.Again.{numbered_from}
 use Rattle.ohh_format.proofs.Deeds.{Deed, Bets, Calls, Checks, Deals, Folds, Mucks, Posts, Raises, Shows}
 use Rattle.ohh_format.proofs.DeedRounds.{DeedRound, steps_after}
 use Rattle.ohh_format.proofs.PutsAgain.{Put, posts_at}
 use Rattle.ohh_format.proofs.RoundsAgain.{board_step, with_board}
 use Rattle.ohh_format.proofs.StepsAgain.{step_of, steps_of}
+use Rattle.first_fault.specs.Numbers.{kept_number}
 
 -- ---- steps, one behind the others
 

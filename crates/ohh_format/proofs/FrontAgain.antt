@@ -4,7 +4,7 @@ use Rattle.std.specs.List.{list_all, list_any, range_with_len}
 use Rattle.std.proofs.lemmas.Bool.{and_parts, cases_lt, eqb-true, le-leb, le-ltb, leb-true, lt-leb, ltb-true, ne_eqb}
 use Rattle.serde_json.specs.Data.{Data}
 use Rattle.chip_ledger.specs.Greatest.{greatest}
-use Rattle.chip_ledger.specs.SeatRow.{amount_of}
+use Rattle.chip_ledger.specs.SeatRow.{amount_of, amounts_in}
 use Rattle.chip_ledger.specs.declared.numbers.TheConstants.{MOST_CHIPS}
 use Rattle.chip_ledger.specs.declared.rows.SeatRow.{SeatRow}
 use Rattle.hand_records.specs.declared.notes.Notes.{Notes}
@@ -17,7 +17,7 @@ use Rattle.play_event.specs.declared.setup.Setup.{Setup}
 use Rattle.ohh_members.specs.declared.blinds.Blinds.{Blinds}
 use Rattle.ohh_members.specs.declared.fault.Path.TheVariants as paths
 use Rattle.ohh_members.specs.Blinds.{blinds_said, fitting}
-use Rattle.ohh_members.specs.Front.{amounts_in, ids_of, stacks_of}
+use Rattle.ohh_members.specs.Front.{ids_of, stacks_of}
 use Rattle.ohh_members.specs.Values.{field, needed, number_said}
 use Rattle.ohh_line.specs.Actions.{big_blind_seat, small_blind_seat}
 use Rattle.ohh_line.specs.Games.{is_spelled_game}

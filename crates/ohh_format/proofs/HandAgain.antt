@@ -19,7 +19,7 @@ use Rattle.play_event.specs.ValidSetup.{IsValid}
 use Rattle.play_event.specs.declared.setup.Setup.{Setup}
 use Rattle.ohh_members.specs.declared.dialect.Dialect.{Dialect}
 use Rattle.ohh_members.specs.declared.fault.Path.TheVariants as paths
-use Rattle.ohh_members.specs.Front.{PlainFront, amounts_in, front_said}
+use Rattle.ohh_members.specs.Front.{PlainFront, front_said}
 use Rattle.ohh_members.specs.Players.{PlainPlayer, seated_said}
 use Rattle.ohh_members.specs.Values.{field, list_said, needed}
 use Rattle.ohh_line.specs.declared.moment.Moment.{Moment}
@@ -47,6 +47,7 @@ use Rattle.ohh_format.proofs.PotsAgain.{HasPots, pots_again}
 use Rattle.ohh_format.proofs.ScriptAgain.{posts_read, script_read, showing_events}
 use Rattle.ohh_format.proofs.SeatingAgain.{player_of, players_from, seated_read}
 use Rattle.ohh_format.proofs.WinsAgain.{ids_written}
+use Rattle.chip_ledger.specs.SeatRow.{amounts_in}
 
 -- what the rounds of a hand are read with
 abbrev pub hand_setting : Dialect → ℕ → Setup → PlainSetting

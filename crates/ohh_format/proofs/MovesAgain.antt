@@ -19,11 +19,11 @@ use Rattle.ohh_members.specs.declared.dialect.Dialect.TheVariants as dialects
 use Rattle.ohh_line.specs.Actions.{raise_amount}
 use Rattle.ohh_rounds.specs.Actions.{raise_by}
 use Rattle.ohh_rounds.specs.Setting.{PlainSetting}
-use Rattle.ohh_rounds.specs.Steps.{kept_number}
 use Rattle.ohh_format.specs.Again.{is_told, move_again, move_on, moves_again, numbered_from, raise_again, raise_by_dialect}
 use Rattle.ohh_format.proofs.Deeds.{Deed, Bets, Calls, Checks, Folds, Raises, act_deed, call_deed, move_deed, move_deeds, raise_deed}
 use Rattle.ohh_format.proofs.EventsAgain.{IsNoDeal, IsNoFold, IsNoPost, at_number, event_of, numbered_both, numbered_deeds}
 use Rattle.ohh_format.proofs.ToldDeeds.{IsGoodMove}
+use Rattle.first_fault.specs.Numbers.{kept_number}
 
 -- a move whose seat is known, to chips that may be stated; a call goes no further than the price
 pub record CanBeWritten (setting : PlainSetting) (move : TracedMove) : Type 0 where

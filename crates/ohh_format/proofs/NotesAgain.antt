@@ -12,7 +12,7 @@ use Rattle.chip_ledger.specs.Seat.{seats_of}
 use Rattle.chip_ledger.specs.declared.rows.SeatRow.{SeatRow}
 use Rattle.first_fault.specs.Reading.{read_if}
 use Rattle.first_fault.specs.declared.limits.TheConstants.{MOST_HANDS, MOST_TEXT_BYTES}
-use Rattle.hand_records.specs.AllowedNotes.{AreAllowed, IsDayOf, IsName, IsNoteText, IsSeatCount, IsTime, IsWithin, default_name}
+use Rattle.hand_records.specs.AllowedNotes.{AreAllowed, IsDayOf, IsName, IsNoteText, IsSeatCount, IsTime, IsWithin, default_name, noted}
 use Rattle.hand_records.specs.declared.notes.Clock.{Clock}
 use Rattle.hand_records.specs.declared.notes.Notes.{Notes}
 use Rattle.ohh_members.specs.declared.fault.Fault.{Fault}
@@ -22,17 +22,18 @@ use Rattle.ohh_members.specs.Players.{PlainPlayer}
 use Rattle.ohh_members.specs.Values.{field, number_said, text_said}
 use Rattle.ohh_facts.specs.declared.moment.Moment as read
 use Rattle.ohh_facts.specs.Moments as moments
-use Rattle.ohh_facts.specs.Notes.{PlainNotes, label_said, labels_said, names_from, note_said, noted, notes_said, or_none, seat_count_said, text_note_said, unless_usual}
+use Rattle.ohh_facts.specs.Notes.{PlainNotes, label_said, labels_said, names_from, note_said, notes_said, or_none, seat_count_said, text_note_said, unless_usual}
 use Rattle.ohh_line.specs.declared.moment.Moment.{Moment}
 use Rattle.ohh_line.specs.Moment.{moment_of, moment_said, moment_text}
 use Rattle.ohh_line.specs.Seating.{number_among, numbers_spelled}
 use Rattle.ohh_line.specs.Tree.{whole}
-use Rattle.ohh_format.specs.Again.{kept_label, notes_again}
+use Rattle.ohh_format.specs.Again.{notes_again}
 use Rattle.ohh_format.proofs.MomentAgain.{IsGood, moment_again, moment_read}
 use Rattle.ohh_format.proofs.SeatingAgain.{players_from}
 use Rattle.list_laws.proofs.Bytes.{same_bytes}
 use Rattle.list_laws.proofs.Entries.{zero_taken_at}
 use Rattle.list_laws.proofs.Options.{from_none_some, none_anyway}
+use Rattle.hand_canon.specs.ReadAgain.{kept_label}
 
 -- ---- texts
 

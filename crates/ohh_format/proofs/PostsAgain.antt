@@ -9,7 +9,7 @@ use Rattle.list_laws.proofs.Finding.{any_agree}
 use Rattle.list_laws.proofs.NumbersOfRange.{map_agree, some_in_range, all_of, any_none}
 use Rattle.chip_ledger.specs.Greatest.{greatest}
 use Rattle.chip_ledger.specs.Seat.{seats_of}
-use Rattle.chip_ledger.specs.SeatRow.{amount_of}
+use Rattle.chip_ledger.specs.SeatRow.{amount_of, amounts_in}
 use Rattle.play_event.specs.Chips.{blind_posted}
 use Rattle.play_event.specs.Seats.{all_seats}
 use Rattle.play_event.specs.declared.setup.Setup.{Setup}
@@ -24,7 +24,7 @@ use Rattle.ohh_posts.specs.Conditions.{at_first, first_breaking, has_all_antes, 
 use Rattle.ohh_posts.specs.Posts.{PlainPost, ante_of, first_ante, first_straddle, has_big_blind, has_small_blind, is_ante, is_big_blind, is_small_blind, is_straddle}
 use Rattle.ohh_posts.specs.Stakes.{are_dead, held_ante, named_blind, stakes_said}
 use Rattle.ohh_posts.specs.Table as tables
-use Rattle.ohh_posts.specs.Table.{PlainTable, amounts_in, seat_count, stack_of}
+use Rattle.ohh_posts.specs.Table.{PlainTable, seat_count, stack_of}
 use Rattle.ohh_posts.proofs.SeatBySeat.{row_listed}
 use Rattle.ohh_format.proofs.PutsAgain.{Put, first_both, first_is, first_put, has_both, has_is, has_no, has_put, no_kind, of_seat, other_put, post_at, posts_at, posts_both, puts_of}
 use Rattle.list_laws.proofs.Options.{or_nothing}

@@ -35,16 +35,17 @@ use Rattle.ohh_line.specs.Lines.{Spells}
 use Rattle.ohh_line.specs.Spelled.{first_refusal, first_unspelled, has_closed, has_spelled_antes, has_spelled_blinds, has_spelled_sizes, kept_facts, refusal_from, trace_facts, unspelled}
 use Rattle.ohh_reading.specs.Hand.{PlainHand, plain}
 use Rattle.ohh_reading.specs.Reading.{reading}
-use Rattle.ohh_format.specs.Again.{hand_again, hands_again, is_told, moves_played, notes_again, numbered_from, script_again}
+use Rattle.ohh_format.specs.Again.{hand_again, hands_again, is_told, notes_again, numbered_from, script_again}
 use Rattle.hand_canon.specs.ReadAgain.{AreAgain, IsAgain}
 use Rattle.ohh_format.specs.ReadBack.{KeepsNotes}
-use Rattle.ohh_rounds.specs.Steps.{kept_number}
 use Rattle.ohh_format.proofs.FlopGames.{flop_game}
 use Rattle.ohh_format.proofs.FrontAgain.{no_stud}
 use Rattle.ohh_format.proofs.SameSetups.{setups_same}
 use Rattle.ohh_format.proofs.SoundPlays.{fact_holds, first_none, none_refused, sound_again, spelled_setup}
 use Rattle.ohh_format.proofs.StatedAgrees.{stated_agrees}
 use Rattle.ohh_format.proofs.WordPlays.{words_of, words_played}
+use Rattle.first_fault.specs.Numbers.{kept_number}
+use Rattle.hand_records.specs.Moves.{moves_played}
 
 -- a play that the format spells has no closed raise
 spelled_open : (keep : Keep) (play : Play) → unspelled keep play ≡ None → list_any (λ move. move.closed) (core_said play.trace).moves ≡ false

@@ -45,12 +45,12 @@ use Rattle.ohh_members.specs.declared.dialect.Dialect.{Dialect}
 use Rattle.ohh_line.specs.Actions.{big_blind_seat, small_blind_seat}
 use Rattle.ohh_line.specs.Games.{is_spelled_game}
 use Rattle.ohh_line.specs.Lines.{Spells}
-use Rattle.ohh_line.specs.Spelled.{first_refusal, first_unspelled, has_spelled_antes, has_spelled_blinds, has_spelled_sizes, kept_facts, or_behind, refusal_from, refused_at, trace_facts, unspelled}
+use Rattle.ohh_line.specs.Spelled.{first_refusal, first_unspelled, has_spelled_antes, has_spelled_blinds, has_spelled_sizes, kept_facts, refusal_from, trace_facts, unspelled}
 use Rattle.ohh_posts.proofs.Stacks.{seats_in}
 use Rattle.ohh_posts.specs.declared.post.PostKind.TheVariants as kinds
 use Rattle.ohh_reading.specs.Reading.{reading}
 use Rattle.ohh_rounds.specs.Setting.{PlainSetting}
-use Rattle.ohh_format.specs.Again.{hands_again, moves_played}
+use Rattle.ohh_format.specs.Again.{hands_again}
 use Rattle.ohh_format.proofs.Deeds.{Deed, Posts, ante_deed, blind_deed, post_deeds, straddle_deed}
 use Rattle.ohh_format.proofs.FileAgain.{plays_again}
 use Rattle.ohh_format.proofs.FlopGames.{IsFlopGame, flop_game}
@@ -67,6 +67,8 @@ use Rattle.ohh_format.proofs.ToldDeeds.{IsGoodPost}
 use Rattle.ohh_format.proofs.WinsAgain.{seat_again}
 use Rattle.list_laws.proofs.Lists.{none_from_length}
 use Rattle.list_laws.proofs.Options.{from_some_none}
+use Rattle.hand_records.specs.Moves.{moves_played}
+use Rattle.hand_records.specs.Refusals.{or_behind, refused_at}
 
 -- ---- the facts that are spelled
 

@@ -3,14 +3,13 @@ use Rattle.std.proofs.Common.{◌≡◌, ℕ, zero, suc, ◌+◌, ◌-◌, ◌<�
 use Rattle.std.specs.List.{range_with_len}
 use Rattle.std.proofs.lemmas.List.{get_or-take, length-map, length-take-le}
 use Rattle.std.proofs.lemmas.List.FromFn.{length-range_with_len}
-use Rattle.chip_ledger.specs.SeatRow.{amount_of}
+use Rattle.chip_ledger.specs.SeatRow.{amount_of, amounts_in}
 use Rattle.chip_ledger.specs.declared.rows.SeatRow.{SeatRow}
 use Rattle.play_event.specs.Seats.{all_seats}
 use Rattle.hand_records.specs.declared.record.NetRow.{NetRow}
 use Rattle.hand_records.specs.declared.record.Stated.{Stated}
 use Rattle.hand_records.specs.declared.trace.Trace.{Trace}
 use Rattle.hand_canon.specs.Agreement.{Comparison, finish_compared, first_difference, is_different, pot_total_of, pots_compared, row_compared, total_compared, value_compared, win_compared, win_of}
-use Rattle.ohh_members.specs.Front.{amounts_in}
 use Rattle.list_laws.proofs.Integers.{not_different_whole}
 
 -- a number of a list that is made for each seat

@@ -30,10 +30,11 @@ use Rattle.ohh_posts.specs.Table.{seat_count}
 use Rattle.ohh_rounds.specs.Actions.{at_action, called, chips_said, dealt_cards, deed_said, event_counted, listed_cards, members_said, posted, raise_by, raised, seat_said, shown, step_said, word_said}
 use Rattle.ohh_rounds.specs.Rounds.{action_added, added_from}
 use Rattle.ohh_rounds.specs.Setting.{PlainSetting}
-use Rattle.ohh_rounds.specs.Steps.{PlainDeed, PlainStep, Posted, Dealt, Happened, dealt_to, has_folded, is_action, kept_number, moves_in, next_number, others_in}
+use Rattle.ohh_rounds.specs.Steps.{PlainDeed, PlainStep, Posted, Dealt, Happened, dealt_to, has_folded, is_action, moves_in, next_number, others_in}
 use Rattle.ohh_rounds.specs.Words.{word_named}
 use Rattle.ohh_format.proofs.CardLists.{card_texts, cards_again, few_again, slots_again}
 use Rattle.ohh_format.proofs.Deeds.{Deed, Bets, Calls, Checks, Deals, Folds, Mucks, Posts, Raises, Shows, action_of}
+use Rattle.first_fault.specs.Numbers.{kept_number}
 
 -- what a step tells of what was done, at its place
 abbrev pub told : Dialect → ActionPlace → Deed → PlainDeed

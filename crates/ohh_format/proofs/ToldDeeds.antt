@@ -16,9 +16,10 @@ use Rattle.ohh_members.specs.Values.{seat_of}
 use Rattle.ohh_posts.specs.Table.{seat_count}
 use Rattle.ohh_posts.specs.declared.post.ActionPlace.{ActionPlace}
 use Rattle.ohh_rounds.specs.Setting.{PlainSetting}
-use Rattle.ohh_rounds.specs.Steps.{PlainStep, dealt_in, dealt_to, has_folded, is_action, is_fold_of, is_move_deed, is_other_deed, kept_number, moves_in, others_in}
+use Rattle.ohh_rounds.specs.Steps.{PlainStep, dealt_in, dealt_to, has_folded, is_action, is_fold_of, is_move_deed, is_other_deed, moves_in, others_in}
 use Rattle.ohh_format.proofs.Deeds.{Deed, Bets, Calls, Checks, Deals, Folds, Mucks, Posts, Raises, Shows}
 use Rattle.ohh_format.proofs.StepsAgain.{AllTold, HasMove, step_of, steps_of, told}
+use Rattle.first_fault.specs.Numbers.{kept_number}
 
 -- ---- what deeds count as
 

@@ -6,7 +6,7 @@ use Rattle.std.proofs.lemmas.Bool.{and_from, eq-eqb, le-leb, leb-false, lt-ltb, 
 use Rattle.list_laws.proofs.NumbersOfRange.{at_range, map_agree, all_at, all_of, some_other}
 use Rattle.chip_ledger.specs.Greatest.{greatest}
 use Rattle.chip_ledger.specs.Seat.{seats_of}
-use Rattle.chip_ledger.specs.SeatRow.{amount_of}
+use Rattle.chip_ledger.specs.SeatRow.{amount_of, amounts_in}
 use Rattle.chip_ledger.specs.declared.rows.SeatRow.{SeatRow}
 use Rattle.play_event.specs.Seats.{all_seats}
 use Rattle.play_event.specs.Streets.{limit_of}
@@ -18,7 +18,7 @@ use Rattle.ohh_posts.specs.Conditions as conditions_of
 use Rattle.ohh_posts.specs.Conditions.{has_all_antes}
 use Rattle.ohh_posts.specs.Posts.{PlainPost, ante_of, first_ante, first_straddle}
 use Rattle.ohh_posts.specs.Stakes.{PlainStakes, are_dead, held_ante, named_blind, stakes_said}
-use Rattle.ohh_posts.specs.Table.{PlainTable, amounts_in, seat_count, stack_of}
+use Rattle.ohh_posts.specs.Table.{PlainTable, seat_count, stack_of}
 use Rattle.ohh_reading.specs.Hand.{plain_setup}
 use Rattle.ohh_reading.specs.declared.sizes.Sizes.{Sizes}
 use Rattle.ohh_format.proofs.StatedAgrees.{at_seat}

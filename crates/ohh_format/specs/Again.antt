@@ -1,7 +1,6 @@
 -- The hands that are read again of plays that were written: the same setups and rakes, the canonical scripts in the words of the
 -- format, what each seat won and the total of the pots, and the kept notes.
-use Rattle.std.specs.Prelude.{ℕ, ◌+◌, ◌-◌, ◌==◌, Bool, true, false, bytes_eq, if◌then◌else◌, List, [], ◌∷◌, ◌++◌, length, map, slice_index_or, take, Option, Some, None, option_and_then, option_map, codes}
-use Rattle.std.specs.Fmt.{decimal}
+use Rattle.std.specs.Prelude.{ℕ, ◌+◌, ◌-◌, ◌==◌, Bool, true, false, if◌then◌else◌, List, [], ◌∷◌, ◌++◌, length, map, slice_index_or, take, Some, None, option_and_then, option_map, codes}
 use Rattle.std.specs.List.{flat_map}
 use Rattle.chip_ledger.specs.Seat.{seats_of}
 use Rattle.play_event.specs.declared.event.Spelled.{Spelled}
@@ -25,9 +24,9 @@ use Rattle.ohh_facts.specs.Notes.{PlainNotes, unless_usual}
 use Rattle.ohh_line.specs.Actions.{has_known, posts}
 use Rattle.ohh_line.specs.Moment.{moment_of}
 use Rattle.ohh_line.specs.Seating.{numbers_spelled}
-use Rattle.ohh_rounds.specs.Steps.{kept_number}
 use Rattle.ohh_reading.specs.Hand.{PlainHand, plain_setup}
-use Rattle.ohh_reading.specs.Reading.{moves_of}
+use Rattle.first_fault.specs.Numbers.{kept_number}
+use Rattle.hand_canon.specs.ReadAgain.{kept_label}
 
 -- ---- moves
 
@@ -88,11 +87,6 @@ numbered_from n (event ∷ rest) =
 
 -- ---- notes
 
--- a label of a hand at a place of its file, from 0; a label that is that place is none
-abbrev pub kept_label : ℕ → Option (List ℕ) → Option (List ℕ)
-kept_label place None = None
-kept_label place (Some text) = if bytes_eq text (decimal place) then None else Some text
-
 -- The kept notes of so many seats, at a place of the file: numbers of seats that go round the table, and a moment of which all
 -- is said, in the zone UTC.
 abbrev pub notes_again : ℕ → ℕ → Notes → PlainNotes
@@ -134,7 +128,3 @@ hand_again dialect place play =
 abbrev pub hands_again : Dialect → ℕ → List Play → List PlainHand
 hands_again dialect place [] = []
 hands_again dialect place (play ∷ rest) = hand_again dialect place play ∷ hands_again dialect (place + 1) rest
-
--- the moves that were played
-abbrev pub moves_played : Play → ℕ
-moves_played play = moves_of play.hand

@@ -1,8 +1,5 @@
 -- The facts of a play that no bytes say, whoever wrote them, and hands that have not the trace of a play.
 use Rattle.std.specs.Prelude.{Bool, true, false}
-use Rattle.hand_canon.specs.Judged.{IsTraceOfLegal}
-use Rattle.hand_records.specs.declared.record.Record.{Record}
-use Rattle.hand_records.specs.declared.trace.Play.{Play}
 use Rattle.hand_records.specs.declared.writing.Unspelled.{Unspelled}
 use Rattle.hand_records.specs.declared.writing.Unspelled.TheVariants as facts
 
@@ -11,7 +8,3 @@ use Rattle.hand_records.specs.declared.writing.Unspelled.TheVariants as facts
 abbrev pub is_sharp : Unspelled → Bool
 is_sharp (facts.Note name) = false
 is_sharp _ = true
-
--- a hand is another than that of a play: it is not legal with the trace of the play
-abbrev pub IsOther : Play → Record → Type 0
-IsOther play hand = IsTraceOfLegal hand play.trace → ⊥

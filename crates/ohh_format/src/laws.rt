@@ -12,10 +12,12 @@ ghost use Rattle.ohh_line.specs.Lines.{Spells};
 ghost use Rattle.ohh_line.specs.Spelled.{first_refusal, unspelled};
 ghost use Rattle.ohh_reading.specs.Hand.{plain};
 ghost use Rattle.ohh_reading.specs.Reading.{reading};
-ghost use Rattle.ohh_format.specs.Again.{hands_again, moves_played};
+ghost use Rattle.ohh_format.specs.Again.{hands_again};
+ghost use Rattle.hand_records.specs.Moves.{moves_played};
 ghost use Rattle.hand_canon.specs.ReadAgain.{AreAgain};
 ghost use Rattle.ohh_format.specs.ReadBack.{KeepsNotes};
-ghost use Rattle.ohh_format.specs.Sharp.{IsOther, is_sharp};
+ghost use Rattle.ohh_format.specs.Sharp.{is_sharp};
+ghost use Rattle.hand_canon.specs.Sharp.{IsOther};
 
 /// Bytes that spell sound plays in a dialect, no more of them and of their moves than a file may have, each of which the format
 /// spells, read in the same dialect as the hands of these plays: with their setups and rakes, their canonical scripts in the

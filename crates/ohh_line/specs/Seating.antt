@@ -1,8 +1,6 @@
 -- The numbers of seats at the table, and which of them the format spells.
-use Rattle.std.specs.Prelude.{ℕ, ◌+◌, ◌-◌, ◌==◌, ◌&&◌, Bool, true, nat_lt, not, if◌then◌else◌, List, [], ◌∷◌, take, slice_index, slice_index_or, Option, Some, None, unwrap_or}
+use Rattle.std.specs.Prelude.{ℕ, ◌+◌, ◌-◌, ◌==◌, ◌&&◌, Bool, true, nat_lt, not, if◌then◌else◌, List, [], ◌∷◌, take, slice_index, Option, Some, None}
 use Rattle.std.specs.List.{list_any}
-use Rattle.hand_records.specs.declared.notes.Notes.{Notes}
-use Rattle.hand_records.specs.AllowedNotes.{default_name}
 
 -- no number stands twice
 abbrev pub has_no_repeat : List ℕ → Bool
@@ -36,7 +34,3 @@ numbers_spelled count (Some numbers) = if is_circular (take count numbers) then 
 abbrev pub number_among : Option (List ℕ) → ℕ → ℕ
 number_among None seat = seat
 number_among (Some numbers) seat = slice_index numbers (seat - 1)
-
--- the name that is written for a seat's player: the one that is said, or its default
-abbrev pub name_written : Notes → ℕ → List ℕ
-name_written notes seat = unwrap_or (slice_index_or notes.names (seat - 1) None) (default_name seat)

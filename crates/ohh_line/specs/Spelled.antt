@@ -21,6 +21,7 @@ use Rattle.ohh_line.specs.Actions.{big_blind_seat}
 use Rattle.ohh_line.specs.Games.{is_spelled_game}
 use Rattle.ohh_line.specs.Moment.{moment_of}
 use Rattle.ohh_line.specs.Seating.{numbers_spelled}
+use Rattle.hand_records.specs.Refusals.{or_behind, refused_at}
 
 -- ---- the setup
 
@@ -122,21 +123,11 @@ abbrev pub kept_facts : Keep → Play → Tried
 kept_facts keeps.All play = note_facts play.trace.setup.stacks.seats play.hand.notes
 kept_facts keeps.Spelled play = []
 
--- a fact, or else the one behind it
-abbrev pub or_behind : Option Unspelled → Option Unspelled → Option Unspelled
-or_behind (Some fact) behind = Some fact
-or_behind None behind = behind
-
 -- the first fact of a play that has no spelling: one of the trace, or else one of the notes that are to be kept
 unfoldable pub unspelled : Keep → Play → Option Unspelled
 unspelled keep play = or_behind (first_unspelled (trace_facts play.trace)) (first_unspelled (kept_facts keep play))
 
 -- ---- plays in order
-
--- the refusal of the hand with this number, or of the first one behind it
-abbrev pub refused_at : ℕ → Option Unspelled → Option WriteRefusal → Option WriteRefusal
-refused_at number (Some fact) behind = Some (refusals.Unspelled number fact)
-refused_at number None behind = behind
 
 -- the first refusal of plays, of which the first has this number
 abbrev pub refusal_from : Keep → ℕ → List Play → Option WriteRefusal

@@ -27,8 +27,9 @@ use Rattle.ohh_line.specs.Games.{bet_word, game_word}
 use Rattle.ohh_line.specs.declared.moment.Moment.{Moment}
 use Rattle.ohh_line.specs.Moment.{moment_of, moment_text}
 use Rattle.ohh_line.specs.Rounds.{PlainRound, hand_rounds}
-use Rattle.ohh_line.specs.Seating.{name_written, number_among, numbers_spelled}
+use Rattle.ohh_line.specs.Seating.{number_among, numbers_spelled}
 use Rattle.ohh_line.specs.Spelled.{big_blind, greatest_ante}
+use Rattle.hand_records.specs.AllowedNotes.{name_written}
 
 -- a whole number
 abbrev pub whole : ℕ → Data

@@ -1,7 +1,7 @@
 //! The players of a hand, each with its seat at the table and its stack.
 ghost use Rattle.std.specs.Prelude.{◌≡◌, ◌≤◌, string_bytes, IfOk};
 ghost use Rattle.serde_json.specs.View.{view};
-ghost use Rattle.ohh_line.specs.Seating.{name_written};
+ghost use Rattle.hand_records.specs.AllowedNotes.{name_written};
 ghost use Rattle.ohh_line.specs.Tree.{player_tree, players};
 
 use crate::posts::amount_at;

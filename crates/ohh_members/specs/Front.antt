@@ -1,8 +1,7 @@
 -- What stands in front of the rounds of a hand: its game, its players and its blinds, examined in this order.
-use Rattle.std.specs.Prelude.{◌≡◌, ◌≤◌, ◌*◌, true, List, ℕ, ℤ, length, map, take, Result, Ok}
+use Rattle.std.specs.Prelude.{◌≡◌, ◌≤◌, ◌*◌, true, List, ℕ, ℤ, length, map, Result, Ok}
 use Rattle.serde_json.specs.Data.{Data}
 use Rattle.chip_ledger.specs.declared.numbers.TheConstants.{MOST_CHIPS}
-use Rattle.chip_ledger.specs.declared.rows.SeatRow.{SeatRow}
 use Rattle.play_event.specs.declared.code.Code.{Code}
 use Rattle.first_fault.specs.Reading.{◌>>=◌}
 use Rattle.ohh_members.specs.declared.blinds.Blinds.{Blinds}
@@ -39,10 +38,6 @@ front_said ohh = do
   players ← seated_said ohh
   blinds ← blinds_said code ohh
   Ok (record { code = code; players = players; blinds = blinds })
-
--- the amounts of a row, the first seat's first
-abbrev pub amounts_in : SeatRow → List ℕ
-amounts_in row = take row.seats row.amounts
 
 -- the ids of players, by their seats
 abbrev pub ids_of : List PlainPlayer → List ℤ

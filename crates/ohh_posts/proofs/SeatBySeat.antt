@@ -4,8 +4,7 @@ use Rattle.std.proofs.lemmas.Bool.{cases_lt}
 use Rattle.std.specs.List.{range_with_len}
 use Rattle.chip_ledger.specs.declared.rows.SeatRow.{SeatRow}
 use Rattle.chip_ledger.specs.Seat.{seats_of}
-use Rattle.chip_ledger.specs.SeatRow.{amount_of}
-use Rattle.ohh_posts.specs.Table.{amounts_in}
+use Rattle.chip_ledger.specs.SeatRow.{amount_of, amounts_in}
 
 -- what holds of each seat's amount still holds when one seat has another amount, of which it holds
 pub each_seat : (P : ℕ → ℕ → Type 0) (new old : SeatRow) (seat amount : ℕ) → amount_of new seat ≡ amount

@@ -5,9 +5,9 @@ use Rattle.std.specs.Option.{option_map_or}
 use Rattle.chip_ledger.specs.declared.numbers.TheConstants.{MOST_CHIPS}
 use Rattle.chip_ledger.specs.declared.rows.SeatRow.{SeatRow}
 use Rattle.chip_ledger.specs.Seat.{seats_of}
-use Rattle.chip_ledger.specs.SeatRow.{amount_of}
+use Rattle.chip_ledger.specs.SeatRow.{amount_of, amounts_in}
 use Rattle.ohh_posts.specs.declared.stakes.Stakes.{Stakes}
-use Rattle.ohh_posts.specs.Table.{PlainTable, amounts_in, big_blind_seat, seat_count, small_blind_seat, stack_of}
+use Rattle.ohh_posts.specs.Table.{PlainTable, big_blind_seat, seat_count, small_blind_seat, stack_of}
 use Rattle.ohh_posts.specs.Posts.{PlainPost, ante_of, first_straddle}
 use Rattle.ohh_posts.specs.Conditions.{has_all_antes}
 

@@ -1,17 +1,13 @@
 -- What the posts of a hand are compared with, and whose the blinds are.
-use Rattle.std.specs.Prelude.{ℕ, ◌-◌, ◌==◌, if◌then◌else◌, List, length, slice_index, take}
-use Rattle.chip_ledger.specs.declared.rows.SeatRow.{SeatRow}
+use Rattle.std.specs.Prelude.{ℕ, ◌-◌, ◌==◌, if◌then◌else◌, List, length, slice_index}
 use Rattle.ohh_posts.specs.declared.table.Table.{Table}
+use Rattle.chip_ledger.specs.SeatRow.{amounts_in}
 
 -- the starting stacks, p1's first, and both blinds as they are named
 pub record PlainTable : Type 0 where
   pub stacks : List ℕ
   pub small_blind : ℕ
   pub big_blind : ℕ
-
--- the amounts of a row, the first seat's first
-abbrev pub amounts_in : SeatRow → List ℕ
-amounts_in row = take row.seats row.amounts
 
 -- a table with plain numbers
 abbrev pub plain_table : Table → PlainTable

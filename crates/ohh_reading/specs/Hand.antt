@@ -13,7 +13,7 @@ use Rattle.play_event.specs.Said.{Numbered, numbered}
 use Rattle.first_fault.specs.Reading.{◌>>=◌}
 use Rattle.ohh_members.specs.declared.dialect.Dialect.{Dialect}
 use Rattle.ohh_members.specs.declared.fault.Fault.{Fault}
-use Rattle.ohh_members.specs.Front.{PlainFront, amounts_in, front_said, ids_of, stacks_of}
+use Rattle.ohh_members.specs.Front.{PlainFront, front_said, ids_of, stacks_of}
 use Rattle.ohh_facts.specs.Notes.{PlainNotes, notes_said, plain_notes}
 use Rattle.ohh_facts.specs.Pots.{PlainPaid, pots_said}
 use Rattle.ohh_posts.specs.Stakes.{PlainStakes}
@@ -21,6 +21,7 @@ use Rattle.ohh_rounds.specs.Play.{PlainPlay, rounds_said}
 use Rattle.ohh_rounds.specs.Setting.{PlainSetting}
 use Rattle.ohh_reading.specs.declared.sizes.Sizes.{Sizes}
 use Rattle.ohh_reading.specs.Sizes.{sizes_of}
+use Rattle.chip_ledger.specs.SeatRow.{amounts_in}
 
 -- a setup with plain lists
 pub record PlainSetup : Type 0 where

@@ -1,15 +1,11 @@
 -- The records that bytes say, or their first fault.
-use Rattle.std.specs.Prelude.{◌≡◌, ℕ, ◌-◌, nat_lt, if◌then◌else◌, List, [], ◌∷◌, map, count_by, Option, Some, None, IfSome, Result, Ok, Err}
+use Rattle.std.specs.Prelude.{◌≡◌, ℕ, ◌-◌, nat_lt, if◌then◌else◌, List, [], ◌∷◌, map, Option, Some, None, IfSome, Result, Ok, Err}
 use Rattle.std.specs.Str.{is_utf8}
 use Rattle.serde_json.specs.Data.{Data, object}
 use Rattle.serde_json.specs.Read.{read}
 use Rattle.first_fault.specs.declared.limits.Quantity.TheVariants as quantities
 use Rattle.first_fault.specs.declared.limits.TheConstants.{MOST_HANDS}
 use Rattle.hand_records.specs.declared.record.Record.{Record}
-use Rattle.canonical_play.specs.PlayedScript.{is_move}
-use Rattle.hand_records.specs.SoundRecord.{script_said}
-use Rattle.hand_records.specs.SoundRecord.{IsSoundRecord}
-use Rattle.play_event.specs.HistoryRules.{history_rules}
 use Rattle.first_fault.specs.Reading.{◌>>=◌, thread_from}
 use Rattle.ohh_members.specs.declared.dialect.Dialect.{Dialect}
 use Rattle.ohh_members.specs.declared.fault.Fault.{Fault}
@@ -106,12 +102,3 @@ wrong_of faults.Memory = None
 abbrev pub Reads : Result (List Record) OhhFault → Result (List PlainHand) Wrong → Type 0
 Reads (Ok records) read = read ≡ Ok (map plain records)
 Reads (Err fault) read = IfSome (wrong_of fault) (λ wrong. read ≡ Err wrong)
-
--- what is read of a hand is sound, and under the rules of hand histories
-pub record IsHistory (hand : Record) : Type 0 where
-  pub sound : IsSoundRecord hand
-  pub rules : hand.rules ≡ history_rules
-
--- the moves of a hand
-abbrev pub moves_of : Record → ℕ
-moves_of hand = count_by is_move (script_said hand)

@@ -8,7 +8,9 @@ ghost use Rattle.ohh_members.specs.declared.fault.Path.TheVariants as paths;
 ghost use Rattle.ohh_members.specs.Values.{field as field_said};
 ghost use Rattle.ohh_reading.specs.Hand.{plain};
 ghost use Rattle.ohh_reading.specs.Blocks.{blocks_of};
-ghost use Rattle.ohh_reading.specs.Reading.{IsHistory, found_said, hands_said, moves_of, numbered_hand, object_of, tree_of, tree_said};
+ghost use Rattle.ohh_reading.specs.Reading.{found_said, hands_said, numbered_hand, object_of, tree_of, tree_said};
+ghost use Rattle.hand_records.specs.Histories.{IsHistory};
+ghost use Rattle.hand_records.specs.Moves.{moves_of};
 
 use crate::blocks::cut_blocks;
 use crate::fault::{HandFault, Wrongness};

@@ -6,7 +6,8 @@ ghost use Rattle.play_event.specs.ValidSetup.{IsSize};
 ghost use Rattle.first_fault.specs.Reading.{Gives};
 ghost use Rattle.ohh_facts.specs.Notes.{notes_said, plain_notes};
 ghost use Rattle.ohh_facts.specs.Pots.{IsPaid, plain_paid, pots_said};
-ghost use Rattle.ohh_members.specs.Front.{IsFront, amounts_in, ids_of as ids_of_said, stacks_of};
+ghost use Rattle.ohh_members.specs.Front.{IsFront, ids_of as ids_of_said, stacks_of};
+ghost use Rattle.chip_ledger.specs.SeatRow.{amounts_in};
 ghost use Rattle.ohh_members.specs.Players.{plain_player};
 
 use card_set::Memory;

@@ -3,7 +3,9 @@ ghost use Rattle.std.specs.Prelude.{◌≡◌, ◌≤◌, Some, sum_by, length, 
 ghost use Rattle.std.specs.List.{AllByRecursion};
 ghost use Rattle.first_fault.specs.declared.limits.TheConstants.{MOST_FILE_MOVES, MOST_HANDS};
 ghost use Rattle.ohh_members.specs.Paths.{path_text};
-ghost use Rattle.ohh_reading.specs.Reading.{InHand, IsHistory, Reads, moves_of, reading, spelled as spelled_said, wrong_of};
+ghost use Rattle.ohh_reading.specs.Reading.{InHand, Reads, reading, spelled as spelled_said, wrong_of};
+ghost use Rattle.hand_records.specs.Histories.{IsHistory};
+ghost use Rattle.hand_records.specs.Moves.{moves_of};
 
 use crate::fault::{HandFault, OhhFault, Wrongness};
 use crate::file::read_file;

@@ -6,12 +6,13 @@ ghost use Rattle.play_event.specs.Said.{said_of};
 ghost use Rattle.play_event.specs.ValidSetup.{IsSize};
 ghost use Rattle.ohh_facts.specs.Notes.{plain_notes};
 ghost use Rattle.ohh_facts.specs.Pots.{IsPaid, plain_paid};
-ghost use Rattle.ohh_members.specs.Front.{IsFront, amounts_in, plain_front, stacks_of};
+ghost use Rattle.ohh_members.specs.Front.{IsFront, plain_front, stacks_of};
+ghost use Rattle.chip_ledger.specs.SeatRow.{amounts_in};
 ghost use Rattle.ohh_members.specs.Players.{plain_player};
 ghost use Rattle.ohh_posts.specs.Stakes.{AreStakesFor};
 ghost use Rattle.ohh_rounds.specs.Play.{plain_play};
 ghost use Rattle.ohh_reading.specs.Hand.{hand_of, plain};
-ghost use Rattle.ohh_reading.specs.Reading.{IsHistory};
+ghost use Rattle.hand_records.specs.Histories.{IsHistory};
 
 use crate::sizes::{Sizes, sizes_of};
 use chip_ledger::SeatRow;

@@ -1,5 +1,5 @@
 -- What was told so far, action by action, with the cards of the board where they were dealt.
-use Rattle.std.specs.Prelude.{◌≡◌, ℕ, ◌+◌, ◌<◌, ◌≤◌, ◌==◌, nat_lt, min, Bool, true, false, not, if◌then◌else◌, List, [], length, flat_map, count_by, find, option_map, Option, Some, None}
+use Rattle.std.specs.Prelude.{◌≡◌, ℕ, ◌+◌, ◌<◌, ◌≤◌, ◌==◌, nat_lt, Bool, true, false, not, if◌then◌else◌, List, [], length, flat_map, count_by, find, option_map, Option, Some, None}
 use Rattle.std.specs.List.{list_any}
 use Rattle.card_set.specs.declared.card.Slot.{Slot}
 use Rattle.card_set.specs.Row.{slots_of}
@@ -12,6 +12,7 @@ use Rattle.ohh_posts.specs.Posts.{PlainPost, plain_post}
 use Rattle.ohh_rounds.specs.declared.step.Deed.{Deed}
 use Rattle.ohh_rounds.specs.declared.step.Deed.TheVariants as deeds
 use Rattle.ohh_rounds.specs.declared.step.Step.{Step}
+use Rattle.first_fault.specs.Numbers.{kept_number}
 
 -- what was done: a post, hole cards dealt to a seat, an event of the script, or nothing that counts
 pub data PlainDeed : Type 0 where
@@ -34,10 +35,6 @@ plain_deed deeds.Passed = Passed
 
 abbrev pub plain_step : Step → PlainStep
 plain_step step = record { number = step.number; deed = plain_deed step.deed }
-
--- the number of an action as it is kept
-abbrev pub kept_number : ℕ → ℕ
-kept_number n = min n 4294967295
 
 -- an action says the step
 abbrev pub is_action : PlainStep → Bool

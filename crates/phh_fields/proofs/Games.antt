@@ -5,7 +5,8 @@ use Rattle.std.proofs.lemmas.Slice.Eq.{bytes_eq-Decides}
 use Rattle.play_event.specs.declared.code.Code.{Code}
 use Rattle.play_event.specs.declared.code.Code.TheVariants as games
 use Rattle.play_event.specs.Code.{code_text}
-use Rattle.phh_fields.specs.SetupFields.{all_games, game_named}
+use Rattle.phh_fields.specs.SetupFields.{game_named}
+use Rattle.play_event.specs.Games.{all_games}
 
 pub own_code : (code : Code) → game_named (code_text code) ≡ Some code
 unfolding game_named

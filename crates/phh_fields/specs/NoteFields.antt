@@ -1,5 +1,5 @@
 -- The notes that the fields of a hand say, examined in this order. A note that equals its default is none.
-use Rattle.std.specs.Prelude.{ℕ, ◌==◌, Bool, true, nat_le, ◌&&◌, ◌||◌, bytes_eq, if◌then◌else◌, List, [], length, take, replicate, Option, Some, None, option_map, Result, Ok}
+use Rattle.std.specs.Prelude.{ℕ, ◌==◌, Bool, true, nat_le, ◌&&◌, bytes_eq, if◌then◌else◌, List, [], length, take, replicate, Option, Some, None, option_map, Result, Ok}
 use Rattle.std.specs.Fmt.{decimal, signed_decimal}
 use Rattle.std.specs.List.{range_with_len}
 use Rattle.toml.specs.Data.{Data, string, integer, datetime, Members}
@@ -10,7 +10,7 @@ use Rattle.first_fault.specs.declared.limits.TheConstants.{MOST_TEXT_BYTES}
 use Rattle.first_fault.specs.declared.limits.Quantity.TheVariants as quantities
 use Rattle.hand_records.specs.declared.notes.Clock.{Clock}
 use Rattle.hand_records.specs.declared.notes.Notes.{Notes}
-use Rattle.hand_records.specs.AllowedNotes.{default_name, days_in_month}
+use Rattle.hand_records.specs.AllowedNotes.{default_name, days_in_month, noted}
 use Rattle.first_fault.specs.Reading.{◌>>=◌, each_from, read_if}
 use Rattle.phh_fields.specs.declared.fault.Key.TheVariants as keys
 use Rattle.phh_fields.specs.declared.fault.What.TheVariants as whats
@@ -60,10 +60,6 @@ plain_notes count notes =
       time = notes.time;
       zone = notes.zone;
     }
-
--- a note that equals its default is none, and an empty text is none
-abbrev pub noted : List ℕ → List ℕ → Option (List ℕ)
-noted default text = if (length text == 0) || bytes_eq text default then None else Some text
 
 -- the text of a note with this default; it is of at most 255 bytes
 unfoldable pub note_said : List ℕ → Place → List ℕ → Result (Option (List ℕ)) Fault

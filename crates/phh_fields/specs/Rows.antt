@@ -1,7 +1,6 @@
 -- Lists of amounts: one for each seat, or one for each pot.
-use Rattle.std.specs.Prelude.{ℕ, ◌-◌, nat_le, ◌&&◌, min, max, if◌then◌else◌, List, [], ◌∷◌, ◌++◌, length, take, replicate, slice_index, Result, Ok}
+use Rattle.std.specs.Prelude.{ℕ, ◌-◌, nat_le, ◌&&◌, min, max, if◌then◌else◌, List, [], ◌∷◌, ◌++◌, length, replicate, slice_index, Result, Ok}
 use Rattle.toml.specs.Data.{Data}
-use Rattle.chip_ledger.specs.declared.rows.SeatRow.{SeatRow}
 use Rattle.chip_ledger.specs.declared.numbers.TheConstants.{MOST_CHIPS}
 use Rattle.chip_ledger.specs.declared.rows.TheConstants.{MOST_AMOUNT}
 use Rattle.first_fault.specs.Reading.{◌>>=◌, each_from}
@@ -11,10 +10,6 @@ use Rattle.phh_fields.specs.declared.fault.What.TheVariants as whats
 use Rattle.phh_fields.specs.declared.fault.Place.{Place}
 use Rattle.phh_fields.specs.declared.fault.Fault.{Fault}
 use Rattle.phh_fields.specs.Fields.{at_key, at_item, wrong, list_said, items_said, amount_said}
-
--- the amounts of a row, the first seat's first
-abbrev pub amounts_in : SeatRow → List ℕ
-amounts_in row = take row.seats row.amounts
 
 -- amounts from least to most
 abbrev pub amounts_said : ℕ → ℕ → Key → List Data → Result (List ℕ) Fault

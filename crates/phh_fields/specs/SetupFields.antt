@@ -1,5 +1,5 @@
 -- The setup that the fields of a hand say, examined in this order.
-use Rattle.std.specs.Prelude.{ℕ, Bool, false, ◌&&◌, not, nat_lt, bytes_eq, if◌then◌else◌, List, [], ◌∷◌, length, replicate, Option, find, Result, Ok}
+use Rattle.std.specs.Prelude.{ℕ, Bool, false, ◌&&◌, not, nat_lt, bytes_eq, if◌then◌else◌, List, [], length, replicate, Option, find, Result, Ok}
 use Rattle.std.specs.List.{list_any}
 use Rattle.std.specs.Option.{option_map_or}
 use Rattle.toml.specs.Data.{Data, Members}
@@ -8,7 +8,7 @@ use Rattle.play_event.specs.declared.code.Code.{Code}
 use Rattle.play_event.specs.declared.code.Code.TheVariants as games
 use Rattle.play_event.specs.declared.setup.Setup.{Setup}
 use Rattle.play_event.specs.Code.{code_text}
-use Rattle.play_event.specs.Games.{game_of}
+use Rattle.play_event.specs.Games.{game_of, all_games}
 use Rattle.play_event.specs.Streets.{limit_of, is_stud}
 use Rattle.play_event.specs.ValidSetup.{is_fixed}
 use Rattle.first_fault.specs.Reading.{◌>>=◌, read_if}
@@ -18,7 +18,8 @@ use Rattle.phh_fields.specs.declared.fault.What.TheVariants as whats
 use Rattle.phh_fields.specs.declared.fault.Fault.{Fault}
 use Rattle.phh_fields.specs.declared.sizes.Sizes.{Sizes}
 use Rattle.phh_fields.specs.Fields.{at_key, or_wrong, field, needed, text_said, flag_said, amount_said}
-use Rattle.phh_fields.specs.Rows.{amounts_in, row_said, stacks_said, antes_said, posted}
+use Rattle.phh_fields.specs.Rows.{row_said, stacks_said, antes_said, posted}
+use Rattle.chip_ledger.specs.SeatRow.{amounts_in}
 
 -- a setup with plain lists, but for its rakes
 pub record PlainSetup : Type 0 where
@@ -40,11 +41,6 @@ plain_setup setup =
       blinds = amounts_in setup.blinds;
       sizes = record { bring_in = setup.bring_in; small_bet = setup.small_bet; big_bet = setup.big_bet; min_bet = setup.min_bet };
     }
-
--- the eleven games
-abbrev pub all_games : List Code
-all_games =
-    games.FT ∷ games.NT ∷ games.NS ∷ games.PO ∷ games.FO8 ∷ games.F7S ∷ games.F7S8 ∷ games.FR ∷ games.N2L1D ∷ games.F2L3D ∷ games.FB ∷ []
 
 -- the game whose code the text is, if it is one of the eleven
 unfoldable pub game_named : List ℕ → Option Code

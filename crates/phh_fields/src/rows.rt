@@ -6,7 +6,8 @@ ghost use Rattle.chip_ledger.specs.RakeRow.{rake_of};
 ghost use Rattle.play_event.specs.ValidSetup.{IsSize};
 ghost use Rattle.first_fault.specs.Reading.{Gives};
 ghost use Rattle.phh_fields.specs.declared.fault.Key.TheVariants as keys;
-ghost use Rattle.phh_fields.specs.Rows.{amounts_in, amounts_said, antes_from, ante_said, antes_said, posted as posted_said, rakes_from, rakes_said, row_said, stacks_said};
+ghost use Rattle.phh_fields.specs.Rows.{amounts_said, antes_from, ante_said, antes_said, posted as posted_said, rakes_from, rakes_said, row_said, stacks_said};
+ghost use Rattle.chip_ledger.specs.SeatRow.{amounts_in};
 
 use crate::fault::{Fault, Key, Place, What};
 use crate::values::{has_count, read_amount, read_items, read_list, wrong};

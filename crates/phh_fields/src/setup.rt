@@ -8,7 +8,7 @@ ghost use Rattle.chip_ledger.specs.declared.numbers.TheConstants.{MOST_CHIPS};
 ghost use Rattle.play_event.specs.Streets.{is_stud as is_stud_said};
 ghost use Rattle.play_event.specs.ValidSetup.{IsValid};
 ghost use Rattle.first_fault.specs.Reading.{Gives};
-ghost use Rattle.phh_fields.specs.Rows.{amounts_in};
+ghost use Rattle.chip_ledger.specs.SeatRow.{amounts_in};
 ghost use Rattle.phh_fields.specs.SetupFields.{are_dead as are_dead_said, blinds_said, game_named, plain_setup, setup_said, trimming_said, variant_said};
 
 use crate::fault::{Fault, Key, Place, What};

@@ -13,7 +13,7 @@ use Rattle.phh_fields.specs.declared.fault.Fault.{Fault}
 use Rattle.phh_fields.specs.declared.fault.Key.{Key}
 use Rattle.phh_fields.specs.declared.fault.Key.TheVariants as keys
 use Rattle.phh_fields.specs.Fields.{at_key, field, key_text, list_said, needed}
-use Rattle.phh_fields.specs.Rows.{amounts_in, rakes_from, rakes_said, row_said}
+use Rattle.phh_fields.specs.Rows.{rakes_from, rakes_said, row_said}
 use Rattle.phh_fields.specs.NoteFields.{day_said, labels_said, notes_said, seating_said}
 use Rattle.phh_reading.specs.Events.{counts_after}
 use Rattle.phh_reading.specs.Hand.{hand_said, rakes_at}
@@ -22,7 +22,7 @@ use Rattle.phh_table.specs.HandFields.{hand_field, hand_fields, label, local_tim
 use Rattle.phh_table.proofs.Puts.{field_at}
 use Rattle.phh_fields.proofs.Zeros.{with_zeros}
 use Rattle.phh_format.proofs.Readable.{IsReadable}
-use Rattle.phh_format.specs.Again.{hand_again, kept_name, notes_again}
+use Rattle.phh_format.specs.Again.{hand_again, notes_again}
 use Rattle.phh_format.proofs.RowsAgain.{IsBetween, amount_count, amounts_again, each_amount, list_again, listed_again, number_data, row_again}
 use Rattle.phh_format.proofs.SetupAgain.{at, field_alone, setup_again}
 use Rattle.phh_format.proofs.NotesAgain.{calendar_again, name_again, said_again, table_again, text_note_again, time_again}
@@ -30,6 +30,8 @@ use Rattle.phh_format.proofs.SeatingAgain.{names_again, seat_count_again, seats_
 use Rattle.phh_format.proofs.EventsAgain.{HaveRoom, counts_with, events_again}
 use Rattle.list_laws.proofs.Entries.{cut_zeros, each_taken}
 use Rattle.list_laws.proofs.Any.{zero_from_none_taken}
+use Rattle.chip_ledger.specs.SeatRow.{amounts_in}
+use Rattle.hand_canon.specs.ReadAgain.{kept_label}
 
 all_zero : (all : List ℕ) → length all ≡ 11 → ((k : ℕ) → get_or all k 0 ≡ 0) → all ≡ replicate 11 0
 all_zero all eleven none =
@@ -86,7 +88,7 @@ module _ (place : ℕ) (play : Play) (is : IsReadable play) where
         calendar_again notes.year notes.month notes.day is.notes.date,
       ) refl
 
-  labels_again : labels_said place members ≡ Ok (record { hand = kept_name place play.hand.notes.hand; table = play.hand.notes.table; venue = play.hand.notes.venue; currency = play.hand.notes.currency })
+  labels_again : labels_said place members ≡ Ok (record { hand = kept_label place play.hand.notes.hand; table = play.hand.notes.table; venue = play.hand.notes.venue; currency = play.hand.notes.currency })
   unfolding labels_said
   labels_again =
       let notes = play.hand.notes in

@@ -10,15 +10,15 @@ use Rattle.first_fault.specs.Digits.{are_digits, number_of}
 use Rattle.first_fault.specs.Reading.{read_if}
 use Rattle.first_fault.specs.declared.limits.TheConstants.{MOST_TEXT_BYTES}
 use Rattle.hand_records.specs.declared.notes.Clock.{Clock}
-use Rattle.hand_records.specs.AllowedNotes.{IsNoteText, IsTime, IsWithin, days_in_month}
+use Rattle.hand_records.specs.AllowedNotes.{IsNoteText, IsTime, IsWithin, days_in_month, noted}
 use Rattle.phh_fields.specs.declared.fault.Place.{Place}
 use Rattle.phh_fields.specs.Fields.{number_said, kept_within, text_said}
-use Rattle.phh_fields.specs.NoteFields.{clock_said, is_in_calendar, label_said, note_said, noted, or_none, or_zero, text_note_said, time_said}
+use Rattle.phh_fields.specs.NoteFields.{clock_said, is_in_calendar, label_said, note_said, or_none, or_zero, text_note_said, time_said}
 use Rattle.phh_table.specs.HandFields.{hand_field, label, local_time, number_field, number_written}
-use Rattle.phh_format.specs.Again.{kept_name}
 use Rattle.list_laws.proofs.Tests.{implied}
 use Rattle.list_laws.proofs.Digits.{all_digits, own_digits}
 use Rattle.list_laws.proofs.Options.{from_none_some}
+use Rattle.hand_canon.specs.ReadAgain.{kept_label}
 
 -- a text of a note that is not the default stays
 noted_again : (default text : List ℕ) → IsNoteText text → bytes_eq text default ≡ false → noted default text ≡ Some text
@@ -81,7 +81,7 @@ pub table_again : (place : Place) (said : Option (List ℕ)) → IfSome said IsN
 table_again place None is = refl
 table_again place (Some text) is = label_again [] text place is (not_empty text is)
 
-pub name_again : (at : ℕ) (place : Place) (said : Option (List ℕ)) → IfSome said IsNoteText → or_none (label_said (decimal at) place) (hand_field at said) ≡ Ok (kept_name at said)
+pub name_again : (at : ℕ) (place : Place) (said : Option (List ℕ)) → IfSome said IsNoteText → or_none (label_said (decimal at) place) (hand_field at said) ≡ Ok (kept_label at said)
 name_again at place None is = refl
 name_again at place (Some name) is = go (bytes_eq name (decimal at)) refl
   where

@@ -40,12 +40,14 @@ use Rattle.phh_reading.specs.Reading.{reading}
 use Rattle.phh_reading.proofs.SamePlay.{same_setup, same_stated}
 use Rattle.phh_table.specs.Document.{Spells}
 use Rattle.phh_table.specs.HandFields.{script_of}
-use Rattle.phh_table.specs.Spelled.{refusal_from, refused_at, unspelled, first_refusal}
-use Rattle.phh_format.specs.Again.{hand_again, hands_again, moves_played, notes_again, numbered_from}
+use Rattle.phh_table.specs.Spelled.{refusal_from, unspelled, first_refusal}
+use Rattle.phh_format.specs.Again.{hand_again, hands_again, notes_again, numbered_from}
 use Rattle.hand_canon.specs.ReadAgain.{AreAgain, IsAgain}
 use Rattle.phh_format.specs.ReadBack.{KeepsNotes}
 use Rattle.phh_format.proofs.RowsAgain.{amount_count}
 use Rattle.phh_format.proofs.SoundPlays.{same_script, sound_again}
+use Rattle.hand_records.specs.Moves.{moves_played}
+use Rattle.hand_records.specs.Refusals.{refused_at}
 
 -- a play that the format spells has no closed raise
 spelled_open : (play : Play) → unspelled play ≡ None → list_any (λ move. move.closed) (core_said play.trace).moves ≡ false

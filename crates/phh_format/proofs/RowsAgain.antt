@@ -6,12 +6,12 @@ use Rattle.std.proofs.lemmas.List.{length-map, length-take}
 use Rattle.toml.specs.Data.{Data, integer}
 use Rattle.toml.specs.View.{items_of}
 use Rattle.chip_ledger.specs.declared.rows.SeatRow.{SeatRow}
-use Rattle.chip_ledger.specs.SeatRow.{amount_of}
+use Rattle.chip_ledger.specs.SeatRow.{amount_of, amounts_in}
 use Rattle.first_fault.specs.Reading.{each_from}
 use Rattle.phh_fields.specs.declared.fault.Key.{Key}
 use Rattle.phh_fields.specs.declared.fault.Place.{Place}
 use Rattle.phh_fields.specs.Fields.{amount_said, at_item, items_said, kept_within, list_said, listed}
-use Rattle.phh_fields.specs.Rows.{amounts_in, amounts_said, row_said}
+use Rattle.phh_fields.specs.Rows.{amounts_said, row_said}
 use Rattle.phh_table.specs.HandFields.{numbers}
 use Rattle.list_laws.proofs.Entries.{each_taken}
 

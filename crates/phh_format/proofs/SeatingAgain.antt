@@ -10,12 +10,12 @@ use Rattle.toml.specs.Data.{string}
 use Rattle.first_fault.specs.Reading.{each_from}
 use Rattle.first_fault.specs.declared.limits.TheConstants.{MOST_TEXT_BYTES}
 use Rattle.hand_records.specs.declared.notes.Notes.{Notes}
-use Rattle.hand_records.specs.AllowedNotes.{AreSeatNumbers, IsName, IsSeatCount, IsWithin, default_name}
+use Rattle.hand_records.specs.AllowedNotes.{AreSeatNumbers, IsName, IsSeatCount, IsWithin, default_name, name_written}
 use Rattle.phh_fields.specs.declared.fault.Key.TheVariants as keys
 use Rattle.phh_fields.specs.declared.fault.Place.{Place}
 use Rattle.phh_fields.specs.Fields.{at_item, at_key, items_said, list_said, number_said, text_said}
 use Rattle.phh_fields.specs.NoteFields.{names_said, note_said, or_none, seat_count_said, seats_said, text_note_said, unless_usual}
-use Rattle.phh_table.specs.HandFields.{name_written, names_field, number_field, numbers, texts}
+use Rattle.phh_table.specs.HandFields.{names_field, number_field, numbers, texts}
 use Rattle.phh_format.proofs.RowsAgain.{items_again, listed_again, number_data}
 use Rattle.phh_format.proofs.NotesAgain.{note_again, number_again}
 use Rattle.list_laws.proofs.Bytes.{different_bytes}

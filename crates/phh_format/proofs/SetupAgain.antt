@@ -5,7 +5,7 @@ use Rattle.std.proofs.lemmas.Bool.{le-leb}
 use Rattle.std.proofs.lemmas.List.{length-map}
 use Rattle.toml.specs.Data.{Data, integer, Members}
 use Rattle.chip_ledger.specs.declared.numbers.TheConstants.{MOST_CHIPS}
-use Rattle.chip_ledger.specs.SeatRow.{amount_of}
+use Rattle.chip_ledger.specs.SeatRow.{amount_of, amounts_in}
 use Rattle.play_event.specs.declared.setup.Setup.{Setup}
 use Rattle.play_event.specs.Games.{game_of}
 use Rattle.play_event.specs.Streets.{is_stud, limit_of}
@@ -15,7 +15,7 @@ use Rattle.hand_records.specs.declared.trace.Play.{Play}
 use Rattle.phh_fields.specs.declared.fault.Key.{Key}
 use Rattle.phh_fields.specs.declared.fault.Key.TheVariants as keys
 use Rattle.phh_fields.specs.Fields.{at_item, at_key, field, flag_said, key_text, needed, text_said}
-use Rattle.phh_fields.specs.Rows.{amounts_in, ante_said, antes_said, posted, stacks_said}
+use Rattle.phh_fields.specs.Rows.{ante_said, antes_said, posted, stacks_said}
 use Rattle.phh_fields.specs.SetupFields.{are_dead, blinds_said, plain_setup, setup_said, size_said, sizes_said, trimming_said, variant_said}
 use Rattle.phh_table.specs.Document.{hand_table}
 use Rattle.phh_table.specs.HandFields.{blinds_written, hand_fields, numbers, size_field}

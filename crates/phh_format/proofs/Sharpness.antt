@@ -34,7 +34,7 @@ use Rattle.phh_fields.specs.declared.fault.What.TheVariants as whats
 use Rattle.first_fault.specs.declared.limits.Quantity.TheVariants as quantities
 use Rattle.first_fault.specs.declared.limits.TheConstants.{MOST_HANDS}
 use Rattle.phh_table.specs.Spelled.{unspelled}
-use Rattle.phh_format.specs.Sharp.{IsOther}
+use Rattle.hand_canon.specs.Sharp.{IsOther}
 
 -- what holds of what follows holds of the whole
 bound : {A B F : Type 0} (P : B → Type 0) (first : Result A F) (next : A → Result B F) → ((a : A) → IfOk (next a) P) → IfOk (first >>= next) P

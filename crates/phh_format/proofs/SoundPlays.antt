@@ -31,9 +31,10 @@ use Rattle.phh_reading.specs.Reading.{reading}
 use Rattle.phh_table.specs.Document.{Spells}
 use Rattle.phh_table.specs.HandFields.{script_of}
 use Rattle.phh_words.specs.Written.{CanBeSaid}
-use Rattle.phh_format.specs.Again.{hands_again, moves_played}
+use Rattle.phh_format.specs.Again.{hands_again}
 use Rattle.phh_format.proofs.FileAgain.{plays_again}
 use Rattle.phh_format.proofs.Readable.{IsReadable, moves_written}
+use Rattle.hand_records.specs.Moves.{moves_played}
 
 -- an action can say what lies in its range
 can_be_said : (seats : ℕ) (event : Said) → IsInRange seats event → CanBeSaid seats event

@@ -1,24 +1,18 @@
 -- The hands that are read again of plays that were written: the same setups, rakes and finishing stacks, the canonical
 -- scripts, and the kept notes.
-use Rattle.std.specs.Prelude.{ℕ, ◌+◌, ◌-◌, bytes_eq, if◌then◌else◌, List, [], ◌∷◌, map, take, slice_index_or, Option, Some, None, option_and_then}
-use Rattle.std.specs.Fmt.{decimal}
+use Rattle.std.specs.Prelude.{ℕ, ◌+◌, ◌-◌, List, [], ◌∷◌, map, take, slice_index_or, Some, None, option_and_then}
 use Rattle.std.specs.List.{range_with_len}
 use Rattle.play_event.specs.HistoryRules.{history_rules}
 use Rattle.play_event.specs.Said.{Numbered, Said}
 use Rattle.hand_records.specs.declared.notes.Notes.{Notes}
 use Rattle.hand_records.specs.declared.trace.Play.{Play}
 use Rattle.phh_fields.specs.NoteFields.{PlainNotes, unless_usual}
-use Rattle.phh_fields.specs.Rows.{amounts_in}
 use Rattle.phh_fields.specs.SetupFields.{plain_setup}
-use Rattle.phh_reading.specs.Events.{kept_number}
 use Rattle.phh_reading.specs.Hand.{PlainHand, finish_stated}
-use Rattle.phh_reading.specs.Reading.{moves_of}
 use Rattle.phh_table.specs.HandFields.{script_of}
-
--- the name of a hand at a place of its file, from 0; a name that is that place is none
-abbrev pub kept_name : ℕ → Option (List ℕ) → Option (List ℕ)
-kept_name place None = None
-kept_name place (Some name) = if bytes_eq name (decimal place) then None else Some name
+use Rattle.chip_ledger.specs.SeatRow.{amounts_in}
+use Rattle.first_fault.specs.Numbers.{kept_number}
+use Rattle.hand_canon.specs.ReadAgain.{kept_label}
 
 -- the kept notes of so many seats, at a place of the file
 abbrev pub notes_again : ℕ → ℕ → Notes → PlainNotes
@@ -29,7 +23,7 @@ notes_again place count notes =
         seats = option_and_then (λ said. unless_usual count (take count said)) notes.seats;
         seat_count = notes.seat_count;
       };
-      labels = record { hand = kept_name place notes.hand; table = notes.table; venue = notes.venue; currency = notes.currency };
+      labels = record { hand = kept_label place notes.hand; table = notes.table; venue = notes.venue; currency = notes.currency };
       day = record { year = notes.year; month = notes.month; day = notes.day };
       time = notes.time;
       zone = notes.zone;
@@ -56,7 +50,3 @@ hand_again place play =
 abbrev pub hands_again : ℕ → List Play → List PlainHand
 hands_again place [] = []
 hands_again place (play ∷ rest) = hand_again place play ∷ hands_again (place + 1) rest
-
--- the moves that were played
-abbrev pub moves_played : Play → ℕ
-moves_played play = moves_of play.hand

@@ -10,10 +10,11 @@ ghost use Rattle.phh_reading.specs.Hand.{plain};
 ghost use Rattle.phh_reading.specs.Reading.{reading};
 ghost use Rattle.phh_table.specs.Document.{Spells};
 ghost use Rattle.phh_table.specs.Spelled.{first_refusal, unspelled};
-ghost use Rattle.phh_format.specs.Again.{hands_again, moves_played};
+ghost use Rattle.phh_format.specs.Again.{hands_again};
+ghost use Rattle.hand_records.specs.Moves.{moves_played};
 ghost use Rattle.hand_canon.specs.ReadAgain.{AreAgain};
 ghost use Rattle.phh_format.specs.ReadBack.{KeepsNotes};
-ghost use Rattle.phh_format.specs.Sharp.{IsOther};
+ghost use Rattle.hand_canon.specs.Sharp.{IsOther};
 
 /// Bytes that spell sound plays, no more of them and of their moves than a file may have, read as the hands of these plays:
 /// with their setups, rakes and finishing stacks, their canonical scripts, and their kept notes. The function does nothing:

@@ -15,9 +15,9 @@ use Rattle.play_event.specs.declared.event.Kind.{Kind}
 use Rattle.play_event.specs.declared.event.Kind.TheVariants as kinds
 use Rattle.play_event.specs.declared.setup.Setup.{Setup}
 use Rattle.play_event.specs.Said.{Numbered, kind_said, numbered, seat_named}
-use Rattle.phh_fields.specs.Rows.{amounts_in}
 use Rattle.phh_reading.specs.Hand.{PlainHand, plain}
 use Rattle.list_laws.proofs.Lists.{lists_same}
+use Rattle.chip_ledger.specs.SeatRow.{amounts_in}
 
 actor_same : (a b : Option Seat) → seat_named a ≡ seat_named b → a ≡ b
 actor_same a b same = options_same (λ (seat : Seat). seat.number) seat_same a b same

@@ -1,5 +1,5 @@
 -- The events of actions, counted, with the numbers of their actions.
-use Rattle.std.specs.Prelude.{◌≡◌, ℕ, ◌+◌, ◌≤◌, Bool, not, cond, map, count_by, nat_le, min, if◌then◌else◌, List, [], ◌∷◌, Option, Some, None, Result, Ok, Err}
+use Rattle.std.specs.Prelude.{◌≡◌, ℕ, ◌+◌, ◌≤◌, Bool, not, cond, map, count_by, nat_le, if◌then◌else◌, List, [], ◌∷◌, Option, Some, None, Result, Ok, Err}
 use Rattle.toml.specs.Data.{Data}
 use Rattle.first_fault.specs.declared.limits.Quantity.TheVariants as quantities
 use Rattle.canonical_play.specs.declared.limits.TheConstants.{MOST_MOVES, MOST_OTHER_EVENTS}
@@ -18,6 +18,7 @@ use Rattle.phh_fields.specs.declared.fault.Place.{Place}
 use Rattle.phh_fields.specs.declared.fault.Fault.{Fault}
 use Rattle.phh_fields.specs.Fields.{at_item, wrong, text_said}
 use Rattle.phh_reading.specs.declared.events.Counts.{Counts}
+use Rattle.first_fault.specs.Numbers.{kept_number}
 
 -- the counts before the first action of a hand, after so many moves of the file
 abbrev pub counts_after : ℕ → Counts
@@ -65,10 +66,6 @@ counted counts place moves =
     else Ok (record { moves = counts.moves + 1; other_events = counts.other_events; file_moves = counts.file_moves + 1 }))
     else (if nat_le MOST_OTHER_EVENTS counts.other_events then wrong (whats.TooMany quantities.OtherEvents) place
     else Ok (record { moves = counts.moves; other_events = counts.other_events + 1; file_moves = counts.file_moves }))
-
--- the number of an action as it is kept
-abbrev pub kept_number : ℕ → ℕ
-kept_number n = min n 4294967295
 
 -- what an action adds: no event, or one event that is counted
 unfoldable pub added : Counts → ℕ → Option Said → Result (List Numbered × Counts) Fault

@@ -12,10 +12,11 @@ use Rattle.first_fault.specs.Reading.{◌>>=◌, read_if}
 use Rattle.phh_fields.specs.declared.fault.Key.TheVariants as keys
 use Rattle.phh_fields.specs.declared.fault.Fault.{Fault}
 use Rattle.phh_fields.specs.Fields.{at_key, field, needed, list_said}
-use Rattle.phh_fields.specs.Rows.{amounts_in, row_said, rakes_said}
+use Rattle.phh_fields.specs.Rows.{row_said, rakes_said}
 use Rattle.phh_fields.specs.SetupFields.{PlainSetup, plain_setup, setup_said}
 use Rattle.phh_fields.specs.NoteFields.{PlainNotes, plain_notes, notes_said}
 use Rattle.phh_reading.specs.Events.{counts_after, events_said}
+use Rattle.chip_ledger.specs.SeatRow.{amounts_in}
 
 -- what is stated of a hand's end
 pub record PlainStated : Type 0 where

@@ -6,7 +6,8 @@ ghost use Rattle.canonical_play.specs.PlayedScript.{is_move as is_move_said};
 ghost use Rattle.play_event.specs.Said.{kind_said, numbered};
 ghost use Rattle.first_fault.specs.Reading.{Gives};
 ghost use Rattle.phh_words.specs.Action.{action_said};
-ghost use Rattle.phh_reading.specs.Events.{AreCounted, AreFew, IsAfter, IsOneMore, action_fault, at_place, counted, counts_after, event_said, events_said, kept_number, listed_event, one_event};
+ghost use Rattle.phh_reading.specs.Events.{AreCounted, AreFew, IsAfter, IsOneMore, action_fault, at_place, counted, counts_after, event_said, events_said, listed_event, one_event};
+ghost use Rattle.first_fault.specs.Numbers.{kept_number};
 
 use canonical_play::{MOST_MOVES, MOST_OTHER_EVENTS};
 use card_set::Memory;

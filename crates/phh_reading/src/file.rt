@@ -7,7 +7,9 @@ ghost use Rattle.first_fault.specs.Reading.{Gives};
 ghost use Rattle.phh_fields.specs.declared.fault.Key.TheVariants as keys;
 ghost use Rattle.phh_fields.specs.Fields.{at_key};
 ghost use Rattle.phh_reading.specs.Hand.{plain};
-ghost use Rattle.phh_reading.specs.Reading.{IsHistory, hands_of, hands_said, moves_of, numbered_hand, records_said, those_said};
+ghost use Rattle.phh_reading.specs.Reading.{hands_of, hands_said, numbered_hand, records_said, those_said};
+ghost use Rattle.hand_records.specs.Histories.{IsHistory};
+ghost use Rattle.hand_records.specs.Moves.{moves_of};
 
 use crate::fault::HandFault;
 use crate::hand::read_hand;

@@ -8,9 +8,11 @@ ghost use Rattle.first_fault.specs.declared.limits.TheConstants.{MOST_FILE_MOVES
 ghost use Rattle.first_fault.specs.Reading.{Gives, read_if};
 ghost use Rattle.phh_fields.specs.declared.fault.Key.TheVariants as keys;
 ghost use Rattle.phh_fields.specs.Fields.{field as field_said};
-ghost use Rattle.phh_fields.specs.Rows.{amounts_in, row_said};
+ghost use Rattle.phh_fields.specs.Rows.{row_said};
+ghost use Rattle.chip_ledger.specs.SeatRow.{amounts_in};
 ghost use Rattle.phh_reading.specs.Hand.{hand_said, plain, rakes_at};
-ghost use Rattle.phh_reading.specs.Reading.{IsHistory, moves_of};
+ghost use Rattle.hand_records.specs.Histories.{IsHistory};
+ghost use Rattle.hand_records.specs.Moves.{moves_of};
 
 use crate::events::read_events;
 use chip_ledger::{MOST_AMOUNT, RakeRow, SeatRow};

@@ -4,7 +4,9 @@ ghost use Rattle.std.specs.List.{AllByRecursion};
 ghost use Rattle.toml.specs.View.{table_view};
 ghost use Rattle.first_fault.specs.declared.limits.TheConstants.{MOST_FILE_MOVES, MOST_HANDS};
 ghost use Rattle.phh_fields.specs.Fields.{place_text as place_text_said};
-ghost use Rattle.phh_reading.specs.Reading.{InHand, IsHistory, Reads, document_said, moves_of, reading, wrong_of};
+ghost use Rattle.phh_reading.specs.Reading.{InHand, Reads, document_said, reading, wrong_of};
+ghost use Rattle.hand_records.specs.Histories.{IsHistory};
+ghost use Rattle.hand_records.specs.Moves.{moves_of};
 
 use crate::fault::{HandFault, PhhFault};
 use crate::file::read_hands;

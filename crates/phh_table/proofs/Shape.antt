@@ -10,7 +10,7 @@ use Rattle.toml_datetime.specs.Valid.{is_none_or_below, is_valid, is_valid_time}
 use Rattle.hand_records.specs.declared.notes.Clock.{Clock}
 use Rattle.hand_records.specs.declared.notes.Notes.{Notes}
 use Rattle.hand_records.specs.declared.trace.Play.{Play}
-use Rattle.hand_records.specs.AllowedNotes.{AreAllowed, IsTime}
+use Rattle.hand_records.specs.AllowedNotes.{AreAllowed, IsTime, name_written}
 use Rattle.hand_canon.specs.Sound.{IsSound}
 use Rattle.play_event.specs.declared.setup.Setup.{Setup}
 use Rattle.play_event.specs.Code.{code_text}
@@ -19,8 +19,9 @@ use Rattle.play_event.specs.ValidSetup.{is_fixed}
 use Rattle.phh_words.specs.Written.{event_text}
 use Rattle.hand_records.specs.declared.trace.Trace.{Trace}
 use Rattle.phh_table.specs.Members.{Field, put, table_of}
-use Rattle.phh_table.specs.HandFields.{amounts_of, blinds_written, hand_field, hand_fields, label, local_time, name_written, note_fields, number_field, number_written, numbers, script_of, setup_fields, texts, trace_fields}
+use Rattle.phh_table.specs.HandFields.{blinds_written, hand_field, hand_fields, label, local_time, note_fields, number_field, number_written, numbers, script_of, setup_fields, texts, trace_fields}
 use Rattle.phh_table.specs.Document.{document, hand_table, numbered_hands}
+use Rattle.chip_ledger.specs.SeatRow.{amounts_in}
 
 -- a value is no deeper than this, and its times are times of a day
 pub record IsPlain (most : ℕ) (value : Data) : Type 0 where
@@ -151,9 +152,9 @@ setup_plain setup = (
   (
     record { shallow = omega arith; dates = refl },
     (
-      numbers_plain (amounts_of setup.antes),
+      numbers_plain (amounts_in setup.antes),
       (
-        unless_plain (is_stud setup.code) (numbers (blinds_written (amounts_of setup.blinds))) (numbers_plain (blinds_written (amounts_of setup.blinds))),
+        unless_plain (is_stud setup.code) (numbers (blinds_written (amounts_in setup.blinds))) (numbers_plain (blinds_written (amounts_in setup.blinds))),
         (
           where_plain (is_stud setup.code) (integer (pos setup.bring_in)) (number_plain setup.bring_in),
           (
@@ -162,7 +163,7 @@ setup_plain setup = (
               where_plain (is_fixed (limit_of setup.code)) (integer (pos setup.big_bet)) (number_plain setup.big_bet),
               (
                 where_plain (not (is_fixed (limit_of setup.code))) (integer (pos setup.min_bet)) (number_plain setup.min_bet),
-                (numbers_plain (amounts_of setup.stacks), tt),
+                (numbers_plain (amounts_in setup.stacks), tt),
               ),
             ),
           ),
@@ -176,7 +177,7 @@ trace_plain : (trace : Trace) → Plain (trace_fields trace)
 trace_plain trace = (
   texts_plain (map event_text (script_of trace)),
   (
-    numbers_plain (amounts_of trace.finish),
+    numbers_plain (amounts_in trace.finish),
     (where_plain (list_any (nat_lt 0) (take trace.pots.count trace.setup.rakes.rakes)) (numbers (take trace.pots.count trace.setup.rakes.rakes)) (numbers_plain (take trace.pots.count trace.setup.rakes.rakes)), tt),
   ),
 )

@@ -1,10 +1,9 @@
 -- The fields of a hand that is written, each with its key, in the order in which a reader examines them.
-use Rattle.std.specs.Prelude.{ℕ, ◌-◌, Bool, ◌&&◌, ◌||◌, ◌==◌, not, nat_lt, min, max, bytes_eq, if◌then◌else◌, pos, List, [], ◌∷◌, ◌++◌, length, map, take, codes, slice_index, slice_index_or, Option, Some, None, option_map, unwrap_or, is_some}
+use Rattle.std.specs.Prelude.{ℕ, ◌-◌, Bool, ◌&&◌, ◌||◌, ◌==◌, not, nat_lt, min, max, bytes_eq, if◌then◌else◌, pos, List, [], ◌∷◌, ◌++◌, length, map, take, codes, slice_index, Option, Some, None, option_map, unwrap_or, is_some}
 use Rattle.std.specs.Fmt.{decimal}
 use Rattle.std.specs.List.{list_any, range_with_len}
 use Rattle.toml.specs.Data.{Data, string, integer, boolean, datetime, array}
 use Rattle.toml.specs.View.{items_of}
-use Rattle.chip_ledger.specs.declared.rows.SeatRow.{SeatRow}
 use Rattle.chip_ledger.specs.declared.rakes.RakeRow.{RakeRow}
 use Rattle.first_fault.specs.Digits.{are_digits, number_of}
 use Rattle.play_event.specs.Code.{code_text}
@@ -16,11 +15,12 @@ use Rattle.hand_records.specs.declared.notes.Clock.{Clock}
 use Rattle.hand_records.specs.declared.notes.Notes.{Notes}
 use Rattle.hand_records.specs.declared.trace.Play.{Play}
 use Rattle.hand_records.specs.declared.trace.Trace.{Trace}
-use Rattle.hand_records.specs.AllowedNotes.{default_name}
+use Rattle.hand_records.specs.AllowedNotes.{name_written}
 use Rattle.canonical_play.specs.CanonScript.{canonical_script}
 use Rattle.hand_records.specs.TraceRows.{core_said}
 use Rattle.phh_words.specs.Written.{event_text}
 use Rattle.phh_table.specs.Members.{Field}
+use Rattle.chip_ledger.specs.SeatRow.{amounts_in}
 
 -- whole numbers as a list of a document
 abbrev pub numbers : List ℕ → Data
@@ -30,10 +30,6 @@ numbers all = array (items_of (map (λ number. integer (pos number)) all))
 abbrev pub texts : List (List ℕ) → Data
 texts all = array (items_of (map string all))
 
--- the amounts of a row, the first seat's first
-abbrev pub amounts_of : SeatRow → List ℕ
-amounts_of row = take row.seats row.amounts
-
 -- of two blinds the smaller is written first
 abbrev pub blinds_written : List ℕ → List ℕ
 blinds_written (first ∷ second ∷ []) = min first second ∷ max first second ∷ []
@@ -41,7 +37,7 @@ blinds_written blinds = blinds
 
 -- the blinds, in a game that has some
 abbrev pub blinds_field : Setup → Option Data
-blinds_field setup = if is_stud setup.code then None else Some (numbers (blinds_written (amounts_of setup.blinds)))
+blinds_field setup = if is_stud setup.code then None else Some (numbers (blinds_written (amounts_in setup.blinds)))
 
 -- a size that the game uses
 abbrev pub size_field : Bool → ℕ → Option Data
@@ -52,13 +48,13 @@ abbrev pub setup_fields : Setup → List Field
 setup_fields setup =
     (codes "variant", Some (string (code_text setup.code)))
     ∷ (codes "ante_trimming_status", Some (boolean (not setup.dead_antes)))
-    ∷ (codes "antes", Some (numbers (amounts_of setup.antes)))
+    ∷ (codes "antes", Some (numbers (amounts_in setup.antes)))
     ∷ (codes "blinds_or_straddles", blinds_field setup)
     ∷ (codes "bring_in", size_field (is_stud setup.code) setup.bring_in)
     ∷ (codes "small_bet", size_field (is_fixed (limit_of setup.code)) setup.small_bet)
     ∷ (codes "big_bet", size_field (is_fixed (limit_of setup.code)) setup.big_bet)
     ∷ (codes "min_bet", size_field (not (is_fixed (limit_of setup.code))) setup.min_bet)
-    ∷ (codes "starting_stacks", Some (numbers (amounts_of setup.stacks)))
+    ∷ (codes "starting_stacks", Some (numbers (amounts_in setup.stacks)))
     ∷ []
 
 -- the canonical script of a trace
@@ -73,13 +69,9 @@ rakes_field pots row = if list_any (nat_lt 0) (take pots row.rakes) then Some (n
 abbrev pub trace_fields : Trace → List Field
 trace_fields trace =
     (codes "actions", Some (texts (map event_text (script_of trace))))
-    ∷ (codes "finishing_stacks", Some (numbers (amounts_of trace.finish)))
+    ∷ (codes "finishing_stacks", Some (numbers (amounts_in trace.finish)))
     ∷ (codes "_rakes", rakes_field trace.pots.count trace.setup.rakes)
     ∷ []
-
--- the name of a seat's player, or its default where none is said
-abbrev pub name_written : Notes → ℕ → List ℕ
-name_written notes seat = unwrap_or (slice_index_or notes.names (seat - 1) None) (default_name seat)
 
 -- the names of so many players, where one is said
 abbrev pub names_field : ℕ → Notes → Option Data

@@ -6,16 +6,12 @@ use Rattle.hand_records.specs.declared.writing.Unspelled.{Unspelled}
 use Rattle.hand_records.specs.declared.writing.Unspelled.TheVariants as facts
 use Rattle.hand_records.specs.declared.writing.WriteRefusal.{WriteRefusal}
 use Rattle.hand_records.specs.declared.writing.WriteRefusal.TheVariants as refusals
+use Rattle.hand_records.specs.Refusals.{refused_at}
 
 -- The fact of a play that has no spelling: the format lets a seat raise again only after a full raise, so a raise that is
 -- closed under that rule has none. Every other fact is spelled, and every note.
 unfoldable pub unspelled : Play → Option Unspelled
 unspelled play = if list_any (λ move. move.closed) play.trace.moves then Some facts.ReopenedShort else None
-
--- the refusal of the hand with this number, or of the first one behind it
-abbrev pub refused_at : ℕ → Option Unspelled → Option WriteRefusal → Option WriteRefusal
-refused_at number (Some fact) behind = Some (refusals.Unspelled number fact)
-refused_at number None behind = behind
 
 -- the first refusal of plays, of which the first has this number
 abbrev pub refusal_from : ℕ → List Play → Option WriteRefusal

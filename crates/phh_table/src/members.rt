@@ -4,7 +4,8 @@ ghost use Rattle.toml.specs.Data.{integer, string};
 ghost use Rattle.toml.specs.View.{table_view, view};
 ghost use Rattle.chip_ledger.specs.declared.rows.TheConstants.{MOST_AMOUNT};
 ghost use Rattle.phh_table.specs.Members.{put as put_said};
-ghost use Rattle.phh_table.specs.HandFields.{amounts_of, numbers};
+ghost use Rattle.phh_table.specs.HandFields.{numbers};
+ghost use Rattle.chip_ledger.specs.SeatRow.{amounts_in};
 
 use card_set::Memory;
 use chip_ledger::SeatRow;
@@ -39,7 +40,7 @@ pub fn put_number(alloc: Global, table: &mut Table, key: &str, amount: u64) -> R
 /// Puts the amounts of a row under a key.
 pub fn put_row(alloc: Global, table: &mut Table, key: &str, row: &SeatRow) -> Result<(), Memory>
     ensures { OnOk result (table_view table.new
-        ≡ put_said key.now (numbers (amounts_of row.now)) (table_view table.old)) }
+        ≡ put_said key.now (numbers (amounts_in row.now)) (table_view table.old)) }
 {
     put_amounts(
         alloc,

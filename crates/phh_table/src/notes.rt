@@ -5,7 +5,8 @@ ghost use Rattle.std.specs.Option.{is_some};
 ghost use Rattle.toml.specs.Data.{integer, string};
 ghost use Rattle.toml.specs.View.{table_view, view};
 ghost use Rattle.phh_table.specs.Members.{put as put_said, put_if, with_fields};
-ghost use Rattle.phh_table.specs.HandFields.{fraction as fraction_said, hand_field, label, local_time as time_said, name_written, names_field, note_fields, number_field, number_written, numbers};
+ghost use Rattle.phh_table.specs.HandFields.{fraction as fraction_said, hand_field, label, local_time as time_said, names_field, note_fields, number_field, number_written, numbers};
+ghost use Rattle.hand_records.specs.AllowedNotes.{name_written};
 
 use crate::members::{number, put, put_number, put_text, text};
 use card_set::Memory;

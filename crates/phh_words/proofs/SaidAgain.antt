@@ -6,9 +6,10 @@ use Rattle.play_event.specs.Said as said
 use Rattle.play_event.specs.Said.{Said}
 use Rattle.phh_words.specs.Action.{action_said, act_said, act_with_said, four_say, three_say, two_say, words_say}
 use Rattle.phh_words.specs.Words.{seat_name}
-use Rattle.phh_words.specs.Written.{CanBeSaid, IsSeat, event_text, event_words}
+use Rattle.phh_words.specs.Written.{CanBeSaid, event_text, event_words}
 use Rattle.phh_words.proofs.WordsAgain.{IsWord, words_again}
 use Rattle.phh_words.proofs.PartsAgain.{amount_again, cards_again, cards_word, decimal_word, name_word, seat_again, slots_again, slots_word}
+use Rattle.chip_ledger.specs.Seat.{IsSeatOf}
 
 -- the words that each event of a form has
 dealer_word : IsWord (codes "d")
@@ -38,7 +39,7 @@ discard_word = record { some = omega arith; plain = refl }
 show_word : IsWord (codes "sm")
 show_word = record { some = omega arith; plain = refl }
 
-seat_word : (seats seat : ℕ) → seats ≤ 10 → IsSeat seats seat → IsWord (seat_name seat)
+seat_word : (seats seat : ℕ) → seats ≤ 10 → IsSeatOf seats seat → IsWord (seat_name seat)
 seat_word seats seat few is = name_word seat (omega (arith, few, is.1))
 
 -- each word of an event is a word

@@ -5,7 +5,8 @@ use Rattle.std.proofs.lemmas.Bool.{and_parts, lt-ltb, not-true}
 use Rattle.std.proofs.lemmas.List.Folds.{list_all-append}
 use Rattle.std.proofs.lemmas.List.Splits.{slice_split_at, slice_split_none}
 use Rattle.std.proofs.lemmas.List.Sums.{AllPass-from_list_all, position_or_len_is}
-use Rattle.phh_words.specs.Words.{before_commentary, commentary_sign, is_space, words_of}
+use Rattle.phh_words.specs.Words.{before_commentary, commentary_sign}
+use Rattle.first_fault.specs.Words.{is_space, words_of}
 
 -- a byte that may stand in a word: no space, and not the sign of a commentary
 abbrev pub is_plain : ℕ → Bool

@@ -14,7 +14,8 @@ use Rattle.play_event.specs.Said as said
 use Rattle.play_event.specs.Said.{Said}
 use Rattle.phh_words.specs.declared.fault.ActionFault.{ActionFault}
 use Rattle.phh_words.specs.declared.fault.ActionFault.TheVariants as faults
-use Rattle.phh_words.specs.Words.{before_commentary, seat_name, words_of}
+use Rattle.phh_words.specs.Words.{before_commentary, seat_name}
+use Rattle.first_fault.specs.Words.{words_of}
 
 -- a value that is read, or what is wrong
 abbrev pub Read : Type 0 → Type 0

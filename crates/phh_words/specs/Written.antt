@@ -8,6 +8,7 @@ use Rattle.play_event.specs.declared.event.Spelled.TheVariants as spelled
 use Rattle.play_event.specs.Said as said
 use Rattle.play_event.specs.Said.{Said}
 use Rattle.phh_words.specs.Words.{seat_name}
+use Rattle.chip_ledger.specs.Seat.{IsSeatOf}
 
 -- The words of an event whose actor is named, and whose raise is spelled by the amount to which it goes. What a call is said
 -- to add has no word. Other events have no words.
@@ -32,20 +33,16 @@ has_words event = nat_lt 0 (length (event_words event))
 unfoldable pub event_text : Said → List ℕ
 event_text event = join_with_byte 32 (event_words event)
 
--- a seat of a hand with so many seats
-abbrev pub IsSeat : ℕ → ℕ → Type 0
-IsSeat seats seat = (1 ≤ seat) × (seat ≤ seats)
-
 -- An action can say the event in a hand with so many seats: it has words and states no chips of a call, its seat is one of the
 -- hand, its amount may be stated, and its cards are as many as the words may name.
 abbrev pub CanBeSaid : ℕ → Said → Type 0
-CanBeSaid seats (said.Hole seat slots) = IsSeat seats seat × (1 ≤ length slots) × (length slots ≤ 7)
+CanBeSaid seats (said.Hole seat slots) = IsSeatOf seats seat × (1 ≤ length slots) × (length slots ≤ 7)
 CanBeSaid seats (said.Board cards) = (1 ≤ length cards) × (length cards ≤ 5)
-CanBeSaid seats (said.Fold (Some seat)) = IsSeat seats seat
-CanBeSaid seats (said.Call (Some seat) None) = IsSeat seats seat
-CanBeSaid seats (said.Raise (Some seat) (spelled.To amount)) = IsSeat seats seat × (amount ≤ MOST_CHIPS)
-CanBeSaid seats (said.BringIn (Some seat)) = IsSeat seats seat
-CanBeSaid seats (said.Discard seat slots) = IsSeat seats seat × (length slots ≤ 5)
-CanBeSaid seats (said.Show seat cards) = IsSeat seats seat × (1 ≤ length cards) × (length cards ≤ 7)
-CanBeSaid seats (said.Muck seat) = IsSeat seats seat
+CanBeSaid seats (said.Fold (Some seat)) = IsSeatOf seats seat
+CanBeSaid seats (said.Call (Some seat) None) = IsSeatOf seats seat
+CanBeSaid seats (said.Raise (Some seat) (spelled.To amount)) = IsSeatOf seats seat × (amount ≤ MOST_CHIPS)
+CanBeSaid seats (said.BringIn (Some seat)) = IsSeatOf seats seat
+CanBeSaid seats (said.Discard seat slots) = IsSeatOf seats seat × (length slots ≤ 5)
+CanBeSaid seats (said.Show seat cards) = IsSeatOf seats seat × (1 ≤ length cards) × (length cards ≤ 7)
+CanBeSaid seats (said.Muck seat) = IsSeatOf seats seat
 CanBeSaid seats _ = ⊥

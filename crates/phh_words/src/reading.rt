@@ -2,7 +2,7 @@
 ghost use Rattle.std.specs.Prelude.{◌≡◌, ◌≤◌, option_map};
 ghost use Rattle.play_event.specs.Said.{kind_said};
 ghost use Rattle.phh_words.specs.Action.{action_said, act_said, act_with_said, four_say, seen_by, three_say, two_say, words_say};
-ghost use Rattle.phh_words.specs.Words.{words_of};
+ghost use Rattle.first_fault.specs.Words.{words_of};
 
 use crate::fault::ActionFault;
 use crate::parts::{read_amount, read_cards, read_seat, read_slots};

@@ -2,7 +2,8 @@
 ghost use Rattle.std.specs.Prelude.{◌≡◌, ◌⊎◌, ◌∷◌, ◌==◌, [], false, bytes_eq, slice_index};
 ghost use Rattle.std.specs.List.{position_or_len};
 ghost use Rattle.std.specs.Option.{option_map_or};
-ghost use Rattle.phh_words.specs.Words.{before_commentary as said_part, is_space, words_of};
+ghost use Rattle.phh_words.specs.Words.{before_commentary as said_part};
+ghost use Rattle.first_fault.specs.Words.{is_space, words_of};
 
 /// The text before its commentary.
 pub fn before_commentary(text: &[u8]) -> &[u8]

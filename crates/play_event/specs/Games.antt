@@ -79,3 +79,8 @@ board_cards_on code street = option_map_or (λ s. s.board) (slice_get (game_of c
 -- how many streets the game has
 abbrev pub street_count : Code → ℕ
 street_count code = length (game_of code).streets
+
+-- the eleven games
+abbrev pub all_games : List Code
+all_games =
+    games.FT ∷ games.NT ∷ games.NS ∷ games.PO ∷ games.FO8 ∷ games.F7S ∷ games.F7S8 ∷ games.FR ∷ games.N2L1D ∷ games.F2L3D ∷ games.FB ∷ []

@@ -8,7 +8,8 @@ use Rattle.chip_ledger.proofs.Same.{seat_row_same_by_seats}
 use Rattle.acpc_game.specs.declared.game.Game.{Game}
 use Rattle.acpc_game.specs.GameFile.{GameSaid, has_short_stack, is_reversed}
 use Rattle.acpc_game.specs.GameView.{game_in}
-use Rattle.acpc_game.specs.Games.{amounts_in, are_chips, has_fitting_sizes}
+use Rattle.acpc_game.specs.Games.{are_chips, has_fitting_sizes}
+use Rattle.chip_ledger.specs.SeatRow.{amounts_in}
 
 -- rows with the same amounts are one row
 rows_same : (a b : SeatRow) → amounts_in a ≡ amounts_in b → a ≡ b

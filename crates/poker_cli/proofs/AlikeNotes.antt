@@ -7,7 +7,7 @@ use Rattle.std.proofs.lemmas.List.{get_or-take}
 use Rattle.std.proofs.lemmas.Option.{same_Some}
 use Rattle.serde_json.specs.Data as json
 use Rattle.toml.specs.Data as toml
-use Rattle.hand_records.specs.AllowedNotes.{default_name}
+use Rattle.hand_records.specs.AllowedNotes.{default_name, name_written}
 use Rattle.hand_records.specs.declared.notes.Notes.{Notes}
 use Rattle.hand_records.specs.declared.trace.Trace.{Trace}
 use Rattle.acpc_line.specs.Names.{name_or_default, name_text, names_text}
@@ -22,7 +22,7 @@ use Rattle.ohh_line.specs.Tree.{date_member, hand_members, limit_tree, list, num
 use Rattle.chip_ledger.specs.SeatRow.{amount_of}
 use Rattle.ohh_members.specs.declared.dialect.Dialect.{Dialect}
 use Rattle.phh_fields.specs.NoteFields.{PlainNotes, plain_notes}
-use Rattle.phh_table.specs.HandFields.{hand_field, label, local_time, name_written, names_field, note_fields, number_field, numbers, texts}
+use Rattle.phh_table.specs.HandFields.{hand_field, label, local_time, names_field, note_fields, number_field, numbers, texts}
 use Rattle.phh_table.specs.Members.{Field}
 use Rattle.convert_core.specs.SameRecords.{NoteTheSame}
 use Rattle.list_laws.proofs.NumbersOfRange.{flat_same, map_agree}

@@ -1,13 +1,13 @@
 -- The amounts of a row are those of its seats, from the first on.
 use Rattle.std.proofs.Common.{◌≡◌, ℕ, ◌+◌, ◌-◌, ◌≤◌, List, [], map, take, slice_index, sym, ◌∙◌, ap, append_assoc, codes, ◌++◌, arith}
 use Rattle.chip_ledger.specs.Seat.{seats_of}
-use Rattle.chip_ledger.specs.SeatRow.{amount_of}
+use Rattle.chip_ledger.specs.SeatRow.{amount_of, amounts_in}
 use Rattle.chip_ledger.specs.declared.rows.SeatRow.{SeatRow}
 use Rattle.play_event.specs.Chips.{chips_left, chips_put}
 use Rattle.play_event.specs.Past.{Move}
 use Rattle.play_event.specs.Seats.{all_seats}
 use Rattle.play_event.specs.declared.setup.Setup.{Setup}
-use Rattle.printed_hands.specs.Amounts.{amounts_in, amounts_text}
+use Rattle.printed_hands.specs.Amounts.{amounts_text}
 use Rattle.printed_hands.specs.Steps.{HasPut, chips_text}
 use Rattle.list_laws.proofs.NumbersOfRange.{taken_index_along}
 

@@ -2,7 +2,8 @@
 use Rattle.std.specs.Prelude.{ℕ, ◌+◌, List, [], ◌∷◌, ◌++◌, length, codes}
 use Rattle.std.specs.Fmt.{decimal}
 use Rattle.hand_records.specs.declared.trace.Play.{Play}
-use Rattle.printed_hands.specs.Amounts.{amounts_in, amounts_text}
+use Rattle.printed_hands.specs.Amounts.{amounts_text}
+use Rattle.chip_ledger.specs.SeatRow.{amounts_in}
 
 -- the lines of hands, the first of which has this number
 unfoldable pub each_hand : (ℕ → Play → List ℕ) → ℕ → List Play → List ℕ

@@ -5,7 +5,8 @@ use Rattle.chip_ledger.specs.declared.pots.Pot.{Pot}
 use Rattle.chip_ledger.specs.declared.rows.SeatRow.{SeatRow}
 use Rattle.chip_ledger.specs.PotRow.{pots_in, shares_in}
 use Rattle.hand_records.specs.declared.trace.Trace.{Trace}
-use Rattle.printed_hands.specs.Amounts.{amounts_in, amounts_text}
+use Rattle.printed_hands.specs.Amounts.{amounts_text}
+use Rattle.chip_ledger.specs.SeatRow.{amounts_in}
 
 -- a seat, as p3
 abbrev pub seat_text : ℕ → List ℕ

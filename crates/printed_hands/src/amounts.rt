@@ -1,6 +1,7 @@
 //! Amounts are printed behind one another, each behind a space.
 ghost use Rattle.std.specs.Prelude.{◌≡◌, ◌++◌, OnOk, string_bytes};
-ghost use Rattle.printed_hands.specs.Amounts.{amounts_in, amounts_text};
+ghost use Rattle.printed_hands.specs.Amounts.{amounts_text};
+ghost use Rattle.chip_ledger.specs.SeatRow.{amounts_in};
 
 use card_set::Memory;
 use chip_ledger::SeatRow;

@@ -1,8 +1,8 @@
 use Rattle.std.proofs.Common.{◌≡◌, ◌+◌, ◌≤◌, length}
 use Rattle.std.specs.List.{list_all}
 use Rattle.first_fault.specs.Digits.{are_digits}
-use Rattle.acpc_text.specs.Parts.{words_of}
 use Rattle.acpc_game.proofs.form.count_numbers.Given as goal
+use Rattle.first_fault.specs.Words.{words_of}
 
 -- the words so far are digits, and are counted
 abbrev pub invariant-loop-word : goal.invariant-loop-word

@@ -5,10 +5,10 @@ use Rattle.std.proofs.lemmas.List.{length-append}
 use Rattle.std.proofs.lemmas.List.Folds.{list_all-append}
 use Rattle.std.proofs.lemmas.Result.{err_from_is_err_and}
 use Rattle.first_fault.specs.Digits.{are_digits}
-use Rattle.acpc_text.specs.Parts.{words_of}
 use Rattle.acpc_game.specs.GameFile.{numbers_after}
 use Rattle.acpc_game.proofs.Steps.{word_read, word_fails, words_done}
 use Rattle.acpc_game.proofs.lines.read_numbers.Goals as goal
+use Rattle.first_fault.specs.Words.{words_of}
 
 pub returns-in_err-number-clause-said : goal.returns-in_err-number-clause-said
 returns-in_err-number-clause-said c =

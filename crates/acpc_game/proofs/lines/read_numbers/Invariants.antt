@@ -1,9 +1,9 @@
 use Rattle.std.proofs.Common.{◌≡◌, ◌+◌, true, [], nat_le, length}
 use Rattle.std.specs.List.{list_all}
 use Rattle.first_fault.specs.Digits.{are_digits}
-use Rattle.acpc_text.specs.Parts.{words_of}
 use Rattle.acpc_game.specs.GameFile.{numbers_after}
 use Rattle.acpc_game.proofs.lines.read_numbers.Given as goal
+use Rattle.first_fault.specs.Words.{words_of}
 
 -- the numbers so far and those of the words that are left are all of them
 abbrev pub invariant-loop-word : goal.invariant-loop-word

@@ -1,8 +1,8 @@
 use Rattle.std.proofs.Common.{ℕ, List, sym, ap, ◌∙◌}
 use Rattle.acpc_game.specs.GameFile.{has_short_stack}
-use Rattle.acpc_game.specs.Games.{amounts_in}
 use Rattle.acpc_line.proofs.Making.{makes_game}
 use Rattle.acpc_line.proofs.fits.game_of.Goals as goal
+use Rattle.chip_ledger.specs.SeatRow.{amounts_in}
 
 pub make_game-requires : goal.make_game-requires
 make_game-requires c =

@@ -1,7 +1,7 @@
 use Rattle.std.proofs.Common.{sym, arith, length}
 use Rattle.std.proofs.lemmas.List.Sums.{position_or_len_is}
-use Rattle.acpc_text.specs.Parts.{is_space}
 use Rattle.acpc_text.proofs.parts.word_len.Goals as goal
+use Rattle.first_fault.specs.Words.{is_space}
 
 pub returns-then-sign-eq32 : goal.returns-then-sign-eq32
 returns-then-sign-eq32 c = sym (position_or_len_is is_space c.args.text.now c.loop-index.index 0 (omega arith) c.loop-index.invariant (λ within. grind arith))

@@ -5,9 +5,11 @@ use Rattle.std.proofs.lemmas.Result.{err_from_is_err_and}
 use Rattle.toml.specs.View.{table_view}
 use Rattle.first_fault.proofs.Thread.{threads_on, thread_ends, thread_done}
 use Rattle.phh_reading.specs.Hand.{plain}
-use Rattle.phh_reading.specs.Reading.{IsHistory, hands_said, moves_of, numbered_hand}
+use Rattle.phh_reading.specs.Reading.{hands_said, numbered_hand}
 use Rattle.phh_reading.proofs.file.read_tables.Goals as goal
 use Rattle.list_laws.proofs.Entries.{all_push}
+use Rattle.hand_records.specs.Histories.{IsHistory}
+use Rattle.hand_records.specs.Moves.{moves_of}
 
 pub returns-in_err-record-clause-said : goal.returns-in_err-record-clause-said
 returns-in_err-record-clause-said c =

@@ -2,8 +2,8 @@ use Rattle.std.proofs.Common.{◌≡◌, map}
 use Rattle.std.specs.List.{range_with_len}
 use Rattle.toml.specs.Data.{string}
 use Rattle.toml.specs.View.{view}
-use Rattle.phh_table.specs.HandFields.{name_written}
 use Rattle.phh_table.proofs.notes.names_of.Given as goal
+use Rattle.hand_records.specs.AllowedNotes.{name_written}
 
 -- the names so far are values
 abbrev pub invariant-loop-index : goal.invariant-loop-index

@@ -1,8 +1,8 @@
 use Rattle.std.proofs.Common.{◌∙◌, sym, arith, length, not, ◌<◌, refl}
 use Rattle.std.proofs.lemmas.List.Sums.{prefix_len-le-length}
-use Rattle.phh_words.specs.Words.{is_space}
 use Rattle.list_laws.proofs.Words.{first_word, begins_word}
 use Rattle.phh_words.proofs.words.next_word.Goals as goal
+use Rattle.first_fault.specs.Words.{is_space}
 
 pub split_at-requires : goal.split_at-requires
 split_at-requires c = omega (arith, c.place_of-len.ensures, prefix_len-le-length (λ sign. not (is_space sign)) c.skip_spaces-text.result.now)

@@ -1,6 +1,6 @@
 use Rattle.std.proofs.Common.{◌≡◌, length}
-use Rattle.phh_words.specs.Words.{words_of}
 use Rattle.phh_words.proofs.words.skip_spaces.Given as goal
+use Rattle.first_fault.specs.Words.{words_of}
 
 -- what is left has the words of the text
 abbrev pub invariant-loop-rest : goal.invariant-loop-rest

@@ -3,11 +3,11 @@ use Rattle.std.proofs.lemmas.Bool.{and_parts}
 use Rattle.std.specs.List.{list_any}
 use Rattle.chip_ledger.proofs.SeatLists.{any_seats}
 use Rattle.chip_ledger.specs.Seat.{seats_of}
-use Rattle.chip_ledger.specs.SeatRow.{amount_of}
+use Rattle.chip_ledger.specs.SeatRow.{amount_of, amounts_in}
 use Rattle.ohh_posts.specs.Conditions.{has_all_antes}
 use Rattle.ohh_posts.specs.Posts.{PlainPost, plain_post}
 use Rattle.ohh_posts.specs.Stakes.{PlainStakes, held_ante, named_blind, stakes_said}
-use Rattle.ohh_posts.specs.Table.{PlainTable, amounts_in, plain_table, seat_count}
+use Rattle.ohh_posts.specs.Table.{PlainTable, plain_table, seat_count}
 use Rattle.ohh_posts.proofs.SeatBySeat.{row_listed}
 use Rattle.ohh_posts.proofs.Stacks.{seats_in}
 use Rattle.ohh_posts.proofs.stakes.Stakes.of.Goals as goal
