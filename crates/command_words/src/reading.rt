@@ -38,7 +38,7 @@ fn request_in_words(words: &[String]) -> Option<Request<'_>>
     request_of(word.as_str(), options)
 }
 
-// The words of a command, by the names of what they are. They are refused only for want of memory.
+// The words of a command, by the names of what they are. Every error of the parser is told as want of memory.
 fn parsed<'a>(alloc: Global, words: &'a [String]) -> Result<ArgMatches<'a>, Memory>
     requires { is_some (request_said (map string_bytes words.now)) ≡ true }
     ensures { IfOk result (λ matches. IsSaidBy (map string_bytes words.now) (found_of matches)) }

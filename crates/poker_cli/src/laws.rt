@@ -26,11 +26,11 @@ pub fn law_of_one_answer()
 {}
 
 /// A run on an input that is not too long, and whose hands are all legal and agree with what is stated of them, ends with
-/// Done, or a device failed, or memory ran out: on hands in a notation without games, and on a log whose game's file gives
-/// its game. Where the game file of the first hand is asked for, it may also end with Unspelled, if that hand fits no game.
+/// Done, or a device failed, or the status is Memory: on hands in a notation without games, and on a log whose game's file
+/// gives its game. Where the game file of the first hand is asked for, it may also end with Unspelled, if that hand fits no game.
 /// Where hands are converted, each fact that is to be kept has a spelling in the other notation. A run that makes hands ends
-/// with Done, or the output failed, or memory ran out, whatever input and files there are. The function does nothing: its
-/// contract is a law.
+/// with Done, or the output failed, or the status is Memory, whatever input and files there are. The function does nothing:
+/// its contract is a law.
 pub fn law_of_legal_inputs()
     ensures show { (command : Command) (notation : Notation) (reader : Reader)
         → (files : Files) (bytes : List ℕ) (records : List Record) (plays : List Play)
