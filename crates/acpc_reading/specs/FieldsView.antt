@@ -3,6 +3,7 @@ use Rattle.std.specs.Prelude.{◌+◌, ◌<◌, ◌^◌, length}
 use Rattle.acpc_reading.specs.declared.fields.Fields.{Fields}
 use Rattle.acpc_reading.specs.Logs.{FieldsSaid}
 
+-- the fields of a line with plain lists
 abbrev pub fields_in : Fields → FieldsSaid
 fields_in fields = record {
   state = fields.state.now;

@@ -33,10 +33,11 @@ unfoldable pub names_said : ℕ → ℕ → List ℕ → Result (List (Option (L
 names_said players at text =
     if length (parts_of 124 text) == players then names_after [] 1 at (parts_of 124 text) else wrong whats.SeatCount at
 
--- the most digits of a number of a hand, and the greatest such number
+-- the most digits of a number of a hand
 abbrev pub most_hand_digits : ℕ
 most_hand_digits = 18
 
+-- the greatest number of a hand: it has so many digits
 abbrev pub most_hand : ℕ
 most_hand = 999999999999999999
 

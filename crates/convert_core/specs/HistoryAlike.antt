@@ -16,15 +16,19 @@ use Rattle.convert_core.specs.SameRecords.{AllAlike, AreAlike, ArePlayedAlike}
 use Rattle.hand_records.specs.Histories.{IsHistory}
 
 module _ (a b : Record) (is : IsHistory a) (it : IsHistory b) (same : plain a ≡ plain b) where
+  -- their setups are one
   setups : a.setup ≡ b.setup
   setups = same_setup a b same
 
+  -- they have as many seats
   count : a.setup.stacks.seats ≡ b.setup.stacks.seats
   count = ap (λ (setup : Setup). setup.stacks.seats) setups
 
+  -- the seats have the same names
   names : take a.setup.stacks.seats a.notes.names ≡ take a.setup.stacks.seats b.notes.names
   names = ap (λ (hand : PlainHand). hand.notes.seating.names) same ∙ ap (λ (n : ℕ). take n b.notes.names) (sym count)
 
+  -- the seats have the same numbers
   numbers : option_map (take a.setup.stacks.seats) a.notes.seats ≡ option_map (take a.setup.stacks.seats) b.notes.seats
   numbers = ap (λ (hand : PlainHand). hand.notes.seating.seats) same ∙ ap (λ (n : ℕ). option_map (take n) b.notes.seats) (sym count)
 
@@ -32,6 +36,7 @@ module _ (a b : Record) (is : IsHistory a) (it : IsHistory b) (same : plain a �
   allowed : AreAllowed a.setup.stacks.seats b.notes
   allowed = subst (λ (n : ℕ). AreAllowed n b.notes) (sym count) it.sound.notes
 
+  -- two hands of histories that are said alike
   pub history_alike : AreAlike a b
   history_alike =
       record {

@@ -30,21 +30,25 @@ use Rattle.convert_core.specs.SameParts.{names_same, one_script}
 use Rattle.convert_core.specs.SameRecords.{AllAlike, AreAlike, ArePlayedAlike, NoteTheSame, number_at}
 use Rattle.hand_records.specs.Refusals.{or_behind}
 
--- rows of nets with the same nets are one row
+-- what these numbers keep as the nets of so many seats
 record KeptNets (seats : ℕ) (nets : List ℤ) : Type 0 where
   greatest : seats ≤ 10
   full : length nets ≡ 10
   filler : (k : ℕ) → seats ≤ k → slice_index_or nets k (pos 0) ≡ pos 0
 
+-- they keep it in one way
 KeptNets-prop : (seats : ℕ) (nets : List ℤ) → IsProp (KeptNets seats nets)
 KeptNets-prop seats nets = hlevel props
 
+-- the row that keeps these nets
 net_row : (seats : ℕ) (nets : List ℤ) → KeptNets seats nets → NetRow
 net_row seats nets kept = record { seats = seats; nets = nets; greatest = kept.greatest; full = kept.full; filler = kept.filler }
 
+-- a row keeps its own nets
 kept_nets : (a : NetRow) → KeptNets a.seats a.nets
 kept_nets a = record { greatest = a.greatest; full = a.full; filler = a.filler }
 
+-- rows of as many seats and with the same numbers are one row
 net_row_same : (a b : NetRow) → a.seats ≡ b.seats → a.nets ≡ b.nets → a ≡ b
 unfolding net_row kept_nets
 net_row_same a b seats same =
@@ -52,6 +56,7 @@ net_row_same a b seats same =
     let here : P a.seats a.nets = λ kept. ap (net_row a.seats a.nets) (KeptNets-prop a.seats a.nets (kept_nets a) kept) in
     subst (λ nets. P b.seats nets) same (subst (λ n. P n a.nets) seats here) (kept_nets b)
 
+-- rows that say the same nets are one row
 nets_same : (a b : NetRow) → nets_in a ≡ nets_in b → a ≡ b
 nets_same a b same =
     let seats : a.seats ≡ b.seats =
@@ -68,18 +73,22 @@ nets_same a b same =
       | inr past ↦ a.filler k past ∙ sym (b.filler k (omega (arith, past, seats)))
     ]))
 
+-- rows that are both stated are one where they say the same nets
 values_same : (x y : Option NetRow) → is_some x ≡ true → is_some y ≡ true → option_map_or nets_in x [] ≡ option_map_or nets_in y [] → x ≡ y
 values_same None y some other same = absurd (cc)
 values_same (Some a) None some other same = absurd (cc)
 values_same (Some a) (Some b) some other same = ap Some (nets_same a b same)
 
+-- stated facts, put together
 stated_from : Option SeatRow → Option SeatRow → Option ℕ → Option NetRow → Stated
 stated_from finish wins pot_total values = record { finish = finish; wins = wins; pot_total = pot_total; values = values }
 
+-- stated facts are made of their four parts
 stated_parts : (s : Stated) → s ≡ stated_from s.finish s.wins s.pot_total s.values
 unfolding stated_from
 stated_parts s = refl
 
+-- facts of logs, where only the nets are stated, are one where the nets are
 one_stated : (a b : Stated) → StatesValues a → StatesValues b → option_map_or nets_in a.values [] ≡ option_map_or nets_in b.values [] → a ≡ b
 one_stated a b is it same =
     cc (
@@ -92,15 +101,19 @@ one_stated a b is it same =
     )
 
 module _ (game : Game) (a b : Record) (is : IsOfGame game a) (it : IsOfGame game b) (same : record_said a ≡ record_said b) where
+  -- their setups are one
   setups : a.setup ≡ b.setup
   setups = setups_same game a.setup b.setup is.setup it.setup
 
+  -- they have as many seats
   count : a.setup.stacks.seats ≡ b.setup.stacks.seats
   count = ap (λ (s : Setup). s.stacks.seats) setups
 
+  -- the seats have the same names
   names : take a.setup.stacks.seats a.notes.names ≡ take a.setup.stacks.seats b.notes.names
   names = ap (λ (hand : HandSaid). hand.names) same ∙ ap (λ (n : ℕ). take n b.notes.names) (sym count)
 
+  -- the other record names no more seats
   no_names : (index : ℕ) → a.setup.stacks.seats ≤ index → slice_index_or b.notes.names index None ≡ None
   no_names index late = it.sound.notes.no_more_names index (omega (arith, late, count))
 
@@ -159,12 +172,14 @@ names_alike p none (x ∷ xs) [] same =
     cc (ap p first, none, names_alike p none xs [] (λ index. same (suc index)))
 names_alike p none (x ∷ xs) (y ∷ ys) same = ap₂ (λ first rest. p first || rest) (same 0) (names_alike p none xs ys (λ index. same (suc index)))
 
+-- the numbers of the seats are said in both or in neither where they are alike
 numbers_alike : (x y : Option (List ℕ)) → ((index : ℕ) → number_at index x ≡ number_at index y) → is_some x ≡ is_some y
 numbers_alike None None same = refl
 numbers_alike None (Some b) same = absurd (let first = same 0 in cc)
 numbers_alike (Some a) None same = absurd (let first = same 0 in cc)
 numbers_alike (Some a) (Some b) same = refl
 
+-- notes that are the same have the same facts of names, numbers and labels
 texts_alike : (count : ℕ) (a b : Notes) → NoteTheSame count a b → text_conditions a ≡ text_conditions b
 texts_alike count a b same =
     cc (
@@ -177,9 +192,11 @@ texts_alike count a b same =
       same.currency,
     )
 
+-- notes that are the same have the same facts of day and time
 times_alike : (count : ℕ) (a b : Notes) → NoteTheSame count a b → time_conditions a ≡ time_conditions b
 times_alike count a b same = cc (same.zone, same.year, same.month, same.day, same.time)
 
+-- notes that are the same have the same first fact without a spelling
 notes_alike : (keep : Keep) (count : ℕ) (a b : Notes) → NoteTheSame count a b → unspelled_note keep a ≡ unspelled_note keep b
 unfolding unspelled_note
 notes_alike keeps.All count a b same =

@@ -38,11 +38,12 @@ use Rattle.hand_canon.specs.Sharp.{IsOther, is_sharp}
 use Rattle.hand_records.specs.Moves.{moves_played}
 use Rattle.hand_records.specs.Refusals.{refused_at}
 
--- what bytes say is what a reader gives of a file
+-- each hand that bytes say is under the rules of its notation
 each_under : (game : Game) (records : List Record) → AllByRecursion (IsOfGame game) records → AllByRecursion (IsUnder (rules_of game)) records
 each_under game [] each = tt
 each_under game (hand ∷ hands) each = (record { sound = each.0.sound; rules_are = each.0.rules }, each_under game hands each.1)
 
+-- what bytes say is what a reader gives of a file
 pub reads_file : (game : Game) (bytes : List ℕ) (hands : List Record) → Say game bytes hands → AreOfFile (rules_of game) hands
 reads_file game bytes hands say = record { each = each_under game hands say.each; few = say.few; few_moves = say.few_moves }
 
@@ -52,17 +53,18 @@ no_fault game bytes hands (formats.Phh fault) say have = have
 no_fault game bytes hands (formats.Ohh fault) say have = have
 no_fault game bytes hands (formats.Acpc fault) say have = (let said = say.reads in let had = have.reads in cc)
 
--- the first refusal of the logs of a game is that of their facts
+-- a refusal at a number is that of the fact that is there, or else one behind it
 same_at : (number : ℕ) (fact : Option Unspelled) (behind other : Option WriteRefusal) → behind ≡ other → refused_at number fact behind ≡ refused_at number fact other
 same_at number (Some fact) behind other same = refl
 same_at number None behind other same = same
 
+-- the first refusal of plays is that of their facts
 pub same_refusal : (game : Game) (keep : Keep) (number : ℕ) (plays : List Play) → facts.refusal_from game keep number plays ≡ refusal_from (facts.unspelled game keep) number plays
 same_refusal game keep number [] = refl
 same_refusal game keep number (play ∷ plays) =
     same_at number (facts.unspelled game keep play) (facts.refusal_from game keep (number + 1) plays) (refusal_from (facts.unspelled game keep) (number + 1) plays) (same_refusal game keep (number + 1) plays)
 
--- the moves that are written are those that were played
+-- of a play as many moves are written as were played
 same_count : (play : Play) → IsSound play → moves_written play ≡ moves_played play
 same_count play sound =
     let setup = play.hand.setup in
@@ -72,17 +74,19 @@ same_count play sound =
     ∙ move_count setup (reverse script)
     ∙ count_reversed is_move script
 
+-- of all plays as many moves are written as were played
 all_counted : (plays : List Play) → AllByRecursion IsSound plays → sum_by moves_written plays ≡ sum_by moves_played plays
 all_counted [] each = refl
 all_counted (play ∷ rest) each =
     omega (arith, sum_by-cons moves_written play rest, sum_by-cons moves_played play rest, same_count play each.0, all_counted rest each.1)
 
--- what is written reads back
+-- lines that read as hands have no fault
 none_had : (game : Game) (lines : List ℕ) (plays : List Play) (fault : FormatFault) → reading game lines ≡ Ok (hands_again game.no_limit 0 plays) → HaveFault game lines fault → ⊥
 none_had game lines plays (formats.Phh fault) read have = have
 none_had game lines plays (formats.Ohh fault) read have = have
 none_had game lines plays (formats.Acpc fault) read have = (let had = have.reads in cc)
 
+-- the lines of plays read back
 lines_back : (game : Game) (keep : Keep) (plays : List Play) → AreFew plays → AllByRecursion IsSound plays → AllByRecursion HasTexts plays → first_refusal (facts.unspelled game keep) plays ≡ None
     → ReadBack (Say game (log_text game.no_limit plays)) (HaveFault game (log_text game.no_limit plays)) KeepsNotes plays
 lines_back game keep plays few sound texts spelled =
@@ -94,6 +98,7 @@ lines_back game keep plays few sound texts spelled =
       again = λ hands say. read_back game keep plays few.few sound texts none moves hands say.each say.reads;
     }
 
+-- what is written reads back
 pub reads_back : (game : Game) (keep : Keep) (plays : List Play) (bytes : List ℕ) → AreFew plays → AllByRecursion IsSound plays → first_refusal (facts.unspelled game keep) plays ≡ None → Spell game plays bytes
     → ReadBack (Say game bytes) (HaveFault game bytes) KeepsNotes plays
 reads_back game keep plays bytes few sound spelled spell =

@@ -42,6 +42,7 @@ with_setup a count hand =
       notes = plain_notes count a.notes;
     }
 
+-- a hand as it is said, with other finishing stacks
 with_finish : Record → Option (List ℕ) → histories.PlainHand
 with_finish a finish =
     record (histories.plain a) { stated = record { finish = finish; wins = a.stated.wins; pot_total = a.stated.pot_total; values = a.stated.values } }
@@ -53,22 +54,26 @@ one_row a x y same =
     ap (λ (stated : Stated). stated.finish)
     (same_stated (record a { stated = record a.stated { finish = x } }) (record a { stated = record a.stated { finish = y } }) (ap (with_finish a) same))
 
+-- stated facts with other finishing stacks and wins
 stated_from : Option SeatRow → Option SeatRow → Stated → Stated
 stated_from finish wins stated = record stated { finish = finish; wins = wins }
 
 module _ (a b : Record) (is : IsHistory a) (it : IsHistory b) (same : plain a ≡ plain b) where
+  -- they have as many seats
   count : a.setup.stacks.seats ≡ b.setup.stacks.seats
   count =
       sym (length-take-le a.setup.stacks.seats a.setup.stacks.amounts (omega (arith, a.setup.stacks.greatest, a.setup.stacks.full)))
       ∙ ap (λ (hand : PlainHand). length hand.setup.stacks) same
       ∙ length-take-le b.setup.stacks.seats b.setup.stacks.amounts (omega (arith, b.setup.stacks.greatest, b.setup.stacks.full))
 
+  -- their setups are one
   setups : a.setup ≡ b.setup
   unfolding with_setup
   setups =
       same_setup a (record a { setup = b.setup })
       (ap (with_setup a a.setup.stacks.seats) same ∙ ap (λ seats. with_setup a seats (plain b)) count)
 
+  -- they state the same
   stated : a.stated ≡ b.stated
   unfolding stated_from
   stated =
@@ -81,9 +86,11 @@ module _ (a b : Record) (is : IsHistory a) (it : IsHistory b) (same : plain a �
       ∙ ap (λ number. stated_from b.stated.finish b.stated.wins (record a.stated { pot_total = number })) total
       ∙ ap (λ nets. stated_from b.stated.finish b.stated.wins (record b.stated { values = nets })) values
 
+  -- the seats have the same names
   names : take a.setup.stacks.seats a.notes.names ≡ take a.setup.stacks.seats b.notes.names
   names = ap (λ (hand : PlainHand). hand.notes.names) same ∙ ap (λ (n : ℕ). take n b.notes.names) (sym count)
 
+  -- the seats have the same numbers
   numbers : option_map (take a.setup.stacks.seats) a.notes.seats ≡ option_map (take a.setup.stacks.seats) b.notes.seats
   numbers = ap (λ (hand : PlainHand). hand.notes.seats) same ∙ ap (λ (n : ℕ). option_map (take n) b.notes.seats) (sym count)
 
@@ -91,6 +98,7 @@ module _ (a b : Record) (is : IsHistory a) (it : IsHistory b) (same : plain a �
   allowed : AreAllowed a.setup.stacks.seats b.notes
   allowed = subst (λ (n : ℕ). AreAllowed n b.notes) (sym count) it.sound.notes
 
+  -- two hands of trees that are said alike
   pub tree_alike : AreAlike a b
   tree_alike =
       record {
@@ -133,16 +141,18 @@ one_reading dialect bytes records others say too =
     let same : Ok (map plain records) ≡ Ok (map plain others) = sym say.reads ∙ too.reads in
     all_alike records others say.each too.each (cc)
 
--- the numbers of the seats go round in both or in neither
+-- what is spelled under tests that agree is spelled in both or in neither
 spelled_if : (g h : Bool) (a b : List ℕ) → g ≡ h → is_some (if g then Some a else None) ≡ is_some (if h then Some b else None)
 spelled_if true true a b goes = refl
 spelled_if false false a b goes = refl
 spelled_if true false a b goes = absurd (cc)
 spelled_if false true a b goes = absurd (cc)
 
+-- the numbers of the seats are not said, or have a spelling
 has_numbers : ℕ → Option (List ℕ) → Bool
 has_numbers count said = is_none said || is_some (numbers_spelled count said)
 
+-- numbers that are alike have a spelling in both hands or in neither
 numbers_alike : (count : ℕ) (x y : Option (List ℕ)) → option_map (take count) x ≡ option_map (take count) y → has_numbers count x ≡ has_numbers count y
 unfolding has_numbers
 numbers_alike count None None same = refl

@@ -28,11 +28,12 @@ use Rattle.hand_canon.specs.Sharp.{IsOther, is_sharp}
 use Rattle.hand_records.specs.Histories.{IsHistory}
 use Rattle.hand_records.specs.Refusals.{refused_at}
 
--- what bytes say is what a reader gives of a file
+-- each hand that bytes say is under the rules of its notation
 each_under : (records : List Record) → AllByRecursion IsHistory records → AllByRecursion (IsUnder history_rules) records
 each_under [] each = tt
 each_under (hand ∷ hands) each = (record { sound = each.0.sound; rules_are = each.0.rules }, each_under hands each.1)
 
+-- what bytes say is what a reader gives of a file
 pub reads_file : (dialect : Dialect) (bytes : List ℕ) (hands : List Record) → Say dialect bytes hands → AreOfFile history_rules hands
 reads_file dialect bytes hands say = record { each = each_under hands say.each; few = say.few; few_moves = say.few_moves }
 
@@ -42,11 +43,12 @@ no_fault dialect bytes hands (formats.Phh fault) say have = have
 no_fault dialect bytes hands (formats.Ohh fault) say have = (let said = say.reads in let had = have.reads in cc)
 no_fault dialect bytes hands (formats.Acpc fault) say have = have
 
--- the first refusal of the format is that of its facts
+-- a refusal at a number is that of the fact that is there, or else one behind it
 same_at : (number : ℕ) (fact : Option Unspelled) (behind other : Option WriteRefusal) → behind ≡ other → refused_at number fact behind ≡ refused_at number fact other
 same_at number (Some fact) behind other same = refl
 same_at number None behind other same = same
 
+-- the first refusal of plays is that of their facts
 pub same_refusal : (keep : Keep) (number : ℕ) (plays : List Play) → facts.refusal_from keep number plays ≡ refusal_from (facts.unspelled keep) number plays
 same_refusal keep number [] = refl
 same_refusal keep number (play ∷ plays) =

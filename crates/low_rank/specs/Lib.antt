@@ -1,3 +1,4 @@
+-- Hands and points of the low orders, and the laws of these orders.
 pub mod DeuceSeven
 pub mod EightLow
 pub mod Low

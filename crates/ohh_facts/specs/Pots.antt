@@ -34,10 +34,11 @@ no_pots = record { pots = []; wins = [] }
 abbrev pub plain_found : Found → PlainPots
 plain_found found = record { pots = map plain_pot found.pots.items; wins = map plain_win found.won.list.items }
 
--- the path of a member of the pot with this index, and of a win with this index of it
+-- the path of a member of the pot with this index
 abbrev pub of_pot : ℕ → PotMember → Path
 of_pot index part = paths.Pot index part
 
+-- the path of a member of the win with this index, of the pot with this index
 abbrev pub of_win : ℕ → ℕ → WinMember → Path
 of_win pot index part = paths.Pot pot (members.Win index part)
 

@@ -14,7 +14,7 @@ use Rattle.ohh_members.specs.declared.fault.PotMember.TheVariants as pots
 use Rattle.ohh_members.specs.declared.fault.Path.{Path}
 use Rattle.ohh_members.specs.declared.fault.Path.TheVariants as paths
 
--- the names of the members of a player, an action, a round, a win and a pot; what is no member has none
+-- the name of the member of a player; the player itself has none
 abbrev pub player_name : PlayerMember → List ℕ
 player_name players.Itself = []
 player_name players.Id = codes "id"
@@ -22,6 +22,7 @@ player_name players.Seat = codes "seat"
 player_name players.Name = codes "name"
 player_name players.StartingStack = codes "starting_stack"
 
+-- the name of the member of an action; the action itself and one of its cards have none
 abbrev pub action_name : ActionMember → List ℕ
 action_name actions.Itself = []
 action_name actions.Word = codes "action"
@@ -30,6 +31,7 @@ action_name actions.Amount = codes "amount"
 action_name actions.Cards = codes "cards"
 action_name (actions.Card index) = []
 
+-- the name of the member of a round, or of one of its actions; the round itself and one of its cards have none
 abbrev pub round_name : RoundMember → List ℕ
 round_name rounds.Itself = []
 round_name rounds.Street = codes "street"
@@ -38,11 +40,13 @@ round_name (rounds.Card index) = []
 round_name rounds.Actions = codes "actions"
 round_name (rounds.Action index part) = action_name part
 
+-- the name of the member of a win; the win itself has none
 abbrev pub win_name : WinMember → List ℕ
 win_name wins.Itself = []
 win_name wins.PlayerId = codes "player_id"
 win_name wins.WinAmount = codes "win_amount"
 
+-- the name of the member of a pot, or of one of its wins; the pot itself has none
 abbrev pub pot_name : PotMember → List ℕ
 pot_name pots.Itself = []
 pot_name pots.Amount = codes "amount"

@@ -21,24 +21,28 @@ pub record PlainPost : Type 0 where
 abbrev pub plain_post : Post → PlainPost
 plain_post post = record { kind = post.kind; seat = post.seat.number; amount = post.amount.number; early = post.early; place = post.place }
 
+-- a post of this kind is an ante
 abbrev pub is_ante : PostKind → Bool
 is_ante kinds.Ante = true
 is_ante kinds.SmallBlind = false
 is_ante kinds.BigBlind = false
 is_ante kinds.Straddle = false
 
+-- a post of this kind is a small blind
 abbrev pub is_small_blind : PostKind → Bool
 is_small_blind kinds.Ante = false
 is_small_blind kinds.SmallBlind = true
 is_small_blind kinds.BigBlind = false
 is_small_blind kinds.Straddle = false
 
+-- a post of this kind is a big blind
 abbrev pub is_big_blind : PostKind → Bool
 is_big_blind kinds.Ante = false
 is_big_blind kinds.SmallBlind = false
 is_big_blind kinds.BigBlind = true
 is_big_blind kinds.Straddle = false
 
+-- a post of this kind is a straddle
 abbrev pub is_straddle : PostKind → Bool
 is_straddle kinds.Ante = false
 is_straddle kinds.SmallBlind = false

@@ -62,17 +62,20 @@ refusal status line = record { status = status; output = []; line = line }
 abbrev pub to_excess : Answer
 to_excess = refusal statuses.Limit (codes "limit: input bytes 16777216\n")
 
--- The answer to an input that does not read as hands, by its first fault; want of memory has none.
+-- the answer to a file of the Poker Hand History format that does not read as hands, by its first fault
 abbrev pub to_wrong_history : histories.Wrong → Answer
 to_wrong_history wrong = refusal (wrong_status wrong) (wrong_line wrong)
 
+-- the answer to a file of Open Hand History that does not read as hands, by its first fault
 abbrev pub to_wrong_tree : trees.Wrong → Answer
 to_wrong_tree wrong = refusal (tree_status wrong) (tree_line wrong)
 
+-- the answer to a log that does not read as hands, by its first fault; want of memory has none
 abbrev pub to_wrong_log : AcpcFault → Option Answer
 to_wrong_log log_faults.Memory = None
 to_wrong_log fault = Some (refusal (log_status fault) (log_line fault))
 
+-- the answer to an input that does not read as hands, by its first fault in its notation; want of memory has none
 abbrev pub to_fault : FormatFault → Option Answer
 to_fault (formats.Phh fault) = option_map to_wrong_history (histories.wrong_of fault)
 to_fault (formats.Ohh fault) = option_map to_wrong_tree (trees.wrong_of fault)
@@ -96,11 +99,12 @@ done output = record { status = statuses.Done; output = output; line = [] }
 abbrev pub to_unspelled : ℕ → Unspelled → Answer
 to_unspelled number fact = refusal statuses.Unspelled (unspelled_line number fact)
 
--- the answer where the game file of the first hand is asked for: none without hands
+-- the answer with the game file of a hand, or with the fact of it that such a file does not spell
 abbrev pub to_game : Result GameSaid Unspelled → Answer
 to_game (Ok game) = done (game_text game)
 to_game (Err fact) = to_unspelled 1 fact
 
+-- the answer where the game file of the first hand is asked for: it is empty without hands
 abbrev pub to_first_game : List Play → Answer
 to_first_game [] = done []
 to_first_game (play ∷ plays) = to_game (game_of play.trace.setup)
@@ -149,10 +153,11 @@ IsToldOf (convert_faults.Refused number why) answer = answer ≡ to_refusal numb
 IsToldOf (convert_faults.Unspelled number fact) answer = answer ≡ to_unspelled number fact
 IsToldOf convert_faults.Memory answer = ⊥
 
--- the answers to a game's file that is too long, or says no game
+-- the answer to a game's file that is too long
 abbrev pub to_game_excess : Answer
 to_game_excess = refusal statuses.Limit (codes "limit: game bytes 16777216\n")
 
+-- the answer to a game's file that says no game, by its first fault
 abbrev pub to_bad_game : AcpcFault → Answer
 to_bad_game fault = refusal statuses.BadGame (bad_game_line fault)
 

@@ -20,7 +20,7 @@ fault_name (faults.AmountLimit line byte) = codes "AmountLimit"
 fault_name (faults.TooMany quantity line byte) = codes "TooMany"
 fault_name faults.Memory = codes "Memory"
 
--- the line of a file that has a fault, and the byte of it; none where memory ran out
+-- the line of a file that has a fault, from 1, or 0 where memory ran out
 abbrev pub line_of : AcpcFault → ℕ
 line_of (faults.LineShape line byte) = line
 line_of (faults.BadBetting line byte) = line
@@ -33,6 +33,7 @@ line_of (faults.AmountLimit line byte) = line
 line_of (faults.TooMany quantity line byte) = line
 line_of faults.Memory = 0
 
+-- the byte of its line where a fault is, or 0 where memory ran out
 abbrev pub byte_of : AcpcFault → ℕ
 byte_of (faults.LineShape line byte) = byte
 byte_of (faults.BadBetting line byte) = byte

@@ -14,7 +14,7 @@ use Rattle.worked_hands.specs.Setups.{no_limit, single_draw}
 use Rattle.worked_hands.specs.Words.{call, deal, fold, muck, raise, show, slots_named, stand_pat}
 use Rattle.worked_canons.specs.TraceRows.{flags_of, pot_of, pots_of, seat_of, shares_of}
 
--- the first three seats
+-- the first seat
 abbrev pub p1 : Seat
 p1 = seat_of 1 refl
 
@@ -26,12 +26,15 @@ p2 = seat_of 2 refl
 abbrev pub p3 : Seat
 p3 = seat_of 3 refl
 
+-- the fourth
 abbrev pub p4 : Seat
 p4 = seat_of 4 refl
 
+-- the fifth
 abbrev pub p5 : Seat
 p5 = seat_of 5 refl
 
+-- the sixth
 abbrev pub p6 : Seat
 p6 = seat_of 6 refl
 
