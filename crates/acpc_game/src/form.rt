@@ -11,7 +11,7 @@ use crate::key::{Key, is_word, key_named};
 use acpc_text::{cut_at, next_word};
 use first_fault::are_digits;
 
-// Whether the line is empty or begins with `#`.
+/// Whether a line of a game file says nothing: it is empty or begins with `#`.
 pub fn is_passed_over(line: &[u8]) -> bool
     ensures { result ≡ is_passed_over_said line.now }
 {

@@ -78,7 +78,7 @@ fn chip_key_named(word: &[u8]) -> Option<Key>
     }
 }
 
-// Whether the text is this word, in any case.
+/// Whether the text is this word, in capitals or small letters.
 #[tactic(auto, unfolding(crate::specs::Keys::is_word), using(crate::proofs::Words::same_word))]
 pub fn is_word(name: &str, text: &[u8]) -> bool
     ensures { result ≡ is_word_said name.now text.now }

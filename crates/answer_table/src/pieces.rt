@@ -35,6 +35,7 @@ impl Pieces {
         Ok(bytes)
     }
 
+    /// No pieces yet.
     pub fn new(alloc: Global) -> Self {
         Pieces {
             named: Vec::new(alloc),

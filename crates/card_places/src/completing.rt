@@ -10,7 +10,8 @@ use crate::discarding::first_to_draw;
 use chip_ledger::{LiveRow, Seat};
 use play_event::Due;
 
-// What is due is complete.
+/// Whether what is due is complete: no seat, nor the board, lacks a card of a deal or draw, and
+/// all have shown or mucked at a show. What is no matter of cards is never complete here.
 pub fn done(state: &CardState, live: &LiveRow, due: Due) -> bool
     requires due { IsDueWithin 5 due }
     requires live { live.now.seats ≡ state.now.seats }

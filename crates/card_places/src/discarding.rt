@@ -71,7 +71,8 @@ fn is_next_to_draw(state: &CardState, live: &LiveRow, on: u8, seat: Seat) -> boo
     }
 }
 
-// The first of so many seats, from this number on, that has to draw.
+/// The first of `count` seats, from the number `first` on, that is live and has not drawn on the
+/// street.
 #[tactic(auto, using(list_laws::proofs::Finding::find_step))]
 pub fn first_to_draw(
     state: &CardState,

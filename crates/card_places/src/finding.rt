@@ -19,7 +19,8 @@ pub struct Found {
     pub blanks: u8,
 }
 
-// What the names make of a covered place.
+/// What the names make of a covered place. A known card is marked where it is named; an unknown
+/// one takes the next of the other names, of which `taken` are gone, and else one of the blanks.
 pub fn find(
     card: DealtCard,
     street: Option<u8>,
@@ -73,7 +74,8 @@ pub fn find(
     }
 }
 
-// A card that is discarded on this street, after so many deals, is gone; without a street it stays.
+/// A card that is discarded on this street, after `count` dealt cards, is gone; without a street
+/// it stays.
 pub fn marked(card: DealtCard, street: Option<u8>, count: u8) -> DealtCard
     ensures { place_of result ≡ mark_by street count (place_of card) }
 {

@@ -11,7 +11,7 @@ ghost use Rattle.play_event.specs.CardReasons as reasons;
 
 use card_set::{Card, CardRow, Slot, SlotRow, place_in_deck};
 
-// Two slots bear one card.
+/// Whether two slots bear one card. An unknown slot bears none.
 pub fn is_one_card(a: Slot, b: Slot) -> bool
     ensures { result ≡ taken.is_one_card a b }
 {
@@ -21,7 +21,7 @@ pub fn is_one_card(a: Slot, b: Slot) -> bool
     }
 }
 
-// The card of the slot is not among the names.
+/// Whether the card of a known slot is not among the names.
 pub fn left_out(slot: Slot, names: &[Card]) -> bool
     ensures { result ≡ reasons.is_left_out names.now slot }
 {
@@ -31,7 +31,7 @@ pub fn left_out(slot: Slot, names: &[Card]) -> bool
     }
 }
 
-// The card is among the names.
+/// Whether the card is among the names.
 pub fn is_named(card: Card, names: &[Card]) -> bool
     ensures { result ≡ naming.is_named card names.now }
 {
@@ -41,7 +41,7 @@ pub fn is_named(card: Card, names: &[Card]) -> bool
     }
 }
 
-// Two of the slots bear one card.
+/// Whether two of the slots bear one card.
 pub fn has_repeat(slots: &[Slot]) -> bool
     ensures { result ≡ taken.has_repeat slots.now }
 {
@@ -71,7 +71,7 @@ fn any_bears(card: Card, slots: &[Slot]) -> bool
     }
 }
 
-// The slot bears the card.
+/// Whether the slot is known to bear the card.
 pub fn is_borne_by(card: Card, slot: Slot) -> bool
     ensures { result ≡ taken.is_borne_by card slot }
 {
@@ -81,7 +81,7 @@ pub fn is_borne_by(card: Card, slot: Slot) -> bool
     }
 }
 
-// How many of the slots are blank.
+/// How many of the slots are blank: they name no card.
 pub fn blanks(slots: &[Slot]) -> usize
     ensures blanks { result ≡ naming.blanks_in slots.now }
     ensures most { result ≤ length slots.now }
@@ -95,7 +95,7 @@ pub fn blanks(slots: &[Slot]) -> usize
     count
 }
 
-// The slot is unknown.
+/// Whether the slot is unknown.
 pub fn is_unknown(slot: Slot) -> bool
     ensures { result ≡ known.is_unknown slot }
 {
@@ -105,7 +105,7 @@ pub fn is_unknown(slot: Slot) -> bool
     }
 }
 
-// The known cards of the slots.
+/// The known cards of the slots, in their order.
 pub fn known(slots: &SlotRow) -> CardRow
     ensures { cards_of result ≡ known.known_cards (slots_of slots.now) }
 {
@@ -118,7 +118,7 @@ pub fn known(slots: &SlotRow) -> CardRow
     cards
 }
 
-// The names without one that is this card.
+/// The names without the first that is the card of this slot.
 pub fn without(slot: Slot, names: &CardRow) -> CardRow
     ensures { cards_of result ≡ naming.without slot (cards_of names.now) }
 {
@@ -128,7 +128,7 @@ pub fn without(slot: Slot, names: &CardRow) -> CardRow
     }
 }
 
-// The names without one that is this card.
+// The names without the first that is this card.
 fn without_card(card: Card, names: &CardRow) -> CardRow
     ensures { cards_of result ≡ naming.without (Known card) (cards_of names.now) }
 {
@@ -144,14 +144,14 @@ fn without_card(card: Card, names: &CardRow) -> CardRow
     left
 }
 
-// Both are one card.
+/// Whether both are one card: of one rank and one suit.
 pub fn is_same_card(a: Card, b: Card) -> bool
     ensures { result ≡ decks.is_same_card a b }
 {
     place_in_deck(a) == place_in_deck(b)
 }
 
-// The slots of known cards.
+/// The cards as slots, all of them known: the form in which an event of a script names cards.
 pub fn slots(cards: &CardRow) -> SlotRow
     ensures { slots_of result ≡ known.known_slots (cards_of cards.now) }
 {

@@ -25,7 +25,8 @@ pub struct Outcome {
     pub lacking: bool,
 }
 
-// A known card of the covered places is not named.
+/// Whether a known card of the covered places is not named. Covered are the cards of the seat: all,
+/// or those face down.
 pub fn leaves_out(
     table: &DealTable,
     rows: &[DealtCard],
@@ -44,7 +45,8 @@ pub fn leaves_out(
     false
 }
 
-// The names and blanks are tried on the covered places.
+/// The names and so many blanks are tried on the covered places. With a street, the cards that
+/// are found are discarded on it; without one they stay.
 pub fn tried(
     table: &DealTable,
     places: &DealtCards,

@@ -65,7 +65,8 @@ fn hole_why_on(
     }
 }
 
-// How many cards the seat is owed.
+/// How many cards the seat is still owed on the street: in place of those that it discarded, or by
+/// the deal while it is live.
 pub fn owed(state: &CardState, live: &LiveRow, on: u8, seat: Seat) -> u8
     requires street { on ≤ 5 }
     requires live { live.now.seats ≡ state.now.seats }

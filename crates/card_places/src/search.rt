@@ -28,7 +28,7 @@ pub struct Search {
     pub others: CardRow,
 }
 
-// The names that no known card of the covered places bears.
+/// The names that no known card of the covered places bears: unknown places may take them.
 pub fn other_names(
     table: &DealTable,
     rows: &[DealtCard],
@@ -48,7 +48,7 @@ pub fn other_names(
     others
 }
 
-// The places after the names found theirs.
+/// The places after the names found theirs, with so many blanks, in the order of dealing.
 pub fn run(table: &DealTable, places: &DealtCards, search: &Search, blanks: u8) -> DealtCards
     ensures places { placed result ≡ search_from table.now.code search.now 0 blanks
         (placed places.now) }
@@ -95,7 +95,7 @@ fn look(table: &DealTable, search: &Search, card: DealtCard, taken: u8, blanks: 
     }
 }
 
-// The card is covered.
+/// Whether a discard or a show of the seat covers the card: all its cards, or those face down.
 pub fn covers(table: &DealTable, card: &DealtCard, seat: Seat, all: bool) -> bool
     ensures { result ≡ naming.is_covered table.now.code seat.number all (place_of card.now) }
 {

@@ -11,7 +11,8 @@ use crate::dealt_card::DealtCard;
 use crate::names::{has_repeat, is_borne_by, is_one_card, is_unknown};
 use card_set::{Card, Slot};
 
-// One of the slots may not be dealt on this street.
+/// Whether one of the slots may not be dealt on this street: the deck lacks its card, a place has
+/// it, or two of the slots bear it.
 pub fn has_taken_card(table: &DealTable, rows: &[DealtCard], street: u8, slots: &[Slot]) -> bool
     requires { length rows.now ≤ 120 }
     ensures { result ≡ taken.has_taken_card table.now.code
@@ -56,7 +57,8 @@ fn lies(rows: &[DealtCard], past_deck: bool, card: Card) -> bool
     }
 }
 
-// A card that is dealt now on this street is dealt past the deck.
+/// Whether a card that is dealt now on this street is dealt past the deck: only then may cards
+/// come back that are gone.
 pub fn is_past_deck(table: &DealTable, rows: &[DealtCard], street: u8) -> bool
     requires { length rows.now ≤ 120 }
     ensures { result ≡ places.is_past_deck table.now.code (map place_of rows.now) street }
@@ -93,7 +95,8 @@ fn count_discarded(rows: &[DealtCard], street: u8) -> usize
     count
 }
 
-// A card of the new rows that was not known in the old ones may not lie there, among all these.
+/// Whether a card of the new rows that was unknown in the old ones may not lie there, among all
+/// these rows.
 pub fn has_misplaced_card(
     table: &DealTable,
     all: &[DealtCard],
@@ -157,7 +160,7 @@ fn clashes(card: &DealtCard, rows: &[DealtCard]) -> bool
     }
 }
 
-// Two places clash.
+/// Whether two places clash: both bear one card, and neither may repeat the other.
 pub fn is_clash(a: &DealtCard, b: &DealtCard) -> bool
     ensures { result ≡ taken.is_clash (place_of a.now) (place_of b.now) }
 {

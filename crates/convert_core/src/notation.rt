@@ -44,6 +44,7 @@ pub trait Notation {
     /// What is read again of notes, at a place of the file, from 0, and for so many seats.
     ghost KeepsNotes: { Self → ℕ → ℕ → Notes → Notes → Type 0 };
 
+    /// The rules under which its hands are played, beyond those of their game.
     fn rules(&self) -> Rules
         ensures { result ≡ rules_of self.now };
 
@@ -57,6 +58,7 @@ pub trait Notation {
         ensures fault { IfErr result (λ fault.
             (is_want_of_memory fault ≡ true) ⊎ HaveFault self.now bytes.now fault) };
 
+    /// The first fact of a play, among those to be kept, that has no spelling; none where all have one.
     fn spells(&self, play: &Play, keep: Keep) -> Option<Unspelled>
         ensures { result ≡ unspelled self.now keep play.now };
 

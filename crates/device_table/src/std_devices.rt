@@ -10,6 +10,7 @@ pub struct Calls {
 }
 
 impl Calls {
+    /// No call was made yet; the call with this number fails, or none.
     pub fn new(failing: Option<u64>) -> Self {
         Calls { next: 0, failing }
     }

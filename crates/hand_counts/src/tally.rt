@@ -20,6 +20,7 @@ pub struct Tally {
 }
 
 impl Tally {
+    /// A tally without classes and hands.
     pub fn new(alloc: Global) -> Self {
         Tally {
             classes: Vec::new(alloc),
@@ -54,14 +55,17 @@ impl Tally {
         Ok(())
     }
 
+    /// The classes with their counts, in the order in which they were added.
     pub fn classes(&self) -> &[Class] {
         self.classes.as_slice()
     }
 
+    /// How many hands have no score in the order.
     pub fn unscored(&self) -> u32 {
         self.unscored
     }
 
+    /// How many scores differ among all hands.
     pub fn different_scores(&self) -> usize {
         self.scores.len()
     }

@@ -6,7 +6,7 @@ ghost use Rattle.host_io.specs.Faults.{counted_up};
 #[derive(Clone, Copy, Debug, PartialEq, Eq)]
 pub struct Failed;
 
-// Counts one more fault, and gives the answer for it.
+/// Counts one more fault, up to the greatest count, and gives the answer for it.
 pub(crate) fn count_fault(faults: &mut u64) -> Failed
     ensures counted { faults.new ≡ counted_up faults.old }
     ensures later { faults.old ≤ faults.new }

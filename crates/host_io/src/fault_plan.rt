@@ -5,8 +5,8 @@ ghost use Rattle.host_io.specs.FaultPlan.{IsFresh, FailsNext, CountsCall};
 
 use crate::fault::{Failed, count_fault};
 
-// Which calls fail, how many there were, and how many of them failed. Both counts stand still at
-// their last value.
+/// Which calls fail, how many there were, and how many of them failed. Both counts stand still at
+/// their last value.
 #[derive(Debug, Drop)]
 pub(crate) struct FaultPlan {
     fail_at: Vec<u64>,
@@ -15,6 +15,7 @@ pub(crate) struct FaultPlan {
 }
 
 impl FaultPlan {
+    /// A plan before the first call: the calls with these numbers fail.
     pub(crate) fn new(fail_at: Vec<u64>) -> Self
         ensures { IsFresh result fail_at.items }
     {
@@ -25,7 +26,7 @@ impl FaultPlan {
         }
     }
 
-    // Gives the call that begins its number, and fails it if the list has that number.
+    /// Gives the call that begins its number, and fails it if the list has that number.
     pub(crate) fn begin_call(&mut self) -> Result<(), Failed>
         ensures fails { IsErr result ↔ FailsNext self.old }
         ensures counts { CountsCall self.old self.new (is_err result) }
@@ -39,7 +40,7 @@ impl FaultPlan {
         Ok(())
     }
 
-    // Fails the call that was begun last.
+    /// Fails the call that was begun last, whatever the list says.
     pub(crate) fn fail(&mut self) -> Failed
         ensures counted { self.new ≡ record self.old { faults = counted_up self.old.faults } }
         ensures later { self.old.faults ≤ self.new.faults }

@@ -43,7 +43,7 @@ pub fn best_razz(cards: &CardSet) -> Score
     }
 }
 
-// The ranks of each suit.
+/// The ranks of each suit, as masks: bit 0 is the two, and bit 12 the ace.
 #[derive(Clone, Copy, Debug)]
 pub struct SuitMasks {
     pub clubs: u16,

@@ -21,6 +21,7 @@ impl Model for PackedEvent {
 }
 
 impl PackedEvent {
+    /// No bytes yet.
     pub(crate) fn new() -> Self
         ensures { result ≡ [] }
     {
@@ -49,6 +50,7 @@ impl PackedEvent {
         self.len += 1;
     }
 
+    /// The bytes so far, in order.
     pub(crate) fn as_slice(&self) -> &[u8]
         ensures { result.now ≡ self.now }
     {

@@ -13,11 +13,11 @@ pub const NO_STREET: Street = Street {
     size: Size::Least,
 };
 
-// The most seats of a game with a flop.
+/// The most seats of a game with a flop.
 pub const FLOP_SEATS: u8 = 10;
 
-// The streets of a game with a flop: hole cards, then three, one and one on the board.
-// The bets grow with the third street.
+/// The street of a game with a flop that has this number, from 1: hole cards, then three, one and
+/// one on the board. The bets grow with the third street.
 pub fn flop_street(number: u8, cards: u8, early: Size, late: Size) -> Street
     requires first { 1 ≤ number }
     requires last { number ≤ 4 }
@@ -31,7 +31,7 @@ pub fn flop_street(number: u8, cards: u8, early: Size, late: Size) -> Street
     }
 }
 
-// A street that deals each live seat so many cards face down and face up.
+/// A street that deals each live seat so many cards face down and face up.
 pub fn hole_cards(down: u8, up: u8, size: Size) -> Street
     ensures { result ≡ stud_street down up size }
 {

@@ -46,14 +46,15 @@ pub trait Variant {
     /// Which of a seat's cards and the board's count.
     const PICK: Pick;
 
+    /// What bounds the amounts of bets and raises.
     const LIMIT: Limit;
-
+    /// Who opens the streets: by the blinds or by the up-cards.
     const OPEN: Opener;
     /// How many cards the deck has.
     const DECK: u8;
     /// The most seats.
     const SEATS: u8;
-
+    /// How many streets the game has.
     const STREETS: u8;
 
     /// The street with this number, from 1 to `STREETS`.
