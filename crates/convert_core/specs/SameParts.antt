@@ -1,25 +1,18 @@
--- Parts of records that are read alike are one: scripts, rakes, and the names and the numbers of the seats.
+-- Parts of records that are read alike are one: scripts, and the names and the numbers of the seats.
 use Rattle.std.proofs.Common.{◌≡◌, ℕ, ◌≤◌, inl, inr, List, map, take, get_or, slice_index_or, Option, Some, None, IfSome, option_map, refl, sym, ap, ◌∙◌}
 use Rattle.std.proofs.lemmas.Bool.{cases_lt}
 use Rattle.std.proofs.lemmas.List.{get_or-take}
-use Rattle.chip_ledger.specs.declared.rakes.RakeRow.{RakeRow}
 use Rattle.hand_records.specs.AllowedNotes.{AreSeatNumbers}
 use Rattle.hand_records.specs.declared.record.Record.{Record}
 use Rattle.phh_reading.specs.Hand.{plain}
-use Rattle.phh_reading.proofs.SamePlay.{same_script, same_setup}
-use Rattle.play_event.specs.declared.setup.Setup.{Setup}
+use Rattle.phh_reading.proofs.SamePlay.{same_script}
 use Rattle.play_event.specs.Said.{Numbered, numbered}
 use Rattle.convert_core.specs.SameRecords.{number_at}
 
--- scripts and rakes with the same parts are one, as in the hands of histories
+-- scripts with the same events are one, as in the hands of histories
 pub one_script : (a b : Record) → map numbered a.script ≡ map numbered b.script → a.script ≡ b.script
 one_script a b same =
     same_script a (record a { script = b.script }) (ap (λ (events : List Numbered). record (plain a) { script = events }) same)
-
-pub one_rakes : (a : Record) (row : RakeRow) → a.setup.rakes.rakes ≡ row.rakes → a.setup.rakes ≡ row
-one_rakes a row same =
-    ap (λ (setup : Setup). setup.rakes)
-    (same_setup a (record a { setup = record a.setup { rakes = row } }) (ap (λ (rakes : List ℕ). record (plain a) { rakes = rakes }) same))
 
 -- the names of so many seats, behind which there are none
 pub names_same : (count : ℕ) (x y : List (Option (List ℕ))) → take count x ≡ take count y

@@ -1,9 +1,8 @@
 -- Items that are read one after the other, each told its index from 0, as a loop does.
 use Rattle.std.proofs.Common.{◌≡◌, ℕ, ◌+◌, ◌-◌, ◌<◌, ◌≤◌, List, [], ◌∷◌, ◌++◌, length, map, drop, get_or, Result, Ok, Err, refl, sym, ap, subst, ◌∙◌, arith}
 use Rattle.first_fault.specs.declared.stop.Stop.{Stop}
-use Rattle.first_fault.specs.Reading.{◌>>=◌, Fails, each_from, thread_from}
+use Rattle.first_fault.specs.Reading.{◌>>=◌, Fails, each_from}
 use Rattle.first_fault.proofs.EachItem.{with_front, goes_on, ends, is_done}
-use Rattle.first_fault.proofs.Thread.{behind, threads_on, thread_ends, thread_done}
 use Rattle.list_laws.proofs.Numbers.{plus_one_less_one}
 use Rattle.ohh_members.specs.declared.fault.Fault.{Fault}
 
@@ -32,29 +31,3 @@ module _ {V D A : Type 0} (seen : V → D) (form : ℕ → D → Result A Fault)
   pub items_read : (front : List A) (values : List V) (index : ℕ) (whole : Result (List A) Fault) → length values ≤ index
       → with_front front (items_left seen form index values) ≡ whole → whole ≡ Ok front
   items_read front values index whole le so_far = is_done seen (λ n. form (n - 1)) front values index whole le so_far
-
--- the items from an index on, after what is counted so far
-abbrev pub thread_left : {V D A S : Type 0} → (V → D) → (S → ℕ → D → Result (List A × S) Fault) → S → ℕ → List V → Result (List A × S) Fault
-thread_left seen form so_far index values = thread_from (λ counts n. form counts (n - 1)) so_far (index + 1) (map seen (drop index values))
-
-module _ {V D A S : Type 0} (seen : V → D) (form : S → ℕ → D → Result (List A × S) Fault) where
-  -- one more item was read
-  pub thread_read : (front : List A) (so_far next : S) (values : List V) (index : ℕ) (value : V) (found : List A) (whole : Result (List A × S) Fault)
-      → index < length values → get_or values index value ≡ value → form so_far index (seen value) ≡ Ok (found, next)
-      → behind front (thread_left seen form so_far index values) ≡ whole
-      → behind (front ++ found) (thread_left seen form next (index + 1) values) ≡ whole
-  thread_read front so_far next values index value found whole within at is before =
-      threads_on seen (λ counts n. form counts (n - 1)) front so_far next values index value found whole within at (rw (plus_one_less_one index) is) before
-
-  -- an item was refused
-  pub thread_refused : (stop : Stop Fault) (front : List A) (so_far : S) (values : List V) (index : ℕ) (value : V) (whole : Result (List A × S) Fault)
-      → index < length values → get_or values index value ≡ value → Fails stop (form so_far index (seen value))
-      → behind front (thread_left seen form so_far index values) ≡ whole
-      → Fails stop whole
-  thread_refused stop front so_far values index value whole within at is before =
-      thread_ends seen (λ counts n. form counts (n - 1)) stop front so_far values index value whole within at (rw (plus_one_less_one index) is) before
-
-  -- no item is left
-  pub thread_ended : (front : List A) (so_far : S) (values : List V) (index : ℕ) (whole : Result (List A × S) Fault) → length values ≤ index
-      → behind front (thread_left seen form so_far index values) ≡ whole → whole ≡ Ok (front, so_far)
-  thread_ended front so_far values index whole le before = thread_done seen (λ counts n. form counts (n - 1)) front so_far values index whole le before

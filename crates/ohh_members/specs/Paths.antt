@@ -82,10 +82,6 @@ abbrev pub with_point : List ℕ → List ℕ
 with_point [] = []
 with_point (sign ∷ signs) = codes "." ++ sign ∷ signs
 
--- the number of an item of a list, from 0
-abbrev pub item_text : ℕ → List ℕ
-item_text index = codes "[" ++ (decimal index ++ codes "]")
-
 -- how a member is spelled behind its action
 abbrev pub action_text : ActionMember → List ℕ
 action_text (actions.Card index) = codes ".cards[" ++ (decimal index ++ codes "]")

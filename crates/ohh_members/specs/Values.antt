@@ -7,7 +7,7 @@ use Rattle.card_set.specs.declared.card.Card.{Card}
 use Rattle.card_set.specs.declared.card.Slot.{Slot}
 use Rattle.card_set.specs.declared.card.Slot.TheVariants as slots
 use Rattle.card_set.specs.Spelling.{slot_spelled}
-use Rattle.first_fault.specs.Reading.{◌>>=◌, each_from, thread_from}
+use Rattle.first_fault.specs.Reading.{◌>>=◌, each_from}
 use Rattle.ohh_members.specs.declared.fault.What.{What}
 use Rattle.ohh_members.specs.declared.fault.What.TheVariants as whats
 use Rattle.ohh_members.specs.declared.fault.Path.{Path}
@@ -110,10 +110,6 @@ few_said path value = do
 -- items one after the other, each read in a form that is told its index in the list, from 0
 abbrev pub each_item : {D A : Type 0} → (ℕ → D → Result A Fault) → List D → Result (List A) Fault
 each_item form items = each_from (λ n. form (n - 1)) 1 items
-
--- the same, where each item adds to what is found, and hands on what is counted
-abbrev pub thread_items : {D A S : Type 0} → (S → ℕ → D → Result (List A × S) Fault) → S → List D → Result (List A × S) Fault
-thread_items form counts items = thread_from (λ so_far n. form so_far (n - 1)) counts 1 items
 
 -- items one after the other, from this index on, each added to what was read before it
 unfoldable pub added_from : {D S : Type 0} → (S → ℕ → D → Result S Fault) → S → ℕ → List D → Result S Fault

@@ -1,6 +1,5 @@
 -- A script as it took place: the past after each of its events, its first illegal event, and whether it ends early.
-use Rattle.std.specs.Prelude.{◌≡◌, ℕ, ◌+◌, ◌<◌, Bool, List, [], ◌∷◌, length, take, reverse, find, slice_get, Option, Some, None, option_and_then, is_some}
-use Rattle.std.specs.List.{range_with_len}
+use Rattle.std.specs.Prelude.{◌≡◌, ℕ, ◌+◌, ◌<◌, Bool, List, [], ◌∷◌, length, take, reverse, slice_get, Option, Some, None, option_and_then}
 use Rattle.play_event.specs.declared.reason.Illegal.{Illegal}
 use Rattle.play_event.specs.declared.setup.Setup.{Setup}
 use Rattle.play_event.specs.declared.setup.Rules.{Rules}
@@ -63,10 +62,6 @@ past_after setup script count = past_of setup (reverse (take count script))
 -- why the event at an index, from 0, is illegal after those before it, if it is
 abbrev pub why_at : Setup → Rules → List Said → ℕ → Option Illegal
 why_at setup rules script index = option_and_then (why setup rules (past_after setup script index)) (slice_get script index)
-
--- the index of the first illegal event, if there is one
-abbrev pub first_illegal : Setup → Rules → List Said → Option ℕ
-first_illegal setup rules script = find (λ index. is_some (why_at setup rules script index)) (range_with_len 0 (length script))
 
 -- a script has no illegal event: each is legal after those before it
 abbrev pub HasNoIllegalEvent : Setup → Rules → List Said → Type 0

@@ -5,4 +5,3 @@ pub mod TableLaws
 pub mod Tables
 pub mod Division
 pub mod Shares
-pub mod Finish
