@@ -84,7 +84,7 @@ rainbow_ranked chosen few differ =
       digits = AreDigits-ranks_of low_ace chosen;
     }
 
--- a choice with points counts, and has the number of its ranks
+-- a choice with points counts, and has the points of its ranks
 pub choice_value : (chosen : List Card) (value : ℕ) → choice_points chosen ≡ Some value → (has_nothing_in_common chosen ≡ true) × (16 ^ 6 - class_above (4 - length chosen) (ranks_of low_ace chosen) ≡ value)
 choice_value chosen value is = cond_some (has_nothing_in_common chosen) (16 ^ 6 - class_above (4 - length chosen) (ranks_of low_ace chosen)) value is
 
@@ -98,7 +98,7 @@ choice_ordered a b low high few_a few_b is_low is_high =
       λ worse. let less = law.1 (elim worse [ inl fewer ↦ inl (omega arith) | inr rest ↦ let e = rest.0 in inr (omega arith, rest.1) ]) in omega (arith, is_a.1, is_b.1),
     )
 
--- choices are ordered by their numbers
+-- choices are ordered by their points
 pub lawful_choices : IsLawful AreFew IsRainbow IsWeakerChoice choice_points
 lawful_choices = lawful_by_order AreFew IsRainbow IsWeakerChoice choice_points (λ chosen few. some_where (has_nothing_in_common chosen) (16 ^ 6 - class_above (4 - length chosen) (ranks_of low_ace chosen))) choice_ordered
 

@@ -40,10 +40,10 @@ IsLower [] ys = ⊥
 IsLower (x ∷ xs) [] = ⊥
 IsLower (x ∷ xs) (y ∷ ys) = (x < y) ⊎ ((x ≡ y) × IsLower xs ys)
 
--- a hand is below another by a table of classes and a list of ranks: its class is worse, or it is the same and the first rank that differs is lower
+-- a hand is weaker than another by a table of classes and a list of ranks: its class comes later in the table, or it is the same and the first rank that differs is lower
 abbrev pub IsBelow : (List Card → ℕ) → (List Card → List ℕ) → List Card → List Card → Type 0
 IsBelow class list a b = (class b < class a) ⊎ ((class a ≡ class b) × IsLower (list a) (list b))
 
--- the same where low ranks are good: its class is worse, or it is the same and the first rank that differs is higher
+-- a hand is weaker than another where low ranks are good: its class comes later in the table, or it is the same and the first rank that differs is higher
 abbrev pub IsBelowLow : (List Card → ℕ) → (List Card → List ℕ) → List Card → List Card → Type 0
 IsBelowLow class list a b = (class b < class a) ⊎ ((class a ≡ class b) × IsLower (list b) (list a))

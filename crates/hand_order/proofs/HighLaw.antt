@@ -132,11 +132,11 @@ pub high_ranked : (low : LowStraight) (cards : List Card) → AreHeld 5 cards �
 unfolding high_class
 high_ranked low cards held = ranked_by high_table high_missing high_says low (high_class low) cards held refl
 
--- the number of a hand is less exactly where the hand is weaker
+-- the points of a hand are less exactly where the hand is weaker
 pub high_ordered : (low : LowStraight) (a b : List Card) → AreHeld 5 a → AreHeld 5 b → (high_points low a < high_points low b) ↔ IsWeakerHigh low a b
 high_ordered low a b held_a held_b = ranked_law (high_class low) (deciding_ranks low) high_missing 8 5 a b (high_ranked low a held_a) (high_ranked low b held_b)
 
--- and below the seventh place
+-- and they are below the seventh place
 pub high_below : (low : LowStraight) (cards : List Card) → AreHeld 5 cards → high_points low cards < 16 ^ 6
 high_below low cards held = let below = decide_below low cards held.0 in omega arith
 

@@ -133,6 +133,6 @@ lawful_by_numbers looks_at is_weaker number law =
     subst (λ (n : ℕ). (n < high) ↔ is_weaker a b) low_is (subst (λ (n : ℕ). (number a < n) ↔ is_weaker a b) high_is (law a b are_a are_b)))
 
 -- the greatest points of choices are those of the holding
-pub greatest_of_holding : (looks_at : List Card → Type 0) (is_hand : List Card → Type 0) (is_weaker : List Card → List Card → Type 0) (points : List Card → Option ℕ) (options : List (List Card)) (worth : Option ℕ) → IsLawful looks_at is_hand is_weaker points → ((choice : List Card) → IsAmong choice options → looks_at choice) → worth ≡ greatest points options → IsPointsOfHolding is_hand is_weaker points options worth
+pub greatest_of_holding : (looks_at : List Card → Type 0) (is_hand : List Card → Type 0) (is_weaker : List Card → List Card → Type 0) (points : List Card → Option ℕ) (options : List (List Card)) (most : Option ℕ) → IsLawful looks_at is_hand is_weaker points → ((choice : List Card) → IsAmong choice options → looks_at choice) → most ≡ greatest points options → IsPointsOfHolding is_hand is_weaker points options most
 greatest_of_holding looks_at is_hand is_weaker points options None lawful are is = no_hand looks_at is_hand is_weaker points options lawful are (subst (Says points options) (sym is) (says_greatest points options))
 greatest_of_holding looks_at is_hand is_weaker points options (Some value) lawful are is = points_of_best looks_at is_hand is_weaker points options value lawful are (subst (Says points options) (sym is) (says_greatest points options))

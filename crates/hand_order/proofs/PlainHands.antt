@@ -23,7 +23,7 @@ use Rattle.hand_order.proofs.FittingChoices.{times_of_ranks, fitting, fits_count
 use Rattle.hand_order.proofs.OwnRanks.{several, InRange-high_ace, own_picked}
 use Rattle.hand_order.specs.Picks.{without, Within, Fits, IsPicked, among_numbers, plain_class, pattern, IsPattern, IsBestPattern}
 
--- the number of a hand without straights and flushes
+-- the points of a hand without straights and flushes
 abbrev pub plain_points : FlushPlace → List Card → ℕ
 plain_points flush cards = class_above (leveled flush (plain_class (ranks_occurring high_ace cards 4) (ranks_occurring high_ace cards 3) (ranks_occurring high_ace cards 2))) (ranks_of high_ace cards)
 

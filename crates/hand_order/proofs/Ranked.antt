@@ -40,7 +40,7 @@ ranked_law class list missing last total a b is_a is_b =
 pub ranked_below : (class : List Card → ℕ) (list : List Card → List ℕ) (missing : List ℕ) (last total : ℕ) (cards : List Card) → IsRanked class list missing last total cards → last ≤ 8 → class_above (class cards) (list cards) < 16 ^ 6
 ranked_below class list missing last total cards is few = omega (arith, number_below (list cards) is.few is.digits, is.within)
 
--- where low ranks are good, and the greatest number is the worst
+-- where low ranks are good, and the greatest number is the weakest hand
 pub ranked_low_law : (class : List Card → ℕ) (list : List Card → List ℕ) (missing : List ℕ) (last total : ℕ) (a b : List Card) → last ≤ 8 → IsRanked class list missing last total a → IsRanked class list missing last total b → (16 ^ 6 - class_above (class a) (list a) < 16 ^ 6 - class_above (class b) (list b)) ↔ IsBelowLow class list a b
 ranked_low_law class list missing last total a b few is_a is_b =
     let law = class_first (class b) (class a) (list b) (list a) is_b.few is_a.few is_b.digits is_a.digits (λ equal. as_many class list missing last total b a is_b is_a equal) in

@@ -1,11 +1,11 @@
--- The number that a class and a list of heights make, each height a digit to the base 16.
+-- The points that a class and a list of heights make, each height a digit to the base 16.
 use Rattle.std.specs.Prelude.{ℕ, ◌+◌, ◌*◌, ◌^◌, ◌<◌, List, [], ◌∷◌, fold}
 
 -- the number with these digits after those of another
 unfoldable pub with_digits : ℕ → List ℕ → ℕ
 with_digits value digits = fold (λ sofar digit. sofar * 16 + digit) value digits
 
--- a class above five digits
+-- the points of a class above five digits
 abbrev pub class_above : ℕ → List ℕ → ℕ
 class_above class digits = class * 16 ^ 5 + with_digits 0 digits
 

@@ -56,6 +56,6 @@ high_class low cards =
 abbrev pub IsWeakerHigh : LowStraight → List Card → List Card → Type 0
 IsWeakerHigh low a b = IsBelow (high_class low) (deciding_ranks low) a b
 
--- the number of a hand in the high order: the better class is the higher, above the ranks that decide
+-- the points of a hand in the high order: the better its class, the more, above the ranks that decide
 abbrev pub high_points : LowStraight → List Card → ℕ
 high_points low cards = class_above (8 - high_class low cards) (deciding_ranks low cards)

@@ -144,7 +144,7 @@ pub fn best_choice<J: Judge>(
     )
 }
 
-/// The better of two scores, where none is the worst.
+/// The better of two scores, where none is the least.
 pub fn better_score(first: Option<Score>, second: Option<Score>) -> Option<Score>
     ensures { option_map (λ s. s.points) result
         ≡ better (option_map (λ s. s.points) first) (option_map (λ s. s.points) second) }

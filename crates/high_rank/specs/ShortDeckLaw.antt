@@ -32,7 +32,7 @@ pub short_ranked : (cards : List Card) → AreHeld 5 cards → IsRanked short_cl
 unfolding short_class
 short_ranked cards held = ranked_by short_table short_missing short_says straights.NineHigh short_class cards held refl
 
--- the number of five cards is less exactly where they are weaker
+-- the points of five cards are less exactly where they are weaker
 short_ordered : (a b : List Card) → AreHeld 5 a → AreHeld 5 b → (class_above (8 - short_class a) (deciding_ranks straights.NineHigh a) < class_above (8 - short_class b) (deciding_ranks straights.NineHigh b)) ↔ IsWeaker a b
 short_ordered a b held_a held_b = ranked_law short_class (deciding_ranks straights.NineHigh) short_missing 8 5 a b (short_ranked a held_a) (short_ranked b held_b)
 

@@ -1,4 +1,4 @@
--- The number that up-cards make in the high order of up-cards.
+-- The points of up-cards in their high order.
 use Rattle.std.specs.Prelude.{◌==◌, ◌&&◌, ℕ, ◌-◌, Bool, List, [], ◌∷◌}
 use Rattle.card_set.specs.declared.card.Card.{Card}
 use Rattle.card_set.specs.Ranks.{high_ace, ranks_of}

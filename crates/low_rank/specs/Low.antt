@@ -1,4 +1,4 @@
--- The number that cards make where low cards are good: the worse they are the less is left of the greatest number.
+-- The points of cards where low cards are good: the weaker they are, the less is left of the greatest number.
 use Rattle.std.specs.Prelude.{◌==◌, ◌&&◌, ℕ, ◌-◌, ◌^◌, Bool, List, [], ◌∷◌}
 use Rattle.card_set.specs.declared.card.Card.{Card}
 use Rattle.card_set.specs.Ranks.{low_ace, ranks_of}

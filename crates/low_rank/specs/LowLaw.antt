@@ -41,7 +41,7 @@ pub low_ranked : (cards : List Card) → length cards ≤ 5 → AllDifferent car
 unfolding low_class
 low_ranked cards few different = ranked_plain low_table low_missing 5 5 low_says low_ace IsHeight-low_ace (AreDigits-ranks_of low_ace) low_class cards (omega arith) few different refl
 
--- the number of as many cards is less exactly where they are weaker
+-- the points of as many cards are less exactly where they are weaker
 pub low_ordered : (a b : List Card) → length a ≤ 5 → length a ≡ length b → AllDifferent a → AllDifferent b → (low_points a < low_points b) ↔ IsWeakerLow a b
 low_ordered a b few same different_a different_b =
     ranked_low_law low_class (ranks_of low_ace) low_missing 5 (length b) a b (omega arith)
@@ -64,7 +64,7 @@ pub best_class : (cards : List Card) → has_no_pair low_ace cards ≡ true → 
 unfolding low_class
 best_class cards none = ap (λ (b : Bool). place (b ∷ has_one_pair low_ace cards ∷ has_two_pair low_ace cards ∷ has_three_of_a_kind low_ace cards ∷ has_full_house low_ace cards ∷ has_four_of_a_kind low_ace cards ∷ [])) none
 
--- a hand with points qualifies, and has the number of its ranks
+-- a hand with points qualifies, and has the points of its ranks
 qualified_points : (cards : List Card) (value : ℕ) → eight.points cards ≡ Some value → (eight.is_qualified cards ≡ true) × (low_points cards ≡ value)
 qualified_points cards value is = cond_some (eight.is_qualified cards) (low_points cards) value is
 

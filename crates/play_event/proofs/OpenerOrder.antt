@@ -39,7 +39,7 @@ opens_not LowUp false a = or_from (nat_lt (up_high_class a) (up_high_class a)) (
 opens_not HighUp false a = or_from (nat_lt (low_class a) (low_class a)) ((low_class a == low_class a) && is_lower (ranks_of low_ace a) (ranks_of low_ace a)) (le-ltb (low_class a) (low_class a) (omega arith)) (and_right (low_class a == low_class a) (is_lower (ranks_of low_ace a) (ranks_of low_ace a)) (lower_not (ranks_of low_ace a)))
 opens_not Blinds first a = refl
 
--- a class that is worse, or the same class and heights that are
+-- a class that is weaker, or the same class and heights that are
 worse_step : (ca cb cc : ℕ) (l m n : Bool) → (l ≡ true → m ≡ true → n ≡ true) → ((nat_lt ca cb ≡ true) ⊎ (((cb == ca) && l) ≡ true)) → ((nat_lt cb cc ≡ true) ⊎ (((cc == cb) && m) ≡ true)) → (nat_lt ca cc || ((cc == ca) && n)) ≡ true
 worse_step ca cb cc l m n trans (inl x) (inl y) = or_left (nat_lt ca cc) ((cc == ca) && n) (less_trans ca cb cc x y)
 worse_step ca cb cc l m n trans (inl x) (inr y) = or_left (nat_lt ca cc) ((cc == ca) && n) (lt-ltb ca cc (let one : ca < cb = ltb-true ca cb x in let two : cc ≡ cb = eqb-true cc cb (and_parts (cc == cb) m y).0 in omega (arith, one, two)))

@@ -77,7 +77,7 @@ pub fn is_opener_before(opener: Opener, first: bool, a: &CardRow, b: &CardRow) -
     }
 }
 
-// The up-cards are worse, the ace high.
+// The up-cards are weaker, the ace high.
 fn worse_high(a: &CardRow, b: &CardRow) -> bool
     ensures { result ≡ openers.is_weaker_up_high (cards_of a.now) (cards_of b.now) }
 {
@@ -88,7 +88,7 @@ fn worse_high(a: &CardRow, b: &CardRow) -> bool
     other < class || (class == other && lower(ranks.as_slice(), others.as_slice()))
 }
 
-// The up-cards are worse in razz.
+// The up-cards are weaker in razz.
 fn worse_low(a: &CardRow, b: &CardRow) -> bool
     ensures { result ≡ openers.is_weaker_low (cards_of a.now) (cards_of b.now) }
 {
