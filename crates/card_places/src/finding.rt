@@ -33,20 +33,20 @@ pub fn find(
     ensures { IsFound result (found_by (mark_by street count) (cards_of names.now) card.slot
         (drop taken (cards_of others.now)) blanks (place_of card)) (cards_of others.now) }
 {
+    let same = Found {
+        card,
+        taken,
+        blanks,
+    };
     match card.slot {
         Slot::Known(known) => {
             if is_named(known, names.as_slice()) {
                 Found {
                     card: marked(card, street, count),
-                    taken,
-                    blanks,
+                    ..same
                 }
             } else {
-                Found {
-                    card,
-                    taken,
-                    blanks,
-                }
+                same
             }
         }
         Slot::Unknown => {
@@ -55,20 +55,16 @@ pub fn find(
                 Found {
                     card: marked(DealtCard { slot, ..card }, street, count),
                     taken: taken + 1,
-                    blanks,
+                    ..same
                 }
             } else if blanks > 0 {
                 Found {
                     card: marked(card, street, count),
-                    taken,
                     blanks: blanks - 1,
+                    ..same
                 }
             } else {
-                Found {
-                    card,
-                    taken,
-                    blanks,
-                }
+                same
             }
         }
     }

@@ -14,12 +14,11 @@ ghost use Rattle.ohh_rounds.specs.Play.{plain_play};
 ghost use Rattle.ohh_reading.specs.Hand.{hand_of, plain};
 ghost use Rattle.hand_records.specs.Histories.{IsHistory};
 
-use crate::sizes::{Sizes, sizes_of};
+use crate::sizes::sizes_of;
 use chip_ledger::SeatRow;
 use hand_records::{Notes, Record, Stated};
 use ohh_facts::found::Paid;
 use ohh_members::front::Front;
-use ohh_posts::Stakes;
 use ohh_rounds::RoundsPlay;
 use play_event::{Reopen, Rules, Setup};
 
@@ -45,30 +44,19 @@ pub fn record_of(
     ensures script { result.script ≡ play.script }
 {
     let RoundsPlay { stakes, script, .. } = play;
-    let Stakes {
-        antes,
-        dead_antes,
-        blinds,
-    } = stakes;
-    let Sizes {
-        bring_in,
-        small_bet,
-        big_bet,
-        min_bet,
-    } = sizes_of(front.code, front.blinds.big);
-    let Paid { wins, total, rakes } = paid;
+    let sizes = sizes_of(front.code, front.blinds.big);
     Record {
         setup: Setup {
             code: front.code,
             stacks,
-            antes,
-            dead_antes,
-            blinds,
-            bring_in,
-            small_bet,
-            big_bet,
-            min_bet,
-            rakes,
+            antes: stakes.antes,
+            dead_antes: stakes.dead_antes,
+            blinds: stakes.blinds,
+            bring_in: sizes.bring_in,
+            small_bet: sizes.small_bet,
+            big_bet: sizes.big_bet,
+            min_bet: sizes.min_bet,
+            rakes: paid.rakes,
         },
         rules: Rules {
             reopen: Reopen::Full,
@@ -78,8 +66,8 @@ pub fn record_of(
         script,
         stated: Stated {
             finish: None,
-            wins,
-            pot_total: total,
+            wins: paid.wins,
+            pot_total: paid.total,
             values: None,
         },
         notes,
