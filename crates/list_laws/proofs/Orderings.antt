@@ -1,5 +1,5 @@
 -- Lemmas on how two things are ordered: less, equal or greater.
-use Rattle.std.proofs.Common.{Equal, Greater, Less, List, Ordering, ap, is_eq, nat_cmp, refl, sym, true, ℕ, ◌<◌, ◌≡◌, true≢false}
+use Rattle.std.proofs.Common.{Equal, Greater, Less, List, Ordering, ap, is_eq, nat_cmp, refl, sym, ℕ, ◌<◌, ◌≡◌, true≢false}
 use Rattle.std.proofs.lemmas.Cmp.{nat_list_cmp_total, tied_itself}
 use Rattle.std.specs.Cmp.{nat_cmp_is}
 use Rattle.std.specs.Cmp.Lexicographic.{slice_cmp}
