@@ -90,6 +90,29 @@ fn cards<V: Variant>(street: u8) -> Due
     }
 }
 
+// What is due after a move that led to these numbers.
+fn settle<V: Variant>(table: &mut Table)
+    requires code { table.old.setup.code ≡ V.CODE }
+    requires first { 1 ≤ table.old.street }
+    requires last { table.old.street ≤ V.STREETS }
+    ensures settled { IsSettledTo table.old table.new }
+    ensures first { 1 ≤ table.new.street }
+    ensures last { table.new.street ≤ V.STREETS }
+    ensures here { is_of_street table.new.street table.new.due ≡ true }
+    ensures begins { is_before_moves table.new.due ≡ true → table.new.last ≡ None }
+{
+    let street = table.street;
+    if table.live_count() <= 1 {
+        table.set_due(Due::Over);
+    } else if table.is_move_due() {
+        table.set_due(Due::Move);
+    } else if street < V::STREETS {
+        table.next_street(cards::<V>(street + 1));
+    } else {
+        table.set_due(Due::Show);
+    }
+}
+
 impl<V: Variant> Betting<V> {
     /// The betting before the first card: antes and blinds are posted, and the first deal is due.
     pub fn start(setup: &Setup, rules: &Rules) -> Self
@@ -123,27 +146,6 @@ impl<V: Variant> Betting<V> {
         }
     }
 
-    // What is due after a move that led to these numbers.
-    fn settle(&mut self, mid: Table)
-        requires code { mid.setup.code ≡ V.CODE }
-        requires first { 1 ≤ mid.street }
-        requires last { mid.street ≤ V.STREETS }
-        ensures { IsSettledTo mid self.new.table }
-    {
-        let street = mid.street;
-        let mut table = mid;
-        if mid.live_count() <= 1 {
-            table.set_due(Due::Over);
-        } else if mid.is_move_due() {
-            table.set_due(Due::Move);
-        } else if street < V::STREETS {
-            table.next_street(cards::<V>(street + 1));
-        } else {
-            table.set_due(Due::Show);
-        }
-        self.table = table;
-    }
-
     // The deal or the draw of the street is ended.
     fn bet(&mut self)
         requires { is_deal_or_draw self.old.table.due ≡ true }
@@ -174,9 +176,8 @@ impl<V: Variant> Betting<V> {
         ensures rules { self.new.table.rules ≡ self.old.table.rules }
     {
         let unit = self.unit();
-        let mut table = self.table;
-        table.make(seat, act, target, unit);
-        self.settle(table);
+        self.table.make(seat, act, target, unit);
+        settle::<V>(&mut self.table);
     }
 
     // Whose turn it is, if it is known.

@@ -1,6 +1,7 @@
 // How the running numbers change by a move.
-ghost use Rattle.std.specs.Prelude.{◌<◌, ◌≡◌, ◌≢◌, ◌≤◌, ◌+◌, ◌-◌, ◌*◌, ◌&&◌, ◌||◌, ℕ, true, None, nat_le, not, min, max, if◌then◌else◌};
+ghost use Rattle.std.specs.Prelude.{◌<◌, ◌≡◌, ◌≤◌, ◌+◌, ◌-◌, ◌*◌, ◌&&◌, ◌||◌, ℕ, false, None, nat_le, min, max, if◌then◌else◌};
 ghost use Rattle.chip_ledger.specs.LiveRow.{flag_of};
+ghost use Rattle.chip_ledger.specs.SeatRow.{amount_of};
 ghost use Rattle.chip_ledger.specs.declared.rows.TheConstants.{MOST_AMOUNT};
 ghost use Rattle.play_event.specs.Past.{is_fold, is_raise, is_bring_in};
 ghost use Rattle.play_event.specs.Played.{act_said};
@@ -39,39 +40,29 @@ fn brings_in(act: Act) -> bool
     }
 }
 
-// The live seats, less this one where it folds.
-fn live_after(live: LiveRow, seat: Seat, folded: bool) -> LiveRow
-    requires { seat.number ≤ live.seats }
-    ensures seats { result.seats ≡ live.seats }
-    ensures this { flag_of result seat.number ≡ (flag_of live seat.number && not folded) }
-    ensures others { (n : ℕ) → 1 ≤ n → n ≢ seat.number → flag_of result n ≡ flag_of live n }
+// No seat has chips in the row any more.
+fn clear(row: &mut SeatRow)
+    ensures seats { row.new.seats ≡ row.old.seats }
+    ensures all_zero { (n : ℕ) → amount_of row.new n ≡ 0 }
 {
-    let mut row = live;
-    row.set(seat, live.get(seat) && !folded);
-    row
+    row.amounts = [0; 10];
 }
 
-// The seats with this one flagged.
-fn flagged_too(flags: LiveRow, seat: Seat) -> LiveRow
-    requires { seat.number ≤ flags.seats }
-    ensures seats { result.seats ≡ flags.seats }
-    ensures this { flag_of result seat.number ≡ true }
-    ensures others { (n : ℕ) → 1 ≤ n → n ≢ seat.number → flag_of result n ≡ flag_of flags n }
+// No seat is flagged any more.
+fn unflag(row: &mut LiveRow)
+    ensures seats { row.new.seats ≡ row.old.seats }
+    ensures all_false { (n : ℕ) → flag_of row.new n ≡ false }
 {
-    let mut row = flags;
-    row.set(seat, true);
-    row
+    row.flags = [false; 10];
 }
 
-// The flags, or none of them.
-fn kept(flags: LiveRow, keep: bool) -> LiveRow
-    ensures seats { result.seats ≡ flags.seats }
-    ensures flags { (n : ℕ) → flag_of result n ≡ (keep && flag_of flags n) }
+// The flags stay, or none of them.
+fn keep(row: &mut LiveRow, kept: bool)
+    ensures seats { row.new.seats ≡ row.old.seats }
+    ensures flags { (n : ℕ) → flag_of row.new n ≡ (kept && flag_of row.old n) }
 {
-    if keep {
-        flags
-    } else {
-        LiveRow::new(flags.seats)
+    if !kept {
+        unflag(row);
     }
 }
 
@@ -132,31 +123,23 @@ impl Table {
         let price = self.price();
         let bet = self.bets.get(seat);
         let put = self.puts.get(seat);
-        let most = self.all_in(seat);
+        let live = self.live.get(seat) && !folds(act);
         let added = target.saturating_sub(bet);
-        let mut bets = self.bets;
-        bets.set(seat, bet + added);
-        let mut puts = self.puts;
-        puts.set(seat, put + added);
         let raised = raises(act);
         let opens = raised || brings_in(act);
-        *self = Table {
-            setup: self.setup,
-            rules: self.rules,
-            street: self.street,
-            due: self.due,
-            puts,
-            bets,
-            live: live_after(self.live, seat, folds(act)),
-            moved: flagged_too(self.moved, seat),
-            since_rise: flagged_too(kept(self.since_rise, target <= price), seat),
-            last: Some(seat),
-            raises: raises_after(self.raises, raised),
-            full_raise: full_raise_after(self.full_raise, raised, target.saturating_sub(price)),
-            full_bet: full_bet_after(self.full_bet, opens, unit, target),
-            doubled: doubled_after(self.doubled, raised, target, price),
-            opened: opens || self.opened,
-        };
+        let opened = opens || self.opened;
+        self.bets.set(seat, bet + added);
+        self.puts.set(seat, put + added);
+        self.live.set(seat, live);
+        self.moved.set(seat, true);
+        keep(&mut self.since_rise, target <= price);
+        self.since_rise.set(seat, true);
+        self.last = Some(seat);
+        self.raises = raises_after(self.raises, raised);
+        self.full_raise = full_raise_after(self.full_raise, raised, target.saturating_sub(price));
+        self.full_bet = full_bet_after(self.full_bet, opens, unit, target);
+        self.doubled = doubled_after(self.doubled, raised, target, price);
+        self.opened = opened;
     }
 
     /// The next street begins with this due.
@@ -166,24 +149,17 @@ impl Table {
         ensures due { self.new.due ≡ due }
         ensures last { self.new.last ≡ None }
     {
-        let seats = self.setup.stacks.seats;
-        *self = Table {
-            setup: self.setup,
-            rules: self.rules,
-            street: self.street + 1,
-            due,
-            puts: self.puts,
-            bets: SeatRow::new(seats),
-            live: self.live,
-            moved: LiveRow::new(seats),
-            since_rise: LiveRow::new(seats),
-            last: None,
-            raises: 0,
-            full_raise: self.setup.min_bet,
-            full_bet: 0,
-            doubled: 0,
-            opened: false,
-        };
+        self.street += 1;
+        self.due = due;
+        clear(&mut self.bets);
+        unflag(&mut self.moved);
+        unflag(&mut self.since_rise);
+        self.last = None;
+        self.raises = 0;
+        self.full_raise = self.setup.min_bet;
+        self.full_bet = 0;
+        self.doubled = 0;
+        self.opened = false;
     }
 
     /// Something else is due.

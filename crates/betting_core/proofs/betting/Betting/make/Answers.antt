@@ -12,4 +12,4 @@ returns-clause-stands g c =
     let b = whole.table in
     let most : b.street ≤ street_count g.V.Variant.CODE = omega (arith, whole.last, g.met.V.Variant.values.streets_is) in
     let within : b.street ≤ street_count b.setup.code = subst (λ (code : Code). b.street ≤ street_count code) (sym whole.code) most in
-    λ past stands bets. stands_after b c.make.new.self c.settle.new.self.table past c.args.seat.number c.args.target c.unit-unit.result (act_said c.args.act) stands bets (record { first = c.args.seat.first; last = c.requires.in_hand }) c.make.ensures c.unit-unit.ensures whole.first within c.requires.fits c.settle.ensures
+    λ past stands bets. stands_after b c.make.new.self c.settle.new.table past c.args.seat.number c.args.target c.unit-unit.result (act_said c.args.act) stands bets (record { first = c.args.seat.first; last = c.requires.in_hand }) c.make.ensures c.unit-unit.ensures whole.first within c.requires.fits c.settle.ensures.settled
