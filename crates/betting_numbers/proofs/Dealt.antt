@@ -1,6 +1,6 @@
 -- Where a deal or a draw is ended, the state stands for the past, or up to its new due.
-use Rattle.std.proofs.Common.{◌≡◌, ℕ, zero, suc, ◌+◌, ◌<◌, ◌≤◌, Bool, true, false, ◌&&◌, ◌||◌, not, nat_lt, nat_le, if◌then◌else◌, inl, inr, ◌⊎◌, List, [], Some, None, is_some, map, refl, sym, ap, subst, ◌∙◌, arith}
-use Rattle.std.specs.List.{list_any, range_with_len}
+use Rattle.std.proofs.Common.{◌≡◌, ℕ, ◌+◌, ◌<◌, ◌≤◌, Bool, true, false, ◌&&◌, ◌||◌, not, nat_lt, nat_le, if◌then◌else◌, inl, inr, ◌⊎◌, List, [], Some, None, is_some, refl, sym, ap, subst, ◌∙◌, arith}
+use Rattle.std.specs.List.{list_any}
 use Rattle.std.proofs.lemmas.Bool.{and_left, cases_eq, cases_lt, true≢false, ltb-true, ltb-false, not-true, ne_eqb}
 use Rattle.play_event.specs.declared.code.Code.{Code}
 use Rattle.play_event.specs.declared.reason.Due.{Due}
@@ -12,7 +12,6 @@ use Rattle.play_event.specs.Past.{Past, Move, moves_of, moves_on, newest_street}
 use Rattle.play_event.specs.Chips.{street_chips, chips_added, brought, blind_posted}
 use Rattle.play_event.specs.Seats.{is_live, is_able, live_count, able_count, all_seats}
 use Rattle.play_event.specs.Price.{price, owed}
-use Rattle.chip_ledger.specs.Greatest.{greatest}
 use Rattle.play_event.specs.Dealing.{is_deal_due, is_draw_due, next_to_draw, replacements_owed}
 use Rattle.play_event.specs.Showing.{is_show_due, has_to_show}
 use Rattle.play_event.specs.Due.{turn, due_on, showdown, is_bring_in_due, is_move_due, is_settled, has_able_seat_to_call, is_after_betting}

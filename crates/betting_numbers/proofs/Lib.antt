@@ -1,4 +1,5 @@
 -- What the running numbers say is what the rules say of the past for which they stand.
+pub mod OneChanged
 pub mod Bridge
 pub mod Passing
 pub mod NextStreet

@@ -9,7 +9,6 @@ mod opening;
 mod raising;
 mod starting;
 mod table;
-mod tally;
 mod targeting;
 mod tracing;
 mod turns;

@@ -1,5 +1,5 @@
 // How the running numbers change by a move.
-ghost use Rattle.std.specs.Prelude.{◌<◌, ◌≡◌, ◌≤◌, ◌+◌, ◌-◌, ◌*◌, ◌&&◌, ◌||◌, ℕ, false, None, nat_le, min, max, if◌then◌else◌};
+ghost use Rattle.std.specs.Prelude.{◌<◌, ◌≡◌, ◌≤◌, ◌+◌, ◌-◌, ◌*◌, ◌&&◌, ◌||◌, ℕ, false, None, nat_le, nat_lt, not, min, max, if◌then◌else◌};
 ghost use Rattle.chip_ledger.specs.LiveRow.{flag_of};
 ghost use Rattle.chip_ledger.specs.SeatRow.{amount_of};
 ghost use Rattle.chip_ledger.specs.declared.rows.TheConstants.{MOST_AMOUNT};
@@ -66,6 +66,31 @@ fn keep(row: &mut LiveRow, kept: bool)
     }
 }
 
+// A live seat stays live, but where it folds.
+fn live_after(live: bool, act: Act) -> bool
+    ensures { result ≡ (live && not (is_fold (act_said act))) }
+{
+    live && !folds(act)
+}
+
+// A live seat is able with so many chips put of its stack.
+fn able_after(live: bool, stack: u64, put: u64) -> bool
+    ensures { result ≡ (live && nat_lt 0 (stack - put)) }
+{
+    live && put < stack
+}
+
+// One seat less, where it was counted and is not any more.
+fn count_after(count: u8, was: bool, is: bool) -> u8
+    ensures { result ≡ (if was && not is then count - 1 else count) }
+{
+    if was && !is {
+        count.saturating_sub(1)
+    } else {
+        count
+    }
+}
+
 // One raise more, as far as a u32 counts.
 fn raises_after(count: u32, raised: bool) -> u32
     ensures { result ≡ (if raised then min (count + 1) most_raises else count) }
@@ -120,17 +145,26 @@ impl Table {
         requires reach { target ≤ all_in_seen self.old seat.number }
         ensures { IsMoved self.old self.new seat.number (act_said act) target unit }
     {
-        let price = self.price();
+        let price = self.price;
         let bet = self.bets.get(seat);
         let put = self.puts.get(seat);
-        let live = self.live.get(seat) && !folds(act);
+        let was_live = self.live.get(seat);
+        let was_able = self.able(seat);
+        let live = live_after(was_live, act);
         let added = target.saturating_sub(bet);
+        let able = able_after(live, self.setup.stacks.get(seat), put + added);
+        let live_count = count_after(self.live_count, was_live, live);
+        let able_count = count_after(self.able_count, was_able, able);
         let raised = raises(act);
         let opens = raised || brings_in(act);
         let opened = opens || self.opened;
         self.bets.set(seat, bet + added);
         self.puts.set(seat, put + added);
+        self.pot += added;
+        self.price = price.max(bet + added);
         self.live.set(seat, live);
+        self.live_count = live_count;
+        self.able_count = able_count;
         self.moved.set(seat, true);
         keep(&mut self.since_rise, target <= price);
         self.since_rise.set(seat, true);
@@ -152,6 +186,7 @@ impl Table {
         self.street += 1;
         self.due = due;
         clear(&mut self.bets);
+        self.price = 0;
         unflag(&mut self.moved);
         unflag(&mut self.since_rise);
         self.last = None;

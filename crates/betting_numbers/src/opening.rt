@@ -7,58 +7,70 @@ ghost use Rattle.play_event.specs.Price.{starting_price};
 ghost use Rattle.chip_ledger.specs.Greatest.{greatest};
 ghost use Rattle.play_event.specs.Seats.{all_seats};
 
-use crate::starting::first_price;
 use crate::table::Table;
 use chip_ledger::Seat;
+use play_event::Setup;
+
+// The greatest blind that is named.
+#[tactic(auto, using(chip_ledger::proofs::SeatLists::greatest_more))]
+fn greatest_blind(setup: &Setup) -> u64
+    requires { setup.now.blinds.seats ≡ setup.now.stacks.seats }
+    ensures { result ≡ openers.greatest_blind setup.now }
+{
+    let mut most: u64 = 0;
+    for index in 0..setup.stacks.seats {
+        let seat = Seat { number: index + 1 };
+        most = most.max(setup.blinds.get(seat));
+    }
+    most
+}
+
+// The number of the last seat with this blind, or 0.
+#[tactic(auto, using(chip_ledger::proofs::SeatLists::last_more))]
+fn last_with(setup: &Setup, blind: u64) -> u8
+    requires { setup.now.blinds.seats ≡ setup.now.stacks.seats }
+    ensures value { result
+        ≡ unwrap_or (find (λ seat. amount_of setup.now.blinds seat == blind)
+        (reverse (all_seats setup.now))) 0 }
+    ensures within { result ≤ setup.now.stacks.seats }
+{
+    let mut last: u8 = 0;
+    for index in 0..setup.stacks.seats {
+        let seat = Seat { number: index + 1 };
+        if setup.blinds.get(seat) == blind {
+            last = index + 1;
+        }
+    }
+    last
+}
+
+/// Who opens the first street of a game with blinds.
+pub fn first_opener(setup: &Setup) -> Seat
+    requires { setup.now.blinds.seats ≡ setup.now.stacks.seats }
+    ensures value { result.number ≡ openers.blinds_opener setup.now 1 }
+    ensures in_hand { result.number ≤ setup.now.stacks.seats }
+{
+    if setup.stacks.seats == 2 {
+        return Seat { number: 2 };
+    }
+    let last = last_with(setup, greatest_blind(setup));
+    if last == setup.stacks.seats {
+        Seat { number: 1 }
+    } else {
+        Seat { number: last + 1 }
+    }
+}
 
 impl Table {
-    // The greatest blind that is named.
-    #[tactic(auto, using(chip_ledger::proofs::SeatLists::greatest_more))]
-    fn greatest_blind(&self) -> u64
-        ensures { result ≡ openers.greatest_blind self.now.setup }
-    {
-        let mut most: u64 = 0;
-        for index in 0..self.setup.stacks.seats {
-            let seat = Seat { number: index + 1 };
-            most = most.max(self.setup.blinds.get(seat));
-        }
-        most
-    }
-
-    // The number of the last seat with this blind, or 0.
-    #[tactic(auto, using(chip_ledger::proofs::SeatLists::last_more))]
-    fn last_with(&self, blind: u64) -> u8
-        ensures value { result
-            ≡ unwrap_or (find (λ seat. amount_of self.now.setup.blinds seat == blind)
-            (reverse (all_seats self.now.setup))) 0 }
-        ensures within { result ≤ self.now.setup.stacks.seats }
-    {
-        let mut last: u8 = 0;
-        for index in 0..self.setup.stacks.seats {
-            let seat = Seat { number: index + 1 };
-            if self.setup.blinds.get(seat) == blind {
-                last = index + 1;
-            }
-        }
-        last
-    }
-
     /// Who opens the street of a game with blinds.
     pub fn blinds_opener(&self) -> Seat
         ensures value { result.number ≡ openers.blinds_opener self.now.setup self.now.street }
         ensures in_hand { result.number ≤ self.now.setup.stacks.seats }
     {
-        if self.street != 1 {
-            return Seat { number: 1 };
-        }
-        if self.setup.stacks.seats == 2 {
-            return Seat { number: 2 };
-        }
-        let last = self.last_with(self.greatest_blind());
-        if last == self.setup.stacks.seats {
-            Seat { number: 1 }
+        if self.street == 1 {
+            self.first_opener
         } else {
-            Seat { number: last + 1 }
+            Seat { number: 1 }
         }
     }
 
@@ -70,7 +82,7 @@ impl Table {
         ensures bounded { result ≤ MOST_AMOUNT }
     {
         if self.street == 1 {
-            first_price(&self.setup)
+            self.first_price
         } else {
             0
         }

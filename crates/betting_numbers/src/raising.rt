@@ -13,7 +13,7 @@ ghost use Rattle.chip_ledger.specs.Greatest.{greatest};
 ghost use Rattle.betting_numbers.specs.SeatsSaid.{seat_said};
 
 use crate::table::Table;
-use chip_ledger::{Seat, total};
+use chip_ledger::Seat;
 use play_event::{Illegal, Limit, Reopen, Spelled};
 
 // A seat is named whose turn it is not.
@@ -184,7 +184,7 @@ impl Table {
         ensures { result ≡ ceiling_seen self.now seat.number }
     {
         let price = self.price();
-        (price + self.full_raise).max(price + total(&self.puts) + self.owed(seat))
+        (price + self.full_raise).max(price + self.pot + self.owed(seat))
     }
 
     // The first full raise of fixed limit, and the other one where there is one.

@@ -1,5 +1,5 @@
 // The betting before the first card: what is posted.
-ghost use Rattle.std.specs.Prelude.{◌≡◌, ◌≤◌, ℕ, [], true, map};
+ghost use Rattle.std.specs.Prelude.{◌≡◌, ◌≤◌, ◌-◌, ℕ, [], true, nat_lt, map, count_by};
 ghost use Rattle.chip_ledger.specs.declared.rows.TheConstants.{MOST_AMOUNT};
 ghost use Rattle.chip_ledger.specs.LiveRow.{flag_of};
 ghost use Rattle.chip_ledger.specs.SeatRow.{amount_of};
@@ -13,8 +13,9 @@ ghost use Rattle.play_event.specs.ValidSetup.{IsValid};
 ghost use Rattle.betting_numbers.specs.Standing.{StandsFor};
 
 use crate::caps::caps_fit;
+use crate::opening::first_opener;
 use crate::table::Table;
-use chip_ledger::{LiveRow, Seat, SeatRow};
+use chip_ledger::{LiveRow, Seat, SeatRow, total};
 use play_event::{Due, Rules, Setup};
 
 // The blinds as far as the stacks go.
@@ -69,6 +70,24 @@ fn all_flagged(seats: u8) -> LiveRow
     row
 }
 
+// How many seats have chips left behind what was posted.
+#[tactic(auto, using(chip_ledger::proofs::SeatLists::count_more))]
+fn able_posted(setup: &Setup, puts: &SeatRow) -> u8
+    requires { puts.now.seats ≡ setup.now.stacks.seats }
+    ensures { result ≡ count_by
+        (λ n. nat_lt 0 (amount_of setup.now.stacks n - amount_of puts.now n))
+        (seats_of setup.now.stacks.seats) }
+{
+    let mut count: u8 = 0;
+    for index in 0..setup.stacks.seats {
+        let seat = Seat { number: index + 1 };
+        if puts.get(seat) < setup.stacks.get(seat) {
+            count += 1;
+        }
+    }
+    count
+}
+
 /// The numbers before the first card, where the last full bet of the first street is this.
 pub fn start(setup: &Setup, rules: &Rules, full_bet: u64) -> Table
     requires valid { IsValid setup.now }
@@ -90,11 +109,17 @@ pub fn start(setup: &Setup, rules: &Rules, full_bet: u64) -> Table
     Table {
         setup: *setup,
         rules: *rules,
+        first_price: first_price(setup),
+        first_opener: first_opener(setup),
         street: 1,
         due: Due::Deal(1),
         puts,
+        pot: total(&puts),
         bets,
+        price: greatest_posted(&bets),
         live: all_flagged(seats),
+        live_count: seats,
+        able_count: able_posted(setup, &puts),
         moved: LiveRow::new(seats),
         since_rise: LiveRow::new(seats),
         last: None,

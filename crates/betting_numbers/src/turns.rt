@@ -4,10 +4,9 @@ ghost use Rattle.std.specs.List.{range_with_len};
 ghost use Rattle.play_event.specs.Openers as openers;
 ghost use Rattle.play_event.specs.Openers.{TheSeat, in_turn};
 ghost use Rattle.betting_numbers.specs.SeatsSaid.{seat_said};
-ghost use Rattle.betting_numbers.specs.Seen.{able_count_seen, after_last, last_seen, mover_seen, price_seen, has_to_move_seen};
+ghost use Rattle.betting_numbers.specs.Seen.{after_last, last_seen, mover_seen, has_to_move_seen};
 
 use crate::table::Table;
-use crate::tally::Tally;
 use chip_ledger::Seat;
 
 impl Table {
@@ -28,9 +27,7 @@ impl Table {
 
     // The first of so many seats, from this number on, with a move to make.
     #[tactic(auto, using(list_laws::proofs::Finding::find_step))]
-    fn first_to_move(&self, tally: Tally, first: u8, count: u8) -> Option<Seat>
-        requires price { tally.price ≡ price_seen self.now }
-        requires able { tally.able ≡ able_count_seen self.now }
+    fn first_to_move(&self, first: u8, count: u8) -> Option<Seat>
         requires from_one { 1 ≤ first }
         requires within { first + count ≤ self.now.setup.stacks.seats + 1 }
         ensures found { seat_said result
@@ -41,10 +38,10 @@ impl Table {
             return None;
         }
         let seat = Seat { number: first };
-        if self.to_move(tally, seat) {
+        if self.to_move(seat) {
             Some(seat)
         } else {
-            self.first_to_move(tally, first + 1, count - 1)
+            self.first_to_move(first + 1, count - 1)
         }
     }
 
@@ -69,11 +66,10 @@ impl Table {
         ensures in_hand { IfSome result (λ seat. seat.number ≤ self.now.setup.stacks.seats) }
     {
         let start = self.passed_to(opener);
-        let tally = self.tally();
         let to_last = self.setup.stacks.seats + 1 - start.number;
-        match self.first_to_move(tally, start.number, to_last) {
+        match self.first_to_move(start.number, to_last) {
             Some(seat) => Some(seat),
-            None => self.first_to_move(tally, 1, start.number - 1),
+            None => self.first_to_move(1, start.number - 1),
         }
     }
 }

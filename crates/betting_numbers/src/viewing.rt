@@ -38,11 +38,10 @@ impl Table {
     fn able_owes(&self) -> bool
         ensures { result ≡ has_able_seat_to_call_seen self.now }
     {
-        let price = self.price();
         let mut found = false;
         for index in 0..self.setup.stacks.seats {
             let seat = Seat { number: index + 1 };
-            found = found || (self.able(seat) && 0 < self.owed_at(price, seat));
+            found = found || (self.able(seat) && 0 < self.owed(seat));
         }
         found
     }

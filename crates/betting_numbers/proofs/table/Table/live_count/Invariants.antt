@@ -1,7 +1,0 @@
-use Rattle.std.proofs.Common.{◌≡◌, ◌≤◌, count_by}
-use Rattle.chip_ledger.specs.LiveRow.{flag_of}
-use Rattle.chip_ledger.specs.Seat.{seats_of}
-use Rattle.betting_numbers.proofs.table.Table.live_count.Given as goal
-
-abbrev pub invariant-loop-index : goal.invariant-loop-index
-invariant-loop-index l = (l.count ≡ count_by (flag_of l.self.live) (seats_of l.index)) × (l.count ≤ l.index)
