@@ -1,7 +1,6 @@
 //! The betting of a hand of one game: it takes folds, calls, raises and bring-ins one by one.
-ghost use Rattle.std.specs.Prelude.{◌≡◌, ◌≢◌, ◌≤◌, ◌<◌, ◌∷◌, [], ℕ, true, false, Some, None, IfErr, IfOk, IfSome, OnOk, OnErr, is_some};
+ghost use Rattle.std.specs.Prelude.{◌≡◌, ◌≢◌, ◌≤◌, ◌<◌, ◌∷◌, [], ℕ, true, false, Some, None, IfOk, IfSome, OnOk, OnErr, is_some};
 ghost use Rattle.play_event.specs.declared.reason.Due.TheVariants as dues;
-ghost use Rattle.play_event.specs.Games.{street_count};
 ghost use Rattle.play_event.specs.Past.{Past, moves_of};
 ghost use Rattle.chip_ledger.specs.LiveRow.{flag_of, flagged};
 ghost use Rattle.chip_ledger.specs.SeatRow.{amount_of};
@@ -9,7 +8,7 @@ ghost use Rattle.play_event.specs.Chips.{chips_left, chips_put};
 ghost use Rattle.play_event.specs.Due.{is_settled, turn};
 ghost use Rattle.play_event.specs.Seats.{is_live};
 ghost use Rattle.play_event.specs.Openers.{TheSeat};
-ghost use Rattle.play_event.specs.TurnTargets.{AreTargets, has_targets, is_bet_due};
+ghost use Rattle.play_event.specs.TurnTargets.{has_targets, is_bet_due};
 ghost use Rattle.play_event.specs.Past as plays;
 ghost use Rattle.play_event.specs.Played.{act_said, move_said};
 ghost use Rattle.play_event.specs.Trace.{traced_move};
@@ -18,7 +17,7 @@ ghost use Rattle.betting_numbers.specs.SeatsSaid.{seat_said, turn_of};
 ghost use Rattle.play_event.specs.Streets.{is_stud, unit};
 ghost use Rattle.betting_numbers.specs.Seen.{all_in_seen};
 ghost use Rattle.betting_numbers.specs.Standing.{StandsFor};
-ghost use Rattle.betting_numbers.specs.LegalMoves.{IsLegalMove, IsTurn, move_of, IsRefused, IsAllowed, IsOfHand, IsInReach, IsFit, WhereUps, reason_after, past_with, with_move};
+ghost use Rattle.betting_numbers.specs.LegalMoves.{IsLegalMove, IsTurn, IsRefused, IsAllowed, IsOfHand, IsInReach, IsFit, WhereUps, reason_after, past_with, with_move};
 ghost use Rattle.street_laws.specs.CardEvents.{is_card_said};
 ghost use Rattle.street_laws.specs.Seats.{IsSeat};
 ghost use Rattle.betting_numbers.specs.UpTo.{StandsUpTo};
@@ -26,10 +25,7 @@ ghost use Rattle.street_laws.specs.Done.{is_done};
 ghost use Rattle.street_laws.specs.Dues.{IsDueWithin, is_of_street, is_deal_or_draw, is_cards_due, is_before_moves};
 ghost use Rattle.betting_numbers.specs.Turn.{may_come_at, IsDealtTo, IsSettledTo};
 ghost use Rattle.street_laws.specs.Walk.{street_cards};
-ghost use Rattle.play_event.specs.Reasons.{why};
 ghost use Rattle.play_event.specs.Said.{Said, said_of};
-ghost use Rattle.play_event.specs.Scripts.{with_event};
-ghost use Rattle.betting_numbers.specs.UpSeen.{HoldsUps};
 ghost use Rattle.play_event.specs.ValidSetup.{IsValid};
 ghost use Rattle.betting_numbers.specs.Targeted.{AreEndsFor};
 
@@ -77,19 +73,6 @@ fn betting_due(due: Due) -> bool
     }
 }
 
-// The cards with which a street begins.
-fn cards<V: Variant>(street: u8) -> Due
-    requires first { 1 ≤ street }
-    requires last { street ≤ V.STREETS }
-    ensures { result ≡ street_cards V.CODE street }
-{
-    if V::street(street).draws {
-        Due::Draw(street)
-    } else {
-        Due::Deal(street)
-    }
-}
-
 // What is due after a move that led to these numbers.
 fn settle<V: Variant>(table: &mut Table)
     requires code { table.old.setup.code ≡ V.CODE }
@@ -110,6 +93,19 @@ fn settle<V: Variant>(table: &mut Table)
         table.next_street(cards::<V>(street + 1));
     } else {
         table.set_due(Due::Show);
+    }
+}
+
+// The cards with which a street begins.
+fn cards<V: Variant>(street: u8) -> Due
+    requires first { 1 ≤ street }
+    requires last { street ≤ V.STREETS }
+    ensures { result ≡ street_cards V.CODE street }
+{
+    if V::street(street).draws {
+        Due::Draw(street)
+    } else {
+        Due::Deal(street)
     }
 }
 
@@ -135,66 +131,55 @@ impl<V: Variant> Betting<V> {
         }
     }
 
-    // The bet size of the street.
-    fn unit(&self) -> u64
-        ensures { result ≡ unit self.now.table.setup self.now.table.street }
-    {
-        match V::street(self.table.street).size {
-            Size::Small => self.table.setup.small_bet,
-            Size::Big => self.table.setup.big_bet,
-            Size::Least => self.table.setup.min_bet,
-        }
-    }
-
-    // The deal or the draw of the street is ended.
-    fn bet(&mut self)
-        requires { is_deal_or_draw self.old.table.due ≡ true }
-        ensures { IsDealtTo self.old.table self.new.table }
-    {
-        let street = self.table.street;
-        if self.table.is_bring_in_due(stud::<V>()) {
-            self.table.set_due(Due::BringIn);
-        } else if self.table.is_move_due() {
-            self.table.set_due(Due::Move);
-        } else if street < V::STREETS {
-            self.table.next_street(cards::<V>(street + 1));
-        } else {
-            self.table.set_due(Due::Show);
-        }
-    }
-
-    // Makes a legal move, and what comes behind it.
-    fn make(&mut self, seat: Seat, act: Act, target: u64)
-        requires in_hand { seat.number ≤ self.old.table.setup.stacks.seats }
-        requires reach { target ≤ all_in_seen self.old.table seat.number }
-        requires fits { may_come_at (act_said act) self.old.table.due ≡ true }
-        ensures stands { (past : Past) → StandsFor self.old.table past
-            → is_bet_due self.old.table.due ≡ true
-            → StandsFor self.new.table
-            (with_move self.old.table past seat.number (act_said act) target) }
+    /// Makes the move of a fold, a call, a raise or a bring-in, where it is legal, and gives it as
+    /// the trace keeps it. Else it gives the first reason that holds against the event, and nothing
+    /// changes.
+    ///
+    /// `up` has the up-cards of each seat. They are read in stud, where they decide who opens a
+    /// street.
+    pub fn step(&mut self, up: &UpRow, event: &Event) -> Result<Moved, Illegal>
+        requires row { up.now.seats ≡ self.old.table.setup.stacks.seats }
+        requires kind { is_card_said (said_of event.now) ≡ false }
+        ensures refused { WhereUps self.old.table up.now
+            (IsRefused self.old.table (said_of event.now) result) }
+        ensures legal { WhereUps self.old.table up.now
+            (λ past. OnOk result (reason_after self.old.table past (said_of event.now) ≡ None)) }
+        ensures stands { WhereUps self.old.table up.now
+            (λ past. OnOk result (StandsFor self.new.table
+            (past_with self.old.table past (said_of event.now)))) }
+        ensures moved { WhereUps self.old.table up.now
+            (λ past. IfOk result (λ moved. (move : plays.Move)
+            → past_with self.old.table past (said_of event.now) ≡ plays.Moved move ∷ past
+            → move_said moved ≡ traced_move self.old.table.setup move (moves_of past))) }
+        ensures unchanged { OnErr result (self.new ≡ self.old) }
         ensures setup { self.new.table.setup ≡ self.old.table.setup }
         ensures rules { self.new.table.rules ≡ self.old.table.rules }
     {
-        let unit = self.unit();
-        self.table.make(seat, act, target, unit);
-        settle::<V>(&mut self.table);
+        match self.legal_move(up, event) {
+            Ok(legal) => Ok(self.play(legal)),
+            Err(reason) => Err(reason),
+        }
     }
 
-    // Whose turn it is, if it is known.
-    fn turn_now(&self, up: &UpRow) -> Option<Seat>
+    // The move that an event says, if it is legal.
+    fn legal_move(&self, up: &UpRow, event: &Event) -> Result<LegalMove, Illegal>
         requires row { up.now.seats ≡ self.now.table.setup.stacks.seats }
-        requires bets { is_bet_due self.now.table.due ≡ true }
-        ensures turn { WhereUps self.now.table up.now
-            (λ past. IsTurn self.now.table past (turn_of (seat_said result))) }
-        ensures in_hand { IfSome result (λ seat. seat.number ≤ self.now.table.setup.stacks.seats) }
+        requires kind { is_card_said (said_of event.now) ≡ false }
+        ensures refused { WhereUps self.now.table up.now
+            (IsRefused self.now.table (said_of event.now) result) }
+        ensures legal { WhereUps self.now.table up.now
+            (IsAllowed self.now.table (said_of event.now) result) }
+        ensures due { OnOk result (is_bet_due self.now.table.due ≡ true) }
+        ensures fits { IfOk result (IsFit self.now.table) }
+        ensures in_hand { IfOk result (IsOfHand self.now.table) }
+        ensures reach { IfOk result (IsInReach self.now.table) }
     {
-        match V::OPEN {
-            Opener::Blinds => {
-                let opener = self.table.blinds_opener();
-                self.table.mover(opener)
-            }
-            Opener::LowUp => self.table.turn_by_up(Opener::LowUp, up),
-            Opener::HighUp => self.table.turn_by_up(Opener::HighUp, up),
+        match event.kind {
+            Kind::Fold { actor } => self.fold(up, actor),
+            Kind::Call { actor, stated } => self.call(up, actor, stated),
+            Kind::Raise { actor, amount } => self.raise(up, actor, amount),
+            Kind::BringIn { actor } => self.bring_in(up, actor),
+            _ => Err(Illegal::WrongKind),
         }
     }
 
@@ -280,28 +265,6 @@ impl<V: Variant> Betting<V> {
         self.table.legal_bring_in(turn, actor)
     }
 
-    // The move that an event says, if it is legal.
-    fn legal_move(&self, up: &UpRow, event: &Event) -> Result<LegalMove, Illegal>
-        requires row { up.now.seats ≡ self.now.table.setup.stacks.seats }
-        requires kind { is_card_said (said_of event.now) ≡ false }
-        ensures refused { WhereUps self.now.table up.now
-            (IsRefused self.now.table (said_of event.now) result) }
-        ensures legal { WhereUps self.now.table up.now
-            (IsAllowed self.now.table (said_of event.now) result) }
-        ensures due { OnOk result (is_bet_due self.now.table.due ≡ true) }
-        ensures fits { IfOk result (IsFit self.now.table) }
-        ensures in_hand { IfOk result (IsOfHand self.now.table) }
-        ensures reach { IfOk result (IsInReach self.now.table) }
-    {
-        match event.kind {
-            Kind::Fold { actor } => self.fold(up, actor),
-            Kind::Call { actor, stated } => self.call(up, actor, stated),
-            Kind::Raise { actor, amount } => self.raise(up, actor, amount),
-            Kind::BringIn { actor } => self.bring_in(up, actor),
-            _ => Err(Illegal::WrongKind),
-        }
-    }
-
     // Makes a legal move.
     fn play(&mut self, legal: LegalMove) -> Moved
         requires in_hand { legal.seat.number ≤ self.old.table.setup.stacks.seats }
@@ -328,64 +291,21 @@ impl<V: Variant> Betting<V> {
         moved
     }
 
-    /// Makes the move of a fold, a call, a raise or a bring-in, where it is legal, and gives it as
-    /// the trace keeps it. Else it gives the first reason that holds against the event, and nothing
-    /// changes.
-    ///
-    /// `up` has the up-cards of each seat. They are read in stud, where they decide who opens a
-    /// street.
-    pub fn step(&mut self, up: &UpRow, event: &Event) -> Result<Moved, Illegal>
-        requires row { up.now.seats ≡ self.old.table.setup.stacks.seats }
-        requires kind { is_card_said (said_of event.now) ≡ false }
-        ensures refused { WhereUps self.old.table up.now
-            (IsRefused self.old.table (said_of event.now) result) }
-        ensures legal { WhereUps self.old.table up.now
-            (λ past. OnOk result (reason_after self.old.table past (said_of event.now) ≡ None)) }
-        ensures stands { WhereUps self.old.table up.now
-            (λ past. OnOk result (StandsFor self.new.table
-            (past_with self.old.table past (said_of event.now)))) }
-        ensures moved { WhereUps self.old.table up.now
-            (λ past. IfOk result (λ moved. (move : plays.Move)
-            → past_with self.old.table past (said_of event.now) ≡ plays.Moved move ∷ past
-            → move_said moved ≡ traced_move self.old.table.setup move (moves_of past))) }
-        ensures unchanged { OnErr result (self.new ≡ self.old) }
+    // Makes a legal move, and what comes behind it.
+    fn make(&mut self, seat: Seat, act: Act, target: u64)
+        requires in_hand { seat.number ≤ self.old.table.setup.stacks.seats }
+        requires reach { target ≤ all_in_seen self.old.table seat.number }
+        requires fits { may_come_at (act_said act) self.old.table.due ≡ true }
+        ensures stands { (past : Past) → StandsFor self.old.table past
+            → is_bet_due self.old.table.due ≡ true
+            → StandsFor self.new.table
+            (with_move self.old.table past seat.number (act_said act) target) }
         ensures setup { self.new.table.setup ≡ self.old.table.setup }
         ensures rules { self.new.table.rules ≡ self.old.table.rules }
     {
-        match self.legal_move(up, event) {
-            Ok(legal) => Ok(self.play(legal)),
-            Err(reason) => Err(reason),
-        }
-    }
-
-    // Ends the deal or the draw that is due.
-    fn carded(&mut self)
-        requires { is_deal_or_draw self.old.table.due ≡ true }
-        ensures stands { (past : Past) → StandsUpTo self.old.table past
-            → is_done self.old.table.setup past self.new.table.due ≡ false
-            → StandsFor self.new.table past }
-        ensures up_to { (past : Past) → StandsUpTo self.old.table past
-            → is_done self.old.table.setup past self.new.table.due ≡ true
-            → StandsUpTo self.new.table past }
-        ensures showdown { (past : Past) → StandsUpTo self.old.table past
-            → is_done self.old.table.setup past self.new.table.due ≡ true
-            → self.new.table.due ≡ dues.Show }
-        ensures setup { self.new.table.setup ≡ self.old.table.setup }
-        ensures rules { self.new.table.rules ≡ self.old.table.rules }
-    {
-        self.bet();
-    }
-
-    // Ends the showdown.
-    fn shown(&mut self)
-        requires { self.old.table.due ≡ dues.Show }
-        ensures stands { (past : Past) → StandsUpTo self.old.table past
-            → StandsFor self.new.table past }
-        ensures due { self.new.table.due ≡ dues.Over }
-        ensures setup { self.new.table.setup ≡ self.old.table.setup }
-        ensures rules { self.new.table.rules ≡ self.old.table.rules }
-    {
-        self.table.set_due(Due::Over);
+        let unit = self.unit();
+        self.table.make(seat, act, target, unit);
+        settle::<V>(&mut self.table);
     }
 
     /// Ends the deal, the draw or the show that is due: the betting of the street begins, or what
@@ -409,6 +329,53 @@ impl<V: Variant> Betting<V> {
         match self.table.due {
             Due::Show => self.shown(),
             _ => self.carded(),
+        }
+    }
+
+    // Ends the showdown.
+    fn shown(&mut self)
+        requires { self.old.table.due ≡ dues.Show }
+        ensures stands { (past : Past) → StandsUpTo self.old.table past
+            → StandsFor self.new.table past }
+        ensures due { self.new.table.due ≡ dues.Over }
+        ensures setup { self.new.table.setup ≡ self.old.table.setup }
+        ensures rules { self.new.table.rules ≡ self.old.table.rules }
+    {
+        self.table.set_due(Due::Over);
+    }
+
+    // Ends the deal or the draw that is due.
+    fn carded(&mut self)
+        requires { is_deal_or_draw self.old.table.due ≡ true }
+        ensures stands { (past : Past) → StandsUpTo self.old.table past
+            → is_done self.old.table.setup past self.new.table.due ≡ false
+            → StandsFor self.new.table past }
+        ensures up_to { (past : Past) → StandsUpTo self.old.table past
+            → is_done self.old.table.setup past self.new.table.due ≡ true
+            → StandsUpTo self.new.table past }
+        ensures showdown { (past : Past) → StandsUpTo self.old.table past
+            → is_done self.old.table.setup past self.new.table.due ≡ true
+            → self.new.table.due ≡ dues.Show }
+        ensures setup { self.new.table.setup ≡ self.old.table.setup }
+        ensures rules { self.new.table.rules ≡ self.old.table.rules }
+    {
+        self.bet();
+    }
+
+    // The deal or the draw of the street is ended.
+    fn bet(&mut self)
+        requires { is_deal_or_draw self.old.table.due ≡ true }
+        ensures { IsDealtTo self.old.table self.new.table }
+    {
+        let street = self.table.street;
+        if self.table.is_bring_in_due(stud::<V>()) {
+            self.table.set_due(Due::BringIn);
+        } else if self.table.is_move_due() {
+            self.table.set_due(Due::Move);
+        } else if street < V::STREETS {
+            self.table.next_street(cards::<V>(street + 1));
+        } else {
+            self.table.set_due(Due::Show);
         }
     }
 
@@ -494,6 +461,35 @@ impl<V: Variant> Betting<V> {
             self.table.targets_of(turn, V::LIMIT, size)
         } else {
             None
+        }
+    }
+
+    // Whose turn it is, if it is known.
+    fn turn_now(&self, up: &UpRow) -> Option<Seat>
+        requires row { up.now.seats ≡ self.now.table.setup.stacks.seats }
+        requires bets { is_bet_due self.now.table.due ≡ true }
+        ensures turn { WhereUps self.now.table up.now
+            (λ past. IsTurn self.now.table past (turn_of (seat_said result))) }
+        ensures in_hand { IfSome result (λ seat. seat.number ≤ self.now.table.setup.stacks.seats) }
+    {
+        match V::OPEN {
+            Opener::Blinds => {
+                let opener = self.table.blinds_opener();
+                self.table.mover(opener)
+            }
+            Opener::LowUp => self.table.turn_by_up(Opener::LowUp, up),
+            Opener::HighUp => self.table.turn_by_up(Opener::HighUp, up),
+        }
+    }
+
+    // The bet size of the street.
+    fn unit(&self) -> u64
+        ensures { result ≡ unit self.now.table.setup self.now.table.street }
+    {
+        match V::street(self.table.street).size {
+            Size::Small => self.table.setup.small_bet,
+            Size::Big => self.table.setup.big_bet,
+            Size::Least => self.table.setup.min_bet,
         }
     }
 }

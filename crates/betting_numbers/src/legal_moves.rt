@@ -1,15 +1,9 @@
-// An event is allowed as a legal move: whose it is, and where it goes. It is made elsewhere.
-ghost use Rattle.std.specs.Prelude.{◌≡◌, ◌≤◌, true, false, None, Some, IfOk, IfErr, IfSome, OnOk};
-ghost use Rattle.play_event.specs.Past.{Past};
-ghost use Rattle.play_event.specs.Played.{act_said};
-ghost use Rattle.play_event.specs.Reasons.{why};
+//! An event is allowed as a legal move: whose it is, and where it goes. It is made elsewhere.
+ghost use Rattle.std.specs.Prelude.{◌≡◌, ◌≤◌, true, false, None, Some, IfOk, IfSome};
 ghost use Rattle.play_event.specs.Said as said;
 ghost use Rattle.play_event.specs.Streets.{limit_of, unit};
-ghost use Rattle.betting_numbers.specs.SeatsSaid.{seat_said, turn_of};
-ghost use Rattle.betting_numbers.specs.Seen.{all_in_seen};
-ghost use Rattle.betting_numbers.specs.Standing.{StandsFor};
-ghost use Rattle.betting_numbers.specs.LegalMoves.{IsLegalMove, IsTurn, IsRefused, IsAllowed, IsOfHand, IsInReach, IsFit, WhereTurn};
-ghost use Rattle.betting_numbers.specs.Turn.{may_come_at};
+ghost use Rattle.betting_numbers.specs.SeatsSaid.{seat_said};
+ghost use Rattle.betting_numbers.specs.LegalMoves.{IsRefused, IsAllowed, IsOfHand, IsInReach, IsFit, WhereTurn};
 ghost use Rattle.betting_numbers.specs.Why.{is_unable, now_why, unknown_why};
 
 use crate::table::Table;
@@ -40,27 +34,6 @@ pub fn not_now(due: Due, at_move: bool, at_bring_in: bool) -> Option<Illegal>
 }
 
 impl Table {
-    // The seat that is named is not able.
-    fn unable(&self, named: Option<Seat>) -> bool
-        ensures { result ≡ is_unable self.now (seat_said named) }
-    {
-        match named {
-            None => false,
-            Some(seat) => self.setup.stacks.seats < seat.number || !self.able(seat),
-        }
-    }
-
-    // Why a move is refused where it is not known whose turn it is.
-    fn unknown(&self, named: Option<Seat>) -> Illegal
-        ensures { result ≡ unknown_why self.now (seat_said named) }
-    {
-        if self.unable(named) {
-            Illegal::WrongSeat
-        } else {
-            Illegal::UpCardUnknown
-        }
-    }
-
     /// The fold that an event says, if it is legal.
     pub fn legal_fold(&self, turn: Option<Seat>, actor: Option<Seat>) -> Result<LegalMove, Illegal>
         requires in_hand { IfSome turn (λ seat. seat.number ≤ self.now.setup.stacks.seats) }
@@ -198,6 +171,27 @@ impl Table {
                     }
                 }
             }
+        }
+    }
+
+    // Why a move is refused where it is not known whose turn it is.
+    fn unknown(&self, named: Option<Seat>) -> Illegal
+        ensures { result ≡ unknown_why self.now (seat_said named) }
+    {
+        if self.unable(named) {
+            Illegal::WrongSeat
+        } else {
+            Illegal::UpCardUnknown
+        }
+    }
+
+    // The seat that is named is not able.
+    fn unable(&self, named: Option<Seat>) -> bool
+        ensures { result ≡ is_unable self.now (seat_said named) }
+    {
+        match named {
+            None => false,
+            Some(seat) => self.setup.stacks.seats < seat.number || !self.able(seat),
         }
     }
 }

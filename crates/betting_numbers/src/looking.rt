@@ -1,4 +1,4 @@
-// What the running numbers say: who is live and able, the price, and what is owed.
+//! What the running numbers say: who is live and able, the price, and what is owed.
 ghost use Rattle.std.specs.Prelude.{◌≡◌, ◌≤◌, ◌<◌};
 ghost use Rattle.chip_ledger.specs.declared.rows.TheConstants.{MOST_AMOUNT};
 ghost use Rattle.play_event.specs.Streets.{is_stud};
@@ -8,39 +8,12 @@ use crate::table::Table;
 use chip_ledger::Seat;
 
 impl Table {
-    /// The chips that the seat has left.
-    pub fn left(&self, seat: Seat) -> u64
-        requires { seat.number ≤ self.now.setup.stacks.seats }
-        ensures { result ≡ left_seen self.now seat.number }
-    {
-        self.setup
-            .stacks
-            .get(seat)
-            .saturating_sub(self.puts.get(seat))
-    }
-
-    /// The seat is live and has chips left.
-    pub fn able(&self, seat: Seat) -> bool
-        requires { seat.number ≤ self.now.setup.stacks.seats }
-        ensures { result ≡ is_able_seen self.now seat.number }
-    {
-        self.live.get(seat) && 0 < self.left(seat)
-    }
-
     /// The price of the street.
     pub fn price(&self) -> u64
         ensures value { result ≡ price_seen self.now }
         ensures bounded { result ≤ MOST_AMOUNT }
     {
         self.price
-    }
-
-    /// What the seat owes.
-    pub fn owed(&self, seat: Seat) -> u64
-        requires { seat.number ≤ self.now.setup.stacks.seats }
-        ensures { result ≡ owed_seen self.now seat.number }
-    {
-        self.price.saturating_sub(self.bets.get(seat))
     }
 
     /// The street's chips of the seat where it puts all it has left.
@@ -60,11 +33,17 @@ impl Table {
         self.live_count
     }
 
-    /// How many seats are able.
-    pub fn able_count(&self) -> u8
-        ensures { result ≡ able_count_seen self.now }
+    /// Some seat has a move to make.
+    #[tactic(auto, using(chip_ledger::proofs::SeatLists::any_more))]
+    pub fn is_move_due(&self) -> bool
+        ensures { result ≡ is_move_due_seen self.now }
     {
-        self.able_count
+        let mut found = false;
+        for index in 0..self.setup.stacks.seats {
+            let seat = Seat { number: index + 1 };
+            found = found || self.to_move(seat);
+        }
+        found
     }
 
     /// The seat has a move to make.
@@ -77,17 +56,12 @@ impl Table {
             && (0 < self.owed(seat) || 2 <= self.able_count())
     }
 
-    /// Some seat has a move to make.
-    #[tactic(auto, using(chip_ledger::proofs::SeatLists::any_more))]
-    pub fn is_move_due(&self) -> bool
-        ensures { result ≡ is_move_due_seen self.now }
+    /// What the seat owes.
+    pub fn owed(&self, seat: Seat) -> u64
+        requires { seat.number ≤ self.now.setup.stacks.seats }
+        ensures { result ≡ owed_seen self.now seat.number }
     {
-        let mut found = false;
-        for index in 0..self.setup.stacks.seats {
-            let seat = Seat { number: index + 1 };
-            found = found || self.to_move(seat);
-        }
-        found
+        self.price.saturating_sub(self.bets.get(seat))
     }
 
     /// Another seat is able.
@@ -103,11 +77,37 @@ impl Table {
         }
     }
 
+    /// The seat is live and has chips left.
+    pub fn able(&self, seat: Seat) -> bool
+        requires { seat.number ≤ self.now.setup.stacks.seats }
+        ensures { result ≡ is_able_seen self.now seat.number }
+    {
+        self.live.get(seat) && 0 < self.left(seat)
+    }
+
+    /// The chips that the seat has left.
+    pub fn left(&self, seat: Seat) -> u64
+        requires { seat.number ≤ self.now.setup.stacks.seats }
+        ensures { result ≡ left_seen self.now seat.number }
+    {
+        self.setup
+            .stacks
+            .get(seat)
+            .saturating_sub(self.puts.get(seat))
+    }
+
     /// A bring-in is due, in a game of stud or another.
     pub fn is_bring_in_due(&self, stud: bool) -> bool
         requires { stud ≡ is_stud self.now.setup.code }
         ensures { result ≡ is_bring_in_due_seen self.now }
     {
         stud && self.street == 1 && 2 <= self.able_count() && !self.opened
+    }
+
+    /// How many seats are able.
+    pub fn able_count(&self) -> u8
+        ensures { result ≡ able_count_seen self.now }
+    {
+        self.able_count
     }
 }

@@ -1,4 +1,4 @@
-// How the running numbers change by a move.
+//! How the running numbers change by a move.
 ghost use Rattle.std.specs.Prelude.{◌<◌, ◌≡◌, ◌≤◌, ◌+◌, ◌-◌, ◌*◌, ◌&&◌, ◌||◌, ℕ, false, None, nat_le, nat_lt, not, min, max, if◌then◌else◌};
 ghost use Rattle.chip_ledger.specs.LiveRow.{flag_of};
 ghost use Rattle.chip_ledger.specs.SeatRow.{amount_of};
@@ -12,15 +12,6 @@ ghost use Rattle.betting_numbers.specs.Seen.{all_in_seen};
 use crate::table::Table;
 use chip_ledger::{LiveRow, Seat, SeatRow};
 use play_event::{Act, Due};
-
-fn folds(act: Act) -> bool
-    ensures { result ≡ is_fold (act_said act) }
-{
-    match act {
-        Act::Fold => true,
-        Act::Call | Act::Raise | Act::BringIn => false,
-    }
-}
 
 pub fn raises(act: Act) -> bool
     ensures { result ≡ is_raise (act_said act) }
@@ -48,14 +39,6 @@ fn clear(row: &mut SeatRow)
     row.amounts = [0; 10];
 }
 
-// No seat is flagged any more.
-fn unflag(row: &mut LiveRow)
-    ensures seats { row.new.seats ≡ row.old.seats }
-    ensures all_false { (n : ℕ) → flag_of row.new n ≡ false }
-{
-    row.flags = [false; 10];
-}
-
 // The flags stay, or none of them.
 fn keep(row: &mut LiveRow, kept: bool)
     ensures seats { row.new.seats ≡ row.old.seats }
@@ -66,11 +49,28 @@ fn keep(row: &mut LiveRow, kept: bool)
     }
 }
 
+// No seat is flagged any more.
+fn unflag(row: &mut LiveRow)
+    ensures seats { row.new.seats ≡ row.old.seats }
+    ensures all_false { (n : ℕ) → flag_of row.new n ≡ false }
+{
+    row.flags = [false; 10];
+}
+
 // A live seat stays live, but where it folds.
 fn live_after(live: bool, act: Act) -> bool
     ensures { result ≡ (live && not (is_fold (act_said act))) }
 {
     live && !folds(act)
+}
+
+fn folds(act: Act) -> bool
+    ensures { result ≡ is_fold (act_said act) }
+{
+    match act {
+        Act::Fold => true,
+        Act::Call | Act::Raise | Act::BringIn => false,
+    }
 }
 
 // A live seat is able with so many chips put of its stack.

@@ -1,14 +1,10 @@
-// Who may raise, and to what, by the running numbers.
-ghost use Rattle.std.specs.Prelude.{◌≡◌, ◌≤◌, ◌<◌, ◌-◌, ℕ, ◌&&◌, ◌||◌, ◌==◌, nat_le, nat_lt, min};
+//! Who may raise, and to what, by the running numbers.
+ghost use Rattle.std.specs.Prelude.{◌≡◌, ◌≤◌, ◌<◌, ◌-◌, ◌&&◌, ◌||◌, ◌==◌, min};
 ghost use Rattle.chip_ledger.specs.declared.rows.TheConstants.{MOST_AMOUNT};
-ghost use Rattle.chip_ledger.specs.SeatRow.{amount_of};
 ghost use Rattle.play_event.specs.declared.limit.Limit.TheVariants as limits;
 ghost use Rattle.play_event.specs.Streets.{unit};
-ghost use Rattle.play_event.specs.Chips.{blind_posted, street_chips};
-ghost use Rattle.play_event.specs.Price as prices;
-ghost use Rattle.betting_numbers.specs.Seen.{all_in_seen, owed_seen, price_seen};
+ghost use Rattle.betting_numbers.specs.Seen.{all_in_seen, owed_seen};
 ghost use Rattle.betting_numbers.specs.Why.{bring_in_seen, bring_in_why, call_seen, call_why, is_within_cap_by, floor_by, fold_why, is_another, may_raise_seen, ceiling_seen, fulls_list, fulls_seen, greatest_seen, is_legal_seen, is_reopened_by, raise_to_why, raise_why, stated_why, is_legal_by, target_seen, greatest_by};
-ghost use Rattle.std.specs.List.{list_any};
 ghost use Rattle.chip_ledger.specs.Greatest.{greatest};
 ghost use Rattle.betting_numbers.specs.SeatsSaid.{seat_said};
 
@@ -57,15 +53,6 @@ impl Table {
         }
     }
 
-    /// Where a call goes.
-    pub fn call_target(&self, seat: Seat) -> u64
-        requires { seat.number ≤ self.now.setup.stacks.seats }
-        ensures value { result ≡ call_seen self.now seat.number }
-        ensures reach { result ≤ all_in_seen self.now seat.number }
-    {
-        self.price().min(self.all_in(seat))
-    }
-
     /// Why a call is refused.
     pub fn against_call(
         &self,
@@ -82,6 +69,15 @@ impl Table {
             let due = self.call_target(mover).saturating_sub(self.bets.get(mover));
             stated_differs(stated, due)
         }
+    }
+
+    /// Where a call goes.
+    pub fn call_target(&self, seat: Seat) -> u64
+        requires { seat.number ≤ self.now.setup.stacks.seats }
+        ensures value { result ≡ call_seen self.now seat.number }
+        ensures reach { result ≤ all_in_seen self.now seat.number }
+    {
+        self.price().min(self.all_in(seat))
     }
 
     /// Where a bring-in goes.
@@ -101,6 +97,40 @@ impl Table {
             Some(Illegal::WrongSeat)
         } else {
             None
+        }
+    }
+
+    /// The least raise that is not all-in, in no limit, where the street started at this price.
+    pub fn floor(&self, start: u64) -> u64
+        requires { start ≤ MOST_AMOUNT }
+        ensures { result ≡ floor_by self.now.rules.reopen start self.now }
+    {
+        match self.rules.reopen {
+            Reopen::Full => self.price() + self.full_raise,
+            Reopen::Always => (start + self.setup.min_bet).max(self.doubled),
+        }
+    }
+
+    /// Why a raise is refused.
+    pub fn against_raise(
+        &self,
+        limit: Limit,
+        floor: u64,
+        size: u64,
+        named: Option<Seat>,
+        amount: Spelled,
+        mover: Seat,
+    ) -> Option<Illegal>
+        requires in_hand { mover.number ≤ self.now.setup.stacks.seats }
+        requires from_one { 1 ≤ self.now.street }
+        requires size { size ≡ unit self.now.setup self.now.street }
+        ensures { result ≡ raise_why limit self.now floor (seat_said named) amount mover.number }
+    {
+        if another(named, mover) {
+            Some(Illegal::WrongSeat)
+        } else {
+            let target = self.target(mover, size, amount);
+            self.against_target(limit, floor, size, mover, target)
         }
     }
 
@@ -129,98 +159,29 @@ impl Table {
         }
     }
 
-    /// The raises are within the cap.
-    pub fn is_within_cap(&self) -> bool
-        requires { 1 ≤ self.now.street }
-        ensures { result ≡ is_within_cap_by self.now.rules.caps self.now.raises self.now.street }
-    {
-        match self.rules.caps {
-            None => true,
-            Some(caps) => 4 < self.street || self.raises < caps[self.street as usize - 1],
-        }
-    }
-
-    // What the seat owes reopens the betting to it, where bets have this size.
-    pub fn owes_enough(&self, limit: Limit, size: u64, seat: Seat) -> bool
-        requires { seat.number ≤ self.now.setup.stacks.seats }
-        ensures { result
-            ≡ is_reopened_by limit self.now.full_raise size (owed_seen self.now seat.number) }
-    {
-        let owed = self.owed(seat);
-        match limit {
-            Limit::No | Limit::Pot => self.full_raise <= owed,
-            Limit::Fixed => u128::from(size) <= 2 * u128::from(owed),
-        }
-    }
-
-    /// The seat may raise, where bets have this size.
-    pub fn may_raise(&self, limit: Limit, size: u64, seat: Seat) -> bool
-        requires in_hand { seat.number ≤ self.now.setup.stacks.seats }
+    /// Why a raise to a target is refused.
+    pub fn against_target(
+        &self,
+        limit: Limit,
+        floor: u64,
+        size: u64,
+        mover: Seat,
+        target: u128,
+    ) -> Option<Illegal>
+        requires in_hand { mover.number ≤ self.now.setup.stacks.seats }
         requires from_one { 1 ≤ self.now.street }
         requires size { size ≡ unit self.now.setup self.now.street }
-        ensures { result ≡ may_raise_seen limit self.now seat.number }
+        ensures { result ≡ raise_to_why limit self.now floor mover.number target }
     {
-        let open = match self.rules.reopen {
-            Reopen::Always => true,
-            Reopen::Full => !self.moved.get(seat) || self.owes_enough(limit, size, seat),
-        };
-        self.has_opponent(seat) && self.price() < self.all_in(seat) && self.is_within_cap() && open
-    }
-
-    /// The least raise that is not all-in, in no limit, where the street started at this price.
-    pub fn floor(&self, start: u64) -> u64
-        requires { start ≤ MOST_AMOUNT }
-        ensures { result ≡ floor_by self.now.rules.reopen start self.now }
-    {
-        match self.rules.reopen {
-            Reopen::Full => self.price() + self.full_raise,
-            Reopen::Always => (start + self.setup.min_bet).max(self.doubled),
-        }
-    }
-
-    // The greatest raise of pot limit.
-    pub fn ceiling(&self, seat: Seat) -> u64
-        requires { seat.number ≤ self.now.setup.stacks.seats }
-        ensures { result ≡ ceiling_seen self.now seat.number }
-    {
-        let price = self.price();
-        (price + self.full_raise).max(price + self.pot + self.owed(seat))
-    }
-
-    // The first full raise of fixed limit, and the other one where there is one.
-    pub fn fulls(&self, size: u64) -> (u128, Option<u128>)
-        requires { size ≡ unit self.now.setup self.now.street }
-        ensures { fulls_seen self.now ≡ fulls_list result }
-    {
-        let price = u128::from(self.price());
-        let size = u128::from(size);
-        if price < size {
-            return (size, None);
-        }
-        let above = u128::from(self.full_bet) + size;
-        if price < above {
-            (price + size, Some(above))
+        let (legal, greatest) = self.judge(limit, floor, size, mover, target);
+        if !self.may_raise(limit, size, mover) {
+            Some(Illegal::RaiseClosed)
+        } else if !legal && target < greatest {
+            Some(Illegal::RaiseTooSmall)
+        } else if greatest < target {
+            Some(Illegal::RaiseTooBig)
         } else {
-            (price + size, None)
-        }
-    }
-
-    // Whether a target is legal, and the greatest that is, in fixed limit.
-    fn judge_fixed(fulls: (u128, Option<u128>), all_in: u128, target: u128) -> (bool, u128)
-        ensures legal { result.0 ≡ is_legal_by limits.Fixed 0 0 all_in 0 (fulls_list fulls) target }
-        ensures greatest { result.1 ≡ greatest_by limits.Fixed all_in 0 (fulls_list fulls) }
-    {
-        let (first, other) = fulls;
-        match other {
-            None => (
-                (target == first && target <= all_in) || (target == all_in && target < first),
-                all_in.min(first),
-            ),
-            Some(second) => (
-                ((target == first || target == second) && target <= all_in)
-                    || (target == all_in && target < first.max(second)),
-                all_in.min(first.max(second)),
-            ),
+            None
         }
     }
 
@@ -257,52 +218,87 @@ impl Table {
         }
     }
 
-    /// Why a raise to a target is refused.
-    pub fn against_target(
-        &self,
-        limit: Limit,
-        floor: u64,
-        size: u64,
-        mover: Seat,
-        target: u128,
-    ) -> Option<Illegal>
-        requires in_hand { mover.number ≤ self.now.setup.stacks.seats }
-        requires from_one { 1 ≤ self.now.street }
-        requires size { size ≡ unit self.now.setup self.now.street }
-        ensures { result ≡ raise_to_why limit self.now floor mover.number target }
+    // The greatest raise of pot limit.
+    pub fn ceiling(&self, seat: Seat) -> u64
+        requires { seat.number ≤ self.now.setup.stacks.seats }
+        ensures { result ≡ ceiling_seen self.now seat.number }
     {
-        let (legal, greatest) = self.judge(limit, floor, size, mover, target);
-        if !self.may_raise(limit, size, mover) {
-            Some(Illegal::RaiseClosed)
-        } else if !legal && target < greatest {
-            Some(Illegal::RaiseTooSmall)
-        } else if greatest < target {
-            Some(Illegal::RaiseTooBig)
-        } else {
-            None
+        let price = self.price();
+        (price + self.full_raise).max(price + self.pot + self.owed(seat))
+    }
+
+    // Whether a target is legal, and the greatest that is, in fixed limit.
+    fn judge_fixed(fulls: (u128, Option<u128>), all_in: u128, target: u128) -> (bool, u128)
+        ensures legal { result.0 ≡ is_legal_by limits.Fixed 0 0 all_in 0 (fulls_list fulls) target }
+        ensures greatest { result.1 ≡ greatest_by limits.Fixed all_in 0 (fulls_list fulls) }
+    {
+        let (first, other) = fulls;
+        match other {
+            None => (
+                (target == first && target <= all_in) || (target == all_in && target < first),
+                all_in.min(first),
+            ),
+            Some(second) => (
+                ((target == first || target == second) && target <= all_in)
+                    || (target == all_in && target < first.max(second)),
+                all_in.min(first.max(second)),
+            ),
         }
     }
 
-    /// Why a raise is refused.
-    pub fn against_raise(
-        &self,
-        limit: Limit,
-        floor: u64,
-        size: u64,
-        named: Option<Seat>,
-        amount: Spelled,
-        mover: Seat,
-    ) -> Option<Illegal>
-        requires in_hand { mover.number ≤ self.now.setup.stacks.seats }
+    // The first full raise of fixed limit, and the other one where there is one.
+    pub fn fulls(&self, size: u64) -> (u128, Option<u128>)
+        requires { size ≡ unit self.now.setup self.now.street }
+        ensures { fulls_seen self.now ≡ fulls_list result }
+    {
+        let price = u128::from(self.price());
+        let size = u128::from(size);
+        if price < size {
+            return (size, None);
+        }
+        let above = u128::from(self.full_bet) + size;
+        if price < above {
+            (price + size, Some(above))
+        } else {
+            (price + size, None)
+        }
+    }
+
+    /// The seat may raise, where bets have this size.
+    pub fn may_raise(&self, limit: Limit, size: u64, seat: Seat) -> bool
+        requires in_hand { seat.number ≤ self.now.setup.stacks.seats }
         requires from_one { 1 ≤ self.now.street }
         requires size { size ≡ unit self.now.setup self.now.street }
-        ensures { result ≡ raise_why limit self.now floor (seat_said named) amount mover.number }
+        ensures { result ≡ may_raise_seen limit self.now seat.number }
     {
-        if another(named, mover) {
-            Some(Illegal::WrongSeat)
-        } else {
-            let target = self.target(mover, size, amount);
-            self.against_target(limit, floor, size, mover, target)
+        let open = match self.rules.reopen {
+            Reopen::Always => true,
+            Reopen::Full => !self.moved.get(seat) || self.owes_enough(limit, size, seat),
+        };
+        self.has_opponent(seat) && self.price() < self.all_in(seat) && self.is_within_cap() && open
+    }
+
+    // What the seat owes reopens the betting to it, where bets have this size.
+    pub fn owes_enough(&self, limit: Limit, size: u64, seat: Seat) -> bool
+        requires { seat.number ≤ self.now.setup.stacks.seats }
+        ensures { result
+            ≡ is_reopened_by limit self.now.full_raise size (owed_seen self.now seat.number) }
+    {
+        let owed = self.owed(seat);
+        match limit {
+            Limit::No | Limit::Pot => self.full_raise <= owed,
+            Limit::Fixed => u128::from(size) <= 2 * u128::from(owed),
+        }
+    }
+
+    /// The raises are within the cap.
+    pub fn is_within_cap(&self) -> bool
+        requires { 1 ≤ self.now.street }
+        ensures { result ≡ is_within_cap_by self.now.rules.caps self.now.raises self.now.street }
+    {
+        match self.rules.caps {
+            None => true,
+            Some(caps) => 4 < self.street || self.raises < caps[self.street as usize - 1],
         }
     }
 }

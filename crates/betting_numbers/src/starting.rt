@@ -1,4 +1,4 @@
-// The betting before the first card: what is posted.
+//! The betting before the first card: what is posted.
 ghost use Rattle.std.specs.Prelude.{◌≡◌, ◌≤◌, ◌-◌, ℕ, [], true, nat_lt, map, count_by};
 ghost use Rattle.chip_ledger.specs.declared.rows.TheConstants.{MOST_AMOUNT};
 ghost use Rattle.chip_ledger.specs.LiveRow.{flag_of};
@@ -18,21 +18,47 @@ use crate::table::Table;
 use chip_ledger::{LiveRow, Seat, SeatRow, total};
 use play_event::{Due, Rules, Setup};
 
-// The blinds as far as the stacks go.
-fn blinds_posted(setup: &Setup) -> SeatRow
+/// The numbers before the first card, where the last full bet of the first street is this.
+pub fn start(setup: &Setup, rules: &Rules, full_bet: u64) -> Table
+    requires valid { IsValid setup.now }
     requires antes { setup.now.antes.seats ≡ setup.now.stacks.seats }
     requires blinds { setup.now.blinds.seats ≡ setup.now.stacks.seats }
-    ensures seats { result.seats ≡ setup.now.stacks.seats }
-    ensures amounts { (n : ℕ) → 1 ≤ n → n ≤ setup.now.stacks.seats
-        → amount_of result n ≡ blind_posted setup.now n }
+    requires least { setup.now.min_bet ≤ MOST_AMOUNT }
+    requires reach { (n : ℕ) → amount_of setup.now.antes n ≤ amount_of setup.now.stacks n }
+    requires full_bet { full_bet ≡ prices.full_bet setup.now [] 1 }
+    ensures stands { StandsFor result [] }
+    ensures setup { result.setup ≡ setup.now }
+    ensures rules { result.rules ≡ rules.now }
+    ensures street { result.street ≡ 1 }
+    ensures due { result.due ≡ dues.Deal 1 }
 {
-    let mut row = SeatRow::new(setup.stacks.seats);
-    for index in 0..setup.stacks.seats {
-        let seat = Seat { number: index + 1 };
-        let rest = setup.stacks.get(seat).saturating_sub(setup.antes.get(seat));
-        row.set(seat, setup.blinds.get(seat).min(rest));
+    caps_fit(rules);
+    let seats = setup.stacks.seats;
+    let bets = blinds_posted(setup);
+    let puts = all_posted(setup, &bets);
+    Table {
+        setup: *setup,
+        rules: *rules,
+        first_price: first_price(setup),
+        first_opener: first_opener(setup),
+        street: 1,
+        due: Due::Deal(1),
+        puts,
+        pot: total(&puts),
+        bets,
+        price: greatest_posted(&bets),
+        live: all_flagged(seats),
+        live_count: seats,
+        able_count: able_posted(setup, &puts),
+        moved: LiveRow::new(seats),
+        since_rise: LiveRow::new(seats),
+        last: None,
+        raises: 0,
+        full_raise: setup.min_bet,
+        full_bet,
+        doubled: 0,
+        opened: false,
     }
-    row
 }
 
 // The antes and blinds together.
@@ -88,47 +114,25 @@ fn able_posted(setup: &Setup, puts: &SeatRow) -> u8
     count
 }
 
-/// The numbers before the first card, where the last full bet of the first street is this.
-pub fn start(setup: &Setup, rules: &Rules, full_bet: u64) -> Table
-    requires valid { IsValid setup.now }
+/// The full bet at which the first street starts, where bets have this size.
+pub fn first_full_bet(setup: &Setup, size: u64) -> u64
     requires antes { setup.now.antes.seats ≡ setup.now.stacks.seats }
     requires blinds { setup.now.blinds.seats ≡ setup.now.stacks.seats }
-    requires least { setup.now.min_bet ≤ MOST_AMOUNT }
-    requires reach { (n : ℕ) → amount_of setup.now.antes n ≤ amount_of setup.now.stacks n }
-    requires full_bet { full_bet ≡ prices.full_bet setup.now [] 1 }
-    ensures stands { StandsFor result [] }
-    ensures setup { result.setup ≡ setup.now }
-    ensures rules { result.rules ≡ rules.now }
-    ensures street { result.street ≡ 1 }
-    ensures due { result.due ≡ dues.Deal 1 }
+    requires size { size ≡ unit setup.now 1 }
+    ensures { result ≡ prices.full_bet setup.now [] 1 }
 {
-    caps_fit(rules);
-    let seats = setup.stacks.seats;
-    let bets = blinds_posted(setup);
-    let puts = all_posted(setup, &bets);
-    Table {
-        setup: *setup,
-        rules: *rules,
-        first_price: first_price(setup),
-        first_opener: first_opener(setup),
-        street: 1,
-        due: Due::Deal(1),
-        puts,
-        pot: total(&puts),
-        bets,
-        price: greatest_posted(&bets),
-        live: all_flagged(seats),
-        live_count: seats,
-        able_count: able_posted(setup, &puts),
-        moved: LiveRow::new(seats),
-        since_rise: LiveRow::new(seats),
-        last: None,
-        raises: 0,
-        full_raise: setup.min_bet,
-        full_bet,
-        doubled: 0,
-        opened: false,
-    }
+    let price = first_price(setup);
+    if size <= price { price } else { 0 }
+}
+
+/// The price at which the first street starts.
+pub fn first_price(setup: &Setup) -> u64
+    requires antes { setup.now.antes.seats ≡ setup.now.stacks.seats }
+    requires blinds { setup.now.blinds.seats ≡ setup.now.stacks.seats }
+    ensures value { result ≡ prices.starting_price setup.now 1 }
+    ensures bounded { result ≤ MOST_AMOUNT }
+{
+    greatest_posted(&blinds_posted(setup))
 }
 
 // The greatest of the blinds as far as the stacks go.
@@ -144,23 +148,19 @@ fn greatest_posted(blinds: &SeatRow) -> u64
     most
 }
 
-/// The price at which the first street starts.
-pub fn first_price(setup: &Setup) -> u64
+// The blinds as far as the stacks go.
+fn blinds_posted(setup: &Setup) -> SeatRow
     requires antes { setup.now.antes.seats ≡ setup.now.stacks.seats }
     requires blinds { setup.now.blinds.seats ≡ setup.now.stacks.seats }
-    ensures value { result ≡ prices.starting_price setup.now 1 }
-    ensures bounded { result ≤ MOST_AMOUNT }
+    ensures seats { result.seats ≡ setup.now.stacks.seats }
+    ensures amounts { (n : ℕ) → 1 ≤ n → n ≤ setup.now.stacks.seats
+        → amount_of result n ≡ blind_posted setup.now n }
 {
-    greatest_posted(&blinds_posted(setup))
-}
-
-/// The full bet at which the first street starts, where bets have this size.
-pub fn first_full_bet(setup: &Setup, size: u64) -> u64
-    requires antes { setup.now.antes.seats ≡ setup.now.stacks.seats }
-    requires blinds { setup.now.blinds.seats ≡ setup.now.stacks.seats }
-    requires size { size ≡ unit setup.now 1 }
-    ensures { result ≡ prices.full_bet setup.now [] 1 }
-{
-    let price = first_price(setup);
-    if size <= price { price } else { 0 }
+    let mut row = SeatRow::new(setup.stacks.seats);
+    for index in 0..setup.stacks.seats {
+        let seat = Seat { number: index + 1 };
+        let rest = setup.stacks.get(seat).saturating_sub(setup.antes.get(seat));
+        row.set(seat, setup.blinds.get(seat).min(rest));
+    }
+    row
 }

@@ -1,5 +1,5 @@
-// The running numbers of the betting: what each seat put, who is live, and what the moves of the
-// street came to.
+//! The running numbers of the betting: what each seat put, who is live, and what the moves of the
+//! street came to.
 ghost use Rattle.std.specs.Prelude.{◌≡◌, ◌≤◌, ◌-◌, ◌*◌, ℕ, ◌&&◌, nat_lt, map, count_by, Some};
 ghost use Rattle.chip_ledger.specs.declared.numbers.Seat.{Seat};
 ghost use Rattle.betting_numbers.specs.Caps.{cap_at};

@@ -1,18 +1,15 @@
-// Where the seat in turn may raise to.
+//! Where the seat in turn may raise to.
 ghost use Rattle.std.specs.Prelude.{◌≡◌, ◌≤◌, ℕ, IfSome, is_some};
 ghost use Rattle.play_event.specs.Openers.{TheSeat};
 ghost use Rattle.play_event.specs.Past.{Past, moves_of};
-ghost use Rattle.play_event.specs.Price.{starting_price};
 ghost use Rattle.chip_ledger.specs.Greatest.{greatest};
 ghost use Rattle.play_event.specs.Streets.{limit_of, unit};
 ghost use Rattle.betting_numbers.specs.SeatsSaid.{seat_said, turn_of};
-ghost use Rattle.betting_numbers.specs.Seen.{all_in_seen};
 ghost use Rattle.betting_numbers.specs.Standing.{StandsFor};
-ghost use Rattle.betting_numbers.specs.LegalMoves.{IsTurn};
 ghost use Rattle.betting_numbers.specs.Targeted.{least_seen, AreEndsFor};
-ghost use Rattle.play_event.specs.TurnTargets.{AreTargets, may_raise_now};
+ghost use Rattle.play_event.specs.TurnTargets.{may_raise_now};
 ghost use Rattle.play_event.specs.Targets.{smallest};
-ghost use Rattle.betting_numbers.specs.Why.{floor_by, fulls_list, greatest_seen, floor_seen};
+ghost use Rattle.betting_numbers.specs.Why.{fulls_list, greatest_seen, floor_seen};
 
 use crate::table::Table;
 use chip_ledger::Seat;
@@ -48,36 +45,6 @@ fn larger(fulls: (u128, Option<u128>)) -> u128
 }
 
 impl Table {
-    // The least legal target.
-    fn least_to(&self, limit: Limit, size: u64, seat: Seat) -> u64
-        requires in_hand { seat.number ≤ self.now.setup.stacks.seats }
-        requires from_one { 1 ≤ self.now.street }
-        requires size { size ≡ unit self.now.setup self.now.street }
-        ensures { result
-            ≡ least_seen limit self.now (floor_seen self.now) seat.number }
-    {
-        let all_in = self.all_in(seat);
-        match limit {
-            Limit::No => all_in.min(self.floor(self.start_price())),
-            Limit::Pot => all_in.min(self.price() + self.full_raise),
-            Limit::Fixed => u128::from(all_in).min(smaller(self.fulls(size))) as u64,
-        }
-    }
-
-    // The greatest legal target.
-    fn greatest_to(&self, limit: Limit, size: u64, seat: Seat) -> u64
-        requires in_hand { seat.number ≤ self.now.setup.stacks.seats }
-        requires size { size ≡ unit self.now.setup self.now.street }
-        ensures { result ≡ greatest_seen limit self.now seat.number }
-    {
-        let all_in = self.all_in(seat);
-        match limit {
-            Limit::No => all_in,
-            Limit::Pot => all_in.min(self.ceiling(seat)),
-            Limit::Fixed => u128::from(all_in).min(larger(self.fulls(size))) as u64,
-        }
-    }
-
     /// Where the seat in turn may raise to, if it is known and may.
     pub fn targets_of(&self, turn: Option<Seat>, limit: Limit, size: u64) -> Option<Targets>
         requires in_hand { IfSome turn (λ seat. seat.number ≤ self.now.setup.stacks.seats) }
@@ -105,6 +72,36 @@ impl Table {
                     None
                 }
             }
+        }
+    }
+
+    // The least legal target.
+    fn least_to(&self, limit: Limit, size: u64, seat: Seat) -> u64
+        requires in_hand { seat.number ≤ self.now.setup.stacks.seats }
+        requires from_one { 1 ≤ self.now.street }
+        requires size { size ≡ unit self.now.setup self.now.street }
+        ensures { result
+            ≡ least_seen limit self.now (floor_seen self.now) seat.number }
+    {
+        let all_in = self.all_in(seat);
+        match limit {
+            Limit::No => all_in.min(self.floor(self.start_price())),
+            Limit::Pot => all_in.min(self.price() + self.full_raise),
+            Limit::Fixed => u128::from(all_in).min(smaller(self.fulls(size))) as u64,
+        }
+    }
+
+    // The greatest legal target.
+    fn greatest_to(&self, limit: Limit, size: u64, seat: Seat) -> u64
+        requires in_hand { seat.number ≤ self.now.setup.stacks.seats }
+        requires size { size ≡ unit self.now.setup self.now.street }
+        ensures { result ≡ greatest_seen limit self.now seat.number }
+    {
+        let all_in = self.all_in(seat);
+        match limit {
+            Limit::No => all_in,
+            Limit::Pot => all_in.min(self.ceiling(seat)),
+            Limit::Fixed => u128::from(all_in).min(larger(self.fulls(size))) as u64,
         }
     }
 }

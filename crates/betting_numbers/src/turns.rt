@@ -1,4 +1,4 @@
-// Whose turn it is, by the running numbers.
+//! Whose turn it is, by the running numbers.
 ghost use Rattle.std.specs.Prelude.{◌≡◌, ◌≤◌, ◌+◌, find, IfSome};
 ghost use Rattle.std.specs.List.{range_with_len};
 ghost use Rattle.play_event.specs.Openers as openers;
@@ -10,6 +10,34 @@ use crate::table::Table;
 use chip_ledger::Seat;
 
 impl Table {
+    /// Whose turn it is, where this seat opens.
+    pub fn mover(&self, opener: Seat) -> Option<Seat>
+        requires { opener.number ≤ self.now.setup.stacks.seats }
+        ensures turn { in_turn (seat_said result) ≡ mover_seen self.now (TheSeat opener.number) }
+        ensures in_hand { IfSome result (λ seat. seat.number ≤ self.now.setup.stacks.seats) }
+    {
+        let start = self.passed_to(opener);
+        let to_last = self.setup.stacks.seats + 1 - start.number;
+        match self.first_to_move(start.number, to_last) {
+            Some(seat) => Some(seat),
+            None => self.first_to_move(1, start.number - 1),
+        }
+    }
+
+    // Where the turn is passed to, where this seat opens.
+    fn passed_to(&self, opener: Seat) -> Seat
+        requires { opener.number ≤ self.now.setup.stacks.seats }
+        ensures value { TheSeat result.number
+            ≡ after_last (last_seen self.now) (openers.seat_after self.now.setup)
+            (TheSeat opener.number) }
+        ensures in_hand { result.number ≤ self.now.setup.stacks.seats }
+    {
+        match self.last {
+            Some(seat) => self.seat_after(seat),
+            None => opener,
+        }
+    }
+
     // The seat after this one, going round.
     fn seat_after(&self, seat: Seat) -> Seat
         requires { seat.number ≤ self.now.setup.stacks.seats }
@@ -42,34 +70,6 @@ impl Table {
             Some(seat)
         } else {
             self.first_to_move(first + 1, count - 1)
-        }
-    }
-
-    // Where the turn is passed to, where this seat opens.
-    fn passed_to(&self, opener: Seat) -> Seat
-        requires { opener.number ≤ self.now.setup.stacks.seats }
-        ensures value { TheSeat result.number
-            ≡ after_last (last_seen self.now) (openers.seat_after self.now.setup)
-            (TheSeat opener.number) }
-        ensures in_hand { result.number ≤ self.now.setup.stacks.seats }
-    {
-        match self.last {
-            Some(seat) => self.seat_after(seat),
-            None => opener,
-        }
-    }
-
-    /// Whose turn it is, where this seat opens.
-    pub fn mover(&self, opener: Seat) -> Option<Seat>
-        requires { opener.number ≤ self.now.setup.stacks.seats }
-        ensures turn { in_turn (seat_said result) ≡ mover_seen self.now (TheSeat opener.number) }
-        ensures in_hand { IfSome result (λ seat. seat.number ≤ self.now.setup.stacks.seats) }
-    {
-        let start = self.passed_to(opener);
-        let to_last = self.setup.stacks.seats + 1 - start.number;
-        match self.first_to_move(start.number, to_last) {
-            Some(seat) => Some(seat),
-            None => self.first_to_move(1, start.number - 1),
         }
     }
 }

@@ -1,9 +1,8 @@
-// Who opens a street by up-cards.
+//! Who opens a street by up-cards.
 ghost use Rattle.std.specs.Prelude.{◌≡◌, ◌≤◌, ◌+◌, ℕ, true, find, IfSome, None, Some};
 ghost use Rattle.std.specs.List.{range_with_len};
 ghost use Rattle.play_event.specs.declared.reason.Due.TheVariants as dues;
 ghost use Rattle.play_event.specs.Past.{Past};
-ghost use Rattle.play_event.specs.Seats.{all_seats};
 ghost use Rattle.play_event.specs.Streets.{opener_of, is_opened_by_up_cards};
 ghost use Rattle.betting_numbers.specs.Standing.{StandsFor};
 ghost use Rattle.betting_numbers.specs.LegalMoves.{IsTurn};
@@ -17,13 +16,30 @@ use play_event::{Opener, UpRow};
 use up_card_order::{has_unknown, is_as_early, is_opener_before, known};
 
 impl Table {
-    // The seat is able, and an up-card of it is unknown.
-    fn up_unknown(&self, up: &UpRow, seat: Seat) -> bool
-        requires in_hand { seat.number ≤ self.now.setup.stacks.seats }
+    /// Whose turn it is where up-cards open, if it is known.
+    pub fn turn_by_up(&self, opener: Opener, up: &UpRow) -> Option<Seat>
         requires row { up.now.seats ≡ self.now.setup.stacks.seats }
-        ensures { result ≡ has_unknown_seen self.now up.now seat.number }
+        requires game { opener_of self.now.setup.code ≡ opener }
+        requires cards { is_opened_by_up_cards opener ≡ true }
+        requires bets { is_bet_due self.now.due ≡ true }
+        requires begins { self.now.due ≡ dues.BringIn → self.now.last ≡ None }
+        ensures turn { (past : Past) → StandsFor self.now past → HoldsUps self.now.setup up.now past
+            → IsTurn self.now past (turn_of (seat_said result)) }
+        ensures in_hand { IfSome result (λ seat. seat.number ≤ self.now.setup.stacks.seats) }
     {
-        self.able(seat) && has_unknown(up.get(seat).as_slice())
+        match self.last {
+            Some(_) => self.mover(Seat { number: 1 }),
+            None => {
+                if self.some_unknown(up) {
+                    None
+                } else {
+                    match self.up_opener(opener, up) {
+                        Some(seat) => self.mover(seat),
+                        None => None,
+                    }
+                }
+            }
+        }
     }
 
     /// An up-card of an able seat is unknown.
@@ -40,35 +56,38 @@ impl Table {
         found
     }
 
-    // The other seat is able, and opens before this one.
-    fn before(&self, opener: Opener, up: &UpRow, seat: Seat, other: Seat) -> bool
+    // The seat is able, and an up-card of it is unknown.
+    fn up_unknown(&self, up: &UpRow, seat: Seat) -> bool
         requires in_hand { seat.number ≤ self.now.setup.stacks.seats }
-        requires other_in { other.number ≤ self.now.setup.stacks.seats }
         requires row { up.now.seats ≡ self.now.setup.stacks.seats }
-        ensures { result ≡ is_before_seen opener self.now up.now seat.number other.number }
+        ensures { result ≡ has_unknown_seen self.now up.now seat.number }
     {
-        self.able(other)
-            && is_opener_before(
-                opener,
-                self.street == 1,
-                &known(&up.get(other)),
-                &known(&up.get(seat)),
-            )
+        self.able(seat) && has_unknown(up.get(seat).as_slice())
     }
 
-    // The seat's up-cards open before all that the other seat's open before.
-    fn as_early(&self, opener: Opener, up: &UpRow, seat: Seat, other: Seat) -> bool
-        requires in_hand { seat.number ≤ self.now.setup.stacks.seats }
-        requires other_in { other.number ≤ self.now.setup.stacks.seats }
+    /// The first able seat before which no other opens.
+    pub fn up_opener(&self, opener: Opener, up: &UpRow) -> Option<Seat>
         requires row { up.now.seats ≡ self.now.setup.stacks.seats }
-        ensures { result ≡ is_as_early_seen opener self.now up.now seat.number other.number }
+        ensures found { seat_said result ≡ up_opener_seen opener self.now up.now }
+        ensures in_hand { IfSome result (λ seat. seat.number ≤ self.now.setup.stacks.seats) }
     {
-        is_as_early(
-            opener,
-            self.street == 1,
-            &known(&up.get(seat)),
-            &known(&up.get(other)),
-        )
+        let lead = self.leader(opener, up);
+        self.first_to_open(opener, up, lead, 1, self.setup.stacks.seats)
+    }
+
+    // A seat that opens before each seat before which some able seat opens.
+    fn leader(&self, opener: Opener, up: &UpRow) -> Seat
+        requires row { up.now.seats ≡ self.now.setup.stacks.seats }
+        ensures in_hand { result.number ≤ self.now.setup.stacks.seats }
+        ensures leads { IsLeader opener self.now up.now self.now.setup.stacks.seats result.number }
+    {
+        let mut lead: u8 = 1;
+        for index in 0..self.setup.stacks.seats {
+            let seat = Seat { number: index + 1 };
+            let next = self.earlier(opener, up, Seat { number: lead }, seat);
+            lead = next.number;
+        }
+        Seat { number: lead }
     }
 
     // The able one of two seats or, where both are, the one that opens before all that the other
@@ -95,30 +114,19 @@ impl Table {
         if early { other } else { lead }
     }
 
-    // A seat that opens before each seat before which some able seat opens.
-    fn leader(&self, opener: Opener, up: &UpRow) -> Seat
-        requires row { up.now.seats ≡ self.now.setup.stacks.seats }
-        ensures in_hand { result.number ≤ self.now.setup.stacks.seats }
-        ensures leads { IsLeader opener self.now up.now self.now.setup.stacks.seats result.number }
-    {
-        let mut lead: u8 = 1;
-        for index in 0..self.setup.stacks.seats {
-            let seat = Seat { number: index + 1 };
-            let next = self.earlier(opener, up, Seat { number: lead }, seat);
-            lead = next.number;
-        }
-        Seat { number: lead }
-    }
-
-    // The seat is able, and no able seat opens before it: the leader would.
-    fn opens(&self, opener: Opener, up: &UpRow, lead: Seat, seat: Seat) -> bool
-        requires lead_in { lead.number ≤ self.now.setup.stacks.seats }
-        requires leads { IsLeader opener self.now up.now self.now.setup.stacks.seats lead.number }
+    // The seat's up-cards open before all that the other seat's open before.
+    fn as_early(&self, opener: Opener, up: &UpRow, seat: Seat, other: Seat) -> bool
         requires in_hand { seat.number ≤ self.now.setup.stacks.seats }
+        requires other_in { other.number ≤ self.now.setup.stacks.seats }
         requires row { up.now.seats ≡ self.now.setup.stacks.seats }
-        ensures { result ≡ is_opener_seen opener self.now up.now seat.number }
+        ensures { result ≡ is_as_early_seen opener self.now up.now seat.number other.number }
     {
-        self.able(seat) && !self.before(opener, up, seat, lead)
+        is_as_early(
+            opener,
+            self.street == 1,
+            &known(&up.get(seat)),
+            &known(&up.get(other)),
+        )
     }
 
     // The first of so many seats, from this number on, before which no other opens.
@@ -151,39 +159,30 @@ impl Table {
         }
     }
 
-    /// The first able seat before which no other opens.
-    pub fn up_opener(&self, opener: Opener, up: &UpRow) -> Option<Seat>
+    // The seat is able, and no able seat opens before it: the leader would.
+    fn opens(&self, opener: Opener, up: &UpRow, lead: Seat, seat: Seat) -> bool
+        requires lead_in { lead.number ≤ self.now.setup.stacks.seats }
+        requires leads { IsLeader opener self.now up.now self.now.setup.stacks.seats lead.number }
+        requires in_hand { seat.number ≤ self.now.setup.stacks.seats }
         requires row { up.now.seats ≡ self.now.setup.stacks.seats }
-        ensures found { seat_said result ≡ up_opener_seen opener self.now up.now }
-        ensures in_hand { IfSome result (λ seat. seat.number ≤ self.now.setup.stacks.seats) }
+        ensures { result ≡ is_opener_seen opener self.now up.now seat.number }
     {
-        let lead = self.leader(opener, up);
-        self.first_to_open(opener, up, lead, 1, self.setup.stacks.seats)
+        self.able(seat) && !self.before(opener, up, seat, lead)
     }
 
-    /// Whose turn it is where up-cards open, if it is known.
-    pub fn turn_by_up(&self, opener: Opener, up: &UpRow) -> Option<Seat>
+    // The other seat is able, and opens before this one.
+    fn before(&self, opener: Opener, up: &UpRow, seat: Seat, other: Seat) -> bool
+        requires in_hand { seat.number ≤ self.now.setup.stacks.seats }
+        requires other_in { other.number ≤ self.now.setup.stacks.seats }
         requires row { up.now.seats ≡ self.now.setup.stacks.seats }
-        requires game { opener_of self.now.setup.code ≡ opener }
-        requires cards { is_opened_by_up_cards opener ≡ true }
-        requires bets { is_bet_due self.now.due ≡ true }
-        requires begins { self.now.due ≡ dues.BringIn → self.now.last ≡ None }
-        ensures turn { (past : Past) → StandsFor self.now past → HoldsUps self.now.setup up.now past
-            → IsTurn self.now past (turn_of (seat_said result)) }
-        ensures in_hand { IfSome result (λ seat. seat.number ≤ self.now.setup.stacks.seats) }
+        ensures { result ≡ is_before_seen opener self.now up.now seat.number other.number }
     {
-        match self.last {
-            Some(_) => self.mover(Seat { number: 1 }),
-            None => {
-                if self.some_unknown(up) {
-                    None
-                } else {
-                    match self.up_opener(opener, up) {
-                        Some(seat) => self.mover(seat),
-                        None => None,
-                    }
-                }
-            }
-        }
+        self.able(other)
+            && is_opener_before(
+                opener,
+                self.street == 1,
+                &known(&up.get(other)),
+                &known(&up.get(seat)),
+            )
     }
 }

@@ -1,4 +1,4 @@
-// What is seen of the betting from outside: the chips left, and whether the hand is settled.
+//! What is seen of the betting from outside: the chips left, and whether the hand is settled.
 ghost use Rattle.std.specs.Prelude.{◌≡◌, ◌≤◌, ℕ};
 ghost use Rattle.chip_ledger.specs.SeatRow.{amount_of};
 ghost use Rattle.betting_numbers.specs.Seen.{has_able_seat_to_call_seen, left_seen, is_settled_seen};
@@ -33,6 +33,14 @@ impl Table {
         row
     }
 
+    /// The hand is settled.
+    pub fn settled(&self) -> bool
+        ensures { result ≡ is_settled_seen self.now }
+    {
+        2 <= self.live_count()
+            && (after_betting(self.due) || (self.able_count() <= 1 && !self.able_owes()))
+    }
+
     // An able seat owes chips.
     #[tactic(auto, using(chip_ledger::proofs::SeatLists::any_more))]
     fn able_owes(&self) -> bool
@@ -44,13 +52,5 @@ impl Table {
             found = found || (self.able(seat) && 0 < self.owed(seat));
         }
         found
-    }
-
-    /// The hand is settled.
-    pub fn settled(&self) -> bool
-        ensures { result ≡ is_settled_seen self.now }
-    {
-        2 <= self.live_count()
-            && (after_betting(self.due) || (self.able_count() <= 1 && !self.able_owes()))
     }
 }
