@@ -13,6 +13,7 @@ use crate::table::Table;
 use chip_ledger::{LiveRow, Seat, SeatRow};
 use play_event::{Act, Due};
 
+/// The move is a raise.
 pub fn raises(act: Act) -> bool
     ensures { result ≡ is_raise (act_said act) }
 {
@@ -22,6 +23,7 @@ pub fn raises(act: Act) -> bool
     }
 }
 
+// The move is a bring-in.
 fn brings_in(act: Act) -> bool
     ensures { result ≡ is_bring_in (act_said act) }
 {
@@ -64,6 +66,7 @@ fn live_after(live: bool, act: Act) -> bool
     live && !folds(act)
 }
 
+// The move is a fold.
 fn folds(act: Act) -> bool
     ensures { result ≡ is_fold (act_said act) }
 {

@@ -185,7 +185,7 @@ impl Table {
         }
     }
 
-    // Whether a target is legal, and the greatest that is.
+    /// Whether a target is legal, and the greatest that is, in chips of the street.
     pub fn judge(
         &self,
         limit: Limit,
@@ -218,7 +218,7 @@ impl Table {
         }
     }
 
-    // The greatest raise of pot limit.
+    /// The greatest raise of pot limit, in chips of the street: the price, and the pot with what the seat owes in it.
     pub fn ceiling(&self, seat: Seat) -> u64
         requires { seat.number ≤ self.now.setup.stacks.seats }
         ensures { result ≡ ceiling_seen self.now seat.number }
@@ -246,7 +246,7 @@ impl Table {
         }
     }
 
-    // The first full raise of fixed limit, and the other one where there is one.
+    /// The first full raise of fixed limit, and the other one where there is one, in chips of the street.
     pub fn fulls(&self, size: u64) -> (u128, Option<u128>)
         requires { size ≡ unit self.now.setup self.now.street }
         ensures { fulls_seen self.now ≡ fulls_list result }
@@ -278,7 +278,7 @@ impl Table {
         self.has_opponent(seat) && self.price() < self.all_in(seat) && self.is_within_cap() && open
     }
 
-    // What the seat owes reopens the betting to it, where bets have this size.
+    /// What the seat owes reopens the betting to it, where bets have this size.
     pub fn owes_enough(&self, limit: Limit, size: u64, seat: Seat) -> bool
         requires { seat.number ≤ self.now.setup.stacks.seats }
         ensures { result
