@@ -79,7 +79,7 @@ fn chip_key_named(word: &[u8]) -> Option<Key>
 }
 
 /// Whether the text is this word, in capitals or small letters.
-#[tactic(auto, unfolding(crate::specs::Keys::is_word), using(crate::proofs::Words::same_word))]
+#[tactic(auto, unfolding(crate::specs::Keys::is_word), using(list_laws::proofs::Bytes::equal_by_test))]
 pub fn is_word(name: &str, text: &[u8]) -> bool
     ensures { result ≡ is_word_said name.now text.now }
 {

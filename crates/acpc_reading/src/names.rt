@@ -119,7 +119,7 @@ fn read_name(alloc: Global, seat: u8, at: u64, name: &[u8]) -> Result<Option<Tex
 }
 
 // The bytes as a text, if they are one.
-#[tactic(auto, using(crate::proofs::Texts::is_text, crate::proofs::Texts::is_no_text))]
+#[tactic(auto, using(list_laws::proofs::Bytes::is_text, list_laws::proofs::Bytes::is_no_text))]
 fn text_of(bytes: &[u8]) -> Option<&str>
     ensures text { IfSome result (λ text. text.now ≡ bytes.now) }
     ensures is { is_some result ≡ is_utf8 bytes.now }

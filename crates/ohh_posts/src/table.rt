@@ -19,7 +19,7 @@ impl Table {
     ghost use Rattle.ohh_posts.specs.Table.{big_blind_seat, plain_table, small_blind_seat, stack_of};
 
     /// The stack of a seat, or 0 where the hand has no such seat.
-    #[tactic(auto, using(crate::proofs::Stacks::stack_in))]
+    #[tactic(auto, using(list_laws::proofs::Entries::at_taken))]
     pub fn stack(&self, seat: Seat) -> u64
         ensures { result ≡ stack_of (plain_table self.now) seat.number }
     {

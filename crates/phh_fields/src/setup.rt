@@ -107,7 +107,7 @@ fn read_blinds(table: &Table, code: Code, seats: u8) -> Result<SeatRow, Stop<Fau
 }
 
 // Whether antes are dead.
-#[tactic(auto, using(crate::proofs::Taken::any_seat))]
+#[tactic(auto, using(list_laws::proofs::NumbersOfRange::any_taken))]
 fn are_dead(trimmed: bool, antes: &SeatRow) -> bool
     ensures said { result ≡ are_dead_said trimmed (amounts_in antes.now) }
     ensures some { result ≡ true → list_any (λ seat. nat_lt 0 (amount_of antes.now seat))
