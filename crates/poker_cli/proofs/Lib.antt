@@ -5,3 +5,4 @@ mod AlikeGames
 mod AlikeNotes
 mod AlikeOutputs
 mod OneAnswer
+mod Headline

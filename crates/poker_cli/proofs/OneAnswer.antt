@@ -265,6 +265,10 @@ say_or_fault readers.Phh bytes records fault say have = history_laws.no_fault by
 say_or_fault (readers.Ohh dialect) bytes records fault say have = tree_laws.no_fault dialect bytes records fault say have
 say_or_fault (readers.Acpc game) bytes records fault say have = log_laws.no_fault game bytes records fault say have
 
+pub no_fault : (reader : Reader) (bytes : List ℕ) (records : List Record) (fault : FormatFault) → SayRecords reader bytes records → HaveFault reader bytes fault → ⊥
+unfolding SayOrFault
+no_fault reader bytes records fault say have = say_or_fault reader bytes records fault say have
+
 -- the records of bytes are alike
 said_alike : (reader : Reader) (bytes : List ℕ) → AllSaidAlike (SayRecords reader bytes)
 unfolding AllSaidAlike
@@ -375,7 +379,7 @@ not_read : (files : Files) (request : Request) (way : Way) (made : ℕ × ℕ) �
 not_read files request way made makes (answers.Plain none found) = no_way None request way made makes found
 not_read files request way made makes (answers.Under name named game gives found) = no_way (Some game) request way made makes found
 
-in_way : (request : Request) (files : Files) (bytes : List ℕ) (way : Way) (answer : Answer) → IsWay files request way
+pub in_way : (request : Request) (files : Files) (bytes : List ℕ) (way : Way) (answer : Answer) → IsWay files request way
     → IsAnswerIn request files bytes answer → IsAnswer way.task way.reader bytes answer
 in_way request files bytes way answer is (answers.NoGame name named _ lacks) = absurd (no_lack files request way name answer is named lacks)
 in_way request files bytes way answer is (answers.OfInput other it _ to) =
@@ -394,7 +398,7 @@ there_is_one (Some other) files name text named there missing =
     let gone : files name ≡ None = subst (λ (n : List ℕ). files n ≡ None) same missing in
     cc (there, gone)
 
-no_missing : (files : Files) (request : Request) (way : Way) → IsWay files request way → IsGameMissing (game_name request) files → ⊥
+pub no_missing : (files : Files) (request : Request) (way : Way) → IsWay files request way → IsGameMissing (game_name request) files → ⊥
 no_missing files request way (answers.Plain none found) missing = there_is_none (game_name request) files none missing
 no_missing files request way (answers.Under name named game gives found) missing =
     there_is_one (game_name request) files name gives.text named gives.there missing
@@ -449,19 +453,26 @@ legal_game notation reader files bytes records plays out diag status found few i
     (no_missing files request by found) ends
 
 -- and hands whose facts are all spelled are converted
+pub legal_in_way : (request : Request) (reader target : Reader) (keep : Keep) (files : Files) (bytes : List ℕ) (records : List Record) (plays : List Play)
+    → (out diag : Sinks) (status : Status) → IsWay files request (way (tasks.Convert target keep) reader)
+    → length bytes ≤ most_input → SayRecords reader bytes records → ArePlaysOf records plays
+    → first_refusal_in target keep plays ≡ None
+    → Ends request files bytes out diag status → RefusesNothing status
+legal_in_way request reader target keep files bytes records plays out diag status found few is are none ends =
+    let by = way (tasks.Convert target keep) reader in
+    done_so status
+    (ends_so request files bytes out diag status statuses.Done
+    (λ answer given. converted_status target keep plays answer none
+    (legal_made (tasks.Convert target keep) reader bytes records plays answer few is are (in_way request files bytes by answer found given)))
+    (no_missing files request by found) ends)
+
 pub legal_converted : (from to : Notation) (keep : KeepAsked) (reader target : Reader) (files : Files) (bytes : List ℕ) (records : List Record) (plays : List Play)
     → (out diag : Sinks) (status : Status) → IsWay files (Convert from to keep) (way (tasks.Convert target (kept keep)) reader)
     → length bytes ≤ most_input → SayRecords reader bytes records → ArePlaysOf records plays
     → first_refusal_in target (kept keep) plays ≡ None
     → Ends (Convert from to keep) files bytes out diag status → RefusesNothing status
 legal_converted from to keep reader target files bytes records plays out diag status found few is are none ends =
-    let by = way (tasks.Convert target (kept keep)) reader in
-    let request = Convert from to keep in
-    done_so status
-    (ends_so request files bytes out diag status statuses.Done
-    (λ answer given. converted_status target (kept keep) plays answer none
-    (legal_made (tasks.Convert target (kept keep)) reader bytes records plays answer few is are (in_way request files bytes by answer found given)))
-    (no_missing files request by found) ends)
+    legal_in_way (Convert from to keep) reader target (kept keep) files bytes records plays out diag status found few is are none ends
 
 -- the answer to hands that are made is done, and a run on them needs no input
 load_done : (seed hands : ℕ) (files : Files) (bytes : List ℕ) (answer : Answer) → IsAnswerIn (Load seed hands) files bytes answer → answer.status ≡ statuses.Done

@@ -14,3 +14,4 @@ pub mod Printing
 pub mod Lacking
 pub mod Told
 pub mod Run
+pub mod Headline

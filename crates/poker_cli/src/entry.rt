@@ -2,12 +2,15 @@
 ghost use Rattle.std.specs.Prelude.{◌≡◌, ◌↔◌, is_some, map, true, None, Some, IfErr, IfOk, IfSome, IsErrOf, string_bytes};
 ghost use Rattle.command_words.specs.Requests.{request_in};
 ghost use Rattle.command_words.specs.Words.{request_said};
+ghost use Rattle.hand_records.specs.declared.writing.Keep.{Keep};
 ghost use Rattle.host_io.specs.Faults.{Rose};
 ghost use Rattle.poker_cli.specs.Answer.{IsAnswer, IsAnswerIn};
+ghost use Rattle.poker_cli.specs.Headline.{AsksToConvert, Headline};
 ghost use Rattle.poker_cli.specs.Lacking.{ComesFirst};
 ghost use Rattle.poker_cli.specs.Run.{AskForNoGame, AsksForGame, Ends, IsGameMissing, IsOfInput, IsOwn, LacksGame, MakesHands, MakesNone, MayEnd, ReadsNothing, TellsLine, Writes, WritesNothing, bytes_told, files_told, fixed_line, line_of};
 ghost use Rattle.poker_cli.specs.Told.{answer_told};
 ghost use Rattle.poker_cli.specs.Ways.{game_name as game_asked, made_by as made_by_said, way_of as way_of_said};
+ghost use Rattle.poker_cli.specs.declared.task.Reader.{Reader};
 
 use crate::answer::{self, Answer, MOST_INPUT};
 use crate::games::{NoGame, answer_to_lack, fetch_game};
@@ -55,6 +58,27 @@ pub fn run<S: Source, H: Shelf, K: Sink, D: Sink>(
           before = D.faults diag.old;
           now = D.faults diag.new;
         }) result))) }
+
+    // The words ask for a conversion: hands are read by `from`, and written by `to` with `keep`.
+    ensures headline { IfSome (request_said (map string_bytes words.now)) (λ request.
+        IfSome (bytes_told (made_by_said request) (S.left input.old)) (λ bytes.
+        IfSome (files_told (game_asked request) (H.files shelf.old)) (λ files.
+        (from to : Reader) (keep : Keep)
+        → AsksToConvert files request from to keep → Headline from to keep bytes
+        (record {
+          held = K.held out.old;
+          holds = K.held out.new;
+          before = K.faults out.old;
+          now = K.faults out.new;
+        })
+        (record {
+          held = D.held diag.old;
+          holds = D.held diag.new;
+          before = D.faults diag.old;
+          now = D.faults diag.new;
+        }) result))) }
+
+    // A fault of a device is told only where its count rose.
     ensures read_fault { result ≡ Status.ReadFault
         → Rose (S.faults input.old) (S.faults input.new) }
     ensures write_fault { result ≡ Status.WriteFault → Rose (K.faults out.old) (K.faults out.new) }

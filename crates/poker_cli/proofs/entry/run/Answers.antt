@@ -1,9 +1,13 @@
 -- Want of memory is told before anything is read.
-use Rattle.std.proofs.Common.{map, string_bytes}
+use Rattle.std.proofs.Common.{ap, map, refl, string_bytes, sym, ◌∙◌}
+use Rattle.std.specs.Option.{option_map}
+use Rattle.command_words.specs.Requests.{request_in}
 use Rattle.command_words.specs.Words.{request_said}
 use Rattle.poker_cli.specs.Run.{LacksGame, MakesHands}
 use Rattle.poker_cli.specs.Ways.{game_name, made_by}
+use Rattle.poker_cli.specs.declared.status.Status.TheVariants as statuses
 use Rattle.poker_cli.proofs.Answering.{ends_unread, kept_unread}
+use Rattle.poker_cli.proofs.Headline.{headline_read, headline_told}
 use Rattle.poker_cli.proofs.entry.run.Goals as goal
 
 pub returns-in-Err-clause-ends : goal.returns-in-Err-clause-ends
@@ -17,3 +21,25 @@ returns-in-Err-clause-without_game g c =
 pub returns-in-Err-clause-without_input : goal.returns-in-Err-clause-without_input
 returns-in-Err-clause-without_input g c =
     kept_unread (request_said (map string_bytes c.args.words.now)) (λ request. MakesHands (made_by request)) _
+
+pub returns-in-Err-clause-headline : goal.returns-in-Err-clause-headline
+returns-in-Err-clause-headline g c =
+    let said = request_said (map string_bytes c.args.words.now) in
+    let left = g.S.Source.left c.args.input.now in
+    let told = g.H.Shelf.files c.args.shelf.now in
+    headline_told said left told _ _ statuses.Memory (ends_unread said left told)
+    (record { unwritten = λ nothing. refl; failed = λ is. cc; quiet = λ is. cc; fixed = c.tell-in-Err.ensures })
+
+-- The headline follows from how the request ends that the words are read as.
+pub returns-in-Ok-Some-clause-headline : goal.returns-in-Ok-Some-clause-headline
+returns-in-Ok-Some-clause-headline g c =
+    let ends = c.run_request.ensures in
+    headline_read (request_in c.in-Ok-Some.request) (request_said (map string_bytes c.args.words.now)) (g.S.Source.left c.args.input.now)
+    (g.H.Shelf.files c.args.shelf.now) _ _ c.run_request.result
+    (sym (ap (option_map request_in) c.in-Ok-Some.field-0-is) ∙ c.in-Ok-Some.ensures.read) ends.ends
+    (record {
+      unwritten = λ nothing. ap g.K.Sink.held (ends.nothing_written nothing);
+      failed = ends.write_fault;
+      quiet = λ done. ap g.D.Sink.held (ends.quiet done);
+      fixed = ends.fixed_line;
+    })

@@ -1,0 +1,330 @@
+-- What a conversion ends with follows from the answer to its input.
+use Rattle.std.proofs.Common.{◌≡◌, ◌⊎◌, ℕ, ◌≤◌, List, length, Option, Some, None, IfSome, refl, sym, subst, ap, inl, inr, arith}
+use Rattle.std.specs.Option.{option_map}
+use Rattle.std.proofs.lemmas.Option.{same_Some}
+use Rattle.acpc_game.specs.declared.game.Game.{Game}
+use Rattle.acpc_text.specs.declared.fault.AcpcFault.{AcpcFault}
+use Rattle.acpc_text.specs.declared.fault.AcpcFault.TheVariants as logs
+use Rattle.command_words.specs.Words.{Convert, Load, Notation, Request, Show}
+use Rattle.command_words.specs.Words as words
+use Rattle.convert_core.specs.declared.format_fault.FormatFault.{FormatFault}
+use Rattle.convert_core.specs.declared.format_fault.FormatFault.TheVariants as formats
+use Rattle.hand_records.specs.declared.record.Record.{Record}
+use Rattle.hand_records.specs.declared.trace.Play.{Play}
+use Rattle.hand_records.specs.declared.writing.Keep.{Keep}
+use Rattle.host_io.specs.Faults.{Rose}
+use Rattle.ohh_members.specs.declared.fault.What.TheVariants as members
+use Rattle.ohh_reading.specs.Reading.{Wrong as WrongTree, NoText, InHand as InTree}
+use Rattle.ohh_reading.specs.Reading as trees
+use Rattle.phh_fields.specs.declared.fault.What.TheVariants as whats
+use Rattle.phh_reading.specs.Reading.{InHand, NoDocument, Wrong}
+use Rattle.phh_reading.specs.Reading as histories
+use Rattle.poker_cli.specs.Answer.{Answer, Files, IsAnswer, IsAnswerIn, IsConversion, most_input, to_fault, to_wrong_history, to_wrong_log, to_wrong_tree}
+use Rattle.poker_cli.specs.Answer as answers
+use Rattle.poker_cli.specs.Faults.{wrong_status}
+use Rattle.poker_cli.specs.Headline.{AsksToConvert, CanConvert, ConversionEnds, Headline, IsOfHands, IsOfLogs, NamesFault, IsTooLong, NamesRefused, NamesUnspelled, SpellAndReadBack, TellsAlone}
+use Rattle.poker_cli.specs.Inputs.{SayRecords}
+use Rattle.poker_cli.specs.Run.{AsksForGame, Ends, RefusesNothing, Sinks, TellsLine, WritesNothing, bytes_told, files_told, fixed_line}
+use Rattle.poker_cli.specs.TreeFaults.{tree_status}
+use Rattle.poker_cli.specs.Ways.{conversion_way, file_of, game_name, kept, made_by, or_file, reader_with, way, way_of}
+use Rattle.poker_cli.specs.declared.status.Status.{Status}
+use Rattle.poker_cli.specs.declared.status.Status.TheVariants as statuses
+use Rattle.poker_cli.specs.declared.task.Reader.{Reader}
+use Rattle.poker_cli.specs.declared.task.Reader.TheVariants as readers
+use Rattle.poker_cli.specs.declared.task.Task.{Task}
+use Rattle.poker_cli.specs.declared.task.Task.TheVariants as tasks
+use Rattle.poker_cli.specs.declared.task.Way.{Way}
+use Rattle.poker_cli.proofs.OneAnswer.{in_way, legal_in_way, no_fault, no_missing}
+
+-- the status of a fault of bytes is that of bad input or of a limit
+IsUnread : Status → Type 0
+IsUnread statuses.BadInput = Unit {0}
+IsUnread statuses.Limit = Unit {0}
+IsUnread status = ⊥
+
+history_unread : (wrong : Wrong) → IsUnread (wrong_status wrong)
+unfolding IsUnread
+history_unread NoDocument = tt
+history_unread (InHand hand key whats.MissingField) = tt
+history_unread (InHand hand key whats.WrongType) = tt
+history_unread (InHand hand key whats.AmountNotWhole) = tt
+history_unread (InHand hand key whats.AmountLimit) = tt
+history_unread (InHand hand key whats.UnknownVariant) = tt
+history_unread (InHand hand key whats.SeatCount) = tt
+history_unread (InHand hand key whats.ListLength) = tt
+history_unread (InHand hand key whats.BadAction) = tt
+history_unread (InHand hand key (whats.TooMany quantity)) = tt
+
+tree_unread : (wrong : WrongTree) → IsUnread (tree_status wrong)
+unfolding IsUnread
+tree_unread (NoText hand) = tt
+tree_unread (InTree hand path members.MissingMember) = tt
+tree_unread (InTree hand path members.WrongType) = tt
+tree_unread (InTree hand path members.AmountNotWhole) = tt
+tree_unread (InTree hand path members.AmountLimit) = tt
+tree_unread (InTree hand path members.UnsupportedGame) = tt
+tree_unread (InTree hand path members.BadPlayer) = tt
+tree_unread (InTree hand path members.UnsupportedAction) = tt
+tree_unread (InTree hand path members.BadStreet) = tt
+tree_unread (InTree hand path members.BadPost) = tt
+tree_unread (InTree hand path members.RakePlace) = tt
+tree_unread (InTree hand path (members.TooMany quantity)) = tt
+
+IsToldUnread : Option Answer → Type 0
+IsToldUnread told = IfSome told (λ answer. IsUnread answer.status)
+
+log_unread : (fault : AcpcFault) → IsToldUnread (to_wrong_log fault)
+unfolding IsUnread IsToldUnread
+log_unread logs.Memory = tt
+log_unread (logs.LineShape line byte) = tt
+log_unread (logs.BadBetting line byte) = tt
+log_unread (logs.BadCards line byte) = tt
+log_unread (logs.BadValue line byte) = tt
+log_unread (logs.SeatCount line byte) = tt
+log_unread (logs.GameShape line byte) = tt
+log_unread (logs.UnsupportedGame line byte) = tt
+log_unread (logs.AmountLimit line byte) = tt
+log_unread (logs.TooMany quantity line byte) = tt
+
+mapped_unread : {W : Type 0} (to : W → Answer) (found : Option W) (answer : Answer) → ((w : W) → IsUnread (to w).status)
+    → option_map to found ≡ Some answer → IsUnread answer.status
+unfolding IsToldUnread
+mapped_unread to (Some wrong) answer each told = subst IsToldUnread told (each wrong)
+mapped_unread to None answer each told = absurd (cc (told))
+
+fault_unread : (fault : FormatFault) (answer : Answer) → to_fault fault ≡ Some answer → IsUnread answer.status
+unfolding IsToldUnread
+fault_unread (formats.Phh fault) answer told = mapped_unread to_wrong_history (histories.wrong_of fault) answer history_unread told
+fault_unread (formats.Ohh fault) answer told = mapped_unread to_wrong_tree (trees.wrong_of fault) answer tree_unread told
+fault_unread (formats.Acpc fault) answer told = subst IsToldUnread told (log_unread fault)
+
+-- no other status is that of a fault
+not_unread : (fault : FormatFault) (answer : Answer) (status : Status) → (IsUnread status → ⊥) → to_fault fault ≡ Some answer → answer.status ≡ status → ⊥
+not_unread fault answer status other told same = other (subst IsUnread same (fault_unread fault answer told))
+
+module _ (from to : Reader) (keep : Keep) (bytes : List ℕ) where
+  -- the hands can be converted into this output
+  record ConvertsInto (output : List ℕ) : Type 0 where
+    plays : List Play
+    can : CanConvert from to keep bytes plays
+    spell : SpellAndReadBack to plays output
+
+  -- an answer that is done
+  done_into : (answer : Answer) → IsAnswer (tasks.Convert to keep) from bytes answer → answer.status ≡ statuses.Done → ConvertsInto answer.output
+  unfolding IsUnread
+  done_into _ (answers.TooLong many) same = absurd (cc (same))
+  done_into answer (answers.Read few _ (answers.Unread fault have _ told)) same = absurd (not_unread fault answer statuses.Done (λ un. un) told same)
+  done_into _ (answers.Read few _ (answers.Refused number why first)) same = absurd (cc (same))
+  done_into _ (answers.Read few _ (answers.Played plays read _ (answers.NotSpelled number fact is))) same = absurd (cc (same))
+  done_into _ (answers.Read few _ (answers.Played plays read _ (answers.Spelled none output spell back))) same =
+      record { plays = plays; can = record { within = few; legal = read; spelled = none }; spell = record { spell = spell; back = back } }
+
+  module _ (out diag : Sinks) where
+    -- a refused hand
+    refused_so : (answer : Answer) → IsAnswer (tasks.Convert to keep) from bytes answer → answer.status ≡ statuses.Refused
+        → TellsAlone out diag answer.line → NamesRefused from bytes out diag
+    unfolding IsUnread
+    refused_so _ (answers.TooLong many) same told = absurd (cc (same))
+    refused_so answer (answers.Read few _ (answers.Unread fault have _ is)) same told = absurd (not_unread fault answer statuses.Refused (λ un. un) is same)
+    refused_so _ (answers.Read few _ (answers.Refused number why first)) same told =
+        record { within = few; number = number; why = why; first = first; told = told }
+    refused_so _ (answers.Read few _ (answers.Played plays read _ (answers.NotSpelled number fact is))) same told = absurd (cc (same))
+    refused_so _ (answers.Read few _ (answers.Played plays read _ (answers.Spelled none output spell back))) same told = absurd (cc (same))
+
+    -- a fact without a spelling
+    unspelled_so : (answer : Answer) → IsAnswer (tasks.Convert to keep) from bytes answer → answer.status ≡ statuses.Unspelled
+        → TellsAlone out diag answer.line → NamesUnspelled from to keep bytes out diag
+    unfolding IsUnread
+    unspelled_so _ (answers.TooLong many) same told = absurd (cc (same))
+    unspelled_so answer (answers.Read few _ (answers.Unread fault have _ is)) same told = absurd (not_unread fault answer statuses.Unspelled (λ un. un) is same)
+    unspelled_so _ (answers.Read few _ (answers.Refused number why first)) same told = absurd (cc (same))
+    unspelled_so _ (answers.Read few _ (answers.Played plays read _ (answers.NotSpelled number fact is))) same told =
+        record { within = few; number = number; fact = fact; first = record { plays = plays; read = read; first = is }; told = told }
+    unspelled_so _ (answers.Read few _ (answers.Played plays read _ (answers.Spelled none output spell back))) same told = absurd (cc (same))
+
+    -- bytes that do not read
+    bad_so : (answer : Answer) → IsAnswer (tasks.Convert to keep) from bytes answer → answer.status ≡ statuses.BadInput
+        → TellsAlone out diag answer.line → NamesFault from bytes out diag statuses.BadInput
+    bad_so _ (answers.TooLong many) same told = absurd (cc (same))
+    bad_so answer (answers.Read few _ (answers.Unread fault have _ is)) same told =
+        record { within = few; fault = fault; have = have; answer = answer; answered = is; same = same; told = told }
+    bad_so _ (answers.Read few _ (answers.Refused number why first)) same told = absurd (cc (same))
+    bad_so _ (answers.Read few _ (answers.Played plays read _ (answers.NotSpelled number fact is))) same told = absurd (cc (same))
+    bad_so _ (answers.Read few _ (answers.Played plays read _ (answers.Spelled none output spell back))) same told = absurd (cc (same))
+
+    -- bytes beyond a limit
+    limit_so : (answer : Answer) → IsAnswer (tasks.Convert to keep) from bytes answer → answer.status ≡ statuses.Limit
+        → TellsAlone out diag answer.line → IsTooLong bytes out diag ⊎ NamesFault from bytes out diag statuses.Limit
+    limit_so _ (answers.TooLong many) same told = inl (record { beyond = many; told = told })
+    limit_so answer (answers.Read few _ (answers.Unread fault have _ is)) same told =
+        inr (record { within = few; fault = fault; have = have; answer = answer; answered = is; same = same; told = told })
+    limit_so _ (answers.Read few _ (answers.Refused number why first)) same told = absurd (cc (same))
+    limit_so _ (answers.Read few _ (answers.Played plays read _ (answers.NotSpelled number fact is))) same told = absurd (cc (same))
+    limit_so _ (answers.Read few _ (answers.Played plays read _ (answers.Spelled none output spell back))) same told = absurd (cc (same))
+
+  -- the file of a game has no part in it
+  never_game : (answer : Answer) → IsAnswer (tasks.Convert to keep) from bytes answer → answer.status ≡ statuses.BadGame → ⊥
+  unfolding IsUnread
+  never_game _ (answers.TooLong many) same = cc (same)
+  never_game answer (answers.Read few _ (answers.Unread fault have _ is)) same = not_unread fault answer statuses.BadGame (λ un. un) is same
+  never_game _ (answers.Read few _ (answers.Refused number why first)) same = cc (same)
+  never_game _ (answers.Read few _ (answers.Played plays read _ (answers.NotSpelled number fact is))) same = cc (same)
+  never_game _ (answers.Read few _ (answers.Played plays read _ (answers.Spelled none output spell back))) same = cc (same)
+
+-- where a shelf is asked for a game, a notation is that of logs
+first_or_second : (name other : Option (List ℕ)) (file : List ℕ) → or_file name other ≡ Some file → (name ≡ Some file) ⊎ (other ≡ Some file)
+first_or_second (Some name) other file is = inl is
+first_or_second None other file is = inr is
+
+of_logs : (game : Game) (notation : Notation) (reader : Reader) (file : List ℕ) → reader_with (Some game) notation ≡ Some reader
+    → file_of notation ≡ Some file → IsOfLogs reader
+of_logs game words.Phh reader file reads named = absurd (cc (named))
+of_logs game words.Ohh reader file reads named = absurd (cc (named))
+of_logs game words.OhhTo reader file reads named = absurd (cc (named))
+of_logs game (words.Acpc name) reader file reads named = subst IsOfLogs (same_Some (readers.Acpc game) reader reads) tt
+
+mapped_task : (task : Task) (found : Option Reader) (by : Way) → option_map (way task) found ≡ Some by → by.task ≡ task
+mapped_task task (Some reader) by is = ap (λ (w : Way). w.task) (sym (same_Some (way task reader) by is))
+mapped_task task None by is = absurd (cc (is))
+
+same_readers : (keep asked : Keep) (first second : Option Reader) (from to : Reader)
+    → conversion_way asked first second ≡ Some (way (tasks.Convert to keep) from) → (first ≡ Some from) × (second ≡ Some to)
+same_readers keep asked (Some reader) (Some target) from to is =
+    let same : way (tasks.Convert target asked) reader ≡ way (tasks.Convert to keep) from =
+    same_Some (way (tasks.Convert target asked) reader) (way (tasks.Convert to keep) from) is in
+    let task : tasks.Convert target asked ≡ tasks.Convert to keep = ap (λ (w : Way). w.task) same in
+    let written : target ≡ to = cc (task) in
+    (ap (λ (w : Way). Some w.reader) same, ap Some written)
+same_readers keep asked (Some reader) None from to is = absurd (cc (is))
+same_readers keep asked None second from to is = absurd (cc (is))
+
+under_game : (request : Request) (game : Game) (file : List ℕ) (from to : Reader) (keep : Keep) → game_name request ≡ Some file
+    → way_of (Some game) request ≡ Some (way (tasks.Convert to keep) from) → IsOfLogs from ⊎ IsOfLogs to
+under_game (Load seed hands) game file from to keep named is = absurd (cc (is))
+under_game (Show command notation) game file from to keep named is =
+    let task = mapped_task (tasks.Show command) (reader_with (Some game) notation) (way (tasks.Convert to keep) from) is in absurd (cc (task))
+under_game (words.Game notation) game file from to keep named is =
+    let task = mapped_task tasks.GameFile (reader_with (Some game) notation) (way (tasks.Convert to keep) from) is in absurd (cc (task))
+under_game (Convert first second asked) game file from to keep named is =
+    let both = same_readers keep (kept asked) (reader_with (Some game) first) (reader_with (Some game) second) from to is in
+    elim (first_or_second (file_of first) (file_of second) file named)
+    [ inl is_first ↦ inl (of_logs game first from file both.0 is_first) | inr is_second ↦ inr (of_logs game second to file both.1 is_second) ]
+
+asks_for_logs : (files : Files) (request : Request) (from to : Reader) (keep : Keep) → AsksToConvert files request from to keep
+    → AsksForGame (game_name request) → IsOfLogs from ⊎ IsOfLogs to
+asks_for_logs files request from to keep (answers.Plain none is) asks = absurd (subst AsksForGame none asks)
+asks_for_logs files request from to keep (answers.Under file named game gives is) asks = under_game request game file from to keep named is
+
+-- What is known besides the answer of how a run left its sinks.
+pub record IsLeft (out diag : Sinks) (status : Status) : Type 0 where
+  pub unwritten : WritesNothing status → out.holds ≡ out.held
+  pub failed : status ≡ statuses.WriteFault → Rose out.before out.now
+  pub quiet : status ≡ statuses.Done → diag.holds ≡ diag.held
+  pub fixed : IfSome (fixed_line status) (TellsLine diag.before diag.now diag.held diag.holds)
+
+module _ (request : Request) (files : Files) (from to : Reader) (keep : Keep) (bytes : List ℕ) (out diag : Sinks) where
+  -- a conversion ends as its status says
+  conversion_ends : (status : Status) → AsksToConvert files request from to keep → Ends request files bytes out diag status
+      → IsLeft out diag status → ConversionEnds from to keep bytes out diag status
+  conversion_ends statuses.Done found ends left =
+      let by = way (tasks.Convert to keep) from in
+      let into = done_into from to keep bytes ends.answer (in_way request files bytes by ends.answer found ends.to_input) ends.ends in
+      record {
+        plays = into.plays;
+        can = into.can;
+        output = ends.answer.output;
+        spell = into.spell;
+        written = ends.written;
+        quiet = left.quiet refl;
+      }
+  conversion_ends statuses.WriteFault found ends left =
+      let by = way (tasks.Convert to keep) from in
+      let into = done_into from to keep bytes ends.answer (in_way request files bytes by ends.answer found ends.to_input) ends.ends in
+      record {
+        plays = into.plays;
+        can = into.can;
+        output = ends.answer.output;
+        spell = into.spell;
+        written = ends.written;
+        failed = left.failed refl;
+        told = left.fixed;
+      }
+  conversion_ends statuses.Refused found ends left =
+      refused_so from to keep bytes out diag ends.answer (in_way request files bytes (way (tasks.Convert to keep) from) ends.answer found ends.to_input) ends.ends
+      (record { unwritten = left.unwritten tt; told = ends.line })
+  conversion_ends statuses.Unspelled found ends left =
+      unspelled_so from to keep bytes out diag ends.answer (in_way request files bytes (way (tasks.Convert to keep) from) ends.answer found ends.to_input) ends.ends
+      (record { unwritten = left.unwritten tt; told = ends.line })
+  conversion_ends statuses.BadInput found ends left =
+      bad_so from to keep bytes out diag ends.answer (in_way request files bytes (way (tasks.Convert to keep) from) ends.answer found ends.to_input) ends.ends
+      (record { unwritten = left.unwritten tt; told = ends.line })
+  conversion_ends statuses.Limit found ends left =
+      limit_so from to keep bytes out diag ends.answer (in_way request files bytes (way (tasks.Convert to keep) from) ends.answer found ends.to_input) ends.ends
+      (record { unwritten = left.unwritten tt; told = ends.line })
+  conversion_ends statuses.ReadFault found ends left = record { unwritten = left.unwritten tt; told = left.fixed }
+  conversion_ends statuses.Memory found ends left = record { unwritten = left.unwritten tt; told = left.fixed }
+  conversion_ends statuses.ShelfFault found ends left =
+      (asks_for_logs files request from to keep found ends, record { unwritten = left.unwritten tt; told = left.fixed })
+  conversion_ends statuses.Usage found ends left = ends
+  conversion_ends statuses.GameMissing found ends left = no_missing files request (way (tasks.Convert to keep) from) found ends
+  conversion_ends statuses.BadGame found ends left =
+      never_game from to keep bytes ends.answer (in_way request files bytes (way (tasks.Convert to keep) from) ends.answer found ends.to_input) ends.ends
+
+  -- an input that reads as hands is not told as bad input or as a limit
+  conversion_reads : (status : Status) → ConversionEnds from to keep bytes out diag status → length bytes ≤ most_input
+      → (records : List Record) → SayRecords from bytes records → IsOfHands status
+  conversion_reads statuses.Done ends few records say = tt
+  conversion_reads statuses.WriteFault ends few records say = tt
+  conversion_reads statuses.Refused ends few records say = tt
+  conversion_reads statuses.Unspelled ends few records say = tt
+  conversion_reads statuses.ReadFault ends few records say = tt
+  conversion_reads statuses.Memory ends few records say = tt
+  conversion_reads statuses.ShelfFault ends few records say = tt
+  conversion_reads statuses.Usage ends few records say = ends
+  conversion_reads statuses.GameMissing ends few records say = ends
+  conversion_reads statuses.BadGame ends few records say = ends
+  conversion_reads statuses.BadInput ends few records say = no_fault from bytes records ends.fault say ends.have
+  conversion_reads statuses.Limit (inl ends) few records say = let beyond = ends.beyond in absurd (omega (arith, beyond, few))
+  conversion_reads statuses.Limit (inr ends) few records say = no_fault from bytes records ends.fault say ends.have
+
+  -- where the hands can be converted nothing is refused
+  conversion_exactly : (status : Status) → AsksToConvert files request from to keep → Ends request files bytes out diag status
+      → (plays : List Play) → CanConvert from to keep bytes plays → RefusesNothing status
+  conversion_exactly status found ends plays can =
+      legal_in_way request from to keep files bytes can.legal.records plays out diag status found can.within can.legal.say can.legal.are can.spelled ends
+
+  -- so the headline holds
+  headline : (status : Status) → Ends request files bytes out diag status → IsLeft out diag status
+      → AsksToConvert files request from to keep → Headline from to keep bytes out diag status
+  headline status ends left found =
+      let so = conversion_ends status found ends left in
+      record { ends = so; reads = conversion_reads status so; exactly = conversion_exactly status found ends }
+
+some_weaker : {A : Type 0} (found : Option A) (P Q : A → Type 0) → ((x : A) → P x → Q x) → IfSome found P → IfSome found Q
+some_weaker (Some x) P Q each is = each x is
+some_weaker None P Q each is = is
+
+-- where the source tells its bytes, and the shelf its files
+abbrev pub EndsTold : Option Request → Option (List ℕ) → Option Files → (out diag : Sinks) → Status → Type 0
+EndsTold said left told out diag status =
+    IfSome said (λ request. IfSome (bytes_told (made_by request) left) (λ bytes. IfSome (files_told (game_name request) told) (λ files.
+    Ends request files bytes out diag status)))
+
+abbrev pub HeadlineTold : Option Request → Option (List ℕ) → Option Files → (out diag : Sinks) → Status → Type 0
+HeadlineTold said left told out diag status =
+    IfSome said (λ request. IfSome (bytes_told (made_by request) left) (λ bytes. IfSome (files_told (game_name request) told) (λ files.
+    (from to : Reader) (keep : Keep) → AsksToConvert files request from to keep → Headline from to keep bytes out diag status)))
+
+pub headline_told : (said : Option Request) (left : Option (List ℕ)) (told : Option Files) (out diag : Sinks) (status : Status)
+    → EndsTold said left told out diag status → IsLeft out diag status → HeadlineTold said left told out diag status
+headline_told said left told out diag status ends is_left =
+    some_weaker said _ _
+    (λ request. some_weaker (bytes_told (made_by request) left) _ _
+    (λ bytes. some_weaker (files_told (game_name request) told) _ _
+    (λ files so. λ from to keep. headline request files from to keep bytes out diag status so is_left))) ends
+
+-- of the request that the words are read as
+pub headline_read : (request : Request) (said : Option Request) (left : Option (List ℕ)) (told : Option Files) (out diag : Sinks) (status : Status)
+    → Some request ≡ said → EndsTold (Some request) left told out diag status → IsLeft out diag status → HeadlineTold said left told out diag status
+headline_read request said left told out diag status read ends is_left =
+    subst (λ (s : Option Request). HeadlineTold s left told out diag status) read (headline_told (Some request) left told out diag status ends is_left)
