@@ -22,7 +22,7 @@ use Rattle.phh_reading.specs.Reading as histories
 use Rattle.poker_cli.specs.Answer.{Answer, Files, IsAnswer, IsAnswerIn, IsConversion, most_input, to_fault, to_wrong_history, to_wrong_log, to_wrong_tree}
 use Rattle.poker_cli.specs.Answer as answers
 use Rattle.poker_cli.specs.Faults.{wrong_status}
-use Rattle.poker_cli.specs.Headline.{AsksToConvert, CanConvert, ConversionEnds, Headline, IsOfHands, IsOfLogs, NamesFault, IsTooLong, NamesRefused, NamesUnspelled, SpellAndReadBack, TellsAlone}
+use Rattle.poker_cli.specs.Headline.{AsksToConvert, CanConvert, ConversionEnds, ConvertsInto, Headline, IsOfHands, IsOfLogs, NamesFault, IsTooLong, NamesRefused, NamesUnspelled, TellsAlone}
 use Rattle.poker_cli.specs.Inputs.{SayRecords}
 use Rattle.poker_cli.specs.Run.{AsksForGame, Ends, RefusesNothing, Sinks, TellsLine, WritesNothing, bytes_told, files_told, fixed_line}
 use Rattle.poker_cli.specs.TreeFaults.{tree_status}
@@ -103,21 +103,15 @@ not_unread : (fault : FormatFault) (answer : Answer) (status : Status) → (IsUn
 not_unread fault answer status other told same = other (subst IsUnread same (fault_unread fault answer told))
 
 module _ (from to : Reader) (keep : Keep) (bytes : List ℕ) where
-  -- the hands can be converted into this output
-  record ConvertsInto (output : List ℕ) : Type 0 where
-    plays : List Play
-    can : CanConvert from to keep bytes plays
-    spell : SpellAndReadBack to plays output
-
   -- an answer that is done
-  done_into : (answer : Answer) → IsAnswer (tasks.Convert to keep) from bytes answer → answer.status ≡ statuses.Done → ConvertsInto answer.output
+  done_into : (answer : Answer) → IsAnswer (tasks.Convert to keep) from bytes answer → answer.status ≡ statuses.Done → ConvertsInto from to keep bytes answer.output
   unfolding IsUnread
   done_into _ (answers.TooLong many) same = absurd (cc (same))
   done_into answer (answers.Read few _ (answers.Unread fault have _ told)) same = absurd (not_unread fault answer statuses.Done (λ un. un) told same)
   done_into _ (answers.Read few _ (answers.Refused number why first)) same = absurd (cc (same))
   done_into _ (answers.Read few _ (answers.Played plays read _ (answers.NotSpelled number fact is))) same = absurd (cc (same))
   done_into _ (answers.Read few _ (answers.Played plays read _ (answers.Spelled none output spell back))) same =
-      record { plays = plays; can = record { within = few; legal = read; spelled = none }; spell = record { spell = spell; back = back } }
+      record { plays = plays; can = record { within = few; legal = read; spelled = none }; spell = spell; back = back }
 
   module _ (out diag : Sinks) where
     -- a refused hand
@@ -228,23 +222,17 @@ module _ (request : Request) (files : Files) (from to : Reader) (keep : Keep) (b
       → IsLeft out diag status → ConversionEnds from to keep bytes out diag status
   conversion_ends statuses.Done found ends left =
       let by = way (tasks.Convert to keep) from in
-      let into = done_into from to keep bytes ends.answer (in_way request files bytes by ends.answer found ends.to_input) ends.ends in
       record {
-        plays = into.plays;
-        can = into.can;
         output = ends.answer.output;
-        spell = into.spell;
+        converts = done_into from to keep bytes ends.answer (in_way request files bytes by ends.answer found ends.to_input) ends.ends;
         written = ends.written;
         quiet = left.quiet refl;
       }
   conversion_ends statuses.WriteFault found ends left =
       let by = way (tasks.Convert to keep) from in
-      let into = done_into from to keep bytes ends.answer (in_way request files bytes by ends.answer found ends.to_input) ends.ends in
       record {
-        plays = into.plays;
-        can = into.can;
         output = ends.answer.output;
-        spell = into.spell;
+        converts = done_into from to keep bytes ends.answer (in_way request files bytes by ends.answer found ends.to_input) ends.ends;
         written = ends.written;
         failed = left.failed refl;
         told = left.fixed;

@@ -31,15 +31,17 @@ use Rattle.poker_cli.specs.declared.task.Task.TheVariants as tasks
 abbrev pub AsksToConvert : Files → Request → (from to : Reader) → Keep → Type 0
 AsksToConvert files request from to keep = IsWay files request (way (tasks.Convert to keep) from)
 
--- an input within the limit reads as hands; the replay of every one is legal, every stated fact agrees, these are their plays, and
+-- an input within the limit reads as hands; the replay of every hand is legal, every stated fact agrees, and these are the plays;
 -- every fact to be kept has a spelling in the target notation
 pub record CanConvert (from to : Reader) (keep : Keep) (bytes : List ℕ) (plays : List Play) : Type 0 where
   pub within : length bytes ≤ most_input
   pub legal : ReadAsPlays (SayRecords from bytes) plays
   pub spelled : first_refusal_in to keep plays ≡ None
 
--- these bytes spell the plays in the target notation, and read back there as the same hands
-pub record SpellAndReadBack (to : Reader) (plays : List Play) (output : List ℕ) : Type 0 where
+-- the hands of an input can be converted, and this output spells them in the target notation, and reads back there as the same hands
+pub record ConvertsInto (from to : Reader) (keep : Keep) (bytes output : List ℕ) : Type 0 where
+  pub plays : List Play
+  pub can : CanConvert from to keep bytes plays
   pub spell : SpellPlays to plays output
   pub back : ReadsBack to plays output
 
@@ -52,22 +54,18 @@ pub record TellsAlone (out diag : Sinks) (line : List ℕ) : Type 0 where
   pub unwritten : out.holds ≡ out.held
   pub told : IsTold diag line
 
--- All is done: the hands can be converted, exactly the bytes that spell them were put behind what the output held, and no line
--- was told.
+-- All is done, of which the number is 0: the hands can be converted, exactly the bytes that spell them were put behind what the
+-- output held, and no line was told.
 pub record IsConverted (from to : Reader) (keep : Keep) (bytes : List ℕ) (out diag : Sinks) : Type 0 where
-  pub plays : List Play
-  pub can : CanConvert from to keep bytes plays
   pub output : List ℕ
-  pub spell : SpellAndReadBack to plays output
+  pub converts : ConvertsInto from to keep bytes output
   pub written : Appends out.held out.holds output
   pub quiet : diag.holds ≡ diag.held
 
 -- The output failed: the hands can be converted, and of the bytes that spell them a part of the front was written.
 pub record IsCutShort (from to : Reader) (keep : Keep) (bytes : List ℕ) (out diag : Sinks) : Type 0 where
-  pub plays : List Play
-  pub can : CanConvert from to keep bytes plays
   pub output : List ℕ
-  pub spell : SpellAndReadBack to plays output
+  pub converts : ConvertsInto from to keep bytes output
   pub written : AppendsPart out.held out.holds output
   pub failed : Rose out.before out.now
   pub told : IsTold diag (codes "write fault\n")
