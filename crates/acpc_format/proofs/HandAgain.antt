@@ -14,13 +14,12 @@ use Rattle.play_event.specs.Due.{is_unfinished, turn}
 use Rattle.play_event.specs.Games.{street_count}
 use Rattle.play_event.specs.Laws.{AreLegal}
 use Rattle.play_event.specs.Past.{Move, Past, moves_before, moves_of, newest_street}
-use Rattle.play_event.specs.Said.{Numbered, Said, numbered, said_of}
+use Rattle.play_event.specs.Said.{Numbered, Said}
 use Rattle.play_event.specs.Scripts.{past_at_end, past_of}
 use Rattle.play_event.specs.Streets.{is_stud, limit_of}
 use Rattle.play_event.specs.Trace.{TracedPlace, streets_of}
 use Rattle.play_event.specs.ValidSetup.{IsValid}
 use Rattle.play_event.specs.declared.code.Code.{Code}
-use Rattle.play_event.specs.declared.event.Event.{Event}
 use Rattle.play_event.specs.declared.limit.Limit.TheVariants as limits
 use Rattle.play_event.specs.declared.setup.Rules.{Rules}
 use Rattle.play_event.specs.declared.setup.Setup.{Setup}
@@ -57,8 +56,10 @@ use Rattle.acpc_format.proofs.SetupsSame.{setups_same}
 use Rattle.acpc_format.proofs.SpelledFacts.{HasPlayOf, spelled}
 use Rattle.acpc_format.proofs.SuitsGame.{play_letters, suits_game}
 use Rattle.acpc_format.proofs.ValuesAgree.{values_agree}
-use Rattle.acpc_format.proofs.WithoutShows.{MucksHide, streets_alone, whole_past, without_shows}
+use Rattle.acpc_format.proofs.WithoutShows.{MucksHide, streets_alone, without_shows}
 use Rattle.first_fault.specs.Numbers.{kept_number}
+use Rattle.canon_laws.proofs.Confluent.{end_of}
+use Rattle.play_event.proofs.ScriptLaws.{said_numbered}
 
 -- ---- the script
 
@@ -83,7 +84,7 @@ in_letters no_limit setup rules script words again has same legal =
     record {
       played = record {
         legal = legal;
-        complete = ap (λ (p : Past). is_unfinished (turn setup p).1) (whole_past setup again ∙ same ∙ sym (whole_past setup words)) ∙ has.played.complete;
+        complete = ap (λ (p : Past). is_unfinished (turn setup p).1) (end_of setup again ∙ same ∙ sym (end_of setup words)) ∙ has.played.complete;
       };
       same = ap (core_of setup) same ∙ has.same;
     }
@@ -164,10 +165,6 @@ events_said n (event ∷ rest) = by_move (is_move event) (events_said (n + 1) re
         → map (λ (e : Numbered). e.1) (if b then ((kept_number n, event) ∷ numbered_from (n + 1) rest) else ((0, event) ∷ numbered_from n rest)) ≡ event ∷ rest
     by_move true more same = ap (λ (l : List Said). event ∷ l) more
     by_move false more same = ap (λ (l : List Said). event ∷ l) same
-
-said_numbered : (script : List Event) → map (λ (event : Numbered). event.1) (map numbered script) ≡ map said_of script
-said_numbered [] = refl
-said_numbered (event ∷ rest) = ap (λ (l : List Said). said_of event ∷ l) (said_numbered rest)
 
 -- the script of a record that is read again
 script_is : (no_limit : Bool) (place : ℕ) (play : Play) (hand : Record) → record_said hand ≡ hand_again no_limit place play → script_said hand ≡ script_again no_limit play.trace

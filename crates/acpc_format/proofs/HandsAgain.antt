@@ -17,7 +17,8 @@ use Rattle.acpc_format.specs.Again.{hand_again, hands_again, moves_written}
 use Rattle.hand_canon.specs.ReadAgain.{AreAgain}
 use Rattle.acpc_format.specs.ReadBack.{KeepsNotes}
 use Rattle.acpc_format.proofs.HandAgain.{hand_is}
-use Rattle.acpc_format.proofs.SoundReads.{some_refused, sound_again}
+use Rattle.acpc_format.proofs.SoundReads.{sound_again}
+use Rattle.hand_records.proofs.Refusals.{none_refused}
 
 all_again : (game : Game) (keep : Keep) (number place : ℕ) (plays : List Play) (records : List Record) → AllByRecursion IsSound plays → refusal_from game keep number plays ≡ None → AllByRecursion (IsOfGame game) records
     → map record_said records ≡ hands_again game.no_limit place plays → AreAgain KeepsNotes place plays records
@@ -26,7 +27,7 @@ all_again game keep number place [] [] sound none each same = tt
 all_again game keep number place [] (hand ∷ hands) sound none each same = absurd (cc)
 all_again game keep number place (play ∷ plays) [] sound none each same = absurd (cc)
 all_again game keep number place (play ∷ plays) (hand ∷ hands) sound none each same =
-    let parts = some_refused number (unspelled game keep play) (refusal_from game keep (number + 1) plays) none in
+    let parts = none_refused number (unspelled game keep play) (refusal_from game keep (number + 1) plays) none in
     let here : record_said hand ≡ hand_again game.no_limit place play = cc in
     let there : map record_said hands ≡ hands_again game.no_limit (place + 1) plays = cc in
     (hand_is game keep place play hand sound.0 parts.0 each.0 here, all_again game keep (number + 1) (place + 1) plays hands sound.1 parts.1 each.1 there)

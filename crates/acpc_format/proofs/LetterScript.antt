@@ -11,8 +11,8 @@ use Rattle.play_event.specs.Trace.{TracedPlace}
 use Rattle.play_event.specs.declared.setup.Setup.{Setup}
 use Rattle.play_laws.proofs.DoneKept.{all_early}
 use Rattle.play_laws.specs.PastLaws.{AreReached}
-use Rattle.canon_blocks.proofs.StreetMoves.{AreFalling, moves_split, own_moves}
-use Rattle.canon_ranges.proofs.OtherWords.{all_streets, behind_both, none_own}
+use Rattle.canon_blocks.proofs.StreetMoves.{AreFalling, moves_split, own_moves, none_own}
+use Rattle.canon_ranges.proofs.OtherWords.{all_streets, behind_both}
 use Rattle.acpc_line.specs.Betting.{hand_total}
 use Rattle.acpc_format.specs.Again.{move_again, moves_again, street_again}
 use Rattle.acpc_format.proofs.LetterEvents.{InLetters, letter, nothing, stays}

@@ -1,5 +1,5 @@
 -- A sound play that the logs of its game spell reads back.
-use Rattle.std.proofs.Common.{◌≡◌, ℕ, zero, suc, ◌+◌, ◌-◌, ◌≤◌, Bool, true, false, ◌||◌, cond, sum_by, List, [], ◌∷◌, length, map, filter, reverse, take, Option, Some, None, is_some, Ok, refl, sym, ap, subst, ◌∙◌, arith, true≢false, inl, inr}
+use Rattle.std.proofs.Common.{◌≡◌, ℕ, zero, suc, ◌+◌, ◌-◌, ◌≤◌, Bool, true, false, ◌||◌, cond, sum_by, List, [], ◌∷◌, length, map, filter, reverse, take, Some, None, Ok, refl, sym, ap, subst, ◌∙◌, arith, true≢false, inl, inr}
 use Rattle.std.specs.List.{AllByRecursion}
 use Rattle.std.proofs.lemmas.Bool.{cases_lt}
 use Rattle.std.proofs.lemmas.List.{length-map, length-reverse}
@@ -19,7 +19,7 @@ use Rattle.play_event.specs.Due.{is_unfinished, turn}
 use Rattle.play_event.specs.Games.{board_cards_on}
 use Rattle.play_event.specs.Past.{Past, moves_of, moves_on}
 use Rattle.play_event.specs.Said.{Said}
-use Rattle.play_event.specs.Scripts.{past_after, past_at_end, past_of}
+use Rattle.play_event.specs.Scripts.{past_at_end, past_of}
 use Rattle.play_event.specs.Trace.{TracedPlace, traced_moves, traced_places}
 use Rattle.play_event.specs.ValidSetup.{IsValid}
 use Rattle.hand_records.specs.AllowedNotes.{AreAllowed}
@@ -29,8 +29,6 @@ use Rattle.hand_records.specs.TraceRows.{core_said}
 use Rattle.hand_records.specs.declared.trace.Play.{Play}
 use Rattle.first_fault.specs.declared.limits.TheConstants.{MOST_FILE_MOVES, MOST_HANDS}
 use Rattle.hand_records.specs.declared.writing.Keep.{Keep}
-use Rattle.hand_records.specs.declared.writing.Unspelled.{Unspelled}
-use Rattle.hand_records.specs.declared.writing.WriteRefusal.{WriteRefusal}
 use Rattle.acpc_game.specs.declared.game.Game.{Game}
 use Rattle.acpc_line.specs.Line.{log_text}
 use Rattle.acpc_line.specs.PlayFacts.{is_part_known}
@@ -46,7 +44,8 @@ use Rattle.acpc_format.proofs.Holdem.{IsHoldem, holdem}
 use Rattle.acpc_format.proofs.SpelledFacts.{spelled}
 use Rattle.canon_ranges.proofs.StreetsPlayed.{HasStreet, board_known, came_before, first_holes, four_streets, is_passed}
 use Rattle.list_laws.proofs.Lists.{none_from_length}
-use Rattle.hand_records.specs.Refusals.{refused_at}
+use Rattle.canon_laws.proofs.Confluent.{end_of}
+use Rattle.hand_records.proofs.Refusals.{none_refused}
 
 -- cards of the board, and whether there are some
 board_there : (placed : List TracedPlace) (street : ℕ) → 1 ≤ length (dealt_slots placed None street) → has_board placed street ≡ true
@@ -110,13 +109,6 @@ no_moves_there setup events street is low high has true over none = has.no_moves
 no_moves_there setup events street is low high has false reached none =
     absurd (true≢false (sym (board_there (traced_places setup (past_of setup events)) street (omega (arith, has.board reached, board_some setup is street low high))) ∙ none))
 
-take_whole : (l : List Said) → take (length l) l ≡ l
-take_whole [] = refl
-take_whole (first ∷ rest) = ap (λ (l : List Said). first ∷ l) (take_whole rest)
-
-end_of : (setup : Setup) (script : List Said) → past_after setup script (length script) ≡ past_of setup (reverse script)
-end_of setup script = ap (λ (l : List Said). past_of setup (reverse l)) (take_whole script)
-
 core_reads : (setup : Setup) (rules : Rules) (script : List Said) → IsValid setup → IsPlayed setup rules script → IsTidy (core_of setup (past_of setup (reverse script))) → IsHoldem setup.code → Reads setup (core_of setup (past_of setup (reverse script)))
 core_reads setup rules script valid played tidy is =
     let events = reverse script in
@@ -173,15 +165,10 @@ sound_reads game keep play sound texts none =
       texts = texts;
     }
 
--- plays of which none is refused
-pub some_refused : (number : ℕ) (found : Option Unspelled) (behind : Option WriteRefusal) → refused_at number found behind ≡ None → (found ≡ None) × (behind ≡ None)
-some_refused number None behind none = (refl, none)
-some_refused number (Some fact) behind none = absurd (true≢false (ap is_some none))
-
 all_read : (game : Game) (keep : Keep) (number : ℕ) (plays : List Play) → AllByRecursion IsSound plays → AllByRecursion HasTexts plays → refusal_from game keep number plays ≡ None → AllByRecursion (IsReadable game) plays
 all_read game keep number [] sound texts none = tt
 all_read game keep number (play ∷ rest) sound texts none =
-    let parts = some_refused number (unspelled game keep play) (refusal_from game keep (number + 1) rest) none in
+    let parts = none_refused number (unspelled game keep play) (refusal_from game keep (number + 1) rest) none in
     (sound_reads game keep play sound.0 texts.0 parts.0, all_read game keep (number + 1) rest sound.1 texts.1 parts.1)
 
 -- and what was written of such plays reads as their hands

@@ -1,8 +1,7 @@
 -- The canonical script without its showdown leaves the trace too, where each mucked seat has an unknown card: a live seat whose cards
 -- are all known counts as shown, and each other one as mucked.
-use Rattle.std.proofs.Common.{◌≡◌, ℕ, ◌+◌, ◌-◌, ◌≤◌, ◌<◌, Bool, true, false, ◌&&◌, not, nat_le, List, [], map, filter, reverse, length, refl, sym, ◌∙◌, ap, subst, arith, true≢false}
+use Rattle.std.proofs.Common.{◌≡◌, ℕ, ◌+◌, ◌-◌, ◌≤◌, ◌<◌, Bool, true, false, ◌&&◌, not, nat_le, List, [], map, filter, reverse, refl, sym, ◌∙◌, ap, subst, arith, true≢false}
 use Rattle.std.specs.List.{flat_map}
-use Rattle.std.proofs.lemmas.List.{take_all}
 use Rattle.play_event.proofs.StreetLaws.{shown_unfinished}
 use Rattle.play_event.specs.declared.reason.Due.{Due}
 use Rattle.play_event.specs.declared.setup.Rules.{Rules}
@@ -10,9 +9,9 @@ use Rattle.play_event.specs.declared.setup.Setup.{Setup}
 use Rattle.play_event.specs.Due.{due_on, first_due, is_unfinished, turn}
 use Rattle.play_event.specs.Games.{street_count}
 use Rattle.play_event.specs.Laws.{AreLegal}
-use Rattle.play_event.specs.Past.{Move, Past, moves_before, moves_of, newest_street}
+use Rattle.play_event.specs.Past.{Move, Past, moves_of, newest_street}
 use Rattle.play_event.specs.Said.{Said}
-use Rattle.play_event.specs.Scripts.{past_after, past_at_end, past_of}
+use Rattle.play_event.specs.Scripts.{past_at_end, past_of}
 use Rattle.play_event.specs.Seats.{all_seats, is_live, live_count}
 use Rattle.play_event.specs.Showing.{has_mucked, is_show_due}
 use Rattle.play_event.specs.Stakes.{pots_after, returned_after}
@@ -22,7 +21,6 @@ use Rattle.canonical_play.specs.CanonScript.{plain_moves, street_said}
 use Rattle.canonical_play.specs.PlayedScript.{IsPlayed}
 use Rattle.canonical_play.specs.TraceCore.{TraceCore, core_after, core_of}
 use Rattle.list_laws.proofs.NumbersOfRange.{filter_range}
-use Rattle.play_laws.proofs.DoneKept.{all_early}
 use Rattle.play_laws.proofs.DueAtEvents.{turned_by}
 use Rattle.play_laws.proofs.LegalPlaces.{LegalPast, legal_past}
 use Rattle.play_laws.proofs.PlayedStreets.{IsReached}
@@ -36,6 +34,8 @@ use Rattle.canon_laws.proofs.HeldSame.{held_same, held_script, unknown_same}
 use Rattle.canon_laws.proofs.SameCore.{plain_again}
 use Rattle.canon_laws.proofs.ShowdownRun.{AtShow, turn_shows}
 use Rattle.canon_laws.specs.Confluence.{HasTraceOf}
+use Rattle.canon_laws.proofs.Confluent.{end_of}
+use Rattle.canon_laws.proofs.LastPast.{early_all}
 
 -- each mucked seat has a card that is not known
 abbrev pub MucksHide : Setup → Past → Type 0
@@ -44,15 +44,6 @@ MucksHide setup past = (seat : ℕ) → 1 ≤ seat → seat ≤ setup.stacks.sea
 -- the streets of the canonical script of a trace
 abbrev pub streets_alone : Setup → TraceCore → List Said
 streets_alone setup core = flat_map (street_said setup core.places (plain_moves core.moves)) (streets_of setup)
-
--- the past of a whole script
-pub whole_past : (setup : Setup) (script : List Said) → past_after setup script (length script) ≡ past_of setup (reverse script)
-whole_past setup script = ap (λ (l : List Said). past_of setup (reverse l)) (take_all (length script) script (omega arith))
-
-early_all : (setup : Setup) (rules : Rules) (events : List Said) → AreLegal setup rules events → moves_before (street_count setup.code + 1) (moves_of (past_of setup events)) ≡ moves_of (past_of setup events)
-early_all setup rules events legal =
-    let law = legal_past setup rules events legal in
-    all_early (newest_street (past_of setup events)) (street_count setup.code + 1) (moves_of (past_of setup events)) law.past.moved (omega (arith, law.past.within))
 
 -- the past after the streets of the canonical script
 record AfterStreets (setup : Setup) (rules : Rules) (script : Past) : Type 0 where
@@ -171,7 +162,7 @@ words_alone setup rules script words played hide s same =
     record {
       played = record {
         legal = run.legal;
-        complete = ap (λ (p : Past). is_unfinished (turn setup p).1) (whole_past setup words ∙ run.past) ∙ ends setup rules events played.legal s (nat_le (live_count setup (moves_of (past_of setup events))) 1) refl;
+        complete = ap (λ (p : Past). is_unfinished (turn setup p).1) (end_of setup words ∙ run.past) ∙ ends setup rules events played.legal s (nat_le (live_count setup (moves_of (past_of setup events))) 1) refl;
       };
       same = ap (core_of setup) run.past ∙ same_core setup rules events played.legal hide s;
     }
@@ -180,6 +171,6 @@ words_alone setup rules script words played hide s same =
 pub without_shows : (setup : Setup) (rules : Rules) (script : List Said) → IsPlayed setup rules script → MucksHide setup (past_at_end setup script) → HasTraceOf setup rules script (streets_alone setup (core_after setup script))
 without_shows setup rules script played hide =
     let past = past_at_end setup script in
-    let complete : is_unfinished (turn setup past).1 ≡ false = sym (ap (λ (p : Past). is_unfinished (turn setup p).1) (whole_past setup script)) ∙ played.complete in
+    let complete : is_unfinished (turn setup past).1 ≡ false = sym (ap (λ (p : Past). is_unfinished (turn setup p).1) (end_of setup script)) ∙ played.complete in
     words_alone setup rules script (streets_alone setup (core_after setup script)) played hide (after_streets setup rules (reverse script) played.legal complete)
     (ap (λ (l : List Move). flat_map (street_said setup (traced_places setup past) l) (streets_of setup)) (sym (plain_again setup (moves_of past))))

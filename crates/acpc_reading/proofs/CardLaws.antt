@@ -3,7 +3,6 @@ use Rattle.std.proofs.Common.{◌≡◌, ◌≢◌, ℕ, ◌≤◌, Bool, not, �
 use Rattle.std.specs.List.{list_any}
 use Rattle.std.proofs.lemmas.Bool.{cases_Bool, and_parts}
 use Rattle.std.proofs.lemmas.Bool.Decides.{nat_tests}
-use Rattle.std.proofs.lemmas.List.{length-take-le}
 use Rattle.card_set.specs.declared.card.Slot.{Slot}
 use Rattle.card_set.specs.declared.row.SlotRow.{SlotRow}
 use Rattle.card_set.specs.Row.{slots_of}
@@ -12,6 +11,7 @@ use Rattle.card_set.specs.Known.{is_unknown}
 use Rattle.card_set.specs.Spelling.{spelling, slots_spelled, HasFault}
 use Rattle.card_set.proofs.Spelled.{slots_spelled-spelling, spelling-slots_spelled, fault_spells_nothing}
 use Rattle.acpc_reading.specs.Cards.{only_known, known_said}
+use Rattle.card_set.proofs.RowLaws.{row_length}
 
 -- letters that spell slots say them, if they are so many and known
 pub known_read : (count : ℕ) (word : List ℕ) (cards : List Slot) → word ≡ spelling cards → known_said count word ≡ only_known count cards
@@ -35,16 +35,13 @@ pub bad_known : (count : ℕ) (word : List ℕ) (fault : CardFault) → HasFault
 unfolding known_said
 bad_known count word fault has few = faulty count word fault (slots_spelled word) refl has few
 
-row_len : (row : SlotRow) → length (slots_of row) ≡ row.len
-row_len row = length-take-le row.len row.slots (omega (arith, row.fits, row.entries))
-
 without : (long : Bool) (cards : List Slot) (known : Bool) → known ≡ false → (if long && known then Some cards else None) ≡ None
 without true cards known is = rw is refl
 without false cards known is = refl
 
 -- the letters of a row of another number of slots
 pub other_len : (count : ℕ) (word : List ℕ) (row : SlotRow) → word ≡ spelling (slots_of row) → row.len ≢ count → known_said count word ≡ None
-other_len count word row is other = known_read count word (slots_of row) is ∙ other_count count (slots_of row) (λ same. other (sym (row_len row) ∙ same))
+other_len count word row is other = known_read count word (slots_of row) is ∙ other_count count (slots_of row) (λ same. other (sym (row_length row) ∙ same))
 
 -- the letters of a row with an unknown slot
 pub some_unknown : (count : ℕ) (word : List ℕ) (row : SlotRow) → word ≡ spelling (slots_of row) → not (list_any is_unknown (slots_of row)) ≡ false → known_said count word ≡ None
@@ -53,5 +50,5 @@ some_unknown count word row is some = known_read count word (slots_of row) is �
 -- the letters of a row of so many known slots
 pub all_known : (count : ℕ) (word : List ℕ) (row : SlotRow) → word ≡ spelling (slots_of row) → row.len ≡ count → not (list_any is_unknown (slots_of row)) ≡ true → known_said count word ≡ Some (slots_of row)
 all_known count word row is same all =
-    let long : eqb (length (slots_of row)) count ≡ true = grind (arith, nat_tests, row_len row, same) in
+    let long : eqb (length (slots_of row)) count ≡ true = grind (arith, nat_tests, row_length row, same) in
     known_read count word (slots_of row) is ∙ rw (long, all) refl

@@ -1,6 +1,5 @@
 -- Laws of letters, cards, numbers and names, and of reading them one after the other.
 pub mod EachLetter
-pub mod KnownCards
 pub mod CardLaws
 pub mod NumberLaws
 pub mod SeatLaws

@@ -1,12 +1,7 @@
 -- Laws of the names of seats: p and one digit, or p10.
-use Rattle.std.proofs.Common.{◌≡◌, ℕ, ◌+◌, ◌<◌, List, [], ◌∷◌, refl, ap}
+use Rattle.std.proofs.Common.{◌≡◌, ℕ, [], ◌∷◌, refl}
 use Rattle.std.specs.Fmt.{digits}
-use Rattle.std.proofs.lemmas.Fmt.{decimal_digit}
 use Rattle.hand_records.specs.AllowedNotes.{default_name}
-
--- the name of one of the first nine seats
-pub short_name : (seat : ℕ) → seat < 10 → default_name seat ≡ 112 ∷ (48 + seat) ∷ []
-short_name seat few = ap (λ (rest : List ℕ). 112 ∷ rest) (decimal_digit seat few)
 
 -- the name of the tenth seat
 pub long_name : (seat : ℕ) → seat ≡ 10 → default_name seat ≡ 112 ∷ 49 ∷ 48 ∷ []

@@ -17,7 +17,7 @@ pub fn read_board(count: u8, text: &[u8]) -> Option<CardRow>
 }
 
 // The known cards of a row, in order.
-#[tactic(auto, using(crate::proofs::KnownCards::one_known_more))]
+#[tactic(auto, using(card_set::proofs::KnownCards::one_known_more))]
 fn known_row(slots: &SlotRow) -> CardRow
     ensures { cards_of result ≡ known_cards (slots_of slots.now) }
 {

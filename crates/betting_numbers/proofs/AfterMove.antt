@@ -19,7 +19,7 @@ use Rattle.betting_numbers.specs.Moving.{IsMoved, most_raises}
 use Rattle.street_laws.specs.Seats.{IsSeat}
 use Rattle.betting_numbers.specs.Standing.{Standing, newest_seat}
 use Rattle.betting_numbers.proofs.Bridge.{price_is}
-use Rattle.list_laws.proofs.Numbers.{different_number}
+use Rattle.list_laws.proofs.Numbers.{different_number, same_number}
 
 -- of a seat and of the others
 by_seat : (P : ℕ → Type 0) (seat k : ℕ) → P seat → (k ≢ seat → P k) → P k
@@ -27,9 +27,6 @@ by_seat P seat k here there = elim (cases_eq k seat) [
   | inl same ↦ subst P (sym same) here
   | inr other ↦ there other
 ]
-
-same_seat : (seat : ℕ) → (seat == seat) ≡ true
-same_seat seat = eq-eqb seat seat refl
 
 -- a move of this street is the newest of it
 pub on_street : (street : ℕ) (move : Move) (before : List Move) → move.street ≡ street → moves_on street (move ∷ before) ≡ move ∷ moves_on street before
@@ -72,7 +69,7 @@ module _ (b next : Table) (moves : List Move) (seat target unit : ℕ) (act : Ac
   puts_after : (k : ℕ) → IsSeat b.setup k → amount_of next.puts k ≡ chips_put b.setup (the_move ∷ moves) k
   puts_after k in_k =
       by_seat (λ k. IsSeat b.setup k → amount_of next.puts k ≡ chips_put b.setup (the_move ∷ moves) k) seat k
-      (λ i. omega (arith, mv.puts, st.puts seat in_hand, st.bets seat in_hand, added_by seat true (same_seat seat)))
+      (λ i. omega (arith, mv.puts, st.puts seat in_hand, st.bets seat in_hand, added_by seat true (same_number seat)))
       (λ other i. omega (arith, mv.other_puts k i.first other, st.puts k i, added_by k false (different_number seat k other)))
       in_k
 
@@ -84,14 +81,14 @@ module _ (b next : Table) (moves : List Move) (seat target unit : ℕ) (act : Ac
   bets_after : (k : ℕ) → IsSeat b.setup k → amount_of next.bets k ≡ street_chips b.setup (the_move ∷ moves) b.street k
   bets_after k in_k =
       by_seat (λ k. IsSeat b.setup k → amount_of next.bets k ≡ street_chips b.setup (the_move ∷ moves) b.street k) seat k
-      (λ i. omega (arith, mv.bets, st.bets seat in_hand, street_added seat true (same_seat seat)))
+      (λ i. omega (arith, mv.bets, st.bets seat in_hand, street_added seat true (same_number seat)))
       (λ other i. omega (arith, mv.other_bets k i.first other, st.bets k i, street_added k false (different_number seat k other)))
       in_k
 
   live_after : (k : ℕ) → IsSeat b.setup k → flag_of next.live k ≡ is_live (the_move ∷ moves) k
   live_after k in_k =
       by_seat (λ k. IsSeat b.setup k → flag_of next.live k ≡ is_live (the_move ∷ moves) k) seat k
-      (λ i. mv.live ∙ ap (λ l. l && not (is_fold act)) (st.live seat in_hand) ∙ live_one_more (is_fold act) (seat == seat) (list_any (λ move. is_fold move.act && (move.seat == seat)) moves) (same_seat seat))
+      (λ i. mv.live ∙ ap (λ l. l && not (is_fold act)) (st.live seat in_hand) ∙ live_one_more (is_fold act) (seat == seat) (list_any (λ move. is_fold move.act && (move.seat == seat)) moves) (same_number seat))
       (λ other i. mv.other_live k i.first other ∙ st.live k i ∙ live_as_before (is_fold act) (seat == k) (list_any (λ move. is_fold move.act && (move.seat == k)) moves) (different_number seat k other))
       in_k
 
@@ -103,19 +100,19 @@ module _ (b next : Table) (moves : List Move) (seat target unit : ℕ) (act : Ac
   moved_after : (k : ℕ) → IsSeat b.setup k → flag_of next.moved k ≡ has_moved (the_move ∷ moves) b.street k
   moved_after k in_k =
       by_seat (λ k. IsSeat b.setup k → flag_of next.moved k ≡ has_moved (the_move ∷ moves) b.street k) seat k
-      (λ i. mv.moved ∙ sym (moved_by seat true (same_seat seat)))
+      (λ i. mv.moved ∙ sym (moved_by seat true (same_number seat)))
       (λ other i. mv.other_moved k i.first other ∙ st.moved k i ∙ sym (moved_by k false (different_number seat k other)))
       in_k
 
   since_by : (k : ℕ) (mine : Bool) → (seat == k) ≡ mine → has_moved_since_rise b.setup (the_move ∷ moves) b.street k ≡ (mine || (nat_le target (price b.setup moves b.street) && has_moved_since_rise b.setup moves b.street k))
   since_by k mine is =
-      ap (λ e. if e then ((seat == k) || (nat_le target (price b.setup moves b.street) && has_moved_since_rise b.setup moves b.street k)) else has_moved_since_rise b.setup moves b.street k) (same_seat b.street)
+      ap (λ e. if e then ((seat == k) || (nat_le target (price b.setup moves b.street) && has_moved_since_rise b.setup moves b.street k)) else has_moved_since_rise b.setup moves b.street k) (same_number b.street)
       ∙ ap (λ e. e || (nat_le target (price b.setup moves b.street) && has_moved_since_rise b.setup moves b.street k)) is
 
   since_after : (k : ℕ) → IsSeat b.setup k → flag_of next.since_rise k ≡ has_moved_since_rise b.setup (the_move ∷ moves) b.street k
   since_after k in_k =
       by_seat (λ k. IsSeat b.setup k → flag_of next.since_rise k ≡ has_moved_since_rise b.setup (the_move ∷ moves) b.street k) seat k
-      (λ i. mv.since_rise ∙ sym (since_by seat true (same_seat seat)))
+      (λ i. mv.since_rise ∙ sym (since_by seat true (same_number seat)))
       (λ other i. mv.other_since k i.first other
       ∙ ap (λ p. nat_le target p && flag_of b.since_rise k) (price_is b moves st)
       ∙ ap (λ f. nat_le target (price b.setup moves b.street) && f) (st.since_rise k i)
@@ -136,14 +133,14 @@ module _ (b next : Table) (moves : List Move) (seat target unit : ℕ) (act : Ac
       mv.full_raise
       ∙ ap (λ p. full_raise_by (is_raise act) b.full_raise (target - p)) (price_is b moves st)
       ∙ ap (λ f. full_raise_by (is_raise act) f (target - price b.setup moves b.street)) st.full_raise
-      ∙ sym (ap (λ e. if e && is_raise act && nat_le (prices.full_raise b.setup moves b.street) (target - price b.setup moves b.street) then max (target - price b.setup moves b.street) (prices.full_raise b.setup moves b.street) else prices.full_raise b.setup moves b.street) (same_seat b.street))
+      ∙ sym (ap (λ e. if e && is_raise act && nat_le (prices.full_raise b.setup moves b.street) (target - price b.setup moves b.street) then max (target - price b.setup moves b.street) (prices.full_raise b.setup moves b.street) else prices.full_raise b.setup moves b.street) (same_number b.street))
 
   full_bet_after : next.full_bet ≡ prices.full_bet b.setup (the_move ∷ moves) b.street
   full_bet_after =
       mv.full_bet
       ∙ ap (λ u. full_bet_by (is_raise act || is_bring_in act) b.full_bet u target) unit_is
       ∙ ap (λ f. full_bet_by (is_raise act || is_bring_in act) f (streets.unit b.setup b.street) target) st.full_bet
-      ∙ sym (ap (λ e. if e && (is_raise act || is_bring_in act) && nat_le (prices.full_bet b.setup moves b.street + streets.unit b.setup b.street) target then target else prices.full_bet b.setup moves b.street) (same_seat b.street))
+      ∙ sym (ap (λ e. if e && (is_raise act || is_bring_in act) && nat_le (prices.full_bet b.setup moves b.street + streets.unit b.setup b.street) target then target else prices.full_bet b.setup moves b.street) (same_number b.street))
 
   doubled_after : next.doubled ≡ greatest (doubled_raises b.setup (the_move ∷ moves) b.street)
   doubled_after =
@@ -151,7 +148,7 @@ module _ (b next : Table) (moves : List Move) (seat target unit : ℕ) (act : Ac
       ∙ ap (λ p. if is_raise act then max (2 * target - p) b.doubled else b.doubled) (price_is b moves st)
       ∙ ap (λ d. if is_raise act then max (2 * target - price b.setup moves b.street) d else d) st.doubled
       ∙ doubled_one_more (is_raise act) (2 * target - price b.setup moves b.street) (doubled_raises b.setup moves b.street)
-      ∙ sym (ap (λ e. greatest (if e && is_raise act then ((2 * target - price b.setup moves b.street) ∷ doubled_raises b.setup moves b.street) else doubled_raises b.setup moves b.street)) (same_seat b.street))
+      ∙ sym (ap (λ e. greatest (if e && is_raise act then ((2 * target - price b.setup moves b.street) ∷ doubled_raises b.setup moves b.street) else doubled_raises b.setup moves b.street)) (same_number b.street))
 
   opened_after : next.opened ≡ list_any (λ move. has_opened_betting move.act) (moves_on b.street (the_move ∷ moves))
   opened_after =

@@ -1,6 +1,6 @@
 -- The canonical deals of a street: to each seat in one event as many cards as it is owed. They are legal one after another.
 use Rattle.play_laws.proofs.SeatRanges.{any_seat}
-use Rattle.std.proofs.Common.{◌≡◌, ℕ, zero, suc, ◌+◌, ◌-◌, ◌≤◌, ◌<◌, Bool, true, false, ◌&&◌, ◌||◌, ◌==◌, not, nat_lt, nat_le, Some, None, is_some, List, [], ◌∷◌, ◌++◌, length, refl, sym, ◌∙◌, ap, subst, arith, if◌then◌else◌}
+use Rattle.std.proofs.Common.{◌≡◌, ℕ, zero, suc, ◌+◌, ◌-◌, ◌≤◌, ◌<◌, true, false, ◌&&◌, ◌||◌, ◌==◌, not, nat_lt, nat_le, Some, None, is_some, List, [], ◌∷◌, ◌++◌, length, refl, sym, ◌∙◌, ap, subst, arith, if◌then◌else◌}
 use Rattle.std.specs.List.{list_any, flat_map, range_with_len}
 use Rattle.std.proofs.lemmas.Bool.{and_from, or_from, or_left, or_right, lt-ltb, le-ltb, le-leb, ne_eqb, and_right}
 use Rattle.card_set.specs.declared.card.Slot.{Slot}
@@ -26,6 +26,7 @@ use Rattle.canonical_play.specs.CanonScript.{deal_said}
 use Rattle.canon_blocks.proofs.Runs.{Runs}
 use Rattle.canon_blocks.proofs.CardEvents.{HasCome, due_there, still_there, deal_legal, deal_placed}
 use Rattle.list_laws.proofs.Any.{none_passes}
+use Rattle.street_laws.proofs.TurnAfter.{nothing_owed_by}
 
 -- a past with a deal, where it has cards
 abbrev pub with_deal : ℕ → ℕ → List Slot → Past → Past
@@ -57,15 +58,10 @@ hole_street setup street no_draw deals =
           ap (λ b. if b then Some (dues.Deal street) else if is_draw_due setup before street then Some (dues.Draw street) else if is_bring_in_due setup (moves_of before) street then Some dues.BringIn else if is_move_due setup (moves_of before) street then Some dues.Move else None) due;
     }
 
--- a street that draws and deals nothing else
-no_owed : (b : Bool) (on dealt : ℕ) → on ≡ 0 → nat_lt 0 (if b then on - dealt else 0) ≡ false
-no_owed true on dealt none = le-ltb 0 (on - dealt) (omega (arith, none))
-no_owed false on dealt none = refl
-
 -- a street without cards has no deal due
 pub no_deal : (setup : Setup) (before : Past) (street : ℕ) → hole_cards_on setup.code street ≡ 0 → board_cards_on setup.code street ≡ 0 → is_deal_due setup before street ≡ false
 no_deal setup before street no_hole no_board =
-    ap (λ b. b || nat_lt 0 (board_cards_owed setup before street)) (none_passes (λ seat. nat_lt 0 (hole_cards_owed setup before street seat)) (all_seats setup) (λ seat. no_owed (is_live (moves_of before) seat) (hole_cards_on setup.code street) (hole_cards_dealt before street seat) no_hole))
+    ap (λ b. b || nat_lt 0 (board_cards_owed setup before street)) (none_passes (λ seat. nat_lt 0 (hole_cards_owed setup before street seat)) (all_seats setup) (λ seat. nothing_owed_by (is_live (moves_of before) seat) (hole_cards_on setup.code street) (hole_cards_dealt before street seat) no_hole))
     ∙ le-ltb 0 (board_cards_owed setup before street) (omega (arith, no_board))
 
 -- so does a street that draws, where discards are to be replaced

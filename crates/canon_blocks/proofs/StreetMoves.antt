@@ -49,7 +49,7 @@ legal_falling setup rules (event ∷ events) legal =
 abbrev pub own_moves : ℕ → List Move → List Move
 own_moves street list = filter (λ played. played.street == street) list
 
-none_own : (newest street : ℕ) (list : List Move) → AreReached newest list → newest < street → own_moves street list ≡ []
+pub none_own : (newest street : ℕ) (list : List Move) → AreReached newest list → newest < street → own_moves street list ≡ []
 none_own newest street [] all less = refl
 none_own newest street (first ∷ rest) all less =
     ap (λ b. if b then (first ∷ own_moves street rest) else own_moves street rest) (ne_eqb first.street street (λ same. omega (arith, same, all.0, less))) ∙ none_own newest street rest all.1 less

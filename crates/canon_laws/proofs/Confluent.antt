@@ -17,7 +17,7 @@ use Rattle.canon_laws.proofs.LastPast.{IsLast, last_past}
 use Rattle.canon_laws.proofs.SameCore.{plain_again, same_core}
 use Rattle.std.proofs.lemmas.List.{take_all}
 
-end_of : (setup : Setup) (script : List Said) → past_after setup script (length script) ≡ past_of setup (reverse script)
+pub end_of : (setup : Setup) (script : List Said) → past_after setup script (length script) ≡ past_of setup (reverse script)
 end_of setup script = ap (λ l. past_of setup (reverse l)) (take_all (length script) script (omega arith))
 
 words_confluent : (setup : Setup) (rules : Rules) (script words : List Said) → IsPlayed setup rules script → IsLast setup rules (past_of setup (reverse script)) words → HasTraceOf setup rules script words

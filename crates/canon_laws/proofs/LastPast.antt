@@ -66,7 +66,7 @@ shown_parts setup script seat is =
     let two = and_parts (c && l) m one.0 in
     record { live = (and_parts c l two.0).1; known = not-true (has_unknown_card setup script seat) one.1 }
 
-early_all : (setup : Setup) (rules : Rules) (events : List Said) → AreLegal setup rules events → moves_before (street_count setup.code + 1) (moves_of (past_of setup events)) ≡ moves_of (past_of setup events)
+pub early_all : (setup : Setup) (rules : Rules) (events : List Said) → AreLegal setup rules events → moves_before (street_count setup.code + 1) (moves_of (past_of setup events)) ≡ moves_of (past_of setup events)
 early_all setup rules events legal =
     let law = legal_past setup rules events legal in
     all_early (newest_street (past_of setup events)) (street_count setup.code + 1) (moves_of (past_of setup events)) law.past.moved (omega (arith, law.past.within))

@@ -1,12 +1,10 @@
 -- How many cards the events of a canonical script have: of the board, of a discard and of a show.
-use Rattle.std.proofs.Common.{◌≡◌, ℕ, suc, ◌+◌, ◌-◌, ◌≤◌, true, false, ◌&&◌, ◌==◌, not, nat_lt, nat_le, List, [], ◌∷◌, filter, length, Some, None, refl, sym, ◌∙◌, ap, arith}
+use Rattle.std.proofs.Common.{◌≡◌, ℕ, ◌+◌, ◌-◌, ◌≤◌, true, false, ◌&&◌, ◌==◌, not, nat_lt, nat_le, List, [], filter, length, Some, None, sym, ◌∙◌, ap, arith}
 use Rattle.std.specs.List.{list_any}
 use Rattle.std.proofs.lemmas.Bool.{and_parts, and_from, and_right, eqb-true, leb-true, lt-leb, lt-ltb, le-ltb, not_from_false}
 use Rattle.std.proofs.lemmas.List.{length-map}
 use Rattle.list_laws.proofs.Any.{list_any-filter, list_any-map}
 use Rattle.list_laws.proofs.Finding.{none_stronger}
-use Rattle.list_laws.proofs.Tests.{false_true}
-use Rattle.card_set.specs.declared.card.Slot.{Slot}
 use Rattle.card_set.specs.declared.card.Slot.TheVariants as slots
 use Rattle.card_set.specs.Known.{is_unknown, known_cards}
 use Rattle.play_event.specs.declared.setup.Rules.{Rules}
@@ -40,12 +38,7 @@ use Rattle.showdown_laws.specs.ContestedEnd.{EndContested}
 use Rattle.showdown_laws.proofs.WholeHands.{whole_hands}
 use Rattle.canon_ranges.proofs.GameSizes.{few_boards, few_drawn}
 use Rattle.chip_ledger.specs.Seat.{IsSeatOf}
-
--- of slots that are all known as many cards are known
-all_known : (list : List Slot) → list_any is_unknown list ≡ false → length (known_cards list) ≡ length list
-all_known [] none = refl
-all_known (slots.Known card ∷ rest) none = ap suc (all_known rest none)
-all_known (slots.Unknown ∷ rest) none = false_true (sym none)
+use Rattle.card_set.proofs.KnownCards.{all_known_length}
 
 -- the board's cards of a street are known where the board's cards are
 board_sure : (placed : List TracedPlace) (street : ℕ) → list_any (λ place. is_same_owner place.owner None && is_unknown place.slot) placed ≡ false → list_any is_unknown (dealt_slots placed None street) ≡ false
@@ -88,7 +81,7 @@ module _ (setup : Setup) (rules : Rules) (events : List Said) (legal : AreLegal 
 
   -- and they are known
   pub board_known : (street : ℕ) → length (known_cards (dealt_slots core.places None street)) ≡ length (dealt_slots core.places None street)
-  board_known street = all_known (dealt_slots core.places None street) (board_sure core.places street (tidy_cards setup rules events legal).board_known)
+  board_known street = all_known_length (dealt_slots core.places None street) (board_sure core.places street (tidy_cards setup rules events legal).board_known)
 
   -- what a draw takes was held when its street began
   out_few : (seat street : ℕ) → 1 ≤ street → has_draw setup.code street ≡ true → length (filter (is_out_of street seat) placed) ≤ 5
@@ -127,6 +120,6 @@ module _ (setup : Setup) (rules : Rules) (events : List Said) (legal : AreLegal 
       let live : is_live (moves_of past) seat ≡ true = (shown_parts setup past seat is).live in
       let several : nat_le (live_count setup (moves_of past)) 1 ≡ false = lt-leb (live_count setup (moves_of past)) 1 (omega (arith, leb-true 2 (live_count setup (moves_of past)) contested)) in
       let ends : EndContested setup rules events = record { legal = legal; several = several; finished = finished } in
-      all_known (held_slots core.places seat) ((tidy_cards setup rules events legal).shown_known seat shown)
+      all_known_length (held_slots core.places seat) ((tidy_cards setup rules events legal).shown_known seat shown)
       ∙ (ap (λ l. length l) (discarded_same finals seat 0 ∙ held_script setup rules events seat legal in_hand.0 in_hand.1 live)
       ∙ whole_hands setup rules events seat ends (record { least = in_hand.0; most = in_hand.1; live = live }))

@@ -1,8 +1,7 @@
 -- The canonical script of a game without draws, but for its showdown, beside the same events in other words, where all that is no
 -- move stays as it is.
-use Rattle.std.proofs.Common.{◌≡◌, ℕ, zero, suc, ◌+◌, ◌<◌, ◌&&◌, if◌then◌else◌, false, List, [], ◌∷◌, ◌++◌, map, reverse, Some, None, refl, sym, ap, subst, ◌∙◌, arith, append_assoc}
+use Rattle.std.proofs.Common.{◌≡◌, ℕ, zero, suc, ◌+◌, ◌&&◌, if◌then◌else◌, false, List, [], ◌∷◌, ◌++◌, map, reverse, Some, None, refl, sym, ap, subst, ◌∙◌, arith, append_assoc}
 use Rattle.std.specs.List.{flat_map, range_with_len}
-use Rattle.std.proofs.lemmas.Bool.{ne_eqb}
 use Rattle.std.proofs.lemmas.List.{append-nil, map-append, reverse-append, reverse-reverse}
 use Rattle.card_set.specs.declared.card.Slot.{Slot}
 use Rattle.canonical_play.specs.CanonScript.{board_said, deal_said, dealt_slots, deals_said, discarded_slots, discards_said, drawing_seats, is_reached, move_named, moves_named, street_said}
@@ -13,8 +12,8 @@ use Rattle.play_event.specs.Seats.{all_seats}
 use Rattle.play_event.specs.Streets.{has_draw}
 use Rattle.play_event.specs.Trace.{TracedPlace}
 use Rattle.play_event.specs.declared.setup.Setup.{Setup}
-use Rattle.play_laws.specs.PastLaws.{AreReached}
 use Rattle.canon_blocks.proofs.StreetMoves.{AreFalling, moves_split, own_moves}
+use Rattle.canon_blocks.proofs.Runs.{more_events}
 
 -- events of which none is a move
 abbrev pub NoMoves : List Said → Type 0
@@ -43,19 +42,9 @@ deals_no : (setup : Setup) (placed : List TracedPlace) (street : ℕ) → NoMove
 deals_no setup placed street =
     both_no (flat_map (λ seat. deal_said seat (dealt_slots placed (Some seat) street)) (all_seats setup)) (board_said (dealt_slots placed None street)) (holes_no placed street (all_seats setup)) (board_no (dealt_slots placed None street))
 
--- the newest events stand in front of those before them
-behind : (first : Said) (rest events : List Said) → reverse (first ∷ rest) ++ events ≡ reverse rest ++ (first ∷ events)
-behind first rest events = ap (λ (l : List Said). l ++ events) (reverse-append (first ∷ []) rest) ∙ append_assoc (reverse rest) (first ∷ []) events
-
 -- and of lists
 pub behind_both : (first second events : List Said) → reverse (first ++ second) ++ events ≡ reverse second ++ (reverse first ++ events)
 behind_both first second events = ap (λ (l : List Said). l ++ events) (reverse-append first second) ∙ append_assoc (reverse second) (reverse first) events
-
--- no move is of a street where all moves are of earlier ones
-pub none_own : (newest street : ℕ) (list : List Move) → AreReached newest list → newest < street → own_moves street list ≡ []
-none_own newest street [] all less = refl
-none_own newest street (first ∷ rest) all less =
-    ap (λ b. if b then (first ∷ own_moves street rest) else own_moves street rest) (ne_eqb first.street street (λ same. omega (arith, same, all.0, less))) ∙ none_own newest street rest all.1 less
 
 map_reverse : (moves : List Move) → reverse (map move_named moves) ≡ map move_named (reverse moves)
 map_reverse [] = refl
@@ -84,7 +73,7 @@ module _ (Says : List Said → List Move → List Said → Type 0) (stays : (eve
   quiet_stay (event ∷ quiet) events moves words none before =
       let P : List Said → Type 0 = λ l. Says l moves (reverse (event ∷ quiet) ++ words) in
       let Q : List Said → Type 0 = λ l. Says (reverse quiet ++ (event ∷ events)) moves l in
-      subst P (sym (behind event quiet events)) (subst Q (sym (behind event quiet words)) (quiet_stay quiet (event ∷ events) moves (event ∷ words) none.1 (stays event events moves words none.0 before)))
+      subst P (sym (more_events event quiet events)) (subst Q (sym (more_events event quiet words)) (quiet_stay quiet (event ∷ events) moves (event ∷ words) none.1 (stays event events moves words none.0 before)))
 
   -- the moves of each street are said
   module _ (setup : Setup) (placed : List TracedPlace) (list : List Move) (moves_as : ℕ → List Said) (undrawn : (street : ℕ) → has_draw setup.code street ≡ false) (falling : AreFalling list)

@@ -1,10 +1,10 @@
 -- A legal raise leaves its seat no fewer chips on the street than it had.
-use Rattle.std.proofs.Common.{◌≡◌, ℕ, zero, suc, ◌+◌, ◌≤◌, ◌<◌, Bool, true, false, ◌&&◌, ◌||◌, ◌==◌, not, min, nat_le, nat_lt, if◌then◌else◌, List, [], ◌∷◌, map, None, Some, inl, inr, refl, sym, ap, ◌∙◌, arith, true≢false}
-use Rattle.std.specs.List.{list_any, range_with_len}
-use Rattle.std.proofs.lemmas.Bool.{and_parts, cases_lt, eqb-true, leb-true, ltb-false, ltb-true, not-false, or_cases}
-use Rattle.std.proofs.Math.Nat.{le-max_left, le-max_right}
+use Rattle.std.proofs.Common.{◌≡◌, ℕ, ◌+◌, ◌≤◌, Bool, true, false, ◌&&◌, ◌||◌, ◌==◌, not, min, nat_le, nat_lt, if◌then◌else◌, List, [], ◌∷◌, None, Some, inl, inr, refl, sym, ap, ◌∙◌, arith, true≢false}
+use Rattle.std.specs.List.{list_any}
+use Rattle.std.proofs.lemmas.Bool.{and_parts, eqb-true, leb-true, ltb-false, ltb-true, not-false, or_cases}
+use Rattle.std.proofs.Math.Nat.{le-max_left}
 use Rattle.chip_ledger.specs.Greatest.{greatest}
-use Rattle.play_event.proofs.FloorLaws.{above_price}
+use Rattle.play_event.proofs.FloorLaws.{above_price, greatest_reaches}
 use Rattle.play_event.proofs.ReasonLaws.{none_hold}
 use Rattle.play_event.specs.Chips.{all_in, street_chips}
 use Rattle.play_event.specs.Due.{turn}
@@ -44,19 +44,9 @@ named_in_turn setup rules past event seat is named legal =
     by_turn moves Undecided other decided = absurd (true≢false decided)
     by_turn moves (TheSeat mover) other decided = ap TheSeat (sym (eqb-true seat mover (not-false (seat == mover) other)))
 
--- the greatest of numbers is no less than each of them
-greatest_most : (f : ℕ → ℕ) (first count k : ℕ) → first ≤ k → k < first + count → f k ≤ greatest (map f (range_with_len first count))
-greatest_most f first zero k low high = absurd (omega (arith, low, high))
-greatest_most f first (suc count) k low high = elim (cases_lt first k) [
-  | inl later ↦ omega (arith, greatest_most f (first + 1) count k (omega (arith, later)) (omega (arith, high)), le-max_right (f first) (greatest (map f (range_with_len (first + 1) count))))
-  | inr same ↦
-      let is : first ≡ k = omega (arith, low, same) in
-      omega (arith, ap f is, le-max_left (f first) (greatest (map f (range_with_len (first + 1) count))))
-]
-
 -- no seat of the hand has more chips on a street than the price
 within_price : (setup : Setup) (moves : List Move) (street seat : ℕ) → 1 ≤ seat → seat ≤ setup.stacks.seats → street_chips setup moves street seat ≤ price setup moves street
-within_price setup moves street seat low high = greatest_most (street_chips setup moves street) 1 setup.stacks.seats seat low (omega (arith, high))
+within_price setup moves street seat low high = greatest_reaches (street_chips setup moves street) 1 setup.stacks.seats seat low (omega (arith, high))
 
 -- the full targets of fixed limit are no less than the price
 module _ (the_price the_unit last target : ℕ) where

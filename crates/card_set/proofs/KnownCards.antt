@@ -1,10 +1,11 @@
 -- The known cards of slots, one slot after another.
-use Rattle.std.proofs.Common.{◌≡◌, ◌<◌, ◌+◌, ℕ, List, [], ◌∷◌, ◌++◌, length, take, get_or, refl, ap, ◌∙◌}
+use Rattle.std.proofs.Common.{◌≡◌, ◌<◌, ◌+◌, ℕ, List, [], ◌∷◌, ◌++◌, length, take, get_or, refl, ap, ◌∙◌, false, suc, true, true≢false}
 use Rattle.std.proofs.lemmas.List.{take_more}
 use Rattle.card_set.specs.declared.card.Card.{Card}
 use Rattle.card_set.specs.declared.card.Slot.{Slot}
 use Rattle.card_set.specs.declared.card.Slot.TheVariants as slots
-use Rattle.card_set.specs.Known.{known_cards, known_slots}
+use Rattle.card_set.specs.Known.{known_cards, known_slots, is_unknown}
+use Rattle.std.specs.List.{list_any}
 
 pub known_append : (first second : List Slot) → known_cards (first ++ second) ≡ known_cards first ++ known_cards second
 known_append [] second = refl
@@ -19,3 +20,8 @@ one_known_more cards i d inside = ap known_cards (take_more cards i d inside) �
 pub all_known : (cards : List Card) → known_cards (known_slots cards) ≡ cards
 all_known [] = refl
 all_known (card ∷ rest) = ap (λ (l : List Card). card ∷ l) (all_known rest)
+
+pub all_known_length : (cards : List Slot) → list_any is_unknown cards ≡ false → length (known_cards cards) ≡ length cards
+all_known_length [] known = refl
+all_known_length (slots.Unknown ∷ rest) known = absurd (true≢false known)
+all_known_length (slots.Known card ∷ rest) known = ap suc (all_known_length rest known)

@@ -7,3 +7,4 @@ pub mod Read
 pub mod RowLaws
 pub mod SetLaws
 pub mod Spelled
+pub mod Letters

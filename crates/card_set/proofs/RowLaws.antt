@@ -2,7 +2,7 @@
 use Rattle.std.proofs.Common.{◌≡◌, ℕ, ◌≤◌, ◌<◌, List, length, take, get_or, slice_get, Some, sym, ◌∙◌, ap, subst, arith, ⊎_elim, length-take}
 use Rattle.std.proofs.Props.{props}
 use Rattle.std.proofs.lemmas.Bool.{cases_lt}
-use Rattle.std.proofs.lemmas.List.{ext_get_or, get_or-take}
+use Rattle.std.proofs.lemmas.List.{ext_get_or, get_or-take, length-take-le}
 use Rattle.std.proofs.lemmas.Option.{get_or_from_slice_get}
 use Rattle.card_set.specs.declared.card.Card.{Card}
 use Rattle.card_set.specs.declared.card.Slot.{Slot}
@@ -83,3 +83,6 @@ cards_same a b same =
     let len : a.len ≡ b.len =
     omega (arith, a.fits, b.fits, a.entries, b.entries, ap length same, length-take a.len a.cards, length-take b.len b.cards) in
     card_row_same a b len (same_filled filler_card a.cards b.cards a.len a.entries b.entries (same ∙ ap (λ n. take n b.cards) (sym len)) a.filled (λ k late. b.filled k (omega (arith, late, len))))
+
+pub row_length : (row : SlotRow) → length (slots_of row) ≡ row.len
+row_length row = length-take-le row.len row.slots (omega (arith, row.fits, row.entries))

@@ -4,8 +4,9 @@ use Rattle.std.proofs.lemmas.Bool.{cases_lt, eq-eqb, eqb-true, le-leb, leb-false
 use Rattle.std.proofs.lemmas.Bool.Decides.{nat_tests}
 use Rattle.std.specs.Char.{digit_value}
 use Rattle.std.specs.Str.Parse.{digits_value_after}
-use Rattle.list_laws.proofs.Tests.{false_true}
+use Rattle.list_laws.proofs.Tests.{false_true, is_true}
 use Rattle.std.specs.Prelude.{zero}
+use Rattle.std.proofs.Math.Dec.{eqb_refl}
 
 -- neither equal nor below
 pub above_from_tests : (x y : ℕ) → (x == y) ≡ false → nat_lt x y ≡ false → y < x
@@ -106,3 +107,6 @@ not_other seat = not_from_true (seat == seat) (eq-eqb seat seat refl)
 
 pub equal_by_test : (m n : ℕ) → eqb m n ≡ true → m ≡ n
 equal_by_test m n same = grind (arith, nat_tests, same)
+
+pub same_number : (seat : ℕ) → (seat == seat) ≡ true
+same_number seat = is_true (seat == seat) (eqb_refl seat)

@@ -1,7 +1,7 @@
 -- The notes of a hand that were written read as the kept notes.
 use Rattle.std.proofs.Common.{◌≡◌, ℕ, zero, suc, ◌+◌, ◌-◌, ◌<◌, ◌≤◌, ◌==◌, Bool, true, false, ◌||◌, cond, bytes_eq, codes, decimal, List, [], ◌∷◌, length, map, take, get_or, Option, Some, None, IfSome, option_map, option_and_then, unwrap_or, Result, Ok, refl, sym, ap, ap₂, subst, ◌∙◌, arith, true≢false}
 use Rattle.std.specs.List.{range_with_len}
-use Rattle.std.proofs.lemmas.Bool.{eq-eqb, eqb-true, le-leb, ne_eqb}
+use Rattle.std.proofs.lemmas.Bool.{eq-eqb, le-leb, ne_eqb}
 use Rattle.std.proofs.lemmas.Fmt.{length-decimal-le}
 use Rattle.std.proofs.lemmas.List.{length-take-le}
 use Rattle.std.proofs.lemmas.List.FromFn.{length-range_with_len}
@@ -34,15 +34,9 @@ use Rattle.list_laws.proofs.Bytes.{same_bytes}
 use Rattle.list_laws.proofs.Entries.{zero_taken_at}
 use Rattle.list_laws.proofs.Options.{from_none_some, none_anyway}
 use Rattle.hand_canon.specs.ReadAgain.{kept_label}
+use Rattle.hand_records.proofs.NoteTexts.{not_empty, noted_again}
 
 -- ---- texts
-
-noted_again : (default text : List ℕ) → IsNoteText text → bytes_eq text default ≡ false → noted default text ≡ Some text
-noted_again default text is other = by_empty (length text == 0) refl
-  where
-    by_empty : (empty : Bool) → (length text == 0) ≡ empty → cond (empty || bytes_eq text default) None (Some text) ≡ Some text
-    by_empty true none = absurd (omega (arith, is.0, eqb-true (length text) 0 none))
-    by_empty false some = rw other refl
 
 note_again : (default text : List ℕ) (path : Path) → IsNoteText text → bytes_eq text default ≡ false → note_said default path text ≡ Ok (Some text)
 unfolding note_said
@@ -51,10 +45,6 @@ note_again default text path is other = rw (le-leb (length text) MOST_TEXT_BYTES
 -- a text that equals its default is none
 same_none : (default text : List ℕ) → bytes_eq text default ≡ true → noted default text ≡ None
 same_none default text same = ap (λ (b : Bool). cond ((length text == 0) || b) None (Some text)) same ∙ none_anyway (length text == 0) text
-
-not_empty : (text : List ℕ) → IsNoteText text → bytes_eq text [] ≡ false
-not_empty [] is = absurd (omega (arith, is.0))
-not_empty (sign ∷ rest) is = refl
 
 -- a text that may be empty
 text_again : (path : Path) (said : Option (List ℕ)) → IfSome said IsNoteText → or_none (text_note_said [] path) (Some (string (unwrap_or said []))) ≡ Ok said

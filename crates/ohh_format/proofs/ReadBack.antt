@@ -8,9 +8,8 @@ use Rattle.chip_ledger.specs.SeatRow.{amount_of}
 use Rattle.play_event.specs.HistoryRules.{history_rules}
 use Rattle.play_event.specs.Past.{Past}
 use Rattle.play_event.specs.Played.{move_said}
-use Rattle.play_event.specs.Said.{Numbered, Said, numbered, said_of}
+use Rattle.play_event.specs.Said.{Numbered, Said}
 use Rattle.play_event.specs.Scripts.{past_at_end}
-use Rattle.play_event.specs.declared.event.Event.{Event}
 use Rattle.play_event.specs.declared.setup.Rules.{Rules}
 use Rattle.play_event.specs.declared.setup.Setup.{Setup}
 use Rattle.canonical_play.specs.PlayedScript.{IsPlayed}
@@ -41,11 +40,13 @@ use Rattle.ohh_format.specs.ReadBack.{KeepsNotes}
 use Rattle.ohh_format.proofs.FlopGames.{flop_game}
 use Rattle.ohh_format.proofs.FrontAgain.{no_stud}
 use Rattle.ohh_format.proofs.SameSetups.{setups_same}
-use Rattle.ohh_format.proofs.SoundPlays.{fact_holds, first_none, none_refused, sound_again, spelled_setup}
+use Rattle.ohh_format.proofs.SoundPlays.{fact_holds, first_none, sound_again, spelled_setup}
 use Rattle.ohh_format.proofs.StatedAgrees.{stated_agrees}
 use Rattle.ohh_format.proofs.WordPlays.{words_of, words_played}
 use Rattle.first_fault.specs.Numbers.{kept_number}
 use Rattle.hand_records.specs.Moves.{moves_played}
+use Rattle.hand_records.proofs.Refusals.{none_refused}
+use Rattle.play_event.proofs.ScriptLaws.{said_numbered}
 
 -- a play that the format spells has no closed raise
 spelled_open : (keep : Keep) (play : Play) → unspelled keep play ≡ None → list_any (λ move. move.closed) (core_said play.trace).moves ≡ false
@@ -103,10 +104,6 @@ events_said n (event ∷ rest) = by_action (is_told event) (events_said (n + 1) 
         → map (λ (e : Numbered). e.1) (if told then (kept_number n, event) ∷ numbered_from (n + 1) rest else (0, event) ∷ numbered_from n rest) ≡ event ∷ rest
     by_action true more same = ap (λ (l : List Said). event ∷ l) more
     by_action false more same = ap (λ (l : List Said). event ∷ l) same
-
-said_numbered : (script : List Event) → map (λ (event : Numbered). event.1) (map numbered script) ≡ map said_of script
-said_numbered [] = refl
-said_numbered (event ∷ rest) = ap (λ (l : List Said). said_of event ∷ l) (said_numbered rest)
 
 -- the script of a record that is read again
 script_is : (dialect : Dialect) (place : ℕ) (play : Play) (hand : Record) → plain hand ≡ hand_again dialect place play → script_said hand ≡ script_again dialect play.trace

@@ -1,5 +1,5 @@
 -- Rounds that were written read as the steps of their actions, with the board dealt before them.
-use Rattle.std.proofs.Common.{◌≡◌, ℕ, suc, ◌+◌, ◌<◌, ◌≤◌, Bool, true, false, List, [], ◌∷◌, ◌++◌, length, map, count_by, Option, Some, Ok, refl, ap, arith, true≢false}
+use Rattle.std.proofs.Common.{◌≡◌, ℕ, ◌+◌, ◌<◌, ◌≤◌, Bool, true, false, List, [], ◌∷◌, ◌++◌, length, map, count_by, Option, Some, Ok, refl, arith, true≢false}
 use Rattle.std.specs.List.{list_any}
 use Rattle.std.proofs.lemmas.Bool.{lt-leb, ne_eqb}
 use Rattle.list_laws.proofs.Counting.{count_by-push}
@@ -42,11 +42,6 @@ board_step cards = record { number = 0; deed = Happened (said.Board (known_cards
 abbrev pub with_board : List PlainStep → List Slot → List PlainStep
 with_board earlier [] = earlier
 with_board earlier (slot ∷ rest) = earlier ++ board_step (slot ∷ rest) ∷ []
-
-all_known : (cards : List Slot) → list_any is_unknown cards ≡ false → length (known_cards cards) ≡ length cards
-all_known [] known = refl
-all_known (slots.Unknown ∷ rest) known = absurd (true≢false known)
-all_known (slots.Known card ∷ rest) known = ap suc (all_known rest known)
 
 module _ (setting : PlainSetting) where
   -- the cards of a round

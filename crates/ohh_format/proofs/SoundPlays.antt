@@ -23,7 +23,6 @@ use Rattle.hand_records.specs.declared.trace.Play.{Play}
 use Rattle.hand_records.specs.declared.trace.Trace.{Trace}
 use Rattle.hand_records.specs.declared.writing.Keep.{Keep}
 use Rattle.hand_records.specs.declared.writing.Unspelled.{Unspelled}
-use Rattle.hand_records.specs.declared.writing.WriteRefusal.{WriteRefusal}
 use Rattle.list_laws.proofs.Reversed.{count_reversed}
 use Rattle.play_event.proofs.ChipLaws.{puts_within}
 use Rattle.play_event.specs.Chips.{blind_posted}
@@ -31,7 +30,7 @@ use Rattle.play_event.specs.Due.{is_unfinished, turn}
 use Rattle.play_event.specs.Games.{board_cards_on, game_of}
 use Rattle.play_event.specs.Past.{Past, moves_of}
 use Rattle.play_event.specs.Said.{Said}
-use Rattle.play_event.specs.Scripts.{past_after, past_at_end, past_of}
+use Rattle.play_event.specs.Scripts.{past_at_end, past_of}
 use Rattle.play_event.specs.Seats.{all_seats}
 use Rattle.play_event.specs.Table.{places_of}
 use Rattle.play_event.specs.Trace.{traced_places}
@@ -68,7 +67,9 @@ use Rattle.ohh_format.proofs.WinsAgain.{seat_again}
 use Rattle.list_laws.proofs.Lists.{none_from_length}
 use Rattle.list_laws.proofs.Options.{from_some_none}
 use Rattle.hand_records.specs.Moves.{moves_played}
-use Rattle.hand_records.specs.Refusals.{or_behind, refused_at}
+use Rattle.hand_records.specs.Refusals.{or_behind}
+use Rattle.canon_laws.proofs.Confluent.{end_of}
+use Rattle.hand_records.proofs.Refusals.{none_refused}
 
 -- ---- the facts that are spelled
 
@@ -177,13 +178,6 @@ none_later : (setup : Setup) (events : List Said) (early late : ℕ) → early �
     → dealt_slots (traced_places setup (past_of setup events)) None late ≡ []
 none_later setup events early late order has over true e = none_from_length (dealt_slots (traced_places setup (past_of setup events)) None late) (omega (arith, has.no_board e))
 none_later setup events early late order has over false e = absurd (true≢false (sym over ∙ came_before setup (moves_of (past_of setup events)) early late order e))
-
-take_whole : (l : List Said) → take (length l) l ≡ l
-take_whole [] = refl
-take_whole (first ∷ rest) = ap (λ (l : List Said). first ∷ l) (take_whole rest)
-
-pub end_of : (setup : Setup) (script : List Said) → past_after setup script (length script) ≡ past_of setup (reverse script)
-end_of setup script = ap (λ (l : List Said). past_of setup (reverse l)) (take_whole script)
 
 core_reads : (setup : Setup) (rules : Rules) (script : List Said) → IsValid setup → IsPlayed setup rules script → IsTidy (core_of setup (past_of setup (reverse script))) → IsFlopGame setup.code → Reads setup (core_of setup (past_of setup (reverse script)))
 core_reads setup rules script valid played tidy is =
@@ -300,10 +294,6 @@ module _ (keep : Keep) (play : Play) (sound : IsSound play) (spelled : unspelled
         can_be_played = can_be_played;
         showdown = showdown_is setup past trace sound.trace;
       }
-
-pub none_refused : (number : ℕ) (found : Option Unspelled) (behind : Option WriteRefusal) → refused_at number found behind ≡ None → (found ≡ None) × (behind ≡ None)
-none_refused number None behind none = (refl, none)
-none_refused number (Some fact) behind none = from_some_none none
 
 all_readable : (keep : Keep) (number : ℕ) (plays : List Play) → AllByRecursion IsSound plays → refusal_from keep number plays ≡ None → AllByRecursion IsReadable plays
 all_readable keep number [] each none = tt

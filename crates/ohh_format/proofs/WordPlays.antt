@@ -4,7 +4,7 @@ use Rattle.std.specs.List.{AllByRecursion, flat_map, list_any, range_with_len}
 use Rattle.std.proofs.lemmas.List.{map-append, reverse-append, reverse-reverse}
 use Rattle.canon_blocks.proofs.StreetMoves.{AreFalling, legal_falling}
 use Rattle.canon_laws.proofs.AllStreets.{legal_since, none_first}
-use Rattle.canon_laws.proofs.Confluent.{confluent}
+use Rattle.canon_laws.proofs.Confluent.{confluent, end_of}
 use Rattle.canon_laws.proofs.SameCore.{plain_again}
 use Rattle.canon_laws.specs.Confluence.{HasTraceOf}
 use Rattle.canonical_play.specs.CanonScript.{canon_of, canonical_script, plain_move, plain_moves, script_of, showdown_said, street_said}
@@ -35,7 +35,6 @@ use Rattle.play_laws.proofs.NamedMoves.{move_reasons}
 use Rattle.ohh_members.specs.declared.dialect.Dialect.{Dialect}
 use Rattle.ohh_format.specs.Again.{street_again}
 use Rattle.ohh_format.proofs.FlopGames.{IsFlopGame}
-use Rattle.ohh_format.proofs.SoundPlays.{end_of}
 use Rattle.ohh_format.proofs.WordEvents.{HasWord, InWords, words_same}
 use Rattle.ohh_format.proofs.WordScript.{script_words}
 

@@ -13,8 +13,8 @@ use Rattle.play_event.specs.Streets.{has_draw}
 use Rattle.play_event.specs.Trace.{TracedMove, TracedPlace}
 use Rattle.play_event.specs.declared.setup.Setup.{Setup}
 use Rattle.play_laws.specs.PastLaws.{AreReached}
-use Rattle.canon_blocks.proofs.StreetMoves.{AreFalling, own_moves}
-use Rattle.canon_ranges.proofs.OtherWords.{NoMoves, all_streets, behind_both, none_own, quiet_stay}
+use Rattle.canon_blocks.proofs.StreetMoves.{AreFalling, own_moves, none_own}
+use Rattle.canon_ranges.proofs.OtherWords.{NoMoves, all_streets, behind_both, quiet_stay}
 use Rattle.ohh_members.specs.declared.dialect.Dialect.{Dialect}
 use Rattle.ohh_format.specs.Again.{move_again, move_on, moves_again, street_again}
 use Rattle.ohh_format.proofs.WordEvents.{InWords, nothing, stays, word}

@@ -1,7 +1,6 @@
 pub mod Clean
 pub mod Counts
 pub mod Lefts
-pub mod Letters
 pub mod Plain
 pub mod Sorted
 pub mod Tidied

@@ -146,7 +146,7 @@ fn card_value(alloc: Global, card: Slot) -> Result<Value, Memory>
 }
 
 // The two letters of a card; each of them is one byte of a text.
-#[tactic(auto, using(crate::proofs::Letters::one_byte_each))]
+#[tactic(auto, using(card_set::proofs::Letters::one_byte_each))]
 fn letters_of(card: Slot) -> [u8; 2]
     ensures letters { result ≡ slot_spelling card }
     ensures first { slice_index result 0 < 128 }

@@ -1,22 +1,20 @@
 -- What is told of a seat, with one step more.
-use Rattle.std.proofs.Common.{◌≡◌, ◌≢◌, ℕ, ◌-◌, ◌≤◌, ◌==◌, Bool, true, false, ◌||◌, cond, List, [], ◌∷◌, ◌++◌, length, find, set, inl, inr, subst, slice_get, Option, Some, None, option_map, refl, sym, ap, ◌∙◌, arith}
+use Rattle.std.proofs.Common.{◌≡◌, ◌≢◌, ℕ, ◌-◌, ◌≤◌, Bool, true, false, ◌||◌, cond, List, [], ◌∷◌, ◌++◌, find, set, inl, inr, subst, slice_get, Option, Some, None, option_map, refl, sym, ap, ◌∙◌, arith}
 use Rattle.std.specs.Option.{option_or}
 use Rattle.std.proofs.Math.Bool.{or-true}
-use Rattle.std.proofs.Math.Dec.{eqb_refl}
 use Rattle.std.proofs.lemmas.Bool.{cases_lt}
 use Rattle.std.proofs.lemmas.Grind.{flat_map-append}
-use Rattle.std.proofs.lemmas.List.{append-nil, length-take}
+use Rattle.std.proofs.lemmas.List.{append-nil}
 use Rattle.std.proofs.lemmas.List.Folds.{find-append}
 use Rattle.list_laws.proofs.Finding.{list_any-push}
-use Rattle.list_laws.proofs.Tests.{or_false, is_true}
+use Rattle.list_laws.proofs.Tests.{or_false}
 use Rattle.card_set.specs.declared.card.Slot.{Slot}
-use Rattle.card_set.specs.declared.row.SlotRow.{SlotRow}
 use Rattle.card_set.specs.Row.{slots_of}
 use Rattle.ohh_rounds.specs.declared.seat_told.SeatTold.{SeatTold}
 use Rattle.ohh_rounds.specs.Kept.{IsToldOf}
 use Rattle.ohh_rounds.specs.Steps.{PlainDeed, PlainStep, Posted, Dealt, Happened, Passed, IsFoldBy, dealt_in, dealt_to, first_deal, has_folded, is_deal_to, is_fold_of, is_seat}
 use Rattle.list_laws.proofs.Entries.{at_other, at_set}
-use Rattle.list_laws.proofs.Numbers.{different_number}
+use Rattle.list_laws.proofs.Numbers.{different_number, same_number}
 use Rattle.list_laws.proofs.Options.{or_nothing}
 
 -- one step more folds the seat, or does not
@@ -70,12 +68,9 @@ dealt seat steps step before after more no_fold cards deal same_fold joined firs
       first_deal = first ∙ ap (λ found. option_or found (Some step.number)) told.first_deal ∙ sym (first_deals seat steps step ∙ ap (λ b. option_or (first_deal seat steps) (cond b (Some step.number) None)) deal);
     }
 
-same_seat : (seat : ℕ) → (seat == seat) ≡ true
-same_seat seat = is_true (seat == seat) (eqb_refl seat)
-
 -- what a fold tells
 pub fold_here : (seat : ℕ) (deed : PlainDeed) → IsFoldBy seat deed → is_fold_of seat deed ≡ true
-fold_here seat (Happened event) is = ap (is_seat seat) is ∙ same_seat seat
+fold_here seat (Happened event) is = ap (is_seat seat) is ∙ same_number seat
 fold_here seat (Posted post) is = absurd is
 fold_here seat (Dealt other slots) is = absurd is
 fold_here seat Passed is = absurd is
@@ -100,10 +95,10 @@ fold_is_deal at seat Passed is = absurd is
 
 -- what a deal tells
 pub deal_here : (seat : ℕ) (slots : List Slot) → dealt_in seat (Dealt seat slots) ≡ slots
-deal_here seat slots = ap (λ b. cond b slots []) (same_seat seat)
+deal_here seat slots = ap (λ b. cond b slots []) (same_number seat)
 
 pub is_here : (seat : ℕ) (slots : List Slot) → is_deal_to seat (Dealt seat slots) ≡ true
-is_here seat slots = same_seat seat
+is_here seat slots = same_number seat
 
 pub deal_elsewhere : (at seat : ℕ) (slots : List Slot) → seat ≢ at → dealt_in seat (Dealt at slots) ≡ []
 deal_elsewhere at seat slots apart = ap (λ b. cond b slots []) (different_number at seat apart)
@@ -125,7 +120,3 @@ each_seat P seats at new first here others seat from to kept is = elim (cases_lt
         subst (λ (n : ℕ). P n kept) (sym same) (subst (P at) (sym (at_set seats (at - 1) kept new there)) here)
   ]
 ]
-
--- a row has as many cards as it says
-pub row_length : (row : SlotRow) → length (slots_of row) ≡ row.len
-row_length row = omega (arith, length-take row.len row.slots, row.fits, row.entries)

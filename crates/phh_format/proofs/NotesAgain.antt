@@ -1,5 +1,5 @@
 -- The notes of a hand that were written read back as the kept notes.
-use Rattle.std.proofs.Common.{◌≡◌, ℕ, ◌≤◌, ◌<◌, ◌^◌, Bool, true, false, ◌&&◌, ◌||◌, ◌==◌, not, nat_le, nat_lt, cond, bytes_eq, decimal, List, [], ◌∷◌, length, slice_index, pos, Option, Some, None, IfSome, option_map, unwrap_or, Ok, refl, sym, ap, ◌∙◌, arith, true≢false}
+use Rattle.std.proofs.Common.{◌≡◌, ℕ, ◌≤◌, ◌<◌, ◌^◌, Bool, true, false, ◌&&◌, ◌||◌, ◌==◌, not, nat_le, nat_lt, cond, bytes_eq, decimal, List, [], length, slice_index, pos, Option, Some, None, IfSome, option_map, unwrap_or, Ok, refl, sym, ap, ◌∙◌, arith, true≢false}
 use Rattle.std.specs.List.{list_all}
 use Rattle.std.specs.Char.{is_digit}
 use Rattle.std.specs.Str.Parse.{digits_value}
@@ -10,7 +10,7 @@ use Rattle.first_fault.specs.Digits.{are_digits, number_of}
 use Rattle.first_fault.specs.Reading.{read_if}
 use Rattle.first_fault.specs.declared.limits.TheConstants.{MOST_TEXT_BYTES}
 use Rattle.hand_records.specs.declared.notes.Clock.{Clock}
-use Rattle.hand_records.specs.AllowedNotes.{IsNoteText, IsTime, IsWithin, days_in_month, noted}
+use Rattle.hand_records.specs.AllowedNotes.{IsNoteText, IsTime, IsWithin, days_in_month}
 use Rattle.phh_fields.specs.declared.fault.Place.{Place}
 use Rattle.phh_fields.specs.Fields.{number_said, kept_within, text_said}
 use Rattle.phh_fields.specs.NoteFields.{clock_said, is_in_calendar, label_said, note_said, or_none, or_zero, text_note_said, time_said}
@@ -19,23 +19,11 @@ use Rattle.list_laws.proofs.Tests.{implied}
 use Rattle.list_laws.proofs.Digits.{all_digits, own_digits}
 use Rattle.list_laws.proofs.Options.{from_none_some}
 use Rattle.hand_canon.specs.ReadAgain.{kept_label}
-
--- a text of a note that is not the default stays
-noted_again : (default text : List ℕ) → IsNoteText text → bytes_eq text default ≡ false → noted default text ≡ Some text
-noted_again default text is other = go (length text == 0) refl
-  where
-    go : (empty : Bool) → (length text == 0) ≡ empty → cond (empty || bytes_eq text default) None (Some text) ≡ Some text
-    go true none = absurd (omega (arith, is.0, eqb-true (length text) 0 none))
-    go false some = rw other refl
+use Rattle.hand_records.proofs.NoteTexts.{not_empty, noted_again}
 
 pub note_again : (default text : List ℕ) (place : Place) → IsNoteText text → bytes_eq text default ≡ false → note_said default place text ≡ Ok (Some text)
 unfolding note_said
 note_again default text place is other = rw (le-leb (length text) MOST_TEXT_BYTES is.1) (ap (λ found. Ok found) (noted_again default text is other))
-
--- a text that is not empty is not the empty default
-not_empty : (text : List ℕ) → IsNoteText text → bytes_eq text [] ≡ false
-not_empty [] is = absurd (omega (arith, is.0))
-not_empty (sign ∷ rest) is = refl
 
 pub text_note_again : (place : Place) (said : Option (List ℕ)) → IfSome said IsNoteText → or_none (text_note_said [] place) (option_map string said) ≡ Ok said
 unfolding text_note_said text_said

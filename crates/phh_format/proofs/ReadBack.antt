@@ -1,5 +1,5 @@
 -- The hands that are read again of sound plays are legal under the rules of hand histories, and have the traces of the plays.
-use Rattle.std.proofs.Common.{◌≡◌, ℕ, ◌+◌, true, false, Bool, pos, List, [], ◌∷◌, ◌++◌, length, map, find, sum_by, Option, Some, None, Ok, refl, sym, ap, ap₂, subst, ◌∙◌, ◌≤◌}
+use Rattle.std.proofs.Common.{◌≡◌, ℕ, ◌+◌, true, false, Bool, pos, List, [], ◌∷◌, ◌++◌, length, map, find, sum_by, Some, None, Ok, refl, sym, ap, ap₂, subst, ◌∙◌, ◌≤◌}
 use Rattle.std.specs.List.{AllByRecursion, list_any}
 use Rattle.std.proofs.lemmas.Bool.Decides.{Decides-int_eq}
 use Rattle.list_laws.proofs.Any.{list_any-map}
@@ -7,10 +7,9 @@ use Rattle.chip_ledger.specs.PotRow.{plain_shares}
 use Rattle.chip_ledger.specs.SeatRow.{amount_of}
 use Rattle.play_event.specs.HistoryRules.{history_rules}
 use Rattle.play_event.specs.Played.{move_said}
-use Rattle.play_event.specs.Said.{Numbered, Said, numbered, said_of}
+use Rattle.play_event.specs.Said.{Numbered, Said, numbered}
 use Rattle.play_event.specs.Scripts.{past_at_end}
 use Rattle.play_event.specs.Seats.{all_seats}
-use Rattle.play_event.specs.declared.event.Event.{Event}
 use Rattle.play_event.specs.declared.setup.Rules.{Rules}
 use Rattle.play_event.specs.declared.setup.Setup.{Setup}
 use Rattle.canonical_play.specs.CanonScript.{canon_of}
@@ -25,8 +24,6 @@ use Rattle.hand_records.specs.declared.record.Record.{Record}
 use Rattle.hand_records.specs.declared.record.Stated.{Stated}
 use Rattle.hand_records.specs.declared.trace.Play.{Play}
 use Rattle.hand_records.specs.declared.trace.Trace.{Trace}
-use Rattle.hand_records.specs.declared.writing.Unspelled.{Unspelled}
-use Rattle.hand_records.specs.declared.writing.WriteRefusal.{WriteRefusal}
 use Rattle.hand_canon.specs.Agreement.{finish_compared, first_difference, is_different}
 use Rattle.hand_canon.specs.Judged.{IsTraceOfLegal}
 use Rattle.hand_canon.specs.LegalHand.{IsLegalHand}
@@ -47,7 +44,8 @@ use Rattle.phh_format.specs.ReadBack.{KeepsNotes}
 use Rattle.phh_format.proofs.RowsAgain.{amount_count}
 use Rattle.phh_format.proofs.SoundPlays.{same_script, sound_again}
 use Rattle.hand_records.specs.Moves.{moves_played}
-use Rattle.hand_records.specs.Refusals.{refused_at}
+use Rattle.hand_records.proofs.Refusals.{none_refused}
+use Rattle.play_event.proofs.ScriptLaws.{said_numbered}
 
 -- a play that the format spells has no closed raise
 spelled_open : (play : Play) → unspelled play ≡ None → list_any (λ move. move.closed) (core_said play.trace).moves ≡ false
@@ -127,10 +125,6 @@ said_from : (n : ℕ) (events : List Said) → map (λ (event : Numbered). event
 said_from n [] = refl
 said_from n (event ∷ rest) = ap (λ (events : List Said). event ∷ events) (said_from (n + 1) rest)
 
-said_again : (events : List Event) → map (λ (event : Numbered). event.1) (map numbered events) ≡ map said_of events
-said_again [] = refl
-said_again (event ∷ rest) = ap (λ (said : List Said). said_of event ∷ said) (said_again rest)
-
 module _ (place : ℕ) (play : Play) (hand : Record) (same : plain hand ≡ hand_again place play) where
   -- the hand with the setup of the play, and what is stated of it
   abbrev beside : Record
@@ -163,7 +157,7 @@ module _ (place : ℕ) (play : Play) (hand : Record) (same : plain hand ≡ hand
 
   pub script_back : script_said hand ≡ script_of play.trace
   script_back =
-      sym (said_again hand.script)
+      sym (said_numbered hand.script)
       ∙ ap (λ (read : PlainHand). map (λ (event : Numbered). event.1) read.script) same
       ∙ said_from 1 (script_of play.trace)
 
@@ -186,18 +180,13 @@ is_again place play hand sound spelled same =
           (ap (λ (read : PlainHand). read.notes) same);
     }
 
--- plays that are not refused are spelled one by one
-first_spelled : (number : ℕ) (fact : Option Unspelled) (behind : Option WriteRefusal) → refused_at number fact behind ≡ None → (fact ≡ None) × (behind ≡ None)
-first_spelled number None behind none = (refl, none)
-first_spelled number (Some fact) behind none = absurd (cc)
-
 are_again : (number place : ℕ) (plays : List Play) (hands : List Record) → AllByRecursion IsSound plays → refusal_from number plays ≡ None → map plain hands ≡ hands_again place plays → AreAgain KeepsNotes place plays hands
 unfolding AreAgain
 are_again number place [] [] each spelled same = tt
 are_again number place [] (hand ∷ hands) each spelled same = absurd (cc)
 are_again number place (play ∷ plays) [] each spelled same = absurd (cc)
 are_again number place (play ∷ plays) (hand ∷ hands) each spelled same =
-    let told = first_spelled number (unspelled play) (refusal_from (number + 1) plays) spelled in
+    let told = none_refused number (unspelled play) (refusal_from (number + 1) plays) spelled in
     (is_again place play hand each.0 told.0 (cc), are_again (number + 1) (place + 1) plays hands each.1 told.1 (cc))
 
 -- the hands that are read of bytes that spell sound plays

@@ -125,7 +125,7 @@ fn push_slot(text: &mut String, slot: Slot) -> Result<(), Memory>
 }
 
 // The two letters of a slot; each of them is one byte of a text.
-#[tactic(auto, using(crate::proofs::LetterLaws::one_byte_each))]
+#[tactic(auto, using(card_set::proofs::Letters::one_byte_each))]
 fn letters_of(slot: Slot) -> [u8; 2]
     ensures letters { result ≡ slot_spelling slot }
     ensures first { slice_index result 0 < 128 }

@@ -57,7 +57,7 @@ greatest_grows : (f g : ℕ → ℕ) → ((x : ℕ) → f x ≤ g x) → (xs : L
 greatest_grows f g each [] = omega arith
 greatest_grows f g each (x ∷ xs) = omega (arith, each x, greatest_grows f g each xs)
 
-greatest_reaches : (f : ℕ → ℕ) (first count x : ℕ) → first ≤ x → x < first + count → f x ≤ greatest (map f (range_with_len first count))
+pub greatest_reaches : (f : ℕ → ℕ) (first count x : ℕ) → first ≤ x → x < first + count → f x ≤ greatest (map f (range_with_len first count))
 greatest_reaches f first zero x low high = absurd (omega (arith, low, high))
 greatest_reaches f first (suc count) x low high = elim (cases_lt first x) [
   | inl later ↦ omega (arith, greatest_reaches f (first + 1) count x (omega (arith, later)) (omega (arith, high)))

@@ -1,5 +1,5 @@
 -- The walk over a written script finds its first illegal event, or that all are legal.
-use Rattle.std.proofs.Common.{◌≡◌, ℕ, ◌+◌, ◌≤◌, ◌<◌, inl, inr, Option, Some, None, List, [], ◌∷◌, length, take, drop, reverse, get_or, slice_get, option_and_then, refl, sym, ◌∙◌, ap, arith}
+use Rattle.std.proofs.Common.{◌≡◌, ℕ, ◌+◌, ◌≤◌, ◌<◌, inl, inr, Option, Some, None, List, [], ◌∷◌, length, take, drop, reverse, get_or, slice_get, option_and_then, refl, sym, ◌∙◌, ap, arith, map}
 use Rattle.std.proofs.lemmas.Bool.{cases_lt}
 use Rattle.std.proofs.lemmas.List.{drop_more, drop_all, take_more, reverse-append}
 use Rattle.std.proofs.lemmas.Option.{slice_get_within, get_or_from_slice_get, slice_get-get_or, same_Some}
@@ -7,10 +7,11 @@ use Rattle.list_laws.proofs.Options.{some_is_none}
 use Rattle.play_event.specs.declared.reason.Illegal.{Illegal}
 use Rattle.play_event.specs.declared.setup.Setup.{Setup}
 use Rattle.play_event.specs.declared.setup.Rules.{Rules}
-use Rattle.play_event.specs.Said.{Said}
+use Rattle.play_event.specs.Said.{Said, Numbered, numbered, said_of}
 use Rattle.play_event.specs.Past.{Past}
 use Rattle.play_event.specs.Reasons.{why}
 use Rattle.play_event.specs.Scripts.{past_of, past_after, with_event, why_at, HasNoIllegalEvent, IsFirstIllegal, illegal_event, illegal_event_from}
+use Rattle.play_event.specs.declared.event.Event.{Event}
 
 -- the past after one event more
 past_more : (setup : Setup) (events : List Said) (count : ℕ) (event : Said) → slice_get events count ≡ Some event → past_after setup events (count + 1) ≡ with_event setup event (past_after setup events count)
@@ -144,3 +145,7 @@ refused_first setup rules script index reason is =
 pub legal_whole : (setup : Setup) (rules : Rules) (script : List Said) → illegal_event setup rules script ≡ None → HasNoIllegalEvent setup rules script
 unfolding AreLegalFrom
 legal_whole setup rules script is = λ index within. legal_from setup rules script script 0 refl is index (omega arith) within
+
+pub said_numbered : (events : List Event) → map (λ (event : Numbered). event.1) (map numbered events) ≡ map said_of events
+said_numbered [] = refl
+said_numbered (event ∷ rest) = ap (λ (said : List Said). said_of event ∷ said) (said_numbered rest)

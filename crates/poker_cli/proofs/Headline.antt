@@ -35,6 +35,7 @@ use Rattle.poker_cli.specs.declared.task.Task.{Task}
 use Rattle.poker_cli.specs.declared.task.Task.TheVariants as tasks
 use Rattle.poker_cli.specs.declared.task.Way.{Way}
 use Rattle.poker_cli.proofs.OneAnswer.{in_way, legal_in_way, no_fault, no_missing}
+use Rattle.list_laws.proofs.Options.{some_more}
 
 -- the status of a fault of bytes is that of bad input or of a limit
 IsUnread : Status → Type 0
@@ -288,10 +289,6 @@ module _ (request : Request) (files : Files) (from to : Reader) (keep : Keep) (b
       let so = conversion_ends status found ends left in
       record { ends = so; reads = conversion_reads status so; exactly = conversion_exactly status found ends }
 
-some_weaker : {A : Type 0} (found : Option A) (P Q : A → Type 0) → ((x : A) → P x → Q x) → IfSome found P → IfSome found Q
-some_weaker (Some x) P Q each is = each x is
-some_weaker None P Q each is = is
-
 -- where the source tells its bytes, and the shelf its files
 abbrev pub EndsTold : Option Request → Option (List ℕ) → Option Files → (out diag : Sinks) → Status → Type 0
 EndsTold said left told out diag status =
@@ -306,9 +303,9 @@ HeadlineTold said left told out diag status =
 pub headline_told : (said : Option Request) (left : Option (List ℕ)) (told : Option Files) (out diag : Sinks) (status : Status)
     → EndsTold said left told out diag status → IsLeft out diag status → HeadlineTold said left told out diag status
 headline_told said left told out diag status ends is_left =
-    some_weaker said _ _
-    (λ request. some_weaker (bytes_told (made_by request) left) _ _
-    (λ bytes. some_weaker (files_told (game_name request) told) _ _
+    some_more said _ _
+    (λ request. some_more (bytes_told (made_by request) left) _ _
+    (λ bytes. some_more (files_told (game_name request) told) _ _
     (λ files so. λ from to keep. headline request files from to keep bytes out diag status so is_left))) ends
 
 -- of the request that the words are read as

@@ -69,7 +69,7 @@ pub fn name_of<'a>(play: &'a Play, seat: Seat) -> &'a str
 }
 
 // The name of a seat where none is noted.
-#[tactic(auto, using(crate::proofs::DefaultNames::short_name, crate::proofs::DefaultNames::long_name))]
+#[tactic(auto, using(hand_records::proofs::DefaultNames::short_name, crate::proofs::DefaultNames::long_name))]
 fn default_name(seat: Seat) -> &'static str
     ensures { result.now ≡ default_said seat.number }
 {

@@ -1,5 +1,5 @@
 -- At the end of a hand each shown seat has cards that the game's pick can use, and the rows show what the trace shows.
-use Rattle.std.proofs.Common.{◌≡◌, ℕ, suc, ◌+◌, ◌≤◌, true, false, ◌&&◌, ◌==◌, not, nat_le, Some, None, List, [], ◌∷◌, ◌++◌, map, filter, length, refl, sym, ap, subst, ◌∙◌, arith}
+use Rattle.std.proofs.Common.{◌≡◌, ℕ, ◌+◌, ◌≤◌, true, false, ◌&&◌, ◌==◌, not, nat_le, Some, None, List, [], ◌∷◌, ◌++◌, map, filter, length, refl, sym, ap, subst, ◌∙◌, arith}
 use Rattle.std.specs.List.{flat_map, list_any, range_with_len}
 use Rattle.std.proofs.lemmas.Bool.{and_parts, not-true}
 use Rattle.std.proofs.lemmas.List.{length-map, map-append}
@@ -8,11 +8,10 @@ use Rattle.canon_blocks.proofs.TraceOrder.{finals_group, finals_of, the_board}
 use Rattle.canon_laws.proofs.HeldSame.{any_held, held_script}
 use Rattle.play_event.specs.Held.{held_slots}
 use Rattle.card_set.specs.declared.card.Card.{Card}
-use Rattle.card_set.specs.declared.card.Slot.{Slot}
 use Rattle.card_set.specs.declared.card.Slot.TheVariants as slots
 use Rattle.card_set.specs.declared.row.CardRow.{CardRow}
 use Rattle.card_set.specs.Different.{AllDifferent}
-use Rattle.card_set.specs.Known.{is_unknown, known_cards}
+use Rattle.card_set.specs.Known.{known_cards}
 use Rattle.card_set.specs.Row.{cards_of}
 use Rattle.chip_ledger.specs.declared.rows.LiveRow.{LiveRow}
 use Rattle.chip_ledger.specs.LiveRow.{flag_of, flagged}
@@ -23,7 +22,6 @@ use Rattle.canonical_play.specs.CanonScript as canon
 use Rattle.hand_canon.specs.LegalHand.{showdown_in}
 use Rattle.canonical_play.specs.TraceCore.{core_of}
 use Rattle.card_set.specs.declared.pick.Pick.{Pick}
-use Rattle.list_laws.proofs.Tests.{false_true}
 use Rattle.play_event.specs.declared.card_rows.HandRow.{HandRow}
 use Rattle.play_event.specs.declared.setup.Rules.{Rules}
 use Rattle.play_event.specs.declared.setup.Setup.{Setup}
@@ -56,7 +54,7 @@ use Rattle.variant_table.specs.Variants.{IsUsable}
 use Rattle.replay_core.specs.EndRows.{flag_count, is_mucked_by, is_shown_by}
 use Rattle.replay_core.specs.Showdowns.{ShowTheSame}
 use Rattle.list_laws.proofs.Numbers.{many_not_few}
-use Rattle.card_set.proofs.KnownCards.{all_known}
+use Rattle.card_set.proofs.KnownCards.{all_known, all_known_length}
 
 -- a hand is played to its end, and the rows have what they say of it
 pub record IsEnd (setup : Setup) (rules : Rules) (events : List Said) (live mucked unknown shown : LiveRow) (hands : HandRow) (board : CardRow) : Type 0 where
@@ -112,11 +110,6 @@ shown_seat setup past seat is =
     let middle = and_parts (is_contested setup past && is_live (moves_of past) seat) (not (has_mucked past seat)) last.0 in
     let first = and_parts (is_contested setup past) (is_live (moves_of past) seat) middle.0 in
     record { several = many_not_few (live_count setup (moves_of past)) first.0; live = first.1; known = not-true (has_unknown_card setup past seat) last.1 }
-
-all_known_length : (list : List Slot) → list_any is_unknown list ≡ false → length (known_cards list) ≡ length list
-all_known_length [] none = refl
-all_known_length (slots.Known card ∷ rest) none = ap suc (all_known_length rest none)
-all_known_length (slots.Unknown ∷ rest) none = false_true (sym none)
 
 -- the cards of a shown seat are a whole hand
 whole_hand : (setup : Setup) (rules : Rules) (events : List Said) (seat : ℕ) → AreLegal setup rules events → is_unfinished (turn setup (past_of setup events)).1 ≡ false → 1 ≤ seat → seat ≤ setup.stacks.seats → is_shown setup (past_of setup events) seat ≡ true → length (known_cards (held_slots (Some seat) (places_of setup.code (past_of setup events)))) ≡ (game_of setup.code).hole

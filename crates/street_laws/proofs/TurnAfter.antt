@@ -88,7 +88,7 @@ dealt_still setup past move street are =
 pub one_live : (setup : Setup) (moves : List Move) → nat_le (live_count setup moves) 1 ≡ false → list_any (is_live moves) (all_seats setup) ≡ true
 one_live setup moves more = counted_some (is_live moves) (all_seats setup) (let two : 1 < live_count setup moves = leb-false (live_count setup moves) 1 more in omega (arith, two))
 
-nothing_owed_by : (live : Bool) (owed dealt : ℕ) → owed ≡ 0 → nat_lt 0 (if live then owed - dealt else 0) ≡ false
+pub nothing_owed_by : (live : Bool) (owed dealt : ℕ) → owed ≡ 0 → nat_lt 0 (if live then owed - dealt else 0) ≡ false
 nothing_owed_by true owed dealt none = let zero_left : owed - dealt ≡ 0 = omega (arith, none) in ap (nat_lt 0) zero_left
 nothing_owed_by false owed dealt none = refl
 

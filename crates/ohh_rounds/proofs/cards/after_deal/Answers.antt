@@ -3,9 +3,10 @@ use Rattle.card_set.specs.Row.{slots_of}
 use Rattle.ohh_rounds.specs.Kept.{IsToldOf}
 use Rattle.ohh_rounds.specs.Steps.{Dealt, plain_step}
 use Rattle.ohh_rounds.specs.declared.seat_told.SeatTold.{SeatTold}
-use Rattle.ohh_rounds.proofs.OneMore.{deal_elsewhere, deal_here, dealt, each_seat, is_elsewhere, is_here, row_length, untold}
+use Rattle.ohh_rounds.proofs.OneMore.{deal_elsewhere, deal_here, dealt, each_seat, is_elsewhere, is_here, untold}
 use Rattle.ohh_rounds.proofs.cards.after_deal.Goals as goal
 use Rattle.list_laws.proofs.Entries.{at_index}
+use Rattle.card_set.proofs.RowLaws.{row_length}
 
 pub joined-requires : goal.joined-requires
 joined-requires c =

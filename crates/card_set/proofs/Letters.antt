@@ -1,14 +1,14 @@
--- Each letter of a slot is one byte of a text.
-use Rattle.std.proofs.Common.{◌<◌, arith, get_or}
-use Rattle.card_set.specs.declared.card.Rank.{Rank}
-use Rattle.card_set.specs.declared.card.Rank.TheVariants as ranks
-use Rattle.card_set.specs.declared.card.Suit.{Suit}
-use Rattle.card_set.specs.declared.card.Suit.TheVariants as suits
-use Rattle.card_set.specs.declared.card.Slot.{Slot}
-use Rattle.card_set.specs.declared.card.Slot.TheVariants as slots
+-- The letters of ranks and suits are bytes of ASCII, so a card is spelled by two bytes.
 use Rattle.card_set.specs.Spelling.{rank_letter, slot_spelling, suit_letter}
+use Rattle.card_set.specs.declared.card.Rank.{Rank}
+use Rattle.card_set.specs.declared.card.Slot.{Slot}
+use Rattle.card_set.specs.declared.card.Suit.{Suit}
+use Rattle.std.proofs.Common.{arith, get_or, ◌<◌}
+use Rattle.card_set.specs.declared.card.Rank.TheVariants as ranks
+use Rattle.card_set.specs.declared.card.Suit.TheVariants as suits
+use Rattle.card_set.specs.declared.card.Slot.TheVariants as slots
 
-small_rank : (rank : Rank) → rank_letter rank < 128
+pub small_rank : (rank : Rank) → rank_letter rank < 128
 small_rank ranks.Two = omega arith
 small_rank ranks.Three = omega arith
 small_rank ranks.Four = omega arith
@@ -23,7 +23,7 @@ small_rank ranks.Queen = omega arith
 small_rank ranks.King = omega arith
 small_rank ranks.Ace = omega arith
 
-small_suit : (suit : Suit) → suit_letter suit < 128
+pub small_suit : (suit : Suit) → suit_letter suit < 128
 small_suit suits.C = omega arith
 small_suit suits.D = omega arith
 small_suit suits.H = omega arith
