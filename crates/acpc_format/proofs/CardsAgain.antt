@@ -4,7 +4,7 @@ use Rattle.std.specs.List.{flat_map, list_any, range_with_len}
 use Rattle.std.proofs.lemmas.Bool.{and_parts, eq-eqb}
 use Rattle.std.proofs.lemmas.Bool.Decides.{nat_tests}
 use Rattle.std.proofs.lemmas.List.{append-nil, length-append}
-use Rattle.card_set.proofs.Spelled.{slots_spelled-spelling}
+use Rattle.card_set.proofs.Spelled.{slots_spelled-spelling, length-slot_spelling}
 use Rattle.card_set.specs.Known.{is_unknown, known_cards}
 use Rattle.card_set.specs.Spelling.{slot_spelling, spelling}
 use Rattle.card_set.specs.declared.card.Slot.{Slot}
@@ -84,13 +84,9 @@ known_again count cards counted known =
 pub board_again : (count : ℕ) (cards : List Slot) → length cards ≡ count → list_any is_unknown cards ≡ false → board_said count (spelling cards) ≡ Some (known_cards cards)
 board_again count cards counted known = rw (known_again count cards counted known) refl
 
-two_letters : (slot : Slot) → length (slot_spelling slot) ≡ 2
-two_letters slots.Unknown = refl
-two_letters (slots.Known card) = refl
-
 some_letters : (cards : List Slot) → length cards ≡ 2 → eqb (length (spelling cards)) 0 ≡ false
 some_letters [] two = absurd (omega (arith, two))
-some_letters (slot ∷ cards) two = grind (arith, nat_tests, length-append (slot_spelling slot) (spelling cards), two_letters slot)
+some_letters (slot ∷ cards) two = grind (arith, nat_tests, length-append (slot_spelling slot) (spelling cards), length-slot_spelling slot)
 
 both_hidden : (cards : List Slot) → length cards ≡ 2 → list_any is_unknown cards ≡ true → (list_any is_unknown cards && list_any (λ slot. not (is_unknown slot)) cards) ≡ false → cards ≡ slots.Unknown ∷ slots.Unknown ∷ []
 both_hidden [] two hidden whole = absurd (omega (arith, two))

@@ -10,11 +10,11 @@ use Rattle.hand_records.specs.declared.writing.Unspelled.{Unspelled}
 use Rattle.hand_records.specs.declared.writing.Unspelled.TheVariants as facts
 use Rattle.acpc_game.specs.declared.game.Game.{Game}
 use Rattle.acpc_line.specs.SetupFacts.{greatest_blind, has_sizes_of, is_code_of, setup_conditions}
-use Rattle.acpc_line.specs.Spelled.{first_where}
 use Rattle.acpc_reading.specs.RecordView.{IsSetupOf, code_of}
 use Rattle.list_laws.proofs.Any.{none_from_zeros, none_taken_from_zeros}
 use Rattle.list_laws.proofs.Tests.{not_true}
 use Rattle.chip_ledger.specs.SeatRow.{amounts_in}
+use Rattle.first_fault.specs.Conditions.{first_where}
 
 -- the code of a game is one that its logs spell
 pub code_fits : (no_limit : Bool) → is_code_of no_limit (code_of no_limit) ≡ true

@@ -1,9 +1,9 @@
 -- The hand that is read again of a play is the hand of the play.
-use Rattle.std.proofs.Common.{◌≡◌, ℕ, ◌+◌, Bool, true, false, if◌then◌else◌, List, [], ◌∷◌, map, reverse, take, None, refl, sym, ap, subst, ◌∙◌, arith, true≢false}
+use Rattle.std.proofs.Common.{◌≡◌, ℕ, ◌+◌, Bool, true, false, if◌then◌else◌, List, [], ◌∷◌, map, reverse, take, None, refl, sym, ap, subst, ◌∙◌, true≢false}
 use Rattle.std.specs.List.{flat_map, list_any, range_with_len}
 use Rattle.canon_blocks.proofs.StreetMoves.{legal_falling}
 use Rattle.canon_laws.proofs.AllStreets.{AreSince, legal_since, none_first}
-use Rattle.canon_laws.proofs.SameCore.{plain_again}
+use Rattle.canon_laws.proofs.SameCore.{plain_again, moves_kept}
 use Rattle.canon_laws.proofs.SuitedMoves.{played_by}
 use Rattle.canon_laws.specs.Confluence.{HasTraceOf}
 use Rattle.canon_laws.specs.OtherRules.{SuitsRules}
@@ -11,9 +11,8 @@ use Rattle.canonical_play.specs.CanonScript.{plain_moves, street_said}
 use Rattle.canonical_play.specs.PlayedScript.{IsPlayed, is_move}
 use Rattle.canonical_play.specs.TraceCore.{TraceCore, core_after, core_of}
 use Rattle.play_event.specs.Due.{is_unfinished, turn}
-use Rattle.play_event.specs.Games.{street_count}
 use Rattle.play_event.specs.Laws.{AreLegal}
-use Rattle.play_event.specs.Past.{Move, Past, moves_before, moves_of, newest_street}
+use Rattle.play_event.specs.Past.{Move, Past, moves_of}
 use Rattle.play_event.specs.Said.{Numbered, Said}
 use Rattle.play_event.specs.Scripts.{past_at_end, past_of}
 use Rattle.play_event.specs.Streets.{is_stud, limit_of}
@@ -23,15 +22,11 @@ use Rattle.play_event.specs.declared.code.Code.{Code}
 use Rattle.play_event.specs.declared.limit.Limit.TheVariants as limits
 use Rattle.play_event.specs.declared.setup.Rules.{Rules}
 use Rattle.play_event.specs.declared.setup.Setup.{Setup}
-use Rattle.play_laws.proofs.DoneKept.{all_early}
-use Rattle.play_laws.proofs.LegalPlaces.{legal_past}
 use Rattle.hand_canon.specs.LegalHand.{IsLegalHand, IsShareable}
 use Rattle.hand_canon.specs.Sound.{IsSound}
-use Rattle.hand_canon.specs.WholeTrace.{HasShares, IsTraceOf}
+use Rattle.hand_canon.specs.WholeTrace.{IsTraceOf}
 use Rattle.chip_ledger.specs.LiveRow.{flagged}
-use Rattle.chip_ledger.specs.PotRow.{plain_shares}
 use Rattle.chip_ledger.specs.Seat.{seats_of}
-use Rattle.chip_ledger.specs.SeatRow.{amount_of}
 use Rattle.hand_records.specs.SoundRecord.{script_said}
 use Rattle.hand_records.specs.TraceRows.{core_said}
 use Rattle.hand_records.specs.declared.record.Record.{Record}
@@ -58,8 +53,9 @@ use Rattle.acpc_format.proofs.SuitsGame.{play_letters, suits_game}
 use Rattle.acpc_format.proofs.ValuesAgree.{values_agree}
 use Rattle.acpc_format.proofs.WithoutShows.{MucksHide, streets_alone, without_shows}
 use Rattle.first_fault.specs.Numbers.{kept_number}
-use Rattle.canon_laws.proofs.Confluent.{end_of}
-use Rattle.play_event.proofs.ScriptLaws.{said_numbered}
+use Rattle.play_event.proofs.ScriptLaws.{said_numbered, at_end}
+use Rattle.canon_laws.proofs.LastPast.{before_fifth}
+use Rattle.hand_canon.proofs.SameTraces.{whole_same}
 
 -- ---- the script
 
@@ -72,11 +68,6 @@ pub no_up_cards : (no_limit : Bool) → HasNoUpCards no_limit (code_of no_limit)
 no_up_cards true = record { stud = refl; fixed = λ is. absurd (true≢false is) }
 no_up_cards false = record { stud = refl; fixed = λ is. refl }
 
--- the moves of a past by what its trace keeps
-moves_kept : (setup : Setup) (past later : Past) → core_of setup later ≡ core_of setup past → moves_of later ≡ moves_of past
-moves_kept setup past later same =
-    sym (plain_again setup (moves_of later)) ∙ ap (λ (core : TraceCore). plain_moves core.moves) same ∙ plain_again setup (moves_of past)
-
 -- a script in letters
 in_letters : (no_limit : Bool) (setup : Setup) (rules : Rules) (script words again : List Said) → HasTraceOf setup rules script words
     → past_of setup (reverse again) ≡ past_of setup (reverse words) → AreLegal setup rules (reverse again) → HasTraceOf setup rules script again
@@ -84,16 +75,10 @@ in_letters no_limit setup rules script words again has same legal =
     record {
       played = record {
         legal = legal;
-        complete = ap (λ (p : Past). is_unfinished (turn setup p).1) (end_of setup again ∙ same ∙ sym (end_of setup words)) ∙ has.played.complete;
+        complete = ap (λ (p : Past). is_unfinished (turn setup p).1) (at_end setup again ∙ same ∙ sym (at_end setup words)) ∙ has.played.complete;
       };
       same = ap (core_of setup) same ∙ has.same;
     }
-
--- the moves before the fifth street are all
-before_fifth : (setup : Setup) (rules : Rules) (events : List Said) → AreLegal setup rules events → street_count setup.code ≡ 4 → moves_before 5 (moves_of (past_of setup events)) ≡ moves_of (past_of setup events)
-before_fifth setup rules events legal four =
-    let law = legal_past setup rules events legal in
-    all_early (newest_street (past_of setup events)) 5 (moves_of (past_of setup events)) law.past.moved (omega (arith, law.past.within, four))
 
 -- the letters of a played script, under rules that it suits
 letters_played : (game : Game) (setup : Setup) (rules : Rules) (script : List Said) (trace : Trace) → IsValid setup → IsPlayed setup rules script → IsHoldem setup.code → HasNoUpCards game.no_limit setup.code
@@ -145,16 +130,6 @@ play_again game keep play sound none =
     ∙ ap (λ (c : TraceCore). flat_map (street_again game.no_limit setup c.places (plain_moves c.moves)) (range_with_len 1 4)) core
     ∙ ap (λ (l : List Move). flat_map (street_again game.no_limit setup (core_after setup script).places l) (range_with_len 1 4)) (plain_again setup (moves_of past))) in
     subst (HasTraceOf setup (rules_of game) script) words (letters_played game setup (rules_of game) script trace sound.valid played is kind it.played core hide)
-
--- a whole trace of a past is one of each past of which the trace keeps the same
-whole_same : (setup : Setup) (past later : Past) (trace : Trace) → core_of setup later ≡ core_of setup past → IsTraceOf setup past trace → IsTraceOf setup later trace
-whole_same setup past later trace same is =
-    record {
-      same_setup = is.same_setup;
-      seats = is.seats;
-      core = is.core ∙ sym same;
-      shares = subst (λ (core : TraceCore). HasShares setup core (plain_shares trace.shares) (amount_of trace.finish)) (sym same) is.shares;
-    }
 
 -- what the numbered events say
 events_said : (n : ℕ) (script : List Said) → map (λ (event : Numbered). event.1) (numbered_from n script) ≡ script

@@ -9,7 +9,6 @@ use Rattle.chip_ledger.specs.declared.numbers.TheConstants.{MOST_CHIPS}
 use Rattle.card_set.specs.Spelling.{spelling}
 use Rattle.canonical_play.specs.CanonScript.{dealt_slots, plain_move, plain_moves}
 use Rattle.hand_canon.specs.Agreement.{value_of}
-use Rattle.hand_records.specs.AllowedNotes.{default_name}
 use Rattle.hand_records.specs.TraceRows.{core_said}
 use Rattle.first_fault.specs.declared.limits.TheConstants.{MOST_FILE_MOVES}
 use Rattle.hand_records.specs.declared.notes.Notes.{Notes}
@@ -35,7 +34,7 @@ use Rattle.acpc_reading.specs.Values.{values_said}
 use Rattle.acpc_reading.specs.declared.step.Step.{Step}
 use Rattle.acpc_reading.specs.declared.step.Step.TheVariants as steps
 use Rattle.acpc_format.specs.Again.{hand_again, name_again}
-use Rattle.acpc_format.proofs.Readable.{IsReadable, moves_written}
+use Rattle.acpc_format.proofs.Readable.{IsReadable}
 use Rattle.acpc_format.proofs.BettingAgain.{HasLetter, betting_again, with_steps}
 use Rattle.acpc_format.proofs.CardsAgain.{hole_plain}
 use Rattle.acpc_format.proofs.EventsAgain.{script_read}
@@ -45,6 +44,8 @@ use Rattle.acpc_format.proofs.NumbersAgain.{values_again}
 use Rattle.acpc_format.proofs.Signs.{cards_plain, decimal_plain, default_plain, is_clear, is_plain, plain_stands, stands_clear}
 use Rattle.acpc_format.proofs.Splits.{Passes, cut, cut_seats, passes_both, passes_more, passes_none, passes_seats, passes_wider, whole}
 use Rattle.acpc_format.proofs.Steps.{all_steps, few_steps, moves_in, round_steps, step_of, step_on, step_text, steps_on, steps_text}
+use Rattle.chip_ledger.specs.SeatsSaid.{default_name}
+use Rattle.hand_records.specs.Plays.{moves_written}
 
 -- ---- the letters of a play
 

@@ -14,10 +14,11 @@ use Rattle.acpc_game.specs.declared.game.Game.{Game}
 use Rattle.acpc_line.specs.Line.{lines_from, log_text}
 use Rattle.acpc_reading.specs.Logs.{HandSaid, Hands, hands_after, hands_after_line, is_passed_over, reading}
 use Rattle.acpc_format.specs.Again.{hand_again, hands_again}
-use Rattle.acpc_format.proofs.Readable.{IsReadable, moves_written}
+use Rattle.acpc_format.proofs.Readable.{IsReadable}
 use Rattle.acpc_format.proofs.LineAgain.{Fields, few_moves, fields_clear, fields_of, in_fields, inner_line, is_inner, line_is, line_read, steps_of}
 use Rattle.acpc_format.proofs.Splits.{Passes, cut, free}
 use Rattle.acpc_format.proofs.Steps.{moves_in}
+use Rattle.hand_records.specs.Plays.{moves_written}
 
 -- the lines of plays without their newlines
 abbrev bare_lines : Bool → ℕ → List Play → List (List ℕ)

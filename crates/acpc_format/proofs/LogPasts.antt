@@ -1,6 +1,6 @@
 -- What a legal hand has that a log says: nobody mucks, all hole cards of a seat are known or all are unknown, and in a limit game each
 -- raise is by the unit.
-use Rattle.std.proofs.Common.{◌≡◌, ℕ, zero, suc, ◌+◌, ◌≤◌, Bool, true, false, ◌&&◌, ◌||◌, ◌==◌, not, if◌then◌else◌, List, [], ◌∷◌, ◌++◌, map, filter, length, Option, Some, None, inl, inr, refl, sym, ap, subst, ◌∙◌, arith, true≢false}
+use Rattle.std.proofs.Common.{◌≡◌, ℕ, zero, suc, ◌+◌, ◌≤◌, Bool, true, false, ◌&&◌, ◌||◌, ◌==◌, not, if◌then◌else◌, List, [], ◌∷◌, ◌++◌, map, length, Option, Some, None, inl, inr, refl, sym, ap, subst, ◌∙◌, arith, true≢false}
 use Rattle.std.specs.List.{AllByRecursion, list_any}
 use Rattle.std.proofs.lemmas.Bool.{and_from, eq-eqb, eqb-true, or_cases, or_left, or_right}
 use Rattle.card_set.specs.Known.{is_unknown, known_slots}
@@ -23,7 +23,7 @@ use Rattle.play_event.specs.declared.setup.Rules.{Rules}
 use Rattle.play_event.specs.declared.setup.Setup.{Setup}
 use Rattle.play_laws.proofs.DonePasts.{legal_done}
 use Rattle.play_laws.proofs.DueAtEvents.{turn_reaches}
-use Rattle.play_laws.proofs.LegalPlaces.{group_count, legal_past}
+use Rattle.play_laws.proofs.LegalPlaces.{group_count, legal_past, some_passes}
 use Rattle.acpc_format.proofs.Holdem.{IsHoldem}
 use Rattle.acpc_format.proofs.LogEvents.{IsLogEvent}
 
@@ -90,20 +90,6 @@ any_among p q (first ∷ rest) goes some = elim (or_cases (p first) (list_any p 
   | inr there ↦ or_right (q first) (list_any q rest) (any_among p q rest (λ place among. goes place (inr among)) there)
 ]
 
--- a place that passes a test is counted
-counted : (p : Place → Bool) (placed : List Place) (place : Place) → IsAmong placed place → p place ≡ true → 1 ≤ length (filter p placed)
-counted p [] place among is = absurd among
-counted p (first ∷ rest) place (inl same) is = by_first (p first) (ap p same ∙ is)
-  where
-    by_first : (b : Bool) → b ≡ true → 1 ≤ length (if b then (first ∷ filter p rest) else filter p rest)
-    by_first true here = omega arith
-    by_first false here = absurd (true≢false (sym here))
-counted p (first ∷ rest) place (inr among) is = by_first (p first) (counted p rest place among is)
-  where
-    by_first : (b : Bool) → 1 ≤ length (filter p rest) → 1 ≤ length (if b then (first ∷ filter p rest) else filter p rest)
-    by_first true some = omega (arith, some)
-    by_first false some = some
-
 -- the card of a seat that is not known, and one that is
 abbrev pub is_hidden_of : ℕ → Place → Bool
 is_hidden_of seat place = is_same_owner place.owner (Some seat) && is_unknown place.slot
@@ -121,7 +107,7 @@ dealt_there setup past seat place among own =
     omega (
       arith,
       group_count setup.code past place.street seat,
-      counted (is_in_group (Some seat) place.street) (places_of setup.code past) place among (and_from (is_same_owner place.owner (Some seat)) (place.street == place.street) own (eq-eqb place.street place.street refl)),
+      some_passes (is_in_group (Some seat) place.street) (places_of setup.code past) place among (and_from (is_same_owner place.owner (Some seat)) (place.street == place.street) own (eq-eqb place.street place.street refl)),
     )
 
 -- hole cards are dealt on the first street alone

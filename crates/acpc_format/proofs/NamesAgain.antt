@@ -8,7 +8,7 @@ use Rattle.std.proofs.lemmas.Fmt.{decimal_is_IsNumeral, length-decimal-le_succ, 
 use Rattle.std.proofs.lemmas.List.{append-nil}
 use Rattle.std.proofs.lemmas.Slice.Eq.{bytes_eq-Decides}
 use Rattle.std.proofs.lemmas.Str.{is_utf8-from_IsUtf8, IsUtf8-from_ascii}
-use Rattle.hand_records.specs.AllowedNotes.{default_name, AreAllowed, IsName}
+use Rattle.hand_records.specs.AllowedNotes.{AreAllowed, IsName}
 use Rattle.first_fault.specs.declared.limits.TheConstants.{MOST_TEXT_BYTES}
 use Rattle.hand_records.specs.declared.notes.Notes.{Notes}
 use Rattle.acpc_text.specs.declared.fault.LineFault.{LineFault}
@@ -17,6 +17,7 @@ use Rattle.acpc_reading.specs.Names.{name_said, names_after}
 use Rattle.acpc_format.specs.Again.{kept_name, name_again}
 use Rattle.acpc_line.specs.Texts.{AreTexts}
 use Rattle.list_laws.proofs.Bytes.{same_bytes}
+use Rattle.chip_ledger.specs.SeatsSaid.{default_name}
 
 -- the default name of a seat reads as none
 default_again : (seat at : ℕ) → seat ≤ 10 → name_said seat at (default_name seat) ≡ Ok None

@@ -3,7 +3,7 @@ use Rattle.std.proofs.Common.{◌≡◌, ℕ, zero, suc, ◌+◌, ◌-◌, ◌�
 use Rattle.std.specs.List.{list_all, range_with_len}
 use Rattle.std.specs.Char.{is_digit, digit_value}
 use Rattle.std.specs.Str.Parse.{AllDigits, digits_value}
-use Rattle.std.proofs.lemmas.Bool.{and_parts, eqb-true, eq-eqb, le-leb, leb-true, lt-ltb, ltb-true}
+use Rattle.std.proofs.lemmas.Bool.{and_parts, eqb-true, eq-eqb, le-leb, leb-true, ltb-true}
 use Rattle.std.proofs.lemmas.Fmt.{decimal-digits_value, decimal_is_IsNumeral, length-decimal-le}
 use Rattle.std.proofs.lemmas.List.{append-nil}
 use Rattle.std.proofs.lemmas.Slice.Eq.{bytes_eq-Decides}
@@ -21,16 +21,10 @@ use Rattle.acpc_reading.specs.Values.{unsigned_said, value_said, values_after, w
 use Rattle.acpc_format.specs.Again.{kept_hand}
 use Rattle.acpc_format.proofs.Signs.{decimal_plain, digits_plain, is_plain}
 use Rattle.acpc_format.proofs.Splits.{Passes, whole}
-use Rattle.list_laws.proofs.Digits.{all_digits, of_digits, own_digits}
+use Rattle.list_laws.proofs.Digits.{all_digits, own_digits}
 use Rattle.list_laws.proofs.Integers.{difference_above, difference_below}
 use Rattle.list_laws.proofs.Tests.{implied}
-
--- a number in decimal digits
-pub decimal_digits : (n : ℕ) → n < 2 ^ 64 → are_digits (decimal n) ≡ true
-unfolding are_digits
-decimal_digits n small =
-    let numeral = decimal_is_IsNumeral n small in
-    rw (lt-ltb 0 (length (decimal n)) numeral.0.0, of_digits (decimal n) numeral.0.1) refl
+use Rattle.first_fault.proofs.DecimalDigits.{decimal_digits}
 
 pub decimal_number : (most n : ℕ) → n ≤ most → n < 2 ^ 64 → number_of most (decimal n) ≡ Some n
 unfolding number_of

@@ -1,5 +1,5 @@
 -- A valid setup that the logs of a game spell is that of the game.
-use Rattle.std.proofs.Common.{◌≡◌, ℕ, ◌-◌, Bool, true, false, ◌&&◌, not, eqb, nat_lt, bytes_eq, if◌then◌else◌, List, [], slice_index, None, refl, sym, ap, subst, ◌∙◌, arith, true≢false, inl, inr}
+use Rattle.std.proofs.Common.{◌≡◌, ℕ, ◌-◌, Bool, true, false, ◌&&◌, eqb, nat_lt, bytes_eq, if◌then◌else◌, List, slice_index, None, refl, sym, ap, subst, ◌∙◌, arith, true≢false, inl, inr}
 use Rattle.std.specs.List.{list_any}
 use Rattle.std.proofs.lemmas.Bool.{and_parts, cases_lt, eqb-true}
 use Rattle.std.proofs.lemmas.Slice.Eq.{bytes_eq-Decides}
@@ -11,8 +11,8 @@ use Rattle.list_laws.proofs.NumbersOfRange.{any_none}
 use Rattle.play_event.specs.declared.code.Code.{Code}
 use Rattle.play_event.specs.declared.code.Code.TheVariants as codes
 use Rattle.play_event.specs.declared.setup.Setup.{Setup}
-use Rattle.play_event.specs.Streets.{is_stud, limit_of}
-use Rattle.play_event.specs.ValidSetup.{IsSizeWhere, IsValid, has_antes, is_fixed}
+use Rattle.play_event.specs.Streets.{is_stud}
+use Rattle.play_event.specs.ValidSetup.{IsSizeWhere, IsValid, has_antes}
 use Rattle.hand_records.specs.declared.trace.Play.{Play}
 use Rattle.hand_records.specs.declared.writing.Keep.{Keep}
 use Rattle.acpc_game.specs.declared.game.Game.{Game}
@@ -23,6 +23,7 @@ use Rattle.acpc_reading.specs.RecordView.{IsSetupOf, code_of}
 use Rattle.acpc_format.proofs.SpelledFacts.{HasSetupOf, spelled}
 use Rattle.list_laws.proofs.Any.{zero_from_none}
 use Rattle.list_laws.proofs.Entries.{index_taken_at}
+use Rattle.acpc_line.proofs.Making.{HasSizes}
 
 -- the code of a game
 pub code_is : (no_limit : Bool) (code : Code) → is_code_of no_limit code ≡ true → code ≡ code_of no_limit
@@ -55,12 +56,6 @@ none_in row none seat = elim (cases_lt (seat - 1) row.seats) [
   | inl within ↦ sym (index_taken_at row.amounts row.seats (seat - 1) within) ∙ zero_from_none (amounts_in row) (seat - 1) none
   | inr beyond ↦ row.filler (seat - 1) beyond
 ]
-
--- the sizes of bets of a valid setup are those of the game
-record HasSizes (code : Code) (small big least : ℕ) : Type 0 where
-  small_bet : IsSizeWhere (is_fixed (limit_of code)) small
-  big_bet : IsSizeWhere (is_fixed (limit_of code)) big
-  least_bet : IsSizeWhere (not (is_fixed (limit_of code))) least
 
 no_sizes : (blind small big : ℕ) → has_fitting_sizes true blind small big ≡ true → (small ≡ 0) × (big ≡ 0)
 no_sizes blind small big fits =

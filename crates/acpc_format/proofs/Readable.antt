@@ -16,7 +16,6 @@ use Rattle.acpc_game.specs.declared.game.Game.{Game}
 use Rattle.acpc_line.specs.PlayFacts.{is_part_known}
 use Rattle.acpc_line.specs.Rounds.{has_board}
 use Rattle.acpc_line.specs.Texts.{HasTexts}
-pub use Rattle.acpc_format.specs.Again.{moves_written}
 
 -- each seat of so many is dealt two hole cards before the first round and none later, and both are known or both are not
 pub record HasHoles (count : ℕ) (placed : List TracedPlace) : Type 0 where

@@ -54,7 +54,7 @@ use Rattle.acpc_game.specs.declared.game.Game.{Game}
 use Rattle.acpc_line.specs.NoteFacts.{text_conditions, time_conditions}
 use Rattle.acpc_line.specs.PlayFacts.{has_unknown_hole_card, is_above_cap, is_above_caps, is_free_fold, is_off_unit, is_open_muck, is_part_known, is_raise_on, is_uneven, play_conditions}
 use Rattle.acpc_line.specs.SetupFacts.{is_code_of, setup_conditions}
-use Rattle.acpc_line.specs.Spelled.{first_where, unspelled, unspelled_note}
+use Rattle.acpc_line.specs.Spelled.{unspelled, unspelled_note}
 use Rattle.acpc_reading.specs.Logs.{reading}
 use Rattle.acpc_reading.specs.RecordView.{IsOfGame, record_said, rules_of}
 use Rattle.acpc_format.proofs.GameSetups.{code_fits, setup_none}
@@ -66,6 +66,7 @@ use Rattle.acpc_format.proofs.SuitsGame.{is_off, raises_said}
 use Rattle.list_laws.proofs.Tests.{not_both_still, not_true}
 use Rattle.hand_canon.specs.Sharp.{IsOther, is_sharp}
 use Rattle.hand_records.specs.Refusals.{or_behind}
+use Rattle.first_fault.specs.Conditions.{first_where}
 
 -- ---- the play, fact by fact
 

@@ -1,5 +1,5 @@
 -- A sound play that the logs of its game spell reads back.
-use Rattle.std.proofs.Common.{◌≡◌, ℕ, zero, suc, ◌+◌, ◌-◌, ◌≤◌, Bool, true, false, ◌||◌, cond, sum_by, List, [], ◌∷◌, length, map, filter, reverse, take, Some, None, Ok, refl, sym, ap, subst, ◌∙◌, arith, true≢false, inl, inr}
+use Rattle.std.proofs.Common.{◌≡◌, ℕ, zero, suc, ◌+◌, ◌-◌, ◌≤◌, Bool, true, false, ◌||◌, cond, sum_by, List, [], ◌∷◌, length, map, filter, reverse, Some, None, Ok, refl, sym, ap, subst, ◌∙◌, arith, true≢false, inl, inr}
 use Rattle.std.specs.List.{AllByRecursion}
 use Rattle.std.proofs.lemmas.Bool.{cases_lt}
 use Rattle.std.proofs.lemmas.List.{length-map, length-reverse}
@@ -33,19 +33,21 @@ use Rattle.acpc_game.specs.declared.game.Game.{Game}
 use Rattle.acpc_line.specs.Line.{log_text}
 use Rattle.acpc_line.specs.PlayFacts.{is_part_known}
 use Rattle.acpc_line.specs.Rounds.{has_board}
-use Rattle.acpc_line.specs.Spelled.{first_refusal, refusal_from, unspelled}
+use Rattle.acpc_line.specs.Spelled.{unspelled}
 use Rattle.acpc_line.specs.Texts.{HasTexts}
 use Rattle.acpc_format.proofs.Readable.{HasBoards, HasLetters, IsReadable}
 use Rattle.acpc_reading.specs.Logs.{reading}
-use Rattle.acpc_format.specs.Again.{hands_again, moves_written}
+use Rattle.acpc_format.specs.Again.{hands_again}
 use Rattle.acpc_format.proofs.LogAgain.{plays_again}
 use Rattle.acpc_format.proofs.EventsAgain.{no_slots}
 use Rattle.acpc_format.proofs.Holdem.{IsHoldem, holdem}
 use Rattle.acpc_format.proofs.SpelledFacts.{spelled}
-use Rattle.canon_ranges.proofs.StreetsPlayed.{HasStreet, board_known, came_before, first_holes, four_streets, is_passed}
+use Rattle.canon_ranges.proofs.StreetsPlayed.{HasStreet, board_known, came_before, first_holes, four_streets, is_passed, few_on_board}
 use Rattle.list_laws.proofs.Lists.{none_from_length}
-use Rattle.canon_laws.proofs.Confluent.{end_of}
 use Rattle.hand_records.proofs.Refusals.{none_refused}
+use Rattle.play_event.proofs.ScriptLaws.{at_end}
+use Rattle.hand_records.specs.Refusals.{refusal_from, first_refusal}
+use Rattle.hand_records.specs.Plays.{moves_written}
 
 -- cards of the board, and whether there are some
 board_there : (placed : List TracedPlace) (street : ℕ) → 1 ≤ length (dealt_slots placed None street) → has_board placed street ≡ true
@@ -89,11 +91,6 @@ in_full : (setup : Setup) (events : List Said) (street : ℕ) → HasStreet setu
     → length (dealt_slots (traced_places setup (past_of setup events)) None street) ≡ board_cards_on setup.code street
 in_full setup events street has dealt = has.board (came setup events street has (is_passed setup (moves_of (past_of setup events)) street) refl dealt)
 
-at_most : (setup : Setup) (events : List Said) (street : ℕ) → HasStreet setup events street → (passed : Bool) → is_passed setup (moves_of (past_of setup events)) street ≡ passed
-    → length (dealt_slots (traced_places setup (past_of setup events)) None street) ≤ board_cards_on setup.code street
-at_most setup events street has true is = omega (arith, has.no_board is)
-at_most setup events street has false is = omega (arith, has.board is)
-
 board_some : (setup : Setup) → IsHoldem setup.code → (street : ℕ) → 2 ≤ street → street ≤ 4 → 1 ≤ board_cards_on setup.code street
 board_some setup is zero low high = absurd (omega (arith, low))
 board_some setup is (suc zero) low high = absurd (omega (arith, low))
@@ -115,7 +112,7 @@ core_reads setup rules script valid played tidy is =
     let past = past_of setup events in
     let placed = traced_places setup past in
     let list = moves_of past in
-    let complete : is_unfinished (turn setup past).1 ≡ false = sym (ap (λ (p : Past). is_unfinished (turn setup p).1) (end_of setup script)) ∙ played.complete in
+    let complete : is_unfinished (turn setup past).1 ≡ false = sym (ap (λ (p : Past). is_unfinished (turn setup p).1) (at_end setup script)) ∙ played.complete in
     let streets = four_streets setup rules events played.legal complete is.no_draw is.streets in
     let plain : plain_moves (traced_moves setup list) ≡ list = plain_again setup list in
     let second = streets 2 (omega arith) (omega arith) in
@@ -130,7 +127,7 @@ core_reads setup rules script valid played tidy is =
       two = λ seat low high. first_holes setup rules events seat played.legal complete (is.no_draw 1) (omega (arith, is.streets)) low high ∙ is.holes;
       no_more = λ seat street low high from to. none_from_length (dealt_slots placed (Some seat) street) (omega (arith, (streets street (omega (arith, from)) to).holes seat low high, is.later_holes street from));
       boards = record {
-        none = none_from_length (dealt_slots placed None 1) (omega (arith, at_most setup events 1 (streets 1 (omega arith) (omega arith)) (is_passed setup list 1) refl, is.no_board));
+        none = none_from_length (dealt_slots placed None 1) (omega (arith, few_on_board setup events 1 (streets 1 (omega arith) (omega arith)) (is_passed setup list 1) refl, is.no_board));
         flop = λ dealt. in_full setup events 2 second dealt ∙ is.flop;
         turn = λ dealt. in_full setup events 3 third dealt ∙ is.turn;
         river = λ dealt. in_full setup events 4 fourth dealt ∙ is.river;
@@ -165,13 +162,13 @@ sound_reads game keep play sound texts none =
       texts = texts;
     }
 
-all_read : (game : Game) (keep : Keep) (number : ℕ) (plays : List Play) → AllByRecursion IsSound plays → AllByRecursion HasTexts plays → refusal_from game keep number plays ≡ None → AllByRecursion (IsReadable game) plays
+all_read : (game : Game) (keep : Keep) (number : ℕ) (plays : List Play) → AllByRecursion IsSound plays → AllByRecursion HasTexts plays → refusal_from (unspelled game keep) number plays ≡ None → AllByRecursion (IsReadable game) plays
 all_read game keep number [] sound texts none = tt
 all_read game keep number (play ∷ rest) sound texts none =
-    let parts = none_refused number (unspelled game keep play) (refusal_from game keep (number + 1) rest) none in
+    let parts = none_refused number (unspelled game keep play) (refusal_from (unspelled game keep) (number + 1) rest) none in
     (sound_reads game keep play sound.0 texts.0 parts.0, all_read game keep (number + 1) rest sound.1 texts.1 parts.1)
 
 -- and what was written of such plays reads as their hands
-pub sound_again : (game : Game) (keep : Keep) (plays : List Play) → length plays ≤ MOST_HANDS → AllByRecursion IsSound plays → AllByRecursion HasTexts plays → first_refusal game keep plays ≡ None
+pub sound_again : (game : Game) (keep : Keep) (plays : List Play) → length plays ≤ MOST_HANDS → AllByRecursion IsSound plays → AllByRecursion HasTexts plays → first_refusal (unspelled game keep) plays ≡ None
     → sum_by moves_written plays ≤ MOST_FILE_MOVES → reading game (log_text game.no_limit plays) ≡ Ok (hands_again game.no_limit 0 plays)
 sound_again game keep plays few sound texts none moves = plays_again game plays few (all_read game keep 1 plays sound texts none) moves

@@ -1,5 +1,5 @@
 -- A play that the logs of a game spell suits the rules of the game, and its moves have letters.
-use Rattle.std.proofs.Common.{◌≡◌, ℕ, zero, suc, ◌+◌, ◌-◌, ◌≤◌, Bool, true, false, ◌&&◌, ◌==◌, not, nat_le, cond, if◌then◌else◌, List, [], ◌∷◌, map, count_by, slice_index, Option, Some, None, IfSome, refl, sym, ap, ◌∙◌, arith, true≢false}
+use Rattle.std.proofs.Common.{◌≡◌, ℕ, zero, suc, ◌+◌, ◌-◌, ◌≤◌, Bool, true, false, ◌&&◌, ◌==◌, not, cond, if◌then◌else◌, List, [], ◌∷◌, map, count_by, slice_index, Option, Some, None, IfSome, refl, sym, ap, ◌∙◌, arith, true≢false}
 use Rattle.std.specs.List.{list_any}
 use Rattle.std.proofs.lemmas.Bool.{eqb-true, ltb-false, ne_eqb, not-false, or_parts}
 use Rattle.canon_laws.specs.OtherRules as other_rules
@@ -11,30 +11,24 @@ use Rattle.list_laws.proofs.Counting.{count_by-cons}
 use Rattle.list_laws.proofs.Finding.{list_any-push}
 use Rattle.list_laws.proofs.Reversed.{count_reversed, filter-reverse}
 use Rattle.play_event.specs.Amounts.{unit_target}
-use Rattle.play_event.specs.Due.{has_opened_betting}
-use Rattle.play_event.specs.Laws.{AreLegal, NoneHold}
-use Rattle.play_event.specs.Openers.{TheSeat}
-use Rattle.play_event.specs.Past.{Act, Folded, Move, Moved, Resolved, is_bring_in, is_raise, moves_of, moves_on}
+use Rattle.play_event.specs.Laws.{AreLegal}
+use Rattle.play_event.specs.Past.{Move, is_raise, moves_of, moves_on}
 use Rattle.play_event.specs.Places.{Place}
 use Rattle.play_event.specs.Played.{act_said, move_said}
 use Rattle.play_event.specs.Raising.{raises_on}
 use Rattle.play_event.specs.Said.{Said}
-use Rattle.play_event.specs.Scripts.{past_of, resolved_by}
-use Rattle.play_event.specs.Seats.{able_count}
+use Rattle.play_event.specs.Scripts.{past_of}
 use Rattle.play_event.specs.Streets.{is_stud, limit_of}
 use Rattle.play_event.specs.Table.{places_of}
 use Rattle.play_event.specs.Trace.{TracedMove, traced_move, traced_moves, unit_target_in}
 use Rattle.play_event.specs.declared.limit.Limit.TheVariants as limits
 use Rattle.play_event.specs.declared.played.Move as rows
-use Rattle.play_event.specs.declared.reason.Due.{Due}
 use Rattle.play_event.specs.declared.setup.Reopen.TheVariants as reopens
 use Rattle.play_event.specs.declared.setup.Reopen.{Reopen}
 use Rattle.play_event.specs.declared.setup.Rules.{Rules}
 use Rattle.play_event.specs.declared.setup.Setup.{Setup}
 use Rattle.play_laws.proofs.FittingPasts.{legal_moves}
-use Rattle.play_laws.proofs.MoveKinds.{IsMoveSaid, bring_said, call_said, fold_said, raise_said}
-use Rattle.play_laws.proofs.MovesLaw.{IsBetDue, MovesLaw, bring_first, move_now}
-use Rattle.play_laws.proofs.NamedMoves.{move_reasons}
+use Rattle.play_laws.proofs.MovesLaw.{MovesLaw}
 use Rattle.hand_records.specs.TraceRows.{core_said}
 use Rattle.hand_records.specs.declared.trace.Trace.{Trace}
 use Rattle.acpc_game.specs.declared.game.Game.{Game}
@@ -42,6 +36,7 @@ use Rattle.acpc_line.specs.PlayFacts.{is_above_cap, is_above_caps, is_off_unit, 
 use Rattle.acpc_reading.specs.RecordView.{rules_of}
 use Rattle.acpc_format.proofs.LetterEvents.{HaveLetters}
 use Rattle.acpc_format.proofs.SpelledFacts.{HasPlayOf}
+use Rattle.play_laws.proofs.ResolvedMoves.{no_bring}
 
 -- ---- the rules
 
@@ -119,22 +114,6 @@ suits_game game trace has since =
     }
 
 -- ---- the letters
-
--- what a resolved event did
-act_of : Resolved → Act
-act_of (Moved move) = move.act
-act_of _ = Folded
-
--- without up-cards no move is a bring-in
-no_bring : (setup : Setup) (rules : Rules) (older : List Move) (move : Move) (event : Said) (due : Due) → is_stud setup.code ≡ false → IsMoveSaid event → IsBetDue setup older move.street due
-    → NoneHold (move_reasons setup rules older (move.street, due) (TheSeat move.seat) event) → resolved_by setup older move.street (TheSeat move.seat) event ≡ Moved move → is_bring_in move.act ≡ false
-unfolding act_of
-no_bring setup rules older move _ due blinds (fold_said named) is_due none place = sym (ap (λ r. is_bring_in (act_of r)) place)
-no_bring setup rules older move _ due blinds (call_said named stated) is_due none place = sym (ap (λ r. is_bring_in (act_of r)) place)
-no_bring setup rules older move _ due blinds (raise_said named amount) is_due none place = sym (ap (λ r. is_bring_in (act_of r)) place)
-no_bring setup rules older move _ _ blinds (bring_said named) (move_now unopened now) none place = absurd (true≢false none.1.0)
-no_bring setup rules older move _ _ blinds (bring_said named) (bring_first is) none place =
-    absurd (true≢false (sym is ∙ ap (λ b. b && (move.street == 1) && nat_le 2 (able_count setup older) && not (list_any (λ (m : Move). has_opened_betting m.act) (moves_on move.street older))) blinds))
 
 -- a raise by the unit
 by_unit : (setup : Setup) (older : List Move) (move : Move) → limit_of setup.code ≡ limits.Fixed → (is_raise move.act && not (move.to == unit_target_in (limit_of setup.code) setup older move.street move.seat)) ≡ false → is_raise move.act ≡ true

@@ -13,12 +13,7 @@ use Rattle.hand_canon.specs.Agreement.{Comparison, finish_compared, first_differ
 use Rattle.acpc_reading.specs.RecordView.{StatesValues}
 use Rattle.acpc_reading.specs.Views.{nets_in}
 use Rattle.list_laws.proofs.Integers.{not_different}
-
--- a number of a list that is made for each seat
-at_seat : (f : ℕ → ℤ) (first count k : ℕ) → k < count → get_or (map f (range_with_len first count)) k (pos 0) ≡ f (first + k)
-at_seat f first zero k within = absurd (omega (arith, within))
-at_seat f first (suc count) zero within = ap f (omega arith)
-at_seat f first (suc count) (suc k) within = at_seat f (first + 1) count k (omega (arith, within)) ∙ ap f (omega arith)
+use Rattle.list_laws.proofs.NumbersOfRange.{mapped_at}
 
 -- where no number differs nothing is found
 none_differ : (compared : ℕ → Comparison) (first count : ℕ) → ((seat : ℕ) → first ≤ seat → seat < first + count → is_different (compared seat) ≡ false) → find is_different (map compared (range_with_len first count)) ≡ None
@@ -38,7 +33,7 @@ row_agrees trace row same =
     not_different (net_of row seat) (value_of trace seat)
     (sym (get_or-take row.seats row.nets (seat - 1) (pos 0) here)
     ∙ ap (λ (l : List ℤ). get_or l (seat - 1) (pos 0)) same
-    ∙ at_seat (value_of trace) 1 seats (seat - 1) within
+    ∙ mapped_at (value_of trace) (pos 0) 1 seats (seat - 1) within
     ∙ ap (value_of trace) number))
   where
     count : row.seats ≡ trace.setup.stacks.seats

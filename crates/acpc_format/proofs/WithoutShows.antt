@@ -1,27 +1,25 @@
 -- The canonical script without its showdown leaves the trace too, where each mucked seat has an unknown card: a live seat whose cards
 -- are all known counts as shown, and each other one as mucked.
-use Rattle.std.proofs.Common.{◌≡◌, ℕ, ◌+◌, ◌-◌, ◌≤◌, ◌<◌, Bool, true, false, ◌&&◌, not, nat_le, List, [], map, filter, reverse, refl, sym, ◌∙◌, ap, subst, arith, true≢false}
+use Rattle.std.proofs.Common.{◌≡◌, ℕ, ◌+◌, ◌≤◌, ◌<◌, Bool, true, false, ◌&&◌, not, nat_le, List, [], filter, reverse, refl, sym, ◌∙◌, ap, subst, arith, true≢false}
 use Rattle.std.specs.List.{flat_map}
 use Rattle.play_event.proofs.StreetLaws.{shown_unfinished}
 use Rattle.play_event.specs.declared.reason.Due.{Due}
 use Rattle.play_event.specs.declared.setup.Rules.{Rules}
 use Rattle.play_event.specs.declared.setup.Setup.{Setup}
-use Rattle.play_event.specs.Due.{due_on, first_due, is_unfinished, turn}
+use Rattle.play_event.specs.Due.{is_unfinished, turn}
 use Rattle.play_event.specs.Games.{street_count}
 use Rattle.play_event.specs.Laws.{AreLegal}
-use Rattle.play_event.specs.Past.{Move, Past, moves_of, newest_street}
+use Rattle.play_event.specs.Past.{Move, Past, moves_of}
 use Rattle.play_event.specs.Said.{Said}
 use Rattle.play_event.specs.Scripts.{past_at_end, past_of}
 use Rattle.play_event.specs.Seats.{all_seats, is_live, live_count}
 use Rattle.play_event.specs.Showing.{has_mucked, is_show_due}
-use Rattle.play_event.specs.Stakes.{pots_after, returned_after}
 use Rattle.play_event.specs.Table.{places_of}
-use Rattle.play_event.specs.Trace.{TracedPlace, has_unknown_card, is_mucked, is_shown, streets_of, traced_moves, traced_places}
+use Rattle.play_event.specs.Trace.{has_unknown_card, is_mucked, is_shown, streets_of, traced_places}
 use Rattle.canonical_play.specs.CanonScript.{plain_moves, street_said}
 use Rattle.canonical_play.specs.PlayedScript.{IsPlayed}
 use Rattle.canonical_play.specs.TraceCore.{TraceCore, core_after, core_of}
 use Rattle.list_laws.proofs.NumbersOfRange.{filter_range}
-use Rattle.play_laws.proofs.DueAtEvents.{turned_by}
 use Rattle.play_laws.proofs.LegalPlaces.{LegalPast, legal_past}
 use Rattle.play_laws.proofs.PlayedStreets.{IsReached}
 use Rattle.canon_blocks.proofs.FreeGroups.{is_out_by}
@@ -31,11 +29,11 @@ use Rattle.canon_blocks.proofs.SamePlaces.{same_places}
 use Rattle.canon_blocks.proofs.TraceOrder.{finals_of, is_final}
 use Rattle.canon_laws.proofs.AllStreets.{AtEnd, at_end}
 use Rattle.canon_laws.proofs.HeldSame.{held_same, held_script, unknown_same}
-use Rattle.canon_laws.proofs.SameCore.{plain_again}
+use Rattle.canon_laws.proofs.SameCore.{plain_again, core_by, core_parts}
 use Rattle.canon_laws.proofs.ShowdownRun.{AtShow, turn_shows}
 use Rattle.canon_laws.specs.Confluence.{HasTraceOf}
-use Rattle.canon_laws.proofs.Confluent.{end_of}
-use Rattle.canon_laws.proofs.LastPast.{early_all}
+use Rattle.canon_laws.proofs.LastPast.{early_all, over_ends}
+use Rattle.play_event.proofs.ScriptLaws.{at_end}
 
 -- each mucked seat has a card that is not known
 abbrev pub MucksHide : Setup → Past → Type 0
@@ -66,10 +64,6 @@ after_streets setup rules events legal complete =
       mirrored = subst M all e.at.mirrored;
       law = subst L e.at.led.past (legal_past setup rules e.at.led.events e.at.led.legal);
     }
-
-over_ends : (setup : Setup) (mine : Past) → nat_le (live_count setup (moves_of mine)) 1 ≡ true → is_unfinished (turn setup mine).1 ≡ false
-unfolding turn
-over_ends setup mine over = ap (λ b. is_unfinished (turned_by setup mine b (first_due (due_on setup mine) (street_count setup.code + 1 - newest_street mine) (newest_street mine))).1) over
 
 -- after them nothing is due but shows
 ends : (setup : Setup) (rules : Rules) (events : List Said) → AreLegal setup rules events → (s : AfterStreets setup rules (past_of setup events)) → (over : Bool) → nat_le (live_count setup (moves_of (past_of setup events))) 1 ≡ over
@@ -117,25 +111,6 @@ shown_same setup rules events legal hide s seat least most =
     (held_same setup rules events (places_of setup.code mine) seat legal least most live s.mirrored ∙ held_script setup rules events seat legal least most live))
     (hide seat least most)
 
--- the parts of a trace
-core_by : Setup → List TracedPlace → List Move → List ℕ → List ℕ → TraceCore
-core_by setup places list shown mucked =
-    record {
-      places = places;
-      moves = traced_moves setup list;
-      shown = shown;
-      mucked = mucked;
-      pots = pots_after setup list;
-      returned = map (returned_after setup list) (all_seats setup);
-    }
-
-core_parts : (setup : Setup) (places places' : List TracedPlace) (list list' : List Move) (shown shown' mucked mucked' : List ℕ) → places ≡ places' → list ≡ list' → shown ≡ shown' → mucked ≡ mucked'
-    → core_by setup places list shown mucked ≡ core_by setup places' list' shown' mucked'
-core_parts setup places places' list list' shown shown' mucked mucked' one two three four =
-    ap (λ x. core_by setup x list shown mucked) one
-    ∙ (ap (λ x. core_by setup places' x shown mucked) two
-    ∙ (ap (λ x. core_by setup places' list' x mucked) three ∙ ap (λ x. core_by setup places' list' shown' x) four))
-
 same_core : (setup : Setup) (rules : Rules) (events : List Said) → AreLegal setup rules events → MucksHide setup (past_of setup events) → (s : AfterStreets setup rules (past_of setup events)) → core_of setup s.end.mine ≡ core_of setup (past_of setup events)
 unfolding core_by
 same_core setup rules events legal hide s =
@@ -162,7 +137,7 @@ words_alone setup rules script words played hide s same =
     record {
       played = record {
         legal = run.legal;
-        complete = ap (λ (p : Past). is_unfinished (turn setup p).1) (end_of setup words ∙ run.past) ∙ ends setup rules events played.legal s (nat_le (live_count setup (moves_of (past_of setup events))) 1) refl;
+        complete = ap (λ (p : Past). is_unfinished (turn setup p).1) (at_end setup words ∙ run.past) ∙ ends setup rules events played.legal s (nat_le (live_count setup (moves_of (past_of setup events))) 1) refl;
       };
       same = ap (core_of setup) run.past ∙ same_core setup rules events played.legal hide s;
     }
@@ -171,6 +146,6 @@ words_alone setup rules script words played hide s same =
 pub without_shows : (setup : Setup) (rules : Rules) (script : List Said) → IsPlayed setup rules script → MucksHide setup (past_at_end setup script) → HasTraceOf setup rules script (streets_alone setup (core_after setup script))
 without_shows setup rules script played hide =
     let past = past_at_end setup script in
-    let complete : is_unfinished (turn setup past).1 ≡ false = sym (ap (λ (p : Past). is_unfinished (turn setup p).1) (end_of setup script)) ∙ played.complete in
+    let complete : is_unfinished (turn setup past).1 ≡ false = sym (ap (λ (p : Past). is_unfinished (turn setup p).1) (at_end setup script)) ∙ played.complete in
     words_alone setup rules script (streets_alone setup (core_after setup script)) played hide (after_streets setup rules (reverse script) played.legal complete)
     (ap (λ (l : List Move). flat_map (street_said setup (traced_places setup past) l) (streets_of setup)) (sym (plain_again setup (moves_of past))))

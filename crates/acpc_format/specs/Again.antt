@@ -1,6 +1,6 @@
 -- The hands that are read again of plays that were written: the canonical scripts as letters say them, the values, and the kept
 -- notes.
-use Rattle.std.specs.Prelude.{ℕ, ◌+◌, ◌-◌, ◌==◌, Bool, bytes_eq, if◌then◌else◌, List, [], ◌∷◌, ◌++◌, length, map, slice_index_or, decimal, Option, Some, None}
+use Rattle.std.specs.Prelude.{ℕ, ◌+◌, ◌-◌, ◌==◌, Bool, bytes_eq, if◌then◌else◌, List, [], ◌∷◌, ◌++◌, map, slice_index_or, decimal, Option, Some, None}
 use Rattle.std.specs.List.{flat_map}
 use Rattle.play_event.specs.declared.event.Spelled.TheVariants as spelled
 use Rattle.play_event.specs.declared.setup.Setup.{Setup}
@@ -81,7 +81,3 @@ hand_again no_limit place play = record {
 abbrev pub hands_again : Bool → ℕ → List Play → List HandSaid
 hands_again no_limit place [] = []
 hands_again no_limit place (play ∷ rest) = hand_again no_limit place play ∷ hands_again no_limit (place + 1) rest
-
--- the moves that are written of a play
-abbrev pub moves_written : Play → ℕ
-moves_written play = length (core_said play.trace).moves

@@ -10,21 +10,23 @@ ghost use Rattle.hand_records.specs.declared.writing.Keep.{Keep};
 ghost use Rattle.hand_records.specs.declared.writing.Unspelled.{Unspelled};
 ghost use Rattle.acpc_game.specs.declared.game.Game.{Game as AnyGame};
 ghost use Rattle.acpc_line.specs.Line.{log_text};
-ghost use Rattle.acpc_line.specs.Spelled.{first_refusal, unspelled};
+ghost use Rattle.acpc_line.specs.Spelled.{unspelled};
 ghost use Rattle.acpc_line.specs.Texts.{HasTexts};
 ghost use Rattle.acpc_reading.specs.Logs.{reading};
 ghost use Rattle.acpc_reading.specs.RecordView.{IsOfGame, IsSetupOf, record_said};
-ghost use Rattle.acpc_format.specs.Again.{hands_again, moves_written};
+ghost use Rattle.acpc_format.specs.Again.{hands_again};
 ghost use Rattle.hand_canon.specs.ReadAgain.{AreAgain};
 ghost use Rattle.acpc_format.specs.ReadBack.{KeepsNotes};
 ghost use Rattle.hand_canon.specs.Sharp.{IsOther, is_sharp};
+ghost use Rattle.hand_records.specs.Refusals.{first_refusal};
+ghost use Rattle.hand_records.specs.Plays.{moves_written};
 
 /// The lines of sound plays that the logs of a game spell read as the hands of these plays: with their canonical scripts as
 /// letters say them, their values, and their kept notes. The function does nothing: its contract is a law.
 pub fn law_of_reading_again()
     ensures { (game : AnyGame) (keep : Keep) (plays : List Play)
         → length plays ≤ MOST_HANDS → AllByRecursion IsSound plays → AllByRecursion HasTexts plays
-        → first_refusal game keep plays ≡ None → sum_by moves_written plays ≤ MOST_FILE_MOVES
+        → first_refusal (unspelled game keep) plays ≡ None → sum_by moves_written plays ≤ MOST_FILE_MOVES
         → reading game (log_text game.no_limit plays) ≡ Ok (hands_again game.no_limit 0 plays) }
 {}
 
@@ -43,7 +45,7 @@ pub fn law_of_one_setup()
 pub fn law_of_reading_back()
     ensures { (game : AnyGame) (keep : Keep) (plays : List Play)
         → length plays ≤ MOST_HANDS → AllByRecursion IsSound plays → AllByRecursion HasTexts plays
-        → first_refusal game keep plays ≡ None → sum_by moves_written plays ≤ MOST_FILE_MOVES
+        → first_refusal (unspelled game keep) plays ≡ None → sum_by moves_written plays ≤ MOST_FILE_MOVES
         → (records : List Record) → AllByRecursion (IsOfGame game) records
         → reading game (log_text game.no_limit plays) ≡ Ok (map record_said records)
         → AreAgain KeepsNotes 0 plays records }

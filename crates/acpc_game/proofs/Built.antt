@@ -7,11 +7,12 @@ use Rattle.std.proofs.lemmas.List.{length-replicate}
 use Rattle.chip_ledger.specs.Greatest.{greatest}
 use Rattle.acpc_game.specs.declared.key.Key.TheVariants as keys
 use Rattle.acpc_game.specs.GameFile.{EntrySaid, needed, is_whole, is_for_all, has_no_limit, has_key, stacks_at, numbers_at, number_at, size_at, are_sizes}
-use Rattle.acpc_game.specs.Games.{are_chips, is_size, has_fitting_sizes}
+use Rattle.acpc_game.specs.Games.{are_chips, has_fitting_sizes}
 use Rattle.acpc_game.proofs.Bounds.{chips_within}
 use Rattle.acpc_game.specs.Playable.{IsPlayable}
 use Rattle.chip_ledger.specs.declared.numbers.TheConstants.{MOST_CHIPS}
 use Rattle.list_laws.proofs.Numbers.{equal_by_test}
+use Rattle.chip_ledger.specs.Sizes.{is_size}
 
 -- as many blinds as players
 blinds_counted : (entries : List EntrySaid) → is_whole entries ≡ true → length (numbers_at keys.Blind entries) ≡ number_at keys.NumPlayers entries

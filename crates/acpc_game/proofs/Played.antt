@@ -4,9 +4,10 @@ use Rattle.std.specs.List.{AllByRecursion}
 use Rattle.acpc_game.specs.declared.key.Key.{Key}
 use Rattle.acpc_game.specs.declared.key.Key.TheVariants as keys
 use Rattle.acpc_game.specs.Keys.{or_else}
-use Rattle.acpc_game.specs.GameFile.{EntrySaid, first_where, first_unsupported, other_cards, other_chips, number_at}
+use Rattle.acpc_game.specs.GameFile.{EntrySaid, first_unsupported, other_cards, other_chips, number_at}
 use Rattle.acpc_game.specs.Playable.{IsPlayable}
 use Rattle.std.proofs.lemmas.Bool.{not-false}
+use Rattle.first_fault.specs.Conditions.{first_where}
 
 none_of : (tests : List (Bool × Key)) → first_where tests ≡ None → AllByRecursion (λ test. test.0 ≡ false) tests
 none_of [] none = tt

@@ -13,6 +13,7 @@ use Rattle.acpc_game.specs.declared.key.Key.TheVariants as keys
 use Rattle.acpc_game.specs.Keys.{key_place, most_of, or_else}
 use Rattle.acpc_game.specs.Forms.{Form, form_of, is_passed_over}
 use Rattle.first_fault.specs.Numbers.{kept_number}
+use Rattle.first_fault.specs.Conditions.{first_where}
 
 -- ---- the entries
 
@@ -163,11 +164,6 @@ opener_of blinds =
 abbrev pub are_sizes : List ℕ → Bool
 are_sizes (s ∷ t ∷ b ∷ c ∷ []) = (nat_le 1 s && s == t) && (nat_le 1 b && b == c)
 are_sizes _ = false
-
--- the first whose condition holds
-abbrev pub first_where : List (Bool × Key) → Option Key
-first_where [] = None
-first_where ((condition, key) ∷ rest) = if condition then Some key else first_where rest
 
 -- a number of players, rounds or cards that is not played; each with the key that shows it
 abbrev pub other_cards : List EntrySaid → List (Bool × Key)

@@ -1,10 +1,7 @@
 -- The one spelling of a game.
-use Rattle.std.specs.Prelude.{ℕ, Bool, if◌then◌else◌, List, [], ◌∷◌, ◌++◌, length, flat_map, codes, decimal, Option, Some, None}
+use Rattle.std.specs.Prelude.{ℕ, Bool, if◌then◌else◌, List, [], ◌∷◌, ◌++◌, length, codes, Option, Some, None}
 use Rattle.acpc_game.specs.GameFile.{GameSaid, opener_of}
-
--- numbers, with a space in front of each
-abbrev pub spaced : List ℕ → List ℕ
-spaced numbers = flat_map (λ number. 32 ∷ decimal number) numbers
+use Rattle.chip_ledger.specs.AmountTexts.{spaced}
 
 -- a line that ends with a newline
 abbrev pub ended : List ℕ → List ℕ

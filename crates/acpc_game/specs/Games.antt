@@ -2,14 +2,11 @@
 use Rattle.std.specs.Prelude.{ℕ, ◌==◌, Bool, true, false, nat_lt, nat_le, ◌&&◌, ◌||◌, List}
 use Rattle.std.specs.List.{list_all}
 use Rattle.chip_ledger.specs.declared.numbers.TheConstants.{MOST_CHIPS}
+use Rattle.chip_ledger.specs.Sizes.{is_size}
 
 -- each amount is one that may be stated
 abbrev pub are_chips : List ℕ → Bool
 are_chips amounts = list_all (λ chips. nat_le chips MOST_CHIPS) amounts
-
--- a size of a raise
-abbrev pub is_size : ℕ → Bool
-is_size chips = nat_le 1 chips && nat_le chips MOST_CHIPS
 
 -- The sizes of raises fit the greatest blind: in no limit there is a blind and no size; in a limit game there are two
 -- sizes, and a blind is no less than the first of them.

@@ -1,8 +1,9 @@
 //! A game is written in its one spelling.
 ghost use Rattle.std.specs.Prelude.{◌≡◌, ◌++◌, IfOk, OnOk};
-ghost use Rattle.acpc_game.specs.GameText.{caps_text, chips_text, counts_text, first_text, game_text, key_line, kind_text, rows_text, sizes_text, spaced, turns_text};
+ghost use Rattle.acpc_game.specs.GameText.{caps_text, chips_text, counts_text, first_text, game_text, key_line, kind_text, rows_text, sizes_text, turns_text};
 ghost use Rattle.acpc_game.specs.GameView.{game_in};
 ghost use Rattle.chip_ledger.specs.SeatRow.{amounts_in};
+ghost use Rattle.chip_ledger.specs.AmountTexts.{spaced};
 
 use crate::game::Game;
 use crate::supported::opener_of;

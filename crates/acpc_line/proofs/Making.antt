@@ -34,10 +34,10 @@ not_reversed (a ∷ b ∷ c ∷ rest) (suc (suc zero)) full order = let second :
 not_reversed (a ∷ b ∷ c ∷ rest) (suc (suc (suc count))) full order = refl
 
 -- the sizes of a valid setup
-record HasSizes (code : Code) (small big least : ℕ) : Type 0 where
-  small_bet : IsSizeWhere (is_fixed (limit_of code)) small
-  big_bet : IsSizeWhere (is_fixed (limit_of code)) big
-  least_bet : IsSizeWhere (not (is_fixed (limit_of code))) least
+pub record HasSizes (code : Code) (small big least : ℕ) : Type 0 where
+  pub small_bet : IsSizeWhere (is_fixed (limit_of code)) small
+  pub big_bet : IsSizeWhere (is_fixed (limit_of code)) big
+  pub least_bet : IsSizeWhere (not (is_fixed (limit_of code))) least
 
 limited : (small big blind : ℕ) → (1 ≤ small) × (small ≤ MOST_CHIPS) → (1 ≤ big) × (big ≤ MOST_CHIPS) → (eqb blind 0 || nat_le small blind) ≡ true → has_fitting_sizes false blind small big ≡ true
 limited small big blind one other fits =

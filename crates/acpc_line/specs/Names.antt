@@ -2,9 +2,9 @@
 use Rattle.std.specs.Prelude.{ℕ, ◌-◌, ◌==◌, ◌&&◌, ◌||◌, Bool, not, nat_le, if◌then◌else◌, List, length, slice_index, slice_index_or, Option, Some, None, decimal}
 use Rattle.std.specs.List.{list_all}
 use Rattle.first_fault.specs.Digits.{are_digits}
-use Rattle.hand_records.specs.AllowedNotes.{default_name}
 use Rattle.hand_records.specs.declared.notes.Notes.{Notes}
 use Rattle.acpc_line.specs.Seats.{for_seats}
+use Rattle.chip_ledger.specs.SeatsSaid.{default_name}
 
 -- a sign may stand in a name: it is no colon, no bar, and ends no line
 abbrev pub may_stand : ℕ → Bool

@@ -1,5 +1,5 @@
 -- What of the play of a hand the logs of a game spell.
-use Rattle.std.specs.Prelude.{ℕ, ◌-◌, ◌==◌, ◌&&◌, Bool, false, not, nat_lt, nat_le, List, [], ◌∷◌, count_by, slice_index, Option, Some, None}
+use Rattle.std.specs.Prelude.{ℕ, ◌-◌, ◌==◌, ◌&&◌, Bool, false, not, nat_lt, List, [], ◌∷◌, count_by, slice_index, Option, Some, None}
 use Rattle.std.specs.List.{list_any}
 use Rattle.card_set.specs.Known.{is_unknown}
 use Rattle.chip_ledger.specs.Greatest.{greatest}
@@ -9,8 +9,9 @@ use Rattle.chip_ledger.specs.Seat.{seats_of}
 use Rattle.chip_ledger.specs.declared.rows.LiveRow.{LiveRow}
 use Rattle.chip_ledger.specs.declared.rows.SeatRow.{SeatRow}
 use Rattle.canonical_play.specs.CanonScript.{dealt_slots}
-use Rattle.play_event.specs.Past.{is_fold, is_raise}
-use Rattle.play_event.specs.Played.{act_said}
+use Rattle.canon_laws.specs.OtherRules as other_rules
+use Rattle.play_event.specs.Past.{is_raise}
+use Rattle.play_event.specs.Played.{act_said, move_said}
 use Rattle.play_event.specs.Trace.{TracedPlace}
 use Rattle.play_event.specs.declared.played.Move.{Move}
 use Rattle.hand_records.specs.TraceRows.{core_said}
@@ -22,7 +23,7 @@ use Rattle.chip_ledger.specs.SeatRow.{amounts_in}
 
 -- a seat folds where it owes nothing
 abbrev pub is_free_fold : Move → Bool
-is_free_fold move = is_fold (act_said move.act) && nat_le move.price move.from
+is_free_fold move = other_rules.is_free_fold (move_said move)
 
 -- a move is a raise on a street
 abbrev pub is_raise_on : ℕ → Move → Bool

@@ -4,7 +4,7 @@ ghost use Rattle.acpc_game.specs.GameView.{game_in};
 ghost use Rattle.play_event.specs.ValidSetup.{IsValid};
 ghost use Rattle.acpc_line.specs.GameOf.{MakesGame, game_of as game_of_said, game_with, is_sized_by_blind as is_sized_by_blind_said, no_limit_of};
 ghost use Rattle.acpc_line.specs.SetupFacts.{greatest_blind as greatest_blind_said, has_sizes_of, is_code_of, setup_conditions};
-ghost use Rattle.acpc_line.specs.Spelled.{first_where};
+ghost use Rattle.first_fault.specs.Conditions.{first_where};
 
 use crate::amounts::{amounts_of, are_same, has_some};
 use acpc_game::{Game, greatest, has_short_stack};

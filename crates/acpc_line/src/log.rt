@@ -5,8 +5,9 @@ ghost use Rattle.hand_canon.specs.Sound.{IsSound};
 ghost use Rattle.first_fault.specs.declared.limits.TheConstants.{MOST_HANDS};
 ghost use Rattle.hand_records.specs.declared.writing.WriteRefusal.TheVariants as refusals;
 ghost use Rattle.acpc_line.specs.Line.{log_text};
-ghost use Rattle.acpc_line.specs.Spelled.{first_refusal};
+ghost use Rattle.acpc_line.specs.Spelled.{unspelled};
 ghost use Rattle.acpc_line.specs.Texts.{HasTexts};
+ghost use Rattle.hand_records.specs.Refusals.{first_refusal};
 
 use crate::line::push_line;
 use crate::spelled::find_refusal;
@@ -29,9 +30,9 @@ pub fn write(
     requires sound { AllByRecursion IsSound plays.now }
     ensures written { IfOk result (λ bytes. bytes.items ≡ log_text game.now.no_limit plays.now) }
     ensures texts { OnOk result (AllByRecursion HasTexts plays.now) }
-    ensures spelled { OnOk result (first_refusal game.now keep plays.now ≡ None) }
+    ensures spelled { OnOk result (first_refusal (unspelled game.now keep) plays.now ≡ None) }
     ensures refused { IfErr result (λ refusal. (refusal ≡ refusals.Memory)
-        ⊎ (first_refusal game.now keep plays.now ≡ Some refusal)) }
+        ⊎ (first_refusal (unspelled game.now keep) plays.now ≡ Some refusal)) }
 {
     if let Some(refusal) = find_refusal(game, plays, keep) {
         return Err(refusal);

@@ -1,8 +1,8 @@
 //! The names of a line are those of the players, and the number of the hand.
 ghost use Rattle.std.specs.Prelude.{◌≡◌, ◌≤◌, ◌-◌, ◌++◌, None, IfSome, IsUtf8, OnOk, slice_index_or};
-ghost use Rattle.hand_records.specs.AllowedNotes.{default_name};
 ghost use Rattle.acpc_line.specs.Names.{hand_text, is_spelled_hand as is_spelled_hand_said, is_spelled_name as is_spelled_name_said, may_stand as may_stand_said, name_or_default, names_text};
 ghost use Rattle.acpc_line.specs.Texts.{AreTexts};
+ghost use Rattle.chip_ledger.specs.SeatsSaid.{default_name};
 
 use crate::cards::push_bar;
 use chip_ledger::Seat;

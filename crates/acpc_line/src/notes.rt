@@ -3,7 +3,8 @@ ghost use Rattle.std.specs.Prelude.{◌≡◌};
 ghost use Rattle.std.specs.List.{list_any};
 ghost use Rattle.hand_records.specs.declared.writing.Keep.TheVariants as keeps;
 ghost use Rattle.acpc_line.specs.NoteFacts.{is_unspelled_hand as is_unspelled_hand_said, is_unspelled_name as is_unspelled_name_said, text_conditions, time_conditions};
-ghost use Rattle.acpc_line.specs.Spelled.{first_where, unspelled_note};
+ghost use Rattle.acpc_line.specs.Spelled.{unspelled_note};
+ghost use Rattle.first_fault.specs.Conditions.{first_where};
 
 use crate::names::{is_spelled_hand, is_spelled_name};
 use first_fault::Text;

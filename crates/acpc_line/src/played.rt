@@ -6,7 +6,7 @@ ghost use Rattle.play_event.specs.Past.{is_fold as is_fold_said, is_raise as is_
 ghost use Rattle.play_event.specs.Played.{act_said};
 ghost use Rattle.hand_records.specs.TraceRows.{place_said};
 ghost use Rattle.acpc_line.specs.PlayFacts.{is_above_cap as is_above_cap_said, is_above_caps as is_above_caps_said, is_free_fold as is_free_fold_said, is_off_unit as is_off_unit_said, is_open_muck as is_open_muck_said, is_part_known as is_part_known_said, is_raise_on as is_raise_on_said, play_conditions};
-ghost use Rattle.acpc_line.specs.Spelled.{first_where};
+ghost use Rattle.first_fault.specs.Conditions.{first_where};
 
 use crate::cards::{has_known, has_unknown};
 use crate::odd::has_odd_chip;

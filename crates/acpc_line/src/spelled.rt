@@ -1,7 +1,8 @@
 //! The first fact of a play that the logs of a game do not spell is found.
 ghost use Rattle.std.specs.Prelude.{◌≡◌, ◌≤◌, length};
 ghost use Rattle.first_fault.specs.declared.limits.TheConstants.{MOST_HANDS};
-ghost use Rattle.acpc_line.specs.Spelled.{first_refusal, unspelled};
+ghost use Rattle.acpc_line.specs.Spelled.{unspelled};
+ghost use Rattle.hand_records.specs.Refusals.{first_refusal};
 
 use crate::fits::find_other_setup;
 use crate::notes::find_other_note;
@@ -12,7 +13,7 @@ use hand_records::{Keep, Play, Unspelled, WriteRefusal};
 /// The refusal of the first play that the logs of a game do not spell. The first hand has the number 1.
 pub fn find_refusal(game: &Game, plays: &[Play], keep: Keep) -> Option<WriteRefusal>
     requires { length plays.now ≤ MOST_HANDS }
-    ensures { result ≡ first_refusal game.now keep plays.now }
+    ensures { result ≡ first_refusal (unspelled game.now keep) plays.now }
 {
     for (index, play) in plays.iter().enumerate() {
         if let Some(fact) = spells(game, play, keep) {

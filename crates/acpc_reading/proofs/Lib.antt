@@ -2,7 +2,6 @@
 pub mod EachLetter
 pub mod CardLaws
 pub mod NumberLaws
-pub mod SeatLaws
 pub mod Rows
 pub mod Dealing
 pub mod Lines

@@ -1,22 +1,21 @@
 -- The setup of a game is that of a hand.
-use Rattle.std.proofs.Common.{◌≡◌, ℕ, zero, suc, ◌-◌, ◌<◌, ◌≤◌, Bool, true, false, not, ◌&&◌, ◌||◌, nat_lt, nat_le, eqb, if◌then◌else◌, List, [], ◌∷◌, length, take, get_or, refl, ap, sym, subst, ◌∙◌, arith, inl, inr}
+use Rattle.std.proofs.Common.{◌≡◌, ℕ, zero, suc, ◌-◌, ◌<◌, ◌≤◌, Bool, true, false, not, ◌&&◌, ◌||◌, nat_lt, nat_le, eqb, if◌then◌else◌, List, [], ◌∷◌, length, take, get_or, refl, ap, ◌∙◌, arith, inl, inr}
 use Rattle.std.proofs.lemmas.Bool.{and_parts, or_parts, cases_lt, leb-true}
 use Rattle.std.proofs.lemmas.Bool.Decides.{nat_tests}
 use Rattle.chip_ledger.specs.declared.numbers.TheConstants.{MOST_CHIPS}
 use Rattle.chip_ledger.specs.declared.rows.SeatRow.{SeatRow}
-use Rattle.chip_ledger.specs.declared.rakes.RakeRow.{RakeRow}
-use Rattle.chip_ledger.specs.Fillers.{index-replicate}
 use Rattle.chip_ledger.specs.Greatest.{greatest}
-use Rattle.chip_ledger.specs.RakeRow.{rake_of, no_rakes}
 use Rattle.chip_ledger.specs.SeatRow.{amount_of, amounts_in}
 use Rattle.play_event.specs.declared.setup.Setup.{Setup}
 use Rattle.play_event.specs.Games.{game_of}
 use Rattle.play_event.specs.Streets.{limit_of, is_stud}
-use Rattle.play_event.specs.ValidSetup.{IsSize, IsSizeWhere, IsValid, is_fixed}
+use Rattle.play_event.specs.ValidSetup.{IsSizeWhere, IsValid, is_fixed}
 use Rattle.acpc_game.specs.declared.game.Game.{Game}
 use Rattle.acpc_game.specs.GameFile.{has_short_stack, is_reversed}
-use Rattle.acpc_game.specs.Games.{are_chips, is_size, has_fitting_sizes}
+use Rattle.acpc_game.specs.Games.{are_chips, has_fitting_sizes}
 use Rattle.acpc_reading.specs.RecordView.{IsSetupOf, code_of}
+use Rattle.chip_ledger.specs.Sizes.{is_size}
+use Rattle.play_event.proofs.Sizes.{size_is}
 
 -- an amount of the first ones
 chips_within : (amounts : List ℕ) (count k : ℕ) → are_chips (take count amounts) ≡ true → k < count → get_or amounts k 0 ≤ MOST_CHIPS
@@ -58,11 +57,6 @@ in_order [] some is = absurd (omega (arith, some))
 in_order (first ∷ []) some is = absurd (omega (arith, some))
 in_order (first ∷ second ∷ rest) some is = let other : nat_lt first second ≡ false = is in grind (arith, nat_tests, other)
 
-size_is : (chips : ℕ) → is_size chips ≡ true → IsSize chips
-size_is chips is =
-    let parts = and_parts (nat_le 1 chips) (nat_le chips MOST_CHIPS) is in
-    (leb-true 1 chips parts.0, leb-true chips MOST_CHIPS parts.1)
-
 -- the bet sizes of a game are those that it uses
 record AreSized (no_limit : Bool) (blind small big : ℕ) : Type 0 where
   small_bet : IsSizeWhere (is_fixed (limit_of (code_of no_limit))) small
@@ -100,10 +94,6 @@ no_bring_in false = refl
 no_stud : (no_limit : Bool) → is_stud (code_of no_limit) ≡ true → ⊥
 no_stud true is = cc (is)
 no_stud false is = cc (is)
-
--- where there are no rakes, none is above 0
-pub no_rake : (rakes : RakeRow) → rakes ≡ no_rakes → (pot : ℕ) → rake_of rakes pot ≡ 0
-no_rake rakes none pot = subst (λ (row : RakeRow). rake_of row pot ≡ 0) (sym none) (index-replicate {X = ℕ} 11 0 (pot - 1))
 
 -- the setup of a game is valid
 pub setup_valid : (game : Game) (setup : Setup) → IsSetupOf game setup → IsValid setup

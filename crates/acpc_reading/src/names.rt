@@ -3,8 +3,9 @@ ghost use Rattle.std.specs.Prelude.{◌≡◌, ℕ, ◌≤◌, ◌<◌, ◌+◌,
 ghost use Rattle.std.specs.Str.{is_utf8};
 ghost use Rattle.first_fault.specs.Reading.{Gives};
 ghost use Rattle.acpc_text.specs.Parts.{parts_of};
-ghost use Rattle.hand_records.specs.AllowedNotes.{IsName, IsNoteText, default_name};
+ghost use Rattle.hand_records.specs.AllowedNotes.{IsName, IsNoteText};
 ghost use Rattle.acpc_reading.specs.Names.{hand_said, name_said, names_after, names_said};
+ghost use Rattle.chip_ledger.specs.SeatsSaid.{default_name};
 
 use crate::letters::wrong;
 use crate::parts::next_part;

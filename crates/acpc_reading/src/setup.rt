@@ -7,7 +7,7 @@ use chip_ledger::{RakeRow, SeatRow};
 use play_event::{Code, Reopen, Rules, Setup};
 
 /// What a hand of the game begins with.
-#[tactic(auto, using(crate::proofs::MatchSetups::no_rake))]
+#[tactic(auto, using(chip_ledger::proofs::RowLists::no_rake))]
 pub fn setup_of(game: &Game) -> Setup
     ensures { IsSetupOf game.now result }
 {

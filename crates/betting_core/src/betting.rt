@@ -13,7 +13,7 @@ ghost use Rattle.play_event.specs.Past as plays;
 ghost use Rattle.play_event.specs.Played.{act_said, move_said};
 ghost use Rattle.play_event.specs.Trace.{traced_move};
 ghost use Rattle.play_event.specs.Said as said;
-ghost use Rattle.betting_numbers.specs.SeatsSaid.{seat_said, turn_of};
+ghost use Rattle.betting_numbers.specs.SeatsSaid.{turn_of};
 ghost use Rattle.play_event.specs.Streets.{is_stud, unit};
 ghost use Rattle.betting_numbers.specs.Seen.{all_in_seen};
 ghost use Rattle.betting_numbers.specs.Standing.{StandsFor};
@@ -28,6 +28,7 @@ ghost use Rattle.street_laws.specs.Walk.{street_cards};
 ghost use Rattle.play_event.specs.Said.{Said, said_of};
 ghost use Rattle.play_event.specs.ValidSetup.{IsValid};
 ghost use Rattle.betting_numbers.specs.Targeted.{AreEndsFor};
+ghost use Rattle.chip_ledger.specs.SeatsSaid.{seat_said};
 
 use betting_numbers::{LegalMove, Table, Targets, first_full_bet, not_now, start};
 use chip_ledger::{LiveRow, Seat, SeatRow};

@@ -20,7 +20,7 @@ use Rattle.play_event.specs.Reasons.{why, first_reason, all_reasons}
 use Rattle.betting_numbers.specs.declared.table.Table.{Table}
 use Rattle.street_laws.specs.Dues.{is_move}
 use Rattle.play_event.specs.TurnTargets.{is_bet_due}
-use Rattle.betting_numbers.specs.SeatsSaid.{seat_said, turn_of}
+use Rattle.betting_numbers.specs.SeatsSaid.{turn_of}
 use Rattle.betting_numbers.specs.Seen.{after_last, last_seen, mover_seen, has_to_move_seen, is_move_due_seen}
 use Rattle.street_laws.specs.Seats.{IsSeat}
 use Rattle.betting_numbers.specs.Standing.{Standing, StandsFor}
@@ -35,7 +35,7 @@ use Rattle.play_event.specs.Scripts.{with_event, resolved_on, resolved_by}
 use Rattle.betting_numbers.specs.Seen.{owed_seen, all_in_seen}
 use Rattle.betting_numbers.specs.LegalMoves.{IsLegalMove, IsTurn, move_of}
 use Rattle.betting_numbers.proofs.Bridge.{price_is, all_in_is}
-use Rattle.betting_numbers.specs.Why.{is_unable, unknown_why, bring_in_seen, bring_in_why, ceiling_seen, fulls_seen, greatest_by, greatest_seen, is_legal_seen, is_another, call_seen, stated_why, target_seen, may_raise_seen, raise_to_why, now_why, fold_why, call_why, raise_why, floor_by}
+use Rattle.betting_numbers.specs.Why.{is_unable, unknown_why, bring_in_seen, bring_in_why, ceiling_seen, fulls_seen, greatest_seen, is_legal_seen, is_another, call_seen, stated_why, target_seen, may_raise_seen, raise_to_why, now_why, fold_why, call_why, raise_why, floor_by}
 use Rattle.betting_numbers.proofs.WhyMove.{why_fold, why_call, why_bring_in, fold_undecided, call_undecided, bring_in_undecided, able_anywhere}
 use Rattle.betting_numbers.proofs.WhyRaise.{why_raise, raise_undecided, target_is}
 use Rattle.play_event.specs.declared.event.Spelled.{Spelled}
@@ -50,6 +50,8 @@ use Rattle.street_laws.proofs.Unsettled.{move_is_due, bring_in_is_due}
 use Rattle.list_laws.proofs.Finding.{range_split}
 use Rattle.std.proofs.lemmas.List.Folds.{list_any-append}
 use Rattle.std.proofs.Math.Bool.{or_comm}
+use Rattle.chip_ledger.specs.SeatsSaid.{seat_said}
+use Rattle.play_event.specs.Targets.{greatest_by}
 
 -- why an event is refused where this is due
 pub why_where : (b : Table) (past : Past) (event : Said) (due : Due) → StandsFor b past → b.due ≡ due → why b.setup b.rules past event ≡ first_reason (all_reasons b.setup b.rules past (b.street, due) event)

@@ -21,7 +21,7 @@ use Rattle.card_set.specs.Known.{is_unknown, known_cards}
 use Rattle.play_event.specs.Mover.{mover, mover_after, first_in_turn}
 use Rattle.play_event.specs.Table.{up_cards}
 use Rattle.betting_numbers.specs.declared.table.Table.{Table}
-use Rattle.betting_numbers.specs.SeatsSaid.{seat_said, turn_of}
+use Rattle.betting_numbers.specs.SeatsSaid.{turn_of}
 use Rattle.betting_numbers.specs.Seen.{is_able_seen, owed_seen, able_count_seen, has_to_move_seen, is_move_due_seen, after_last, last_seen, mover_seen}
 use Rattle.street_laws.specs.Seats.{IsSeat}
 use Rattle.betting_numbers.specs.Standing.{StandsFor, newest_seat}
@@ -38,6 +38,7 @@ use Rattle.list_laws.proofs.Finding.{find_agree}
 use Rattle.street_laws.proofs.Unsettled.{move_is_due, due_after_cards, bring_in_by}
 use Rattle.list_laws.proofs.Any.{list_any-filter, list_any-weaker}
 use Rattle.list_laws.proofs.Finding.{find-filter}
+use Rattle.chip_ledger.specs.SeatsSaid.{seat_said}
 
 -- a walk over the seats that pass is a walk over all seats
 filtered_any : (p q : ℕ → Bool) (xs : List ℕ) → list_any q (filter p xs) ≡ list_any (λ x. p x && q x) xs

@@ -25,7 +25,7 @@ use Rattle.play_event.specs.Chips.{chips_put, all_in}
 use Rattle.play_event.specs.Price.{price, full_raise, starting_price, all_chips_put}
 use Rattle.play_event.specs.Amounts.{raise_target}
 use Rattle.play_event.specs.Targets as targets
-use Rattle.play_event.specs.Targets.{pot_ceiling, full_targets, is_target_in, is_legal_target, greatest_target, greatest_target_in, least_target, least_target_in}
+use Rattle.play_event.specs.Targets.{pot_ceiling, full_targets, is_target_in, is_legal_target, greatest_target, greatest_target_in, least_target, least_target_in, least_by, is_legal_by, greatest_by}
 use Rattle.play_event.specs.Raising.{has_moved, raises_on, is_within_cap, is_full_raise_owed, is_reopened, has_able_opponent, may_raise}
 use Rattle.play_event.specs.Openers.{InTurn, TheSeat, Undecided}
 use Rattle.play_event.specs.Mover.{mover}
@@ -38,8 +38,8 @@ use Rattle.betting_numbers.specs.Moving.{most_raises}
 use Rattle.betting_numbers.specs.Seen.{price_seen, owed_seen, all_in_seen}
 use Rattle.street_laws.specs.Seats.{IsSeat}
 use Rattle.betting_numbers.specs.Standing.{Standing, StandsFor}
-use Rattle.betting_numbers.specs.Targeted.{least_by, least_seen}
-use Rattle.betting_numbers.specs.Why.{now_why, is_reopened_by, ceiling_seen, fulls_by, fulls_seen, greatest_by, is_legal_seen, greatest_seen, is_another, target_seen, is_within_cap_by, is_open_by, may_raise_seen, floor_by, is_legal_by, raise_to_why, raise_why}
+use Rattle.betting_numbers.specs.Targeted.{least_seen}
+use Rattle.betting_numbers.specs.Why.{now_why, is_reopened_by, ceiling_seen, fulls_by, fulls_seen, is_legal_seen, greatest_seen, is_another, target_seen, is_within_cap_by, is_open_by, may_raise_seen, floor_by, raise_to_why, raise_why}
 use Rattle.betting_numbers.proofs.Bridge.{price_is, owed_is, all_in_is, opponent_is}
 use Rattle.betting_numbers.proofs.WhyMove.{read_mover, other_is}
 

@@ -14,11 +14,12 @@ use Rattle.play_event.specs.Scripts.{with_event}
 use Rattle.play_event.specs.Table.{up_cards}
 use Rattle.betting_numbers.specs.declared.legal_moves.LegalMove.{LegalMove}
 use Rattle.betting_numbers.specs.declared.table.Table.{Table}
-use Rattle.betting_numbers.specs.SeatsSaid.{seat_said, turn_of}
+use Rattle.betting_numbers.specs.SeatsSaid.{turn_of}
 use Rattle.betting_numbers.specs.Seen.{all_in_seen}
 use Rattle.betting_numbers.specs.Standing.{StandsFor}
 use Rattle.betting_numbers.specs.Turn.{may_come_at}
 use Rattle.betting_numbers.specs.UpSeen.{HoldsUps}
+use Rattle.chip_ledger.specs.SeatsSaid.{seat_said}
 
 -- a move of a seat to a target, after these moves
 abbrev pub move_of : Table → List Move → ℕ → Act → ℕ → Move

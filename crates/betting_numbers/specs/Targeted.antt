@@ -1,20 +1,13 @@
 -- The least legal target of a seat, by the running numbers.
-use Rattle.std.specs.Prelude.{ℕ, ◌+◌, min, List}
+use Rattle.std.specs.Prelude.{ℕ, ◌+◌, List}
 use Rattle.play_event.specs.declared.limit.Limit.{Limit}
-use Rattle.play_event.specs.declared.limit.Limit.TheVariants as limits
-use Rattle.play_event.specs.Targets.{smallest}
+use Rattle.play_event.specs.Targets.{least_by}
 use Rattle.betting_numbers.specs.declared.table.Table.{Table}
 use Rattle.betting_numbers.specs.Seen.{price_seen, all_in_seen}
 use Rattle.betting_numbers.specs.Why.{fulls_seen}
 use Rattle.play_event.specs.Past.{Move}
 use Rattle.play_event.specs.TurnTargets.{AreTargets}
 use Rattle.betting_numbers.specs.declared.targeting.Targets.{Targets}
-
--- the least legal target
-abbrev pub least_by : Limit → (floor least all_in : ℕ) → (fulls : List ℕ) → ℕ
-least_by limits.No floor least all_in fulls = min all_in floor
-least_by limits.Pot floor least all_in fulls = min all_in least
-least_by limits.Fixed floor least all_in fulls = min all_in (smallest fulls)
 
 -- and that of a seat, where the floor is this
 abbrev pub least_seen : Limit → Table → (floor seat : ℕ) → ℕ

@@ -1,6 +1,5 @@
 -- Why a move is refused, by the running numbers, where it is known whose turn it is.
 use Rattle.std.specs.Prelude.{ℕ, ◌+◌, ◌-◌, ◌*◌, Bool, true, false, ◌&&◌, ◌||◌, ◌==◌, nat_lt, nat_le, not, min, max, if◌then◌else◌, List, [], ◌∷◌, slice_index, Option, Some, None}
-use Rattle.std.specs.List.{list_any}
 use Rattle.std.specs.Option.{option_map_or}
 use Rattle.chip_ledger.specs.LiveRow.{flag_of}
 use Rattle.chip_ledger.specs.SeatRow.{amount_of, total_of}
@@ -14,9 +13,8 @@ use Rattle.play_event.specs.declared.setup.Reopen.{Reopen}
 use Rattle.play_event.specs.declared.setup.Reopen.TheVariants as reopen
 use Rattle.play_event.specs.declared.limit.Limit.{Limit}
 use Rattle.play_event.specs.declared.limit.Limit.TheVariants as limits
-use Rattle.chip_ledger.specs.Greatest.{greatest}
 use Rattle.play_event.specs.Streets.{unit}
-use Rattle.play_event.specs.Targets.{above_price}
+use Rattle.play_event.specs.Targets.{above_price, is_legal_by, greatest_by}
 use Rattle.betting_numbers.specs.declared.table.Table.{Table}
 use Rattle.betting_numbers.specs.Seen.{price_seen, owed_seen, is_able_seen, all_in_seen, has_opponent_seen}
 use Rattle.play_event.specs.Price.{starting_price}
@@ -96,18 +94,6 @@ fulls_by price size full_bet = if nat_lt price size then (size ∷ []) else ((pr
 -- those of the street
 abbrev pub fulls_seen : Table → List ℕ
 fulls_seen b = fulls_by (price_seen b) (unit b.setup b.street) b.full_bet
-
--- a target is legal
-abbrev pub is_legal_by : Limit → (floor least all_in ceiling : ℕ) → (fulls : List ℕ) → (target : ℕ) → Bool
-is_legal_by limits.No floor least all_in ceiling fulls target = (nat_le floor target && nat_le target all_in) || (target == all_in)
-is_legal_by limits.Pot floor least all_in ceiling fulls target = (nat_le least target && nat_le target (min all_in ceiling)) || ((target == all_in) && nat_le target ceiling)
-is_legal_by limits.Fixed floor least all_in ceiling fulls target = (list_any (λ full. target == full) fulls && nat_le target all_in) || ((target == all_in) && nat_lt target (greatest fulls))
-
--- the greatest legal target
-abbrev pub greatest_by : Limit → (all_in ceiling : ℕ) → (fulls : List ℕ) → ℕ
-greatest_by limits.No all_in ceiling fulls = all_in
-greatest_by limits.Pot all_in ceiling fulls = min all_in ceiling
-greatest_by limits.Fixed all_in ceiling fulls = min all_in (greatest fulls)
 
 -- a target of a seat is legal, where the floor is this
 abbrev pub is_legal_seen : Limit → Table → (floor seat target : ℕ) → Bool

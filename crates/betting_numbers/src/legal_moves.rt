@@ -2,9 +2,9 @@
 ghost use Rattle.std.specs.Prelude.{◌≡◌, ◌≤◌, true, false, None, Some, IfOk, IfSome};
 ghost use Rattle.play_event.specs.Said as said;
 ghost use Rattle.play_event.specs.Streets.{limit_of, unit};
-ghost use Rattle.betting_numbers.specs.SeatsSaid.{seat_said};
 ghost use Rattle.betting_numbers.specs.LegalMoves.{IsRefused, IsAllowed, IsOfHand, IsInReach, IsFit, WhereTurn};
 ghost use Rattle.betting_numbers.specs.Why.{is_unable, now_why, unknown_why};
+ghost use Rattle.chip_ledger.specs.SeatsSaid.{seat_said};
 
 use crate::table::Table;
 use chip_ledger::Seat;

@@ -4,9 +4,10 @@ ghost use Rattle.chip_ledger.specs.declared.rows.TheConstants.{MOST_AMOUNT};
 ghost use Rattle.play_event.specs.declared.limit.Limit.TheVariants as limits;
 ghost use Rattle.play_event.specs.Streets.{unit};
 ghost use Rattle.betting_numbers.specs.Seen.{all_in_seen, owed_seen};
-ghost use Rattle.betting_numbers.specs.Why.{bring_in_seen, bring_in_why, call_seen, call_why, is_within_cap_by, floor_by, fold_why, is_another, may_raise_seen, ceiling_seen, fulls_list, fulls_seen, greatest_seen, is_legal_seen, is_reopened_by, raise_to_why, raise_why, stated_why, is_legal_by, target_seen, greatest_by};
+ghost use Rattle.betting_numbers.specs.Why.{bring_in_seen, bring_in_why, call_seen, call_why, is_within_cap_by, floor_by, fold_why, is_another, may_raise_seen, ceiling_seen, fulls_list, fulls_seen, greatest_seen, is_legal_seen, is_reopened_by, raise_to_why, raise_why, stated_why, target_seen};
 ghost use Rattle.chip_ledger.specs.Greatest.{greatest};
-ghost use Rattle.betting_numbers.specs.SeatsSaid.{seat_said};
+ghost use Rattle.chip_ledger.specs.SeatsSaid.{seat_said};
+ghost use Rattle.play_event.specs.Targets.{is_legal_by, greatest_by};
 
 use crate::table::Table;
 use chip_ledger::Seat;

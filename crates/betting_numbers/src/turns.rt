@@ -3,8 +3,8 @@ ghost use Rattle.std.specs.Prelude.{◌≡◌, ◌≤◌, ◌+◌, find, IfSome}
 ghost use Rattle.std.specs.List.{range_with_len};
 ghost use Rattle.play_event.specs.Openers as openers;
 ghost use Rattle.play_event.specs.Openers.{TheSeat, in_turn};
-ghost use Rattle.betting_numbers.specs.SeatsSaid.{seat_said};
 ghost use Rattle.betting_numbers.specs.Seen.{after_last, last_seen, mover_seen, has_to_move_seen};
+ghost use Rattle.chip_ledger.specs.SeatsSaid.{seat_said};
 
 use crate::table::Table;
 use chip_ledger::Seat;

@@ -7,8 +7,9 @@ ghost use Rattle.play_event.specs.Streets.{opener_of, is_opened_by_up_cards};
 ghost use Rattle.betting_numbers.specs.Standing.{StandsFor};
 ghost use Rattle.betting_numbers.specs.LegalMoves.{IsTurn};
 ghost use Rattle.play_event.specs.TurnTargets.{is_bet_due};
-ghost use Rattle.betting_numbers.specs.SeatsSaid.{seat_said, turn_of};
+ghost use Rattle.betting_numbers.specs.SeatsSaid.{turn_of};
 ghost use Rattle.betting_numbers.specs.UpSeen.{HoldsUps, IsLeader, is_as_early_seen, is_before_seen, is_opener_seen, has_unknown_up_card_seen, has_unknown_seen, up_opener_seen};
+ghost use Rattle.chip_ledger.specs.SeatsSaid.{seat_said};
 
 use crate::table::Table;
 use chip_ledger::Seat;

@@ -1,5 +1,5 @@
 -- The canonical deals of a street mirror the groups of the script's places, and none of their cards is taken.
-use Rattle.play_laws.proofs.PlaceGroups.{AreIndexed, more_count, AreRising, Passed, passed, group_of, group_slots}
+use Rattle.play_laws.proofs.PlaceGroups.{AreIndexed, more_count, AreRising, Passed, passed, group_slots}
 use Rattle.std.proofs.Common.{◌≡◌, ℕ, zero, suc, ◌+◌, ◌≤◌, Bool, false, ◌==◌, nat_lt, inl, inr, Option, Some, None, List, [], ◌∷◌, ◌++◌, map, filter, length, count_by, refl, sym, ◌∙◌, ap, subst, arith, if◌then◌else◌}
 use Rattle.std.specs.List.{range_with_len, flat_map}
 use Rattle.std.proofs.lemmas.Bool.{and_parts, or_parts, eqb-true, false_from_ne_true}
@@ -8,7 +8,7 @@ use Rattle.std.proofs.lemmas.List.Sums.{length-filter}
 use Rattle.card_set.specs.declared.card.Slot.{Slot}
 use Rattle.play_event.specs.declared.code.Code.{Code}
 use Rattle.play_event.specs.Past.{Past, Move, moves_before}
-use Rattle.play_event.specs.Places.{Place, is_same_owner, is_in_group, is_past_deck, places_dealt, after_deal}
+use Rattle.play_event.specs.Places.{Place, is_same_owner, is_in_group, is_past_deck, places_dealt, after_deal, group_of}
 use Rattle.play_event.specs.Table.{places_of}
 use Rattle.play_event.specs.Taken.{is_foreign}
 use Rattle.play_event.specs.Laws.{IsAmong}

@@ -1,5 +1,5 @@
 -- In the canonical order no deal of a street has a taken card, and the places that it makes mirror those of the script.
-use Rattle.play_laws.proofs.PlaceGroups.{AreRising, one_number, Passed, passed, rising_filter, group_of, group_slots}
+use Rattle.play_laws.proofs.PlaceGroups.{AreRising, one_number, Passed, passed, rising_filter, group_slots}
 use Rattle.std.proofs.Common.{◌≡◌, ◌≢◌, ℕ, ◌+◌, ◌≤◌, ◌<◌, Bool, true, false, ◌&&◌, ◌==◌, nat_lt, nat_le, inl, inr, Option, List, [], ◌∷◌, map, count_by, refl, sym, ◌∙◌, ap, subst, arith}
 use Rattle.std.specs.List.{list_any}
 use Rattle.std.proofs.lemmas.Bool.{and_parts, or_from, and_from, lt-ltb, eqb-true}
@@ -8,7 +8,7 @@ use Rattle.card_set.specs.declared.card.Slot.TheVariants as slots
 use Rattle.play_event.specs.declared.code.Code.{Code}
 use Rattle.play_event.specs.Streets.{deck_of, has_draw}
 use Rattle.play_event.specs.Past.{Move, moves_before}
-use Rattle.play_event.specs.Places.{Place, is_same_owner, is_in_group, is_past_deck}
+use Rattle.play_event.specs.Places.{Place, is_same_owner, is_in_group, is_past_deck, group_of}
 use Rattle.play_event.specs.Taken.{is_one_card, is_borne_by, is_foreign, is_taken, has_repeat, is_repeated, has_taken_card}
 use Rattle.play_event.specs.Laws.{IsAmong}
 use Rattle.play_laws.specs.LegalPlaces.{is_gone_by, AreLawful}

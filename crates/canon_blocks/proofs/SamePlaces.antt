@@ -7,13 +7,12 @@ use Rattle.play_event.specs.declared.setup.Setup.{Setup}
 use Rattle.play_event.specs.Games.{street_count}
 use Rattle.play_event.specs.Past.{Past, Move}
 use Rattle.play_event.specs.Seats.{all_seats}
-use Rattle.play_event.specs.Places.{Place, is_same_owner, is_in_group}
+use Rattle.play_event.specs.Places.{Place, is_same_owner, is_in_group, group_of}
 use Rattle.play_event.specs.Table.{places_of}
 use Rattle.play_event.specs.Trace.{traced_places, places_on, TracedPlace, traced_place}
 use Rattle.play_event.specs.Laws.{IsAmong}
 use Rattle.list_laws.proofs.Tests.{false_true}
 use Rattle.canon_blocks.proofs.Mirrors.{Mirrors, AreMirrored}
-use Rattle.play_laws.proofs.PlaceGroups.{group_of}
 use Rattle.canon_blocks.proofs.FreeGroups.{is_out_by}
 use Rattle.canon_blocks.proofs.TraceOrder.{IsOwner, a_seat, the_board, finals_of, finals_group, street_pieces}
 

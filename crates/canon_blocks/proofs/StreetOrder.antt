@@ -4,14 +4,14 @@ use Rattle.std.specs.List.{flat_map, range_with_len}
 use Rattle.std.proofs.lemmas.Bool.{and_parts}
 use Rattle.play_event.specs.declared.setup.Setup.{Setup}
 use Rattle.play_event.specs.Seats.{all_seats}
-use Rattle.play_event.specs.Places.{Place, is_same_owner, is_in_group}
+use Rattle.play_event.specs.Places.{Place, is_same_owner, is_in_group, group_of}
 use Rattle.play_event.specs.Trace.{places_on}
 use Rattle.play_event.specs.Laws.{IsAmong}
 use Rattle.std.proofs.lemmas.Option.{same_Some}
 use Rattle.list_laws.proofs.Options.{some_is_none}
 use Rattle.play_event.proofs.ClashLaws.{among_append}
 use Rattle.play_laws.specs.LegalPlaces.{UnknownsFirst}
-use Rattle.play_laws.proofs.PlaceGroups.{group_of, passed}
+use Rattle.play_laws.proofs.PlaceGroups.{passed}
 use Rattle.play_laws.proofs.UnknownOrder.{out_append, out_filter}
 use Rattle.canon_blocks.proofs.TraceOrder.{street_pieces}
 use Rattle.play_event.proofs.OwnerLaws.{is_same_owner-true}

@@ -11,7 +11,7 @@ use Rattle.play_event.specs.Past.{Past, Resolved, Moved, moves_of, newest_street
 use Rattle.play_event.specs.Seats.{is_live, all_seats}
 use Rattle.play_event.specs.Dealing.{has_drawn}
 use Rattle.play_event.specs.Due.{turn}
-use Rattle.play_event.specs.Places.{Place, is_same_owner, is_in_group}
+use Rattle.play_event.specs.Places.{Place, is_same_owner, is_in_group, group_of}
 use Rattle.play_event.specs.Scripts.{with_event, past_of}
 use Rattle.play_event.specs.Trace.{owners, places_on}
 use Rattle.play_event.specs.Laws.{IsAmong, AreLegal}
@@ -24,7 +24,7 @@ use Rattle.play_laws.proofs.PastLawKept.{is_next_to_draw}
 use Rattle.play_laws.proofs.DoneKept.{before_same, live_before}
 use Rattle.play_laws.proofs.DonePasts.{AreOn, played_on, legal_done}
 use Rattle.play_laws.proofs.LegalPlaces.{legal_past}
-use Rattle.play_laws.proofs.PlaceGroups.{group_of, Passed, passed}
+use Rattle.play_laws.proofs.PlaceGroups.{Passed, passed}
 use Rattle.play_event.proofs.OwnerLaws.{is_same_owner-true}
 use Rattle.list_laws.proofs.NumbersOfRange.{flat_more}
 use Rattle.play_laws.proofs.FittingMoves.{none_pass}

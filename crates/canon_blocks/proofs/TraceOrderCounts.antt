@@ -10,7 +10,7 @@ use Rattle.play_event.specs.declared.setup.Rules.{Rules}
 use Rattle.play_event.specs.Said.{Said}
 use Rattle.play_event.specs.Past.{Past, Resolved, Move, is_fold}
 use Rattle.play_event.specs.Due.{turn}
-use Rattle.play_event.specs.Places.{Place, is_same_owner, is_in_group, is_up, is_past_deck, places_dealt, after_deal, after_fold}
+use Rattle.play_event.specs.Places.{Place, is_same_owner, is_in_group, is_up, is_past_deck, places_dealt, after_deal, after_fold, group_of}
 use Rattle.play_event.specs.Naming.{after_discard, after_show}
 use Rattle.play_event.specs.Table.{places_of}
 use Rattle.play_event.specs.Scripts.{with_event, past_of}
@@ -21,7 +21,7 @@ use Rattle.play_event.proofs.ClashLaws.{among_append}
 use Rattle.canon_blocks.proofs.Mirrors.{Mirrors, AreMirrored}
 use Rattle.play_laws.proofs.LegalEvents.{Stepped, deals, boards, moves, discards, shows, mucks, stepped}
 use Rattle.play_laws.proofs.DealtPlaces.{are_new}
-use Rattle.play_laws.proofs.PlaceGroups.{AreRising, passed, rising_filter, group_of}
+use Rattle.play_laws.proofs.PlaceGroups.{AreRising, passed, rising_filter}
 use Rattle.canon_blocks.proofs.FreeGroups.{IsAsLate, is_out_by}
 use Rattle.play_laws.proofs.KnownUpCards.{AreSureOf, discard_sure, show_sure, fold_sure}
 use Rattle.play_laws.proofs.UnknownOrder.{AreSorted, street_number, sure_from}

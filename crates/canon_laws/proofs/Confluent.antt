@@ -1,5 +1,5 @@
 -- The confluence of scripts: the canonical script of a legal and complete script's trace is legal and complete, and has this trace.
-use Rattle.std.proofs.Common.{◌≡◌, ℕ, List, filter, reverse, length, sym, ◌∙◌, ap, subst, arith}
+use Rattle.std.proofs.Common.{ℕ, List, filter, reverse, sym, ◌∙◌, ap, subst}
 use Rattle.play_event.specs.declared.setup.Setup.{Setup}
 use Rattle.play_event.specs.declared.setup.Rules.{Rules}
 use Rattle.play_event.specs.Said.{Said}
@@ -7,7 +7,7 @@ use Rattle.play_event.specs.Past.{Past, Move, moves_of}
 use Rattle.play_event.specs.Seats.{all_seats}
 use Rattle.play_event.specs.Due.{turn, is_unfinished}
 use Rattle.play_event.specs.Trace.{traced_places, is_shown}
-use Rattle.play_event.specs.Scripts.{past_of, past_after}
+use Rattle.play_event.specs.Scripts.{past_of}
 use Rattle.canonical_play.specs.TraceCore.{core_of}
 use Rattle.canonical_play.specs.CanonScript.{script_of, canonical_script}
 use Rattle.canonical_play.specs.PlayedScript.{IsPlayed}
@@ -15,10 +15,7 @@ use Rattle.canon_laws.specs.Confluence.{HasTraceOf, IsConfluent}
 use Rattle.canon_blocks.proofs.Runs.{run_of_script}
 use Rattle.canon_laws.proofs.LastPast.{IsLast, last_past}
 use Rattle.canon_laws.proofs.SameCore.{plain_again, same_core}
-use Rattle.std.proofs.lemmas.List.{take_all}
-
-pub end_of : (setup : Setup) (script : List Said) → past_after setup script (length script) ≡ past_of setup (reverse script)
-end_of setup script = ap (λ l. past_of setup (reverse l)) (take_all (length script) script (omega arith))
+use Rattle.play_event.proofs.ScriptLaws.{at_end}
 
 words_confluent : (setup : Setup) (rules : Rules) (script words : List Said) → IsPlayed setup rules script → IsLast setup rules (past_of setup (reverse script)) words → HasTraceOf setup rules script words
 words_confluent setup rules script words played it =
@@ -26,7 +23,7 @@ words_confluent setup rules script words played it =
     record {
       played = record {
         legal = run.legal;
-        complete = ap (λ p. is_unfinished (turn setup p).1) (end_of setup words ∙ run.past) ∙ it.ends;
+        complete = ap (λ p. is_unfinished (turn setup p).1) (at_end setup words ∙ run.past) ∙ it.ends;
       };
       same = ap (core_of setup) run.past ∙ same_core setup rules (reverse script) words played.legal it;
     }
@@ -41,4 +38,4 @@ confluent setup rules script played =
     let P : List Move → Type 0 = λ l. HasTraceOf setup rules script (script_of setup tp l shown) in
     subst P (sym (plain_again setup (moves_of past)))
     (words_confluent setup rules script (script_of setup tp (moves_of past) shown) played
-    (last_past setup rules (reverse script) played.legal (sym (ap (λ p. is_unfinished (turn setup p).1) (end_of setup script)) ∙ played.complete)))
+    (last_past setup rules (reverse script) played.legal (sym (ap (λ p. is_unfinished (turn setup p).1) (at_end setup script)) ∙ played.complete)))

@@ -46,7 +46,8 @@ pub record IsLast (setup : Setup) (rules : Rules) (script : Past) (words : List 
   pub mucked : nat_le (live_count setup (moves_of script)) 1 ≡ false → (seat : ℕ) → 1 ≤ seat → seat ≤ setup.stacks.seats → is_live (moves_of script) seat ≡ true → has_mucked after seat ≡ not (is_shown setup script seat)
   pub ends : is_unfinished (turn setup after).1 ≡ false
 
-over_ends : (setup : Setup) (mine : Past) → nat_le (live_count setup (moves_of mine)) 1 ≡ true → is_unfinished (turn setup mine).1 ≡ false
+-- a hand that one seat alone is left in is over
+pub over_ends : (setup : Setup) (mine : Past) → nat_le (live_count setup (moves_of mine)) 1 ≡ true → is_unfinished (turn setup mine).1 ≡ false
 unfolding turn
 over_ends setup mine over = ap (λ b. is_unfinished (turned_by setup mine b (first_due (due_on setup mine) (street_count setup.code + 1 - newest_street mine) (newest_street mine))).1) over
 
@@ -152,3 +153,9 @@ last_past setup rules events legal complete =
           mucked = λ so seat least most live. s.at.done seat least (omega (arith, most)) live;
           ends = ap (λ (now : ℕ × Due). is_unfinished now.1) (turn_shows setup list mines is (1 + setup.stacks.seats) s.after several s.at) ∙ shown_unfinished (is_show_due setup s.after);
         }
+
+-- the moves before the fifth street are all
+pub before_fifth : (setup : Setup) (rules : Rules) (events : List Said) → AreLegal setup rules events → street_count setup.code ≡ 4 → moves_before 5 (moves_of (past_of setup events)) ≡ moves_of (past_of setup events)
+before_fifth setup rules events legal four =
+    let law = legal_past setup rules events legal in
+    all_early (newest_street (past_of setup events)) 5 (moves_of (past_of setup events)) law.past.moved (omega (arith, law.past.within, four))

@@ -1,5 +1,5 @@
 -- The canonical script leaves the trace of the script.
-use Rattle.std.proofs.Common.{◌≡◌, ℕ, ◌+◌, ◌≤◌, ◌<◌, Bool, true, false, ◌&&◌, not, nat_le, List, [], ◌∷◌, map, filter, reverse, refl, ◌∙◌, ap, arith}
+use Rattle.std.proofs.Common.{◌≡◌, ℕ, ◌+◌, ◌≤◌, ◌<◌, Bool, true, false, ◌&&◌, not, nat_le, List, [], ◌∷◌, map, filter, reverse, refl, ◌∙◌, ap, arith, sym}
 use Rattle.std.proofs.lemmas.Bool.{lt-leb, leb-true}
 use Rattle.std.proofs.lemmas.List.{map-append, reverse-append}
 use Rattle.play_event.specs.declared.setup.Setup.{Setup}
@@ -57,11 +57,12 @@ shown_same setup rules events words seat legal it least most =
     ))
 
 -- the parts of a trace
-core_by : Setup → List TracedPlace → List Move → List ℕ → List ℕ → TraceCore
+unfoldable pub core_by : Setup → List TracedPlace → List Move → List ℕ → List ℕ → TraceCore
 core_by setup places list shown mucked =
     record { places = places; moves = traced_moves setup list; shown = shown; mucked = mucked; pots = pots_after setup list; returned = map (returned_after setup list) (all_seats setup) }
 
-core_parts : (setup : Setup) (places places' : List TracedPlace) (list list' : List Move) (shown shown' mucked mucked' : List ℕ) → places ≡ places' → list ≡ list' → shown ≡ shown' → mucked ≡ mucked' → core_by setup places list shown mucked ≡ core_by setup places' list' shown' mucked'
+-- traces of the same parts are one
+pub core_parts : (setup : Setup) (places places' : List TracedPlace) (list list' : List Move) (shown shown' mucked mucked' : List ℕ) → places ≡ places' → list ≡ list' → shown ≡ shown' → mucked ≡ mucked' → core_by setup places list shown mucked ≡ core_by setup places' list' shown' mucked'
 core_parts setup places places' list list' shown shown' mucked mucked' one two three four =
     ap (λ x. core_by setup x list shown mucked) one ∙ (ap (λ x. core_by setup places' x shown mucked) two
     ∙ (ap (λ x. core_by setup places' list' x mucked) three ∙ ap (λ x. core_by setup places' list' shown' x) four))
@@ -81,3 +82,8 @@ same_core setup rules events words legal it =
     (filter_range (is_mucked setup it.after) (is_mucked setup script) 1 setup.stacks.seats (λ seat from to.
     ap (λ l. (nat_le 2 (live_count setup l) && is_live l seat) && not (is_shown setup it.after seat)) it.moves
     ∙ ap (λ b. (nat_le 2 (live_count setup (moves_of script)) && is_live (moves_of script) seat) && not b) (shown seat from to)))
+
+-- the moves of a past by what its trace keeps
+pub moves_kept : (setup : Setup) (past later : Past) → core_of setup later ≡ core_of setup past → moves_of later ≡ moves_of past
+moves_kept setup past later same =
+    sym (plain_again setup (moves_of later)) ∙ ap (λ (core : TraceCore). plain_moves core.moves) same ∙ plain_again setup (moves_of past)

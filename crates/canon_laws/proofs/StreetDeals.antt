@@ -15,7 +15,7 @@ use Rattle.play_event.specs.Past.{Past, Move, moves_of, moves_before}
 use Rattle.play_event.specs.Seats.{is_live, all_seats, live_count}
 use Rattle.play_event.specs.Dealing.{is_deal_due, is_draw_due, hole_cards_dealt, board_cards_dealt, cards_discarded, has_drawn, cards_owed, hole_cards_owed, board_cards_owed, replacements_owed, next_to_draw}
 use Rattle.card_set.specs.Known.{is_unknown}
-use Rattle.play_event.specs.Places.{Place, is_same_owner, is_in_group, after_deal}
+use Rattle.play_event.specs.Places.{Place, is_same_owner, is_in_group, after_deal, group_of}
 use Rattle.play_event.specs.Table.{places_of}
 use Rattle.play_event.specs.Trace.{traced_places, places_on}
 use Rattle.play_event.specs.Scripts.{past_of}
@@ -35,7 +35,7 @@ use Rattle.canon_blocks.proofs.TraceOrderCounts.{legal_owned, as_late}
 use Rattle.canon_blocks.proofs.TraceOrder.{finals_of, is_final, finals_group, finals_more, street_pieces, IsOwner, a_seat, the_board}
 use Rattle.play_laws.proofs.UnknownOrder.{among_flat}
 use Rattle.canon_blocks.proofs.FreeGroups.{is_out_by, IsBefore, group_not_taken}
-use Rattle.play_laws.proofs.PlaceGroups.{group_of, group_slots, passed}
+use Rattle.play_laws.proofs.PlaceGroups.{group_slots, passed}
 use Rattle.canon_blocks.proofs.CleanShow.{one_of_map, known_length}
 use Rattle.canon_blocks.proofs.DealsRun.{with_deal, with_deals, street_deals, hole_street, draw_street, AllFree}
 use Rattle.canon_blocks.proofs.DealtGroups.{AreDealt, dealt_out, deal_more, no_cards}

@@ -12,7 +12,7 @@ use Rattle.play_event.specs.Said.{Said}
 use Rattle.play_event.specs.Past.{Past, Move, moves_of, moves_before}
 use Rattle.play_event.specs.Seats.{is_live, all_seats, live_count}
 use Rattle.play_event.specs.Dealing.{hole_cards_dealt, board_cards_dealt, cards_discarded, has_drawn}
-use Rattle.play_event.specs.Places.{Place, is_same_owner}
+use Rattle.play_event.specs.Places.{Place, is_same_owner, group_of}
 use Rattle.play_event.specs.Table.{places_of}
 use Rattle.play_event.specs.Trace.{traced_places}
 use Rattle.play_event.specs.Scripts.{past_of}
@@ -32,7 +32,7 @@ use Rattle.canon_blocks.proofs.DiscardTests.{after_last, no_draw_out}
 use Rattle.canon_blocks.proofs.TraceOrderCounts.{legal_owned, seat_same}
 use Rattle.canon_blocks.proofs.TraceOrder.{finals_of, is_final}
 use Rattle.canon_blocks.proofs.FreeGroups.{is_out_by}
-use Rattle.play_laws.proofs.PlaceGroups.{group_of, group_slots}
+use Rattle.play_laws.proofs.PlaceGroups.{group_slots}
 use Rattle.canon_blocks.proofs.DiscardsRun.{is_out_to, mirrored_as}
 use Rattle.canon_blocks.proofs.DrawRun.{with_discards, out_slots}
 use Rattle.play_laws.proofs.DrawTables.{draw_tables}

@@ -11,7 +11,7 @@ use Rattle.play_event.specs.Said as said
 use Rattle.play_event.specs.Said.{Said}
 use Rattle.play_event.specs.Past.{Past, Move, moves_of, moves_before}
 use Rattle.play_event.specs.Seats.{live_count}
-use Rattle.play_event.specs.Places.{Place}
+use Rattle.play_event.specs.Places.{Place, group_of}
 use Rattle.play_event.specs.Table.{places_of}
 use Rattle.play_event.specs.Trace.{traced_places, places_on}
 use Rattle.play_event.specs.Scripts.{past_of}
@@ -27,7 +27,6 @@ use Rattle.canon_blocks.proofs.DiscardTests.{out_is}
 use Rattle.play_laws.proofs.DrawnDiscards.{out_drawn}
 use Rattle.canon_blocks.proofs.TraceOrder.{finals_of, is_final, finals_more, street_pieces, IsOwner, a_seat, the_board}
 use Rattle.canon_blocks.proofs.FreeGroups.{is_out_by}
-use Rattle.play_laws.proofs.PlaceGroups.{group_of}
 use Rattle.canon_blocks.proofs.DiscardsRun.{mirrored_as}
 use Rattle.canon_blocks.proofs.StreetMoves.{legal_falling, moves_split}
 use Rattle.canon_blocks.proofs.StreetLists.{IsUnplayed, unplayed}

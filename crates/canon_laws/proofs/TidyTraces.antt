@@ -3,7 +3,7 @@ use Rattle.std.proofs.Common.{◌≡◌, ℕ, zero, suc, ◌+◌, ◌-◌, ◌�
 use Rattle.std.specs.List.{list_any}
 use Rattle.std.specs.Option.{option_map_or}
 use Rattle.std.proofs.lemmas.Bool.{and_parts, and_from, and_left, eqb-true, lt-ltb, le-ltb, or_parts, or_from, not_from_false, false_from_ne_true, both_ways, cases_lt, ltb-false}
-use Rattle.std.proofs.lemmas.List.{length-map, length-append}
+use Rattle.std.proofs.lemmas.List.{length-map}
 use Rattle.play_event.specs.declared.code.Code.{Code}
 use Rattle.play_event.specs.declared.code.Code.TheVariants as games
 use Rattle.play_event.specs.declared.setup.Setup.{Setup}
@@ -12,12 +12,12 @@ use Rattle.play_event.specs.Games.{game_of, street_count}
 use Rattle.play_event.specs.declared.street.Street.{Street}
 use Rattle.play_event.specs.Streets.{has_draw}
 use Rattle.play_event.specs.Said.{Said}
-use Rattle.play_event.specs.Past.{Past, Move, moves_of}
+use Rattle.play_event.specs.Past.{Past, moves_of}
 use Rattle.play_event.specs.Seats.{all_seats}
 use Rattle.play_event.specs.Dealing.{hole_cards_dealt}
 use Rattle.play_event.specs.Places.{Place, is_same_owner, is_in_group}
 use Rattle.play_event.specs.Table.{places_of}
-use Rattle.play_event.specs.Trace.{traced_move, traced_moves, is_shown, TracedPlace, traced_place}
+use Rattle.play_event.specs.Trace.{is_shown, TracedPlace, traced_place}
 use Rattle.play_event.specs.Scripts.{past_of, past_at_end}
 use Rattle.card_set.specs.Known.{is_unknown}
 use Rattle.play_event.specs.Laws.{AreLegal, IsAmong}
@@ -45,6 +45,7 @@ use Rattle.canon_laws.proofs.LastPast.{shown_parts}
 use Rattle.play_laws.proofs.HeldFew.{is_held_at, filter_less, held_seven, out_seven, holes_seven}
 use Rattle.play_event.proofs.OwnerLaws.{is_same_owner-true}
 use Rattle.list_laws.proofs.NumbersOfRange.{is_in, not_above, not_in}
+use Rattle.play_event.proofs.TracedMoves.{as_many}
 
 few_board : (streets : List Street) (index : ℕ) → list_any (λ s. nat_lt 7 s.board) streets ≡ false → option_map_or (λ s. s.board) (slice_get streets index) 0 ≤ 7
 few_board [] index none = omega arith
@@ -226,11 +227,6 @@ tidy_cards setup rules events legal =
     by_owner : (owner : Option ℕ) (street : ℕ) → HasFewCards setup (core_of setup (past_of setup events)) → IsOwner setup owner → 1 ≤ street → street ≤ street_count setup.code → length (dealt_slots (core_of setup (past_of setup events)).places owner street) ≤ 7
     by_owner _ street few (a_seat seat least most) some within = few.dealt_few seat street least most some within
     by_owner _ street few the_board some within = few.board_few street some within
-
--- a trace has as many moves as its past
-pub as_many : (setup : Setup) (list : List Move) → length (traced_moves setup list) ≡ length list
-as_many setup [] = refl
-as_many setup (move ∷ before) = omega (arith, length-append (traced_moves setup before) (traced_move setup move before ∷ []), as_many setup before)
 
 -- the trace of a script that is played to its end is tidy, if its moves are within the limit
 pub tidy_trace : (setup : Setup) (rules : Rules) (script : List Said) → IsPlayed setup rules script → length (moves_of (past_at_end setup script)) ≤ 4096 → IsTidy (core_after setup script)

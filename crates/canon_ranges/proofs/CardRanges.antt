@@ -1,12 +1,9 @@
 -- How many cards the events of a canonical script have: of the board, of a discard and of a show.
-use Rattle.std.proofs.Common.{◌≡◌, ℕ, ◌+◌, ◌-◌, ◌≤◌, true, false, ◌&&◌, ◌==◌, not, nat_lt, nat_le, List, [], filter, length, Some, None, sym, ◌∙◌, ap, arith}
+use Rattle.std.proofs.Common.{◌≡◌, ℕ, ◌+◌, ◌-◌, ◌≤◌, true, false, ◌&&◌, ◌==◌, not, nat_lt, nat_le, List, filter, length, Some, None, sym, ◌∙◌, ap, arith}
 use Rattle.std.specs.List.{list_any}
 use Rattle.std.proofs.lemmas.Bool.{and_parts, and_from, and_right, eqb-true, leb-true, lt-leb, lt-ltb, le-ltb, not_from_false}
 use Rattle.std.proofs.lemmas.List.{length-map}
-use Rattle.list_laws.proofs.Any.{list_any-filter, list_any-map}
-use Rattle.list_laws.proofs.Finding.{none_stronger}
-use Rattle.card_set.specs.declared.card.Slot.TheVariants as slots
-use Rattle.card_set.specs.Known.{is_unknown, known_cards}
+use Rattle.card_set.specs.Known.{known_cards}
 use Rattle.play_event.specs.declared.setup.Rules.{Rules}
 use Rattle.play_event.specs.declared.setup.Setup.{Setup}
 use Rattle.play_event.specs.Games.{game_of, street_count}
@@ -18,9 +15,9 @@ use Rattle.play_event.specs.Scripts.{past_of}
 use Rattle.play_event.specs.Seats.{is_live, live_count}
 use Rattle.play_event.specs.Streets.{has_draw}
 use Rattle.play_event.specs.Table.{places_of}
-use Rattle.play_event.specs.Trace.{TracedPlace, is_shown}
+use Rattle.play_event.specs.Trace.{is_shown}
 use Rattle.play_event.specs.Due.{is_unfinished, turn}
-use Rattle.canonical_play.specs.CanonScript.{dealt_slots, discarded_slots, held_slots, is_dealt_to}
+use Rattle.canonical_play.specs.CanonScript.{dealt_slots, discarded_slots, held_slots}
 use Rattle.canonical_play.specs.TraceCore.{TraceCore, core_of}
 use Rattle.play_laws.proofs.DiscardCounts.{is_out_of}
 use Rattle.play_laws.proofs.DonePasts.{legal_done}
@@ -39,16 +36,7 @@ use Rattle.showdown_laws.proofs.WholeHands.{whole_hands}
 use Rattle.canon_ranges.proofs.GameSizes.{few_boards, few_drawn}
 use Rattle.chip_ledger.specs.Seat.{IsSeatOf}
 use Rattle.card_set.proofs.KnownCards.{all_known_length}
-
--- the board's cards of a street are known where the board's cards are
-board_sure : (placed : List TracedPlace) (street : ℕ) → list_any (λ place. is_same_owner place.owner None && is_unknown place.slot) placed ≡ false → list_any is_unknown (dealt_slots placed None street) ≡ false
-board_sure placed street none =
-    list_any-map is_unknown (λ (place : TracedPlace). place.slot) (filter (is_dealt_to None street) placed)
-    ∙ list_any-filter (λ (place : TracedPlace). is_unknown place.slot) (is_dealt_to None street) placed
-    ∙ none_stronger (λ (place : TracedPlace). is_dealt_to None street place && is_unknown place.slot) (λ place. is_same_owner place.owner None && is_unknown place.slot)
-    (λ place both.
-    let parts = and_parts (is_dealt_to None street place) (is_unknown place.slot) both in
-    and_from (is_same_owner place.owner None) (is_unknown place.slot) (and_parts (is_same_owner place.owner None) (place.street == street) parts.0).0 parts.1) placed none
+use Rattle.canon_ranges.proofs.StreetsPlayed.{board_known}
 
 module _ (setup : Setup) (rules : Rules) (events : List Said) (legal : AreLegal setup rules events) where
   abbrev past : Past
@@ -81,7 +69,7 @@ module _ (setup : Setup) (rules : Rules) (events : List Said) (legal : AreLegal 
 
   -- and they are known
   pub board_known : (street : ℕ) → length (known_cards (dealt_slots core.places None street)) ≡ length (dealt_slots core.places None street)
-  board_known street = all_known_length (dealt_slots core.places None street) (board_sure core.places street (tidy_cards setup rules events legal).board_known)
+  board_known street = all_known_length (dealt_slots core.places None street) (board_known core.places street (tidy_cards setup rules events legal).board_known)
 
   -- what a draw takes was held when its street began
   out_few : (seat street : ℕ) → 1 ≤ street → has_draw setup.code street ≡ true → length (filter (is_out_of street seat) placed) ≤ 5

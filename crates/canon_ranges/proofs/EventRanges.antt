@@ -2,7 +2,6 @@
 use Rattle.std.proofs.Common.{◌≡◌, ℕ, zero, suc, ◌+◌, ◌≤◌, ◌<◌, Bool, true, false, ◌&&◌, ◌==◌, nat_le, if◌then◌else◌, List, [], ◌∷◌, ◌++◌, map, filter, flat_map, reverse, length, Some, None, refl, sym, ◌∙◌, ap, subst, arith}
 use Rattle.std.specs.List.{AllByRecursion, list_any, range_with_len}
 use Rattle.std.proofs.lemmas.Bool.{and_parts}
-use Rattle.std.proofs.Math.Seq.{take-length}
 use Rattle.card_set.specs.declared.card.Slot.{Slot}
 use Rattle.card_set.specs.Known.{known_cards}
 use Rattle.play_event.specs.declared.setup.Rules.{Rules}
@@ -12,7 +11,7 @@ use Rattle.play_event.specs.Games.{street_count}
 use Rattle.play_event.specs.Laws.{AreLegal}
 use Rattle.play_event.specs.Past.{Act, BroughtIn, Called, Folded, Move, Past, Raised, moves_before, moves_of}
 use Rattle.play_event.specs.Said.{Discard, Muck, Said, Show}
-use Rattle.play_event.specs.Scripts.{past_after, past_at_end, past_of}
+use Rattle.play_event.specs.Scripts.{past_at_end, past_of}
 use Rattle.play_event.specs.Seats.{all_seats, is_live, live_count}
 use Rattle.play_event.specs.Streets.{has_draw}
 use Rattle.play_event.specs.Trace.{streets_of}
@@ -23,12 +22,13 @@ use Rattle.canonical_play.specs.PlayedScript.{IsPlayed}
 use Rattle.canonical_play.specs.TraceCore.{TraceCore, core_after, core_of}
 use Rattle.canon_laws.proofs.SameCore.{plain_again}
 use Rattle.canon_laws.proofs.TidyTraces.{tidy_cards}
-use Rattle.canon_ranges.specs.Ranges.{IsInRange}
 use Rattle.canon_ranges.proofs.CardRanges.{board_few, board_known, discard_few, shown_whole}
 use Rattle.canon_ranges.proofs.GameSizes.{hand_seven, hand_some}
 use Rattle.canon_ranges.proofs.MoveRanges.{IsMoveInRange, moves_in_range}
 use Rattle.list_laws.proofs.Each.{each_flat, each_joined, each_kept, each_mapped, each_reversed}
 use Rattle.chip_ledger.specs.Seat.{IsSeatOf}
+use Rattle.play_event.specs.Ranges.{IsInRange}
+use Rattle.play_event.proofs.ScriptLaws.{at_end}
 
 -- numbers in a row lie between the first and the last
 abbrev IsBetween : ℕ → ℕ → ℕ → Type 0
@@ -145,9 +145,6 @@ module _ (setup : Setup) (rules : Rules) (events : List Said) (valid : IsValid s
         (each_flat (IsStreetOf setup) (IsInRange seats) (street_said setup core.places moves) street_in_range (streets_of setup) (row 1 (street_count setup.code) (street_count setup.code + 1) (omega arith)))
         showdown
 
-end_of : (setup : Setup) (script : List Said) → past_after setup script (length script) ≡ past_at_end setup script
-end_of setup script = ap (λ l. past_of setup (reverse l)) (take-length script)
-
 -- the events of the canonical script of a script that is played to its end
 pub events_in_range : (setup : Setup) (rules : Rules) (script : List Said) → IsValid setup → IsPlayed setup rules script → AllByRecursion (IsInRange setup.stacks.seats) (canon_of setup script)
 unfolding canonical_script
@@ -155,4 +152,4 @@ events_in_range setup rules script valid played =
     let past : Past = past_at_end setup script in
     let core : TraceCore = core_after setup script in
     subst (λ (moves : List Move). AllByRecursion (IsInRange setup.stacks.seats) (script_of setup core.places moves core.shown)) (sym (plain_again setup (moves_of past)))
-    (all_in_range setup rules (reverse script) valid played.legal (sym (ap (λ p. is_unfinished (turn setup p).1) (end_of setup script)) ∙ played.complete))
+    (all_in_range setup rules (reverse script) valid played.legal (sym (ap (λ p. is_unfinished (turn setup p).1) (at_end setup script)) ∙ played.complete))

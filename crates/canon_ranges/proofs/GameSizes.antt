@@ -1,20 +1,15 @@
 -- How many cards and streets a game has at most.
-use Rattle.std.proofs.Common.{◌≡◌, ℕ, zero, suc, ◌+◌, ◌-◌, ◌≤◌, Bool, true, false, ◌&&◌, ◌||◌, not, nat_le, List, [], ◌∷◌, length, slice_get, refl, sym, ◌∙◌, ap, arith}
+use Rattle.std.proofs.Common.{◌≡◌, ℕ, zero, suc, ◌-◌, ◌≤◌, Bool, true, false, ◌&&◌, ◌||◌, not, nat_le, List, [], ◌∷◌, length, slice_get, refl, sym, ◌∙◌, ap, arith}
 use Rattle.std.specs.List.{list_all, list_any}
 use Rattle.std.specs.Option.{option_map_or}
 use Rattle.std.proofs.lemmas.Bool.{and_parts, leb-true, or_left, or_right}
-use Rattle.play_event.specs.Games.{Game, board_cards_on, game_of, street_count}
+use Rattle.play_event.specs.Games.{Game, board_cards_on, game_of}
 use Rattle.play_event.specs.Streets.{has_draw}
 use Rattle.play_event.specs.declared.code.Code.{Code}
 use Rattle.play_event.specs.declared.code.Code.TheVariants as games
 use Rattle.play_event.specs.declared.street.Street.{Street}
 use Rattle.list_laws.proofs.Tests.{false_true}
-use Rattle.play_laws.proofs.HeldFew.{first_holes}
-
--- the hole cards of all streets
-hole_total : List Street → ℕ
-hole_total [] = 0
-hole_total (s ∷ rest) = (s.down + s.up) + hole_total rest
+use Rattle.play_laws.proofs.HeldFew.{first_holes, all_holes, not_more}
 
 -- a street deals five cards to the board at most
 has_small_board : Street → Bool
@@ -22,7 +17,7 @@ has_small_board s = nat_le s.board 5
 
 -- the streets draw, if one does, for hands of five cards at most
 has_small_draws : List Street → Bool
-has_small_draws streets = not (list_any (λ s. s.draws) streets) || nat_le (hole_total streets) 5
+has_small_draws streets = not (list_any (λ s. s.draws) streets) || nat_le (all_holes streets) 5
 
 -- a hand has one card to seven, and a game five streets at most
 is_small : Game → Bool
@@ -31,7 +26,7 @@ is_small game =
     && ((nat_le 1 game.hole && nat_le game.hole 7) && nat_le (length game.streets) 5)
 
 all_small : (code : Code) → is_small (game_of code) ≡ true
-unfolding is_small has_small_board has_small_draws hole_total
+unfolding is_small has_small_board has_small_draws all_holes
 all_small games.FT = refl
 all_small games.NT = refl
 all_small games.NS = refl
@@ -80,19 +75,13 @@ some_draws [] index is = false_true is
 some_draws (first ∷ rest) zero is = or_left first.draws (list_any (λ s. s.draws) rest) is
 some_draws (first ∷ rest) (suc index) is = or_right first.draws (list_any (λ s. s.draws) rest) (some_draws rest index is)
 
-not_more : (streets : List Street) (count : ℕ) → first_holes streets count ≤ hole_total streets
-unfolding first_holes hole_total
-not_more [] count = omega arith
-not_more (s ∷ rest) zero = omega arith
-not_more (s ∷ rest) (suc count) = omega (arith, not_more rest count)
-
 -- where a street draws, a hand has five cards at most
 pub few_drawn : (code : Code) (street count : ℕ) → has_draw code street ≡ true → first_holes (game_of code).streets count ≤ 5
 unfolding has_small_draws
 few_drawn code street count draws =
     let streets : List Street = (game_of code).streets in
-    let is : nat_le (hole_total streets) 5 ≡ true = sym (ap (λ some. not some || nat_le (hole_total streets) 5) (some_draws streets (street - 1) draws)) ∙ (small code).draws in
-    omega (arith, not_more streets count, leb-true (hole_total streets) 5 is)
+    let is : nat_le (all_holes streets) 5 ≡ true = sym (ap (λ some. not some || nat_le (all_holes streets) 5) (some_draws streets (street - 1) draws)) ∙ (small code).draws in
+    omega (arith, not_more streets count, leb-true (all_holes streets) 5 is)
 
 -- a hand has one card to seven
 pub hand_some : (code : Code) → 1 ≤ (game_of code).hole
@@ -100,7 +89,3 @@ hand_some code = (small code).some
 
 pub hand_seven : (code : Code) → (game_of code).hole ≤ 7
 hand_seven code = (small code).seven
-
--- a game has five streets at most
-pub few_streets : (code : Code) → street_count code ≤ 5
-few_streets code = (small code).five

@@ -10,7 +10,7 @@ use Rattle.play_event.specs.Chips.{all_in, blind_posted, brought, chips_added, p
 use Rattle.play_event.specs.Laws.{AreLegal, NoneHold}
 use Rattle.play_event.specs.MoveReasons.{actor_of}
 use Rattle.play_event.specs.Openers.{TheSeat}
-use Rattle.play_event.specs.Past.{Move, Moved, Resolved, moves_of, moves_on}
+use Rattle.play_event.specs.Past.{Move, Moved, moves_of, moves_on}
 use Rattle.play_event.specs.Price.{price}
 use Rattle.play_event.specs.Said.{Said}
 use Rattle.play_event.specs.Scripts.{past_of, resolved_by}
@@ -28,6 +28,7 @@ use Rattle.play_laws.proofs.MovesLaw.{IsMover, MovesLaw, free, shown}
 use Rattle.play_laws.proofs.NamedMoves.{move_reasons, same_actor}
 use Rattle.canon_ranges.proofs.MoverSeats.{mover_in_hand}
 use Rattle.chip_ledger.specs.Seat.{IsSeatOf}
+use Rattle.play_laws.proofs.ResolvedMoves.{target_of}
 
 -- a move of a seat of the hand, to chips that may be stated
 pub record IsMoveInRange (setup : Setup) (move : Move) : Type 0 where
@@ -63,11 +64,6 @@ within_before setup move older within seat = omega (arith, within seat)
 in_turn_in_hand : (setup : Setup) (placed : List Place) (older : List Move) (street seat : ℕ) → IsMover setup placed older street seat → IsSeatOf setup.stacks.seats seat
 in_turn_in_hand setup placed older street seat (free by) = mover_in_hand setup (λ _. []) older street seat (by (λ _. []))
 in_turn_in_hand setup placed older street seat (shown known by) = mover_in_hand setup _ older street seat by
-
--- the target of a move
-target_of : Resolved → ℕ
-target_of (Moved move) = move.to
-target_of _ = 0
 
 module _ (setup : Setup) (rules : Rules) (older : List Move) (street seat : ℕ) where
   abbrev most : ℕ

@@ -7,7 +7,7 @@ use Rattle.list_laws.proofs.Options.{some_is_none}
 use Rattle.play_event.specs.Chips.{chips_left}
 use Rattle.play_event.specs.Due.{has_to_move}
 use Rattle.play_event.specs.Mover.{first_in_turn, mover, next_in_turn, seats_from}
-use Rattle.play_event.specs.Openers.{InTurn, NoSeat, TheSeat, Undecided, UpCards, able_seats, blinds_opener, has_unknown_up_card, in_turn, last_big_blind, opener_by, seat_after, up_cards_opener}
+use Rattle.play_event.specs.Openers.{InTurn, NoSeat, TheSeat, Undecided, UpCards, able_seats, has_unknown_up_card, in_turn, opener_by, seat_after, up_cards_opener}
 use Rattle.play_event.specs.Past.{Move, moves_on}
 use Rattle.play_event.specs.Seats.{all_seats, is_able, is_live}
 use Rattle.play_event.specs.Streets.{opener_of}
@@ -16,6 +16,7 @@ use Rattle.play_event.specs.declared.limit.Opener.TheVariants as openers
 use Rattle.play_event.specs.declared.setup.Setup.{Setup}
 use Rattle.play_event.proofs.MoverLaws.{mover_is_able}
 use Rattle.chip_ledger.specs.Seat.{IsSeatOf}
+use Rattle.play_event.proofs.FloorLaws.{opener_from_one}
 
 -- each of some numbers is at least 1
 abbrev FromOne : List ℕ → Type 0
@@ -62,24 +63,16 @@ after_from_one setup seat = by_last (seat == setup.stacks.seats)
     by_last true = omega arith
     by_last false = omega arith
 
-blinds_from_one : (setup : Setup) (street : ℕ) → 1 ≤ blinds_opener setup street
-blinds_from_one setup street = by_street (street == 1) (setup.stacks.seats == 2)
-  where
-    by_street : (first two : Bool) → 1 ≤ (if first then (if two then 2 else seat_after setup (last_big_blind setup)) else 1)
-    by_street true true = omega arith
-    by_street true false = after_from_one setup (last_big_blind setup)
-    by_street false two = omega arith
-
 up_from_one : (setup : Setup) (ups : UpCards) (moves : List Move) (street : ℕ) (unknown : Bool) → IsFromOne (if unknown then Undecided else in_turn (up_cards_opener setup ups moves street))
 up_from_one setup ups moves street true = tt
 up_from_one setup ups moves street false =
     found_turn (up_cards_opener setup ups moves street) (λ seat is.
     found_from_one _ (able_seats setup moves) seat (kept_from_one (is_able setup moves) (all_seats setup) (range_from_one 1 setup.stacks.seats (omega arith))) is)
 
-opener_from_one : (opener : Opener) (setup : Setup) (ups : UpCards) (moves : List Move) (street : ℕ) → IsFromOne (opener_by opener setup ups moves street)
-opener_from_one openers.Blinds setup ups moves street = blinds_from_one setup street
-opener_from_one openers.LowUp setup ups moves street = up_from_one setup ups moves street (has_unknown_up_card setup ups moves)
-opener_from_one openers.HighUp setup ups moves street = up_from_one setup ups moves street (has_unknown_up_card setup ups moves)
+from_one_by : (opener : Opener) (setup : Setup) (ups : UpCards) (moves : List Move) (street : ℕ) → IsFromOne (opener_by opener setup ups moves street)
+from_one_by openers.Blinds setup ups moves street = opener_from_one setup street
+from_one_by openers.LowUp setup ups moves street = up_from_one setup ups moves street (has_unknown_up_card setup ups moves)
+from_one_by openers.HighUp setup ups moves street = up_from_one setup ups moves street (has_unknown_up_card setup ups moves)
 
 next_from_one : (setup : Setup) (opener : InTurn) (moves : List Move) → IsFromOne opener → IsFromOne (next_in_turn setup opener moves)
 next_from_one setup opener [] one = one
@@ -101,7 +94,7 @@ mover_in_hand setup ups moves street seat is =
     let some : 0 < chips_left setup moves seat = ltb-true 0 (chips_left setup moves seat) able.1 in (
       subst IsFromOne is
           (first_from_one setup (has_to_move setup moves street) (next_in_turn setup opener (moves_on street moves))
-          (next_from_one setup opener (moves_on street moves) (opener_from_one (opener_of setup.code) setup ups moves street))),
+          (next_from_one setup opener (moves_on street moves) (from_one_by (opener_of setup.code) setup ups moves street))),
       elim (cases_lt setup.stacks.seats seat) [
         | inl past ↦ absurd (let none = setup.stacks.filler (seat - 1) (omega (arith, past)) in omega (arith, some, none))
         | inr within ↦ within

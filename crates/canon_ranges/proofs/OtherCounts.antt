@@ -4,7 +4,6 @@ use Rattle.std.proofs.lemmas.List.{length-map}
 use Rattle.std.proofs.lemmas.List.FromFn.{length-range_with_len}
 use Rattle.std.proofs.lemmas.List.Sums.{count_by-le-length, length-filter}
 use Rattle.list_laws.proofs.Counting.{count_by-cons}
-use Rattle.card_set.specs.declared.card.Slot.{Slot}
 use Rattle.play_event.specs.declared.setup.Setup.{Setup}
 use Rattle.play_event.specs.Games.{street_count}
 use Rattle.play_event.specs.Past.{Act, BroughtIn, Called, Folded, Move, Raised, moves_before}
@@ -15,7 +14,8 @@ use Rattle.play_event.specs.Trace.{TracedPlace, streets_of}
 use Rattle.canonical_play.specs.CanonScript.{act_named, board_said, canonical_script, deal_said, deals_said, dealt_slots, discarded_slots, discards_said, drawing_seats, is_reached, move_named, moves_named, plain_moves, showdown_said, showing_said, street_said}
 use Rattle.canonical_play.specs.PlayedScript.{is_move}
 use Rattle.canonical_play.specs.TraceCore.{TraceCore}
-use Rattle.canon_ranges.proofs.GameSizes.{few_streets}
+use Rattle.play_event.proofs.StreetLaws.{few_streets}
+use Rattle.canonical_play.proofs.Deals.{one_board, one_deal}
 
 -- how many of some events are no moves
 abbrev others : List Said → ℕ
@@ -44,14 +44,6 @@ ten_seats setup = omega (arith, length-range_with_len 1 setup.stacks.seats, setu
 maybe : (some : Bool) (events : List Said) (most : ℕ) → length events ≤ most → others (if some then events else []) ≤ most
 maybe true events most short = few events most short
 maybe false events most short = omega arith
-
-one_deal : (seat : ℕ) (cards : List Slot) → length (deal_said seat cards) ≤ 1
-one_deal seat [] = omega arith
-one_deal seat (slot ∷ rest) = omega arith
-
-one_board : (cards : List Slot) → length (board_said cards) ≤ 1
-one_board [] = omega arith
-one_board (slot ∷ rest) = omega arith
 
 act_moves : (act : Act) (seat target : ℕ) → is_move (act_named act seat target) ≡ true
 act_moves Folded seat target = refl

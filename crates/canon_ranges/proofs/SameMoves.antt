@@ -12,8 +12,8 @@ use Rattle.canonical_play.specs.TraceCore.{core_after}
 use Rattle.canonical_play.specs.declared.limits.TheConstants.{MOST_MOVES}
 use Rattle.canon_laws.proofs.Confluent.{confluent}
 use Rattle.canon_laws.proofs.MoveCounts.{move_count}
-use Rattle.canon_laws.proofs.TidyTraces.{as_many}
 use Rattle.canon_ranges.proofs.OtherCounts.{few_others}
+use Rattle.play_event.proofs.TracedMoves.{as_many}
 
 -- the moves of a trace are as many as its script's
 traced_count : (setup : Setup) (script : List Said) → length (core_after setup script).moves ≡ count_by is_move script

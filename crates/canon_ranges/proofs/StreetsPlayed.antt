@@ -19,7 +19,7 @@ use Rattle.play_event.specs.Due.{is_unfinished, turn}
 use Rattle.play_event.specs.Games.{board_cards_on, hole_cards_on, street_count}
 use Rattle.play_event.specs.Laws.{AreLegal}
 use Rattle.play_event.specs.Past.{Move, moves_before, moves_of, moves_on}
-use Rattle.play_event.specs.Places.{is_same_owner}
+use Rattle.play_event.specs.Places.{is_same_owner, group_of}
 use Rattle.play_event.specs.Said.{Said}
 use Rattle.play_event.specs.Scripts.{past_of}
 use Rattle.play_event.specs.Seats.{all_seats, is_live, live_count}
@@ -30,7 +30,6 @@ use Rattle.list_laws.proofs.Counting.{counts_fewer}
 use Rattle.play_laws.proofs.DoneKept.{live_before}
 use Rattle.play_laws.proofs.DonePasts.{legal_done}
 use Rattle.play_laws.proofs.LegalPlaces.{group_count, legal_past}
-use Rattle.play_laws.proofs.PlaceGroups.{group_of}
 use Rattle.play_laws.proofs.PlayedStreets.{board_count, board_group, hole_group, reached_done}
 use Rattle.play_laws.specs.PastLaws.{is_played_on}
 
@@ -120,3 +119,9 @@ board_known placed street known =
         let outer = and_parts (is_dealt_to None street place) (is_unknown place.slot) both in
         let inner = and_parts (is_same_owner place.owner None) (place.street == street) outer.0 in
         rw (inner.0, outer.1) refl
+
+-- a street has no more cards of the board than the game deals on it
+pub few_on_board : (setup : Setup) (events : List Said) (street : ℕ) → HasStreet setup events street → (passed : Bool) → is_passed setup (moves_of (past_of setup events)) street ≡ passed
+    → length (dealt_slots (traced_places setup (past_of setup events)) None street) ≤ board_cards_on setup.code street
+few_on_board setup events street has true is = omega (arith, has.no_board is)
+few_on_board setup events street has false is = omega (arith, has.board is)

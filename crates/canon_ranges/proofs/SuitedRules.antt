@@ -2,10 +2,9 @@
 -- closed, where folds are not free each fold pays for something, and the raises of each street are within its cap.
 use Rattle.std.proofs.Common.{◌≡◌, ℕ, ◌+◌, ◌-◌, ◌≤◌, Bool, true, false, ◌&&◌, ◌||◌, ◌==◌, not, nat_le, nat_lt, cond, Option, Some, None, List, [], ◌∷◌, reverse, slice_index, inl, inr, refl, sym, ap, subst, ◌∙◌, arith}
 use Rattle.std.specs.List.{list_any}
-use Rattle.std.proofs.lemmas.Bool.{and_parts, eq-eqb, eqb-true, false_from_ne_true, leb-true, ltb-false, ltb-true, not-false, or_cases}
+use Rattle.std.proofs.lemmas.Bool.{and_parts, eq-eqb, eqb-true, false_from_ne_true, leb-true, ltb-true, not-false, or_cases}
 use Rattle.list_laws.proofs.Finding.{list_any-push}
 use Rattle.list_laws.proofs.Tests.{false_true, holds_by_both}
-use Rattle.play_event.proofs.TargetLaws.{greatest_is_legal}
 use Rattle.play_event.specs.Amounts.{raise_target}
 use Rattle.play_event.specs.Chips.{all_in, street_chips}
 use Rattle.play_event.specs.Laws.{NoneHold}
@@ -21,7 +20,6 @@ use Rattle.play_event.specs.Table.{places_of}
 use Rattle.play_event.specs.Targets.{greatest_target, is_legal_target}
 use Rattle.play_event.specs.Trace.{TracedMove, traced_move, traced_moves}
 use Rattle.play_event.specs.declared.reason.Due.{Due}
-use Rattle.play_event.specs.declared.setup.Reopen.{Reopen}
 use Rattle.play_event.specs.declared.setup.Reopen.TheVariants as reopens
 use Rattle.play_event.specs.declared.setup.Rules.{Rules}
 use Rattle.play_event.specs.declared.setup.Setup.{Setup}
@@ -35,6 +33,7 @@ use Rattle.play_laws.proofs.OtherRules.{AreSuited, IsSuited}
 use Rattle.canon_laws.specs.OtherRules.{SuitsRules, is_free_fold}
 use Rattle.canon_laws.proofs.SameCore.{plain_again}
 use Rattle.canon_laws.proofs.SuitedMoves.{AreWithin, one_more}
+use Rattle.play_event.proofs.FloorLaws.{fits_target}
 
 -- a fold with something to call pays for it
 pays : (free : Bool) (the_price from : ℕ) → (not free && (the_price - from == 0)) ≡ false → free ≡ false → nat_le the_price from ≡ false
@@ -47,11 +46,6 @@ may_parts : (opponent above cap free : Bool) → not (opponent && above && cap &
 may_parts opponent above cap free may =
     let all = and_parts (opponent && above && cap) free (not-false (opponent && above && cap && free) may) in
     ((and_parts (opponent && above) cap all.0).1, all.1)
-
-fits_target : (reopen : Reopen) (setup : Setup) (moves : List Move) (street seat target : ℕ) → nat_lt target (greatest_target setup moves street seat) ≡ false → nat_lt (greatest_target setup moves street seat) target ≡ false → is_legal_target reopen setup moves street seat target ≡ true
-fits_target reopen setup moves street seat target small big =
-    let same : target ≡ greatest_target setup moves street seat = omega (arith, ltb-false target (greatest_target setup moves street seat) small, ltb-false (greatest_target setup moves street seat) target big) in
-    ap (λ (t : ℕ). is_legal_target reopen setup moves street seat t) same ∙ greatest_is_legal reopen setup moves street seat
 
 -- what is open and goes to a legal target is not closed
 open_both : (reopened legal : Bool) → reopened ≡ true → legal ≡ true → (not reopened || not legal) ≡ false

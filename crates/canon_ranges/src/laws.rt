@@ -11,7 +11,7 @@ ghost use Rattle.play_event.specs.ValidSetup.{IsValid};
 ghost use Rattle.play_event.specs.declared.setup.Rules.{Rules};
 ghost use Rattle.play_event.specs.declared.setup.Setup.{Setup};
 ghost use Rattle.canon_laws.specs.OtherRules.{SuitsRules};
-ghost use Rattle.canon_ranges.specs.Ranges.{IsInRange};
+ghost use Rattle.play_event.specs.Ranges.{IsInRange};
 
 /// Each event of the canonical script of a script that is played to its end lies in its range, and the canonical script is
 /// within the limits of a hand where the moves of the script are.

@@ -5,7 +5,6 @@ use Rattle.card_set.specs.declared.card.Slot.{Slot}
 use Rattle.chip_ledger.specs.declared.rows.LiveRow.{LiveRow}
 use Rattle.chip_ledger.specs.LiveRow.{flag_of}
 use Rattle.play_event.specs.declared.code.Code.{Code}
-use Rattle.play_event.specs.declared.code.Code.TheVariants as games
 use Rattle.play_event.specs.declared.reason.Due.{Due}
 use Rattle.play_event.specs.declared.reason.Due.TheVariants as dues
 use Rattle.play_event.specs.declared.reason.Illegal.{Illegal}
@@ -24,6 +23,7 @@ use Rattle.card_places.specs.Refusals.{owed_of, owed_in, board_owed_in, hole_why
 use Rattle.card_places.specs.Room.{is_seat_of, is_street, hole_most, most_of, AreNamedWithin, IsOwed}
 use Rattle.card_places.proofs.Rooms.{seat_parts, street_parts}
 use Rattle.list_laws.proofs.Tests.{first_holds}
+use Rattle.play_event.proofs.StreetLaws.{few_streets}
 
 count_at : (zero_count over : Bool) (wrong taken : Bool) → (if wrong then Some reasons.WrongSeat else if (zero_count || over) then Some reasons.WrongCount else if taken then Some reasons.CardTaken else None) ≡ None → (wrong ≡ false) × (zero_count ≡ false) × (over ≡ false)
 count_at zero_count over true taken is = absurd cc
@@ -102,11 +102,6 @@ named_most : (draws : Bool) (named most hole dealt count : ℕ) → named ≤ mo
 named_most true named most hole dealt count less some few = omega (arith, less, some, few)
 named_most false named most hole dealt count less some few = omega (arith, some, few)
 
--- a street of the game is one of five
-pub five : (code : Code) → street_count code ≤ 5
-five games.FT = omega arith
-five _ = omega arith
-
 -- what is owed has room
 pub owed_room : (code : Code) (seats : ℕ) (draws : Draws) (placed : List Place) (owner : Option ℕ) (on count : ℕ) → seats ≤ 10 → AreNamedWithin code draws → IsOwed code seats draws placed owner on count → count_by (is_in_group owner on) placed + count ≤ most_of code seats owner on
 owed_room code seats draws placed (Some seat) on count ten named owed =
@@ -115,7 +110,7 @@ owed_room code seats draws placed (Some seat) on count ten named owed =
     subst (λ (b : Bool). count_by (is_in_group (Some seat) on) placed + count ≤ (if b then hole_most code on else 0))
     (sym (and_from (is_seat_of seats seat) (is_street code on) owed.owner_in owed.street_in))
     (named_most (has_draw code on) (named_at draws on seat) (game_of code).hole (hole_cards_on code on) (count_by (is_in_group (Some seat) on) placed) count
-    (named on seat (omega (arith, at.1, five code)) in_hand.0 (omega (arith, in_hand.1, ten))) owed.some owed.few)
+    (named on seat (omega (arith, at.1, few_streets code)) in_hand.0 (omega (arith, in_hand.1, ten))) owed.some owed.few)
 owed_room code seats draws placed None on count ten named owed =
     let room : count_by (is_in_group None on) placed + count ≤ board_cards_on code on = omega (arith, owed.some, owed.few) in
     subst (λ (b : Bool). count_by (is_in_group None on) placed + count ≤ (if b then board_cards_on code on else 0)) (sym owed.street_in) room
@@ -129,4 +124,4 @@ due_within least most dues.Show less within = tt
 due_within least most dues.Over less within = tt
 
 pub within_five : (code : Code) (due : Due) → IsDueWithin (street_count code) due → IsDueWithin 5 due
-within_five code due within = due_within (street_count code) 5 due (five code) within
+within_five code due within = due_within (street_count code) 5 due (few_streets code) within

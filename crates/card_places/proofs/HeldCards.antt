@@ -8,11 +8,11 @@ use Rattle.card_set.specs.declared.card.Slot.TheVariants as slots
 use Rattle.card_set.specs.Known.{is_unknown, known_cards}
 use Rattle.play_event.specs.Places.{Place, is_same_owner, is_held_by, places_dealt, folded_place, gone_now, after_fold}
 use Rattle.play_event.specs.declared.code.Code.{Code}
-use Rattle.play_event.specs.Naming.{found_by, after_names, after_discard, after_show, discarded_now, is_named, other_names, blanks_in, is_covered, is_show_of_all}
+use Rattle.play_event.specs.Naming.{found_by, after_names, after_discard, after_show, discarded_now, is_named, other_names, blanks_in, is_covered, is_show_of_all, unknown_count}
 use Rattle.play_event.specs.CardReasons.{has_no_place}
 use Rattle.play_event.specs.Held.{is_held}
 use Rattle.card_places.proofs.NamesLeast.{names_least}
-use Rattle.card_places.proofs.MarksLeast.{marks_least, unknown_count}
+use Rattle.card_places.proofs.MarksLeast.{marks_least}
 
 count-join : (p : Place → Bool) (xs ys : List Place) → count_by p (xs ++ ys) ≡ count_by p xs + count_by p ys
 count-join p [] ys = omega arith

@@ -6,12 +6,7 @@ use Rattle.card_set.specs.declared.card.Slot.{Slot}
 use Rattle.card_set.specs.declared.card.Slot.TheVariants as slots
 use Rattle.card_set.specs.Known.{is_unknown}
 use Rattle.play_event.specs.Places.{Place, is_same_owner, is_held_by}
-use Rattle.play_event.specs.Naming.{found_by, after_names, discarded_now, is_named}
-use Rattle.card_places.proofs.NamesLeast.{bears_named, named_count}
-
-abbrev pub unknown_count : List Place → ℕ
-unknown_count [] = 0
-unknown_count (place ∷ rest) = (if is_unknown place.slot then 1 else 0) + unknown_count rest
+use Rattle.play_event.specs.Naming.{found_by, after_names, discarded_now, is_named, is_named_slot, named_count, unknown_count}
 
 gone_not_held : (b : Bool) → ◌≡◌ {A = ℕ} (cond (b && false) 1 0) 0
 gone_not_held true = refl
@@ -27,7 +22,7 @@ marks_least seat street count names others blanks (place ∷ rest) fits = by_hel
 
     by_slot : (slot : Slot) (left : List Card) (n : ℕ) → ◌≡◌ {A = ℕ} (cond (is_held_by seat place) 1 0) 1 → length left + n ≤ (if is_unknown slot then 1 else 0) + unknown_count (filter (is_held_by seat) rest)
         → ((left : List Card) (n : ℕ) → length left + n ≤ unknown_count (filter (is_held_by seat) rest) → count_by (is_held_by seat) (after_names (is_held_by seat) (discarded_now street count) names left n rest) + named_count names (filter (is_held_by seat) rest) + length left + n ≤ count_by (is_held_by seat) rest)
-        → count_by (is_held_by seat) (let found = found_by (discarded_now street count) names slot left n place in found.place ∷ after_names (is_held_by seat) (discarded_now street count) names found.others found.blanks rest) + ((if bears_named names slot then 1 else 0) + named_count names (filter (is_held_by seat) rest)) + length left + n ≤ 1 + count_by (is_held_by seat) rest
+        → count_by (is_held_by seat) (let found = found_by (discarded_now street count) names slot left n place in found.place ∷ after_names (is_held_by seat) (discarded_now street count) names found.others found.blanks rest) + ((if is_named_slot names slot then 1 else 0) + named_count names (filter (is_held_by seat) rest)) + length left + n ≤ 1 + count_by (is_held_by seat) rest
     by_slot (slots.Known card) left n one less later = by_name (is_named card names)
       where
         by_name : (b : Bool) → count_by (is_held_by seat) ((if b then discarded_now street count place else place) ∷ after_names (is_held_by seat) (discarded_now street count) names left n rest) + ((if b then 1 else 0) + named_count names (filter (is_held_by seat) rest)) + length left + n ≤ 1 + count_by (is_held_by seat) rest

@@ -1,20 +1,11 @@
 -- A discard that finds its places takes at least as many as it names: each name that is no other name is that of a place.
-use Rattle.std.proofs.Common.{◌≡◌, ℕ, ◌+◌, ◌≤◌, Bool, true, false, ◌||◌, if◌then◌else◌, List, [], ◌∷◌, length, refl, sym, ap, ◌∙◌, arith}
+use Rattle.std.proofs.Common.{◌≡◌, ◌+◌, ◌≤◌, Bool, true, false, ◌||◌, if◌then◌else◌, List, [], ◌∷◌, length, refl, sym, ap, ◌∙◌, arith}
 use Rattle.card_set.specs.declared.card.Card.{Card}
 use Rattle.card_set.specs.declared.card.Slot.{Slot}
 use Rattle.card_set.specs.declared.card.Slot.TheVariants as slots
 use Rattle.card_set.specs.Deck.{is_same_card}
 use Rattle.play_event.specs.Places.{Place}
-use Rattle.play_event.specs.Naming.{without, other_names, is_named}
-
--- how many of the places are known and bear a named card
-abbrev pub bears_named : List Card → Slot → Bool
-bears_named names (slots.Known card) = is_named card names
-bears_named names slots.Unknown = false
-
-abbrev pub named_count : List Card → List Place → ℕ
-named_count names [] = 0
-named_count names (place ∷ rest) = (if bears_named names place.slot then 1 else 0) + named_count names rest
+use Rattle.play_event.specs.Naming.{without, other_names, is_named, is_named_slot, named_count}
 
 -- each name of one list is one of the other
 abbrev pub AreNamed : List Card → List Card → Type 0
@@ -47,7 +38,7 @@ none_out card (name ∷ rest) is = by_first (is_same_card card name) is (none_ou
     by_first true none later = absurd cc
     by_first false none later = let more = later none in omega (arith, more)
 
-out_of : (slot : Slot) (some names : List Card) → AreNamed some names → length some ≤ (if bears_named names slot then 1 else 0) + length (without slot some)
+out_of : (slot : Slot) (some names : List Card) → AreNamed some names → length some ≤ (if is_named_slot names slot then 1 else 0) + length (without slot some)
 out_of slots.Unknown some names are = omega arith
 out_of (slots.Known card) some names are = by_some (is_named card some) (is_named card names) refl refl
   where

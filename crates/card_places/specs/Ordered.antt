@@ -1,24 +1,20 @@
 -- The places by street, then by owner, then in the order of dealing.
-use Rattle.std.specs.Prelude.{ℕ, List, [], ◌∷◌, ◌++◌, map, filter, flat_map, Option, Some, None, IsSome, IfSome}
+use Rattle.std.specs.Prelude.{ℕ, List, [], ◌∷◌, ◌++◌, map, flat_map, Option, Some, None, IsSome, IfSome}
 use Rattle.std.specs.List.{range_with_len}
 use Rattle.play_event.specs.declared.code.Code.{Code}
 use Rattle.play_event.specs.declared.played.Place as rows
 use Rattle.play_event.specs.Games.{street_count}
-use Rattle.play_event.specs.Places.{Place, is_in_group}
+use Rattle.play_event.specs.Places.{Place, group_of}
 use Rattle.play_event.specs.Played.{IsPlace}
 use Rattle.play_event.specs.Trace.{traced_place}
 
--- the places of a street and an owner
-abbrev pub group : List Place → ℕ → Option ℕ → List Place
-group placed street owner = filter (is_in_group owner street) placed
-
 -- those of so many seats, from the first one on
 abbrev pub on_seats : List Place → ℕ → (first count : ℕ) → List Place
-on_seats placed street first count = flat_map (group placed street) (map Some (range_with_len first count))
+on_seats placed street first count = flat_map (group_of placed street) (map Some (range_with_len first count))
 
 -- those of the seats and the board
 abbrev pub on_street : ℕ → List Place → ℕ → List Place
-on_street seats placed street = flat_map (group placed street) (map Some (range_with_len 1 seats) ++ None ∷ [])
+on_street seats placed street = flat_map (group_of placed street) (map Some (range_with_len 1 seats) ++ None ∷ [])
 
 -- those of so many streets, from the first one on
 abbrev pub on_streets : ℕ → List Place → (first count : ℕ) → List Place

@@ -3,7 +3,8 @@ ghost use Rattle.std.specs.Prelude.{◌≡◌, ◌≤◌, ◌<◌, ◌+◌, ◌+
 ghost use Rattle.play_event.specs.Places.{is_in_group, places_dealt};
 ghost use Rattle.play_event.specs.Held.{is_held};
 ghost use Rattle.card_places.specs.Placed.{placed};
-ghost use Rattle.card_places.specs.Plain.{place_of, seat_of};
+ghost use Rattle.card_places.specs.Plain.{place_of};
+ghost use Rattle.chip_ledger.specs.SeatsSaid.{seat_said};
 
 use crate::dealt_card::DealtCard;
 use crate::dealt_cards::{DealtCards, MOST_CARDS};
@@ -22,7 +23,7 @@ impl DealtCards {
 
     /// How many cards the owner has that are not gone.
     pub fn held(&self, owner: Option<Seat>) -> u8
-        ensures { result ≡ count_by (is_held (seat_of owner)) (placed self.now) }
+        ensures { result ≡ count_by (is_held (seat_said owner)) (placed self.now) }
     {
         let mut count: u8 = 0;
         for card in &self.rows[..self.count as usize] {
@@ -37,8 +38,8 @@ impl DealtCards {
     pub fn put(&mut self, owner: Option<Seat>, street: u8, past_deck: bool, cards: &[Slot])
         requires { self.old.count + length cards.now ≤ 120 }
         ensures { placed self.new ≡ placed self.old
-            ++ places_dealt (seat_of owner) street past_deck
-            (count_by (is_in_group (seat_of owner) street) (placed self.old))
+            ++ places_dealt (seat_said owner) street past_deck
+            (count_by (is_in_group (seat_said owner) street) (placed self.old))
             (length (placed self.old)) cards.now }
     {
         let mut index = self.in_group(owner, street);
@@ -60,7 +61,7 @@ impl DealtCards {
 
     /// How many cards of the street the owner was dealt.
     pub fn in_group(&self, owner: Option<Seat>, street: u8) -> u8
-        ensures value { result ≡ count_by (is_in_group (seat_of owner) street) (placed self.now) }
+        ensures value { result ≡ count_by (is_in_group (seat_said owner) street) (placed self.now) }
         ensures bounded { result ≤ self.now.count }
     {
         let mut count: u8 = 0;

@@ -3,7 +3,8 @@ ghost use Rattle.std.specs.Prelude.{◌≡◌};
 ghost use Rattle.play_event.specs.Places as places;
 ghost use Rattle.play_event.specs.Places.{is_in_group};
 ghost use Rattle.play_event.specs.Held.{is_held};
-ghost use Rattle.card_places.specs.Plain.{place_of, seat_of};
+ghost use Rattle.card_places.specs.Plain.{place_of};
+ghost use Rattle.chip_ledger.specs.SeatsSaid.{seat_said};
 
 use card_set::Slot;
 use chip_ledger::Seat;
@@ -30,7 +31,7 @@ pub struct DealtCard {
 
 // Two owners are one.
 fn is_same_owner(a: Option<Seat>, b: Option<Seat>) -> bool
-    ensures { result ≡ places.is_same_owner (seat_of a) (seat_of b) }
+    ensures { result ≡ places.is_same_owner (seat_said a) (seat_said b) }
 {
     match (a, b) {
         (Some(seat), Some(other)) => seat.number == other.number,
@@ -42,14 +43,14 @@ fn is_same_owner(a: Option<Seat>, b: Option<Seat>) -> bool
 impl DealtCard {
     /// The owner has the card, and it is not gone.
     pub fn held_by(&self, owner: Option<Seat>) -> bool
-        ensures { result ≡ is_held (seat_of owner) (place_of self.now) }
+        ensures { result ≡ is_held (seat_said owner) (place_of self.now) }
     {
         is_same_owner(self.owner, owner) && self.gone_after.is_none()
     }
 
     /// The card is one of the street and the owner.
     pub fn in_group(&self, owner: Option<Seat>, street: u8) -> bool
-        ensures { result ≡ is_in_group (seat_of owner) street (place_of self.now) }
+        ensures { result ≡ is_in_group (seat_said owner) street (place_of self.now) }
     {
         is_same_owner(self.owner, owner) && self.street == street
     }

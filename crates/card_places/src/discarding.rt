@@ -8,10 +8,10 @@ ghost use Rattle.play_event.specs.Naming.{after_discard};
 ghost use Rattle.card_set.specs.Known.{known_cards};
 ghost use Rattle.play_event.specs.Places.{is_held_by};
 ghost use Rattle.card_places.specs.Placed.{placed};
-ghost use Rattle.card_places.specs.Plain.{seat_of};
 ghost use Rattle.card_places.specs.Refusals as why;
 ghost use Rattle.card_places.specs.Room.{is_seat_of};
 ghost use Rattle.card_places.specs.Discarded.{IsDiscarded, IsRightDiscard};
+ghost use Rattle.chip_ledger.specs.SeatsSaid.{seat_said};
 
 use crate::card_state::CardState;
 use crate::deal_table::DealTable;
@@ -85,7 +85,7 @@ pub fn first_to_draw(
     requires live { live.now.seats ≡ state.now.seats }
     requires from_one { 1 ≤ first }
     requires within { first + count ≤ state.now.seats + 1 }
-    ensures { seat_of result ≡ find (why.has_to_draw state.now live.now on)
+    ensures { seat_said result ≡ find (why.has_to_draw state.now live.now on)
         (range_with_len first count) }
 {
     if count == 0 {

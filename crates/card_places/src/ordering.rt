@@ -1,9 +1,10 @@
 //! The places are told by street, then by owner, then in the order of dealing, as a trace has them.
 ghost use Rattle.std.specs.Prelude.{◌≡◌, ◌+◌, ◌<◌, ◌≤◌, Some, None, length, map, slice_get, IfOk, IfErr};
-ghost use Rattle.play_event.specs.Places.{Place};
-ghost use Rattle.card_places.specs.Ordered.{IsPlaceOf, group, on_seats, on_street, on_streets, ordered};
+ghost use Rattle.play_event.specs.Places.{Place, group_of};
+ghost use Rattle.card_places.specs.Ordered.{IsPlaceOf, on_seats, on_street, on_streets, ordered};
 ghost use Rattle.card_places.specs.Placed.{placed};
-ghost use Rattle.card_places.specs.Plain.{place_of, seat_of};
+ghost use Rattle.card_places.specs.Plain.{place_of};
+ghost use Rattle.chip_ledger.specs.SeatsSaid.{seat_said};
 
 use crate::card_state::CardState;
 use crate::dealt_card::DealtCard;
@@ -94,10 +95,10 @@ fn in_seats(state: &CardState, street: u8, first: u8, count: u8, index: u8) -> R
 // The card at an index of those of the street and the owner, or how far the index is past them.
 fn in_group(rows: &[DealtCard], owner: Option<Seat>, street: u8, index: u8) -> Result<DealtCard, u8>
     ensures found { IfOk result (λ card.
-        slice_get (group (map place_of rows.now) street (seat_of owner)) index
+        slice_get (group_of (map place_of rows.now) street (seat_said owner)) index
         ≡ Some (place_of card)) }
     ensures past { IfErr result (λ left.
-        index ≡ left + length (group (map place_of rows.now) street (seat_of owner))) }
+        index ≡ left + length (group_of (map place_of rows.now) street (seat_said owner))) }
 {
     match rows {
         [] => Err(index),

@@ -9,8 +9,9 @@ ghost use Rattle.play_event.specs.Places.{is_held_by};
 ghost use Rattle.play_event.specs.SeatSlots.{slots_of_hand, ups_of};
 ghost use Rattle.play_event.specs.Held as held;
 ghost use Rattle.card_places.specs.Placed.{placed};
-ghost use Rattle.card_places.specs.Plain.{place_of, seat_of};
+ghost use Rattle.card_places.specs.Plain.{place_of};
 ghost use Rattle.card_places.specs.Room.{is_owner};
+ghost use Rattle.chip_ledger.specs.SeatsSaid.{seat_said};
 
 use crate::card_state::CardState;
 use crate::dealt_card::DealtCard;
@@ -74,8 +75,8 @@ pub fn board(state: &CardState) -> CardRow
 
 // What an owner has on the table, in the order of dealing.
 fn held_slots(state: &CardState, owner: Option<Seat>) -> SlotRow
-    requires { is_owner state.now.seats (seat_of owner) ≡ true }
-    ensures { slots_of result ≡ held.held_slots (seat_of owner) (placed state.now.places) }
+    requires { is_owner state.now.seats (seat_said owner) ≡ true }
+    ensures { slots_of result ≡ held.held_slots (seat_said owner) (placed state.now.places) }
 {
     let mut slots = SlotRow::new();
     for card in state.places.as_slice() {

@@ -15,3 +15,5 @@ pub mod Flags
 pub mod PlainPots
 pub mod SolePot
 pub mod OneSeat
+pub mod RowLists
+pub mod DefaultNames

@@ -1,5 +1,5 @@
 -- What holds of the pots of the definition holds of the pots of rows that stand for them.
-use Rattle.std.proofs.Common.{◌≡◌, ℕ, ◌≤◌, true, List, get_or, sym, subst, arith, map}
+use Rattle.std.proofs.Common.{◌≡◌, ℕ, ◌≤◌, true, List, get_or, sym, subst, arith, map, [], ◌∷◌, length, slice_get, zero, suc, refl}
 use Rattle.std.specs.List.{All, AllPairs}
 use Rattle.std.proofs.lemmas.List.{get_or-map, length-map}
 use Rattle.chip_ledger.specs.declared.pots.Pot.{Pot}
@@ -7,6 +7,7 @@ use Rattle.chip_ledger.specs.LiveRow.{flag_of}
 use Rattle.chip_ledger.specs.PotRow.{plain}
 use Rattle.chip_ledger.specs.Pots.{PlainPot, may_win}
 use Rattle.chip_ledger.proofs.Flags.{flag-from_flagged, flagged-from_flag}
+use Rattle.std.specs.Option.{option_map_or}
 
 -- a fact of each pot
 pub All-plain : (P : PlainPot → Type 0) (pots : List Pot) (by_rule : List PlainPot)
@@ -41,3 +42,9 @@ pub may_win-from_flag : (pot : Pot) (n : ℕ)
     → flag_of pot.eligible n ≡ true
     → may_win (plain pot) n ≡ true
 may_win-from_flag pot n low h = flagged-from_flag pot.eligible n low h
+
+-- past the last pot there are no chips
+pub no_chips_past : (pots : List PlainPot) (index : ℕ) → length pots ≤ index → option_map_or (λ pot. pot.chips) (slice_get pots index) 0 ≡ 0
+no_chips_past [] index late = refl
+no_chips_past (pot ∷ rest) zero late = absurd (omega (arith, late))
+no_chips_past (pot ∷ rest) (suc index) late = no_chips_past rest index (omega (arith, late))

@@ -8,3 +8,6 @@ pub mod RakeRow
 pub mod Greatest
 pub mod Pots
 pub mod Rakes
+pub mod AmountTexts
+pub mod Sizes
+pub mod SeatsSaid

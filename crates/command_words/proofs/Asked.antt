@@ -10,6 +10,7 @@ use Rattle.command_words.specs.Requests.{IsSaidBy}
 use Rattle.clap.specs.Lexer.{strip_byte}
 use Rattle.clap.specs.Walk.{Text}
 use Rattle.command_words.specs.Words.{Options, Request, no_options, options_said, request_by, request_said}
+use Rattle.std.proofs.lemmas.Option.{same_Some}
 
 abbrev BeginsPlain : Text → Type 0
 BeginsPlain word = strip_byte 45 word ≡ None
@@ -47,7 +48,4 @@ pub said_again : (said : List Text) (found : Found) (word : Text) → (is : IsSa
     → request_by word is.options ≡ request_said said
 said_again [] found word is first = cc (is.command, first)
 said_again (other ∷ words) found word is first =
-    ap (λ (text : Text). request_by text is.options) (some_same (first ∙ is.command)) ∙ sym (ap (option_and_then (request_by other)) is.given)
-  where
-    some_same : {x y : Text} → Some x ≡ Some y → x ≡ y
-    some_same e = cc
+    ap (λ (text : Text). request_by text is.options) (same_Some _ _ (first ∙ is.command)) ∙ sym (ap (option_and_then (request_by other)) is.given)

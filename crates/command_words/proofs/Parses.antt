@@ -17,6 +17,7 @@ use Rattle.command_words.specs.Words.{Options, is_complete, is_flag, no_options,
 use Rattle.command_words.proofs.Finds.{Hold, Named, at_row-end, given, hold_given, row_named}
 use Rattle.command_words.proofs.Walking.{IsBetween, IsFlag, IsOption, alone, apart, first, joined}
 use Rattle.list_laws.proofs.Options.{followed, none_from_not}
+use Rattle.std.proofs.lemmas.Option.{same_Some}
 
 -- the parser: a word for the command, the options, and the flag
 abbrev pub option_rule : Text → Rule
@@ -148,16 +149,13 @@ hands_given options value none = record {
   same = λ first. refl;
 }
 
-some-same : {A : Type 0} {x y : A} → Some x ≡ Some y → x ≡ y
-some-same e = cc
-
 -- an option is this one, or one of the others
 either : (options more taken : Options) (name own value : Text) (kept : Option Text) (others : Option Options) (is free : Bool)
     → Decides is (name ≡ own) → (free ≡ true → kept ≡ None) → (kept ≡ None → IsGiven options own value taken)
     → (others ≡ Some more → IsGiven options name value more) → (if is && free then Some taken else others) ≡ Some more
     → IsGiven options name value more
 either options more taken name own value kept others true true decides none here there e =
-    subst (λ (o : Options). IsGiven options name value o) (some-same e)
+    subst (λ (o : Options). IsGiven options name value o) (same_Some _ _ e)
     (subst (λ (n : Text). IsGiven options n value taken) (sym (decides.0 refl)) (here (none refl)))
 either options more taken name own value kept others true false decides none here there e = there e
 either options more taken name own value kept others false free decides none here there e = there e
@@ -239,7 +237,7 @@ one_flag walk first word options more at is e = go options.drops_notes refl e
     go : (b : Bool) → options.drops_notes ≡ b → (if b then None else Some (record options { drops_notes = true })) ≡ Some more
         → IsAt (over walk (word ∷ [])) first more
     go true on e = cc
-    go false off e = subst (λ (o : Options). IsAt (over walk (word ∷ [])) first o) (some-same e) (record {
+    go false off e = subst (λ (o : Options). IsAt (over walk (word ∷ [])) first o) (same_Some _ _ e) (record {
       rows = used flag [] at.rows;
       between = alone arguments walk at.rows word (codes "drop-notes") flag at.between flag_stands is;
       held = flag_given first options at.rows off at.held;
@@ -294,7 +292,7 @@ next walk first word value words options more (Some (name, None)) behind_one beh
 
 reaches : (words : List Text) (first : Text) (more : Options) → Reaches words first more
 unfolding options_said
-reaches [] first more walk options at e = subst (λ (o : Options). IsAt walk first o) (some-same e) at
+reaches [] first more walk options at e = subst (λ (o : Options). IsAt walk first o) (same_Some _ _ e) at
 reaches (word ∷ []) first more walk options at e = last walk first word options more (long_of word) at refl e
 reaches (word ∷ value ∷ words) first more walk options at e =
     next walk first word value words options more (long_of word) (reaches (value ∷ words) first more) (reaches words first more) at refl e

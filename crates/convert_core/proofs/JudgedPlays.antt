@@ -10,10 +10,7 @@ use Rattle.convert_core.specs.declared.fault.PlaysFault.{PlaysFault}
 use Rattle.convert_core.specs.declared.fault.PlaysFault.TheVariants as plays_faults
 use Rattle.hand_canon.specs.Judged.{IsJudged}
 use Rattle.convert_core.specs.Judged.{IsFaultAt, IsPlaysFaultOf}
-
--- the records of plays
-abbrev pub hands_of : List Play → List Record
-hands_of plays = map (λ (play : Play). play.hand) plays
+use Rattle.hand_records.specs.Plays.{hands_of}
 
 -- one more play, whose record is the next one
 pub one_more : (plays : List Play) (play : Play) (hand : Record) (left records : List Record)

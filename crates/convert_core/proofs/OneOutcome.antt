@@ -28,7 +28,7 @@ use Rattle.convert_core.specs.declared.fault.Refusal.TheVariants as refusals
 use Rattle.hand_canon.specs.Judged.{IsJudged, IsTraceOfLegal}
 use Rattle.convert_core.specs.Judged.{ArePlaysOf, HasDifference, IsFirstRefused, IsRefusedFor, IsReplayFaultOf}
 use Rattle.convert_core.specs.SameRecords.{SayTheSame}
-use Rattle.convert_core.proofs.JudgedPlays.{hands_of}
+use Rattle.hand_records.specs.Plays.{hands_of}
 
 pub itself : (a : Record) → SayTheSame a a
 itself a = record { setup = refl; rules = refl; script = refl; stated = refl }

@@ -1,11 +1,10 @@
 -- The laws that a notation keeps, of the Poker Hand History format.
-use Rattle.std.proofs.Common.{◌≡◌, ℕ, ◌+◌, true, List, [], ◌∷◌, Option, Some, None, Ok, refl, ◌∙◌}
+use Rattle.std.proofs.Common.{◌≡◌, ℕ, true, List, [], ◌∷◌, Some, None, Ok}
 use Rattle.std.specs.List.{AllByRecursion}
 use Rattle.hand_canon.specs.Sound.{IsSound}
 use Rattle.hand_records.specs.declared.record.Record.{Record}
 use Rattle.hand_records.specs.declared.trace.Play.{Play}
 use Rattle.hand_records.specs.declared.writing.Unspelled.{Unspelled}
-use Rattle.hand_records.specs.declared.writing.WriteRefusal.{WriteRefusal}
 use Rattle.play_event.specs.HistoryRules.{history_rules}
 use Rattle.phh_format.specs.Again.{hands_again}
 use Rattle.phh_format.specs.ReadBack.{KeepsNotes}
@@ -17,12 +16,11 @@ use Rattle.phh_table.specs.Spelled as facts
 use Rattle.convert_core.specs.Histories.{HaveFault, Say, Spell}
 use Rattle.convert_core.specs.ReadBack.{ReadBack}
 use Rattle.convert_core.specs.Records.{AreFew, AreOfFile, IsUnder}
-use Rattle.convert_core.specs.Spelled.{first_refusal, refusal_from}
 use Rattle.convert_core.specs.declared.format_fault.FormatFault.{FormatFault}
 use Rattle.convert_core.specs.declared.format_fault.FormatFault.TheVariants as formats
 use Rattle.hand_canon.specs.Sharp.{IsOther, is_sharp}
 use Rattle.hand_records.specs.Histories.{IsHistory}
-use Rattle.hand_records.specs.Refusals.{refused_at}
+use Rattle.hand_records.specs.Refusals.{first_refusal}
 
 -- each hand that bytes say is under the rules of its notation
 each_under : (records : List Record) → AllByRecursion IsHistory records → AllByRecursion (IsUnder history_rules) records
@@ -39,17 +37,6 @@ no_fault bytes hands (formats.Phh fault) say have = (let said = say.reads in let
 no_fault bytes hands (formats.Ohh fault) say have = have
 no_fault bytes hands (formats.Acpc fault) say have = have
 
--- a refusal at a number is that of the fact that is there, or else one behind it
-same_at : (number : ℕ) (fact : Option Unspelled) (behind other : Option WriteRefusal) → behind ≡ other → refused_at number fact behind ≡ refused_at number fact other
-same_at number (Some fact) behind other same = refl
-same_at number None behind other same = same
-
--- the first refusal of plays is that of their facts
-pub same_refusal : (number : ℕ) (plays : List Play) → facts.refusal_from number plays ≡ refusal_from facts.unspelled number plays
-same_refusal number [] = refl
-same_refusal number (play ∷ plays) =
-    same_at number (facts.unspelled play) (facts.refusal_from (number + 1) plays) (refusal_from facts.unspelled (number + 1) plays) (same_refusal (number + 1) plays)
-
 -- what is written reads back
 pub reads_back : (plays : List Play) (bytes : List ℕ) → AreFew plays → AllByRecursion IsSound plays → first_refusal facts.unspelled plays ≡ None → Spell plays bytes
     → ReadBack (Say bytes) (HaveFault bytes) KeepsNotes plays
@@ -57,7 +44,7 @@ reads_back plays bytes few sound spelled spell =
     let read : reading bytes ≡ Ok (hands_again 0 plays) = sound_again plays bytes few.few sound few.few_moves spell.document in
     record {
       no_fault = λ fault have. none fault read have;
-      again = λ hands say. read_back plays bytes few.few sound few.few_moves (same_refusal 1 plays ∙ spelled) spell.document hands say.reads;
+      again = λ hands say. read_back plays bytes few.few sound few.few_moves spelled spell.document hands say.reads;
     }
   where
     none : (fault : FormatFault) → reading bytes ≡ Ok (hands_again 0 plays) → HaveFault bytes fault → ⊥

@@ -1,7 +1,6 @@
 -- What records come to, what a notation is, and what a conversion comes to.
 pub mod Judged
 pub mod Faults
-pub mod Spelled
 pub mod Records
 pub mod ReadBack
 pub mod SameRecords

@@ -1,11 +1,10 @@
 -- Bytes of a log under a game say one list of records, as far as records can be told apart.
-use Rattle.std.proofs.Common.{◌≡◌, ℕ, suc, ◌≤◌, ◌||◌, Bool, true, false, ℤ, pos, List, [], ◌∷◌, map, length, take, get_or, slice_index, slice_index_or, Option, Some, None, is_some, option_map, Ok, refl, sym, subst, ap, ap₂, ◌∙◌, inl, inr, arith}
+use Rattle.std.proofs.Common.{◌≡◌, ℕ, suc, ◌≤◌, ◌||◌, Bool, true, false, ℤ, pos, List, [], ◌∷◌, map, length, take, get_or, slice_index_or, Option, Some, None, is_some, option_map, Ok, refl, sym, subst, ap, ap₂, ◌∙◌, inl, inr, arith}
 use Rattle.std.specs.List.{AllByRecursion, list_any}
 use Rattle.std.specs.Option.{option_map_or}
 use Rattle.std.proofs.Props.{props}
 use Rattle.std.proofs.lemmas.Bool.{cases_lt}
 use Rattle.std.proofs.lemmas.List.{ext_get_or, get_or-take, length-take-le}
-use Rattle.chip_ledger.specs.declared.rows.SeatRow.{SeatRow}
 use Rattle.play_event.specs.declared.setup.Setup.{Setup}
 use Rattle.hand_records.specs.declared.notes.Notes.{Notes}
 use Rattle.hand_records.specs.declared.record.NetRow.{NetRow}
@@ -21,7 +20,7 @@ use Rattle.acpc_game.specs.declared.game.Game.{Game}
 use Rattle.acpc_line.specs.NoteFacts.{is_unspelled_name, text_conditions, time_conditions}
 use Rattle.acpc_line.specs.PlayFacts.{play_conditions}
 use Rattle.acpc_line.specs.SetupFacts.{setup_conditions}
-use Rattle.acpc_line.specs.Spelled.{first_where, unspelled, unspelled_note}
+use Rattle.acpc_line.specs.Spelled.{unspelled, unspelled_note}
 use Rattle.acpc_reading.specs.Logs.{HandSaid}
 use Rattle.acpc_reading.specs.RecordView.{IsOfGame, StatesValues, record_said}
 use Rattle.acpc_reading.specs.Views.{nets_in}
@@ -29,6 +28,8 @@ use Rattle.convert_core.specs.Logs.{Say}
 use Rattle.convert_core.specs.SameParts.{names_same, one_script}
 use Rattle.convert_core.specs.SameRecords.{AllAlike, AreAlike, ArePlayedAlike, NoteTheSame, number_at}
 use Rattle.hand_records.specs.Refusals.{or_behind}
+use Rattle.hand_records.specs.StatedFacts.{stated_from}
+use Rattle.first_fault.specs.Conditions.{first_where}
 
 -- what these numbers keep as the nets of so many seats
 record KeptNets (seats : ℕ) (nets : List ℤ) : Type 0 where
@@ -78,10 +79,6 @@ values_same : (x y : Option NetRow) → is_some x ≡ true → is_some y ≡ tru
 values_same None y some other same = absurd (cc)
 values_same (Some a) None some other same = absurd (cc)
 values_same (Some a) (Some b) some other same = ap Some (nets_same a b same)
-
--- stated facts, put together
-stated_from : Option SeatRow → Option SeatRow → Option ℕ → Option NetRow → Stated
-stated_from finish wins pot_total values = record { finish = finish; wins = wins; pot_total = pot_total; values = values }
 
 -- stated facts are made of their four parts
 stated_parts : (s : Stated) → s ≡ stated_from s.finish s.wins s.pot_total s.values

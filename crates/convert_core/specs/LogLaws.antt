@@ -1,8 +1,8 @@
 -- The laws that a notation keeps, of the logs of the competition under a game.
-use Rattle.std.proofs.Common.{◌≡◌, ℕ, ◌+◌, ◌≤◌, true, List, [], ◌∷◌, length, reverse, sum_by, Option, Some, None, Ok, refl, sym, ap, subst, ◌∙◌, arith}
+use Rattle.std.proofs.Common.{◌≡◌, ℕ, ◌≤◌, true, List, [], ◌∷◌, length, reverse, sum_by, Some, None, Ok, refl, sym, ap, subst, ◌∙◌, arith}
 use Rattle.std.specs.List.{AllByRecursion}
 use Rattle.std.proofs.lemmas.List.Sums.{sum_by-cons}
-use Rattle.acpc_format.specs.Again.{hands_again, moves_written}
+use Rattle.acpc_format.specs.Again.{hands_again}
 use Rattle.acpc_format.specs.ReadBack.{KeepsNotes}
 use Rattle.acpc_format.proofs.HandsAgain.{read_back}
 use Rattle.acpc_format.proofs.Sharpness.{sharpness}
@@ -15,7 +15,6 @@ use Rattle.acpc_reading.specs.Logs.{reading}
 use Rattle.acpc_reading.specs.RecordView.{IsOfGame, rules_of}
 use Rattle.canonical_play.specs.TraceCore.{TraceCore}
 use Rattle.canon_laws.proofs.MoveCounts.{move_count}
-use Rattle.canon_laws.proofs.TidyTraces.{as_many}
 use Rattle.list_laws.proofs.Reversed.{count_reversed}
 use Rattle.canonical_play.specs.PlayedScript.{is_move}
 use Rattle.play_event.specs.Past.{moves_of}
@@ -27,16 +26,16 @@ use Rattle.hand_records.specs.declared.record.Record.{Record}
 use Rattle.hand_records.specs.declared.trace.Play.{Play}
 use Rattle.hand_records.specs.declared.writing.Keep.{Keep}
 use Rattle.hand_records.specs.declared.writing.Unspelled.{Unspelled}
-use Rattle.hand_records.specs.declared.writing.WriteRefusal.{WriteRefusal}
 use Rattle.convert_core.specs.Logs.{HaveFault, Say, Spell}
 use Rattle.convert_core.specs.ReadBack.{ReadBack}
 use Rattle.convert_core.specs.Records.{AreFew, AreOfFile, IsUnder}
-use Rattle.convert_core.specs.Spelled.{first_refusal, refusal_from}
 use Rattle.convert_core.specs.declared.format_fault.FormatFault.{FormatFault}
 use Rattle.convert_core.specs.declared.format_fault.FormatFault.TheVariants as formats
 use Rattle.hand_canon.specs.Sharp.{IsOther, is_sharp}
 use Rattle.hand_records.specs.Moves.{moves_played}
-use Rattle.hand_records.specs.Refusals.{refused_at}
+use Rattle.hand_records.specs.Refusals.{first_refusal}
+use Rattle.hand_records.specs.Plays.{moves_written}
+use Rattle.play_event.proofs.TracedMoves.{as_many}
 
 -- each hand that bytes say is under the rules of its notation
 each_under : (game : Game) (records : List Record) → AllByRecursion (IsOfGame game) records → AllByRecursion (IsUnder (rules_of game)) records
@@ -52,17 +51,6 @@ pub no_fault : (game : Game) (bytes : List ℕ) (hands : List Record) (fault : F
 no_fault game bytes hands (formats.Phh fault) say have = have
 no_fault game bytes hands (formats.Ohh fault) say have = have
 no_fault game bytes hands (formats.Acpc fault) say have = (let said = say.reads in let had = have.reads in cc)
-
--- a refusal at a number is that of the fact that is there, or else one behind it
-same_at : (number : ℕ) (fact : Option Unspelled) (behind other : Option WriteRefusal) → behind ≡ other → refused_at number fact behind ≡ refused_at number fact other
-same_at number (Some fact) behind other same = refl
-same_at number None behind other same = same
-
--- the first refusal of plays is that of their facts
-pub same_refusal : (game : Game) (keep : Keep) (number : ℕ) (plays : List Play) → facts.refusal_from game keep number plays ≡ refusal_from (facts.unspelled game keep) number plays
-same_refusal game keep number [] = refl
-same_refusal game keep number (play ∷ plays) =
-    same_at number (facts.unspelled game keep play) (facts.refusal_from game keep (number + 1) plays) (refusal_from (facts.unspelled game keep) (number + 1) plays) (same_refusal game keep (number + 1) plays)
 
 -- of a play as many moves are written as were played
 same_count : (play : Play) → IsSound play → moves_written play ≡ moves_played play
@@ -90,7 +78,7 @@ none_had game lines plays (formats.Acpc fault) read have = (let had = have.reads
 lines_back : (game : Game) (keep : Keep) (plays : List Play) → AreFew plays → AllByRecursion IsSound plays → AllByRecursion HasTexts plays → first_refusal (facts.unspelled game keep) plays ≡ None
     → ReadBack (Say game (log_text game.no_limit plays)) (HaveFault game (log_text game.no_limit plays)) KeepsNotes plays
 lines_back game keep plays few sound texts spelled =
-    let none = same_refusal game keep 1 plays ∙ spelled in
+    let none = spelled in
     let moves : sum_by moves_written plays ≤ MOST_FILE_MOVES = omega (arith, few.few_moves, all_counted plays sound) in
     let read : reading game (log_text game.no_limit plays) ≡ Ok (hands_again game.no_limit 0 plays) = sound_again game keep plays few.few sound texts none moves in
     record {

@@ -1,5 +1,5 @@
 -- The laws that a notation keeps, of Open Hand History in a dialect.
-use Rattle.std.proofs.Common.{◌≡◌, ℕ, ◌+◌, true, List, [], ◌∷◌, Option, Some, None, Ok, refl, ◌∙◌}
+use Rattle.std.proofs.Common.{◌≡◌, ℕ, true, List, [], ◌∷◌, Some, None, Ok, refl}
 use Rattle.std.specs.List.{AllByRecursion}
 use Rattle.hand_canon.specs.Sound.{IsSound}
 use Rattle.hand_records.specs.declared.record.Record.{Record}
@@ -7,7 +7,6 @@ use Rattle.hand_records.specs.declared.trace.Play.{Play}
 use Rattle.hand_records.specs.declared.writing.Keep.{Keep}
 use Rattle.hand_records.specs.declared.writing.Unspelled.{Unspelled}
 use Rattle.hand_records.specs.declared.writing.Unspelled.TheVariants as unspellables
-use Rattle.hand_records.specs.declared.writing.WriteRefusal.{WriteRefusal}
 use Rattle.play_event.specs.HistoryRules.{history_rules}
 use Rattle.ohh_format.specs.Again.{hands_again}
 use Rattle.ohh_format.specs.ReadBack.{KeepsNotes}
@@ -20,13 +19,12 @@ use Rattle.ohh_members.specs.declared.dialect.Dialect.{Dialect}
 use Rattle.ohh_reading.specs.Reading.{reading}
 use Rattle.convert_core.specs.ReadBack.{ReadBack}
 use Rattle.convert_core.specs.Records.{AreFew, AreOfFile, IsUnder}
-use Rattle.convert_core.specs.Spelled.{first_refusal, refusal_from}
 use Rattle.convert_core.specs.Trees.{HaveFault, Say, Spell}
 use Rattle.convert_core.specs.declared.format_fault.FormatFault.{FormatFault}
 use Rattle.convert_core.specs.declared.format_fault.FormatFault.TheVariants as formats
 use Rattle.hand_canon.specs.Sharp.{IsOther, is_sharp}
 use Rattle.hand_records.specs.Histories.{IsHistory}
-use Rattle.hand_records.specs.Refusals.{refused_at}
+use Rattle.hand_records.specs.Refusals.{first_refusal}
 
 -- each hand that bytes say is under the rules of its notation
 each_under : (records : List Record) → AllByRecursion IsHistory records → AllByRecursion (IsUnder history_rules) records
@@ -43,22 +41,11 @@ no_fault dialect bytes hands (formats.Phh fault) say have = have
 no_fault dialect bytes hands (formats.Ohh fault) say have = (let said = say.reads in let had = have.reads in cc)
 no_fault dialect bytes hands (formats.Acpc fault) say have = have
 
--- a refusal at a number is that of the fact that is there, or else one behind it
-same_at : (number : ℕ) (fact : Option Unspelled) (behind other : Option WriteRefusal) → behind ≡ other → refused_at number fact behind ≡ refused_at number fact other
-same_at number (Some fact) behind other same = refl
-same_at number None behind other same = same
-
--- the first refusal of plays is that of their facts
-pub same_refusal : (keep : Keep) (number : ℕ) (plays : List Play) → facts.refusal_from keep number plays ≡ refusal_from (facts.unspelled keep) number plays
-same_refusal keep number [] = refl
-same_refusal keep number (play ∷ plays) =
-    same_at number (facts.unspelled keep play) (facts.refusal_from keep (number + 1) plays) (refusal_from (facts.unspelled keep) (number + 1) plays) (same_refusal keep (number + 1) plays)
-
 -- what is written reads back
 pub reads_back : (dialect : Dialect) (keep : Keep) (plays : List Play) (bytes : List ℕ) → AreFew plays → AllByRecursion IsSound plays → first_refusal (facts.unspelled keep) plays ≡ None → Spell dialect plays bytes
     → ReadBack (Say dialect bytes) (HaveFault dialect bytes) KeepsNotes plays
 reads_back dialect keep plays bytes few sound spelled spell =
-    let unrefused = same_refusal keep 1 plays ∙ spelled in
+    let unrefused = spelled in
     let read : reading dialect bytes ≡ Ok (hands_again dialect 0 plays) = sound_again dialect keep plays bytes few.few sound unrefused few.few_moves spell in
     record {
       no_fault = λ fault have. none fault read have;

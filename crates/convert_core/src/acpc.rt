@@ -11,7 +11,7 @@ ghost use Rattle.convert_core.specs.Faults.{is_want_of_memory};
 ghost use Rattle.convert_core.specs.LogAlike as alike;
 ghost use Rattle.convert_core.specs.LogLaws as laws;
 ghost use Rattle.convert_core.specs.Logs as logs;
-ghost use Rattle.convert_core.specs.Spelled.{first_refusal};
+ghost use Rattle.hand_records.specs.Refusals.{first_refusal};
 
 use crate::format_fault::FormatFault;
 use crate::notation::Notation;

@@ -8,10 +8,10 @@ ghost use Rattle.ohh_format.specs.ReadBack.{KeepsNotes as KeepsSpelled};
 ghost use Rattle.ohh_line.specs.Spelled as facts;
 ghost use Rattle.play_event.specs.HistoryRules.{history_rules as rules_of_histories};
 ghost use Rattle.convert_core.specs.Faults.{is_want_of_memory};
-ghost use Rattle.convert_core.specs.Spelled.{first_refusal};
 ghost use Rattle.convert_core.specs.TreeAlike as alike;
 ghost use Rattle.convert_core.specs.TreeLaws as laws;
 ghost use Rattle.convert_core.specs.Trees as trees;
+ghost use Rattle.hand_records.specs.Refusals.{first_refusal};
 
 use crate::format_fault::FormatFault;
 use crate::notation::Notation;

@@ -11,7 +11,7 @@ ghost use Rattle.convert_core.specs.Faults.{is_want_of_memory};
 ghost use Rattle.convert_core.specs.Histories as histories;
 ghost use Rattle.convert_core.specs.HistoryAlike as alike;
 ghost use Rattle.convert_core.specs.HistoryLaws as laws;
-ghost use Rattle.convert_core.specs.Spelled.{first_refusal};
+ghost use Rattle.hand_records.specs.Refusals.{first_refusal};
 
 use crate::format_fault::FormatFault;
 use crate::notation::Notation;

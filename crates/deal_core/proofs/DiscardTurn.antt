@@ -4,7 +4,6 @@ use Rattle.card_set.specs.declared.card.Slot.{Slot}
 use Rattle.chip_ledger.specs.declared.rows.LiveRow.{LiveRow}
 use Rattle.play_event.specs.declared.reason.Due.{Due}
 use Rattle.play_event.specs.declared.reason.Due.TheVariants as dues
-use Rattle.play_event.specs.declared.reason.Illegal.TheVariants as reasons
 use Rattle.play_event.specs.declared.setup.Setup.{Setup}
 use Rattle.play_event.specs.Past.{Past}
 use Rattle.play_event.specs.Dealing.{has_drawn}
@@ -14,8 +13,8 @@ use Rattle.deal_core.specs.Standing.{IsNow}
 use Rattle.card_places.specs.Refusals.{discard_why}
 use Rattle.street_laws.specs.Dues.{IsDueWithin}
 use Rattle.card_places.proofs.Legal.{drawer_is}
-use Rattle.deal_core.proofs.WhyDeal.{not_none}
 use Rattle.street_laws.proofs.DueStreets.{draw_street}
+use Rattle.list_laws.proofs.Options.{from_some_none}
 
 pub record IsDrawing (setup : Setup) (past : Past) (due : Due) (seat : ℕ) : Type 0 where
   pub draws : due ≡ dues.Draw (turn setup past).0
@@ -29,8 +28,8 @@ discard_turn t (dues.Draw on) live setup past seat cards now within none =
       draws = ap dues.Draw same;
       undrawn = ap (λ (s : ℕ). has_drawn past s seat) (sym same) ∙ sym (now.stands.drew on seat within.1 (record { first = drawer.first; last = drawer.last })) ∙ drawer.undrawn;
     }
-discard_turn t (dues.Deal on) live setup past seat cards now within none = not_none reasons.WrongKind none
-discard_turn t dues.BringIn live setup past seat cards now within none = not_none reasons.WrongKind none
-discard_turn t dues.Move live setup past seat cards now within none = not_none reasons.WrongKind none
-discard_turn t dues.Show live setup past seat cards now within none = not_none reasons.WrongKind none
-discard_turn t dues.Over live setup past seat cards now within none = not_none reasons.HandOver none
+discard_turn t (dues.Deal on) live setup past seat cards now within none = from_some_none none
+discard_turn t dues.BringIn live setup past seat cards now within none = from_some_none none
+discard_turn t dues.Move live setup past seat cards now within none = from_some_none none
+discard_turn t dues.Show live setup past seat cards now within none = from_some_none none
+discard_turn t dues.Over live setup past seat cards now within none = from_some_none none

@@ -37,6 +37,7 @@ use Rattle.street_laws.specs.Dues.{IsDueWithin}
 use Rattle.card_places.specs.DueStreet.{due_street}
 use Rattle.street_laws.proofs.Groups.{group_count}
 use Rattle.street_laws.proofs.DueStreets.{deal_street, draw_street}
+use Rattle.list_laws.proofs.Options.{from_some_none}
 
 -- a kind that may come
 by_kind : (k : Bool) (rest : Option Illegal) → (if not (k || false) then Some reasons.WrongKind else rest) ≡ (if k then rest else Some reasons.WrongKind)
@@ -132,22 +133,18 @@ why_board t due live setup rules past cards now =
     ap (λ (d : Due). first_reason (all_reasons setup rules past ((turn setup past).0, d) (said.Board cards))) now.due_is
     ∙ board_by t due live setup rules past cards now
 
--- where cards may be dealt, the street that is due is that of the turn
-pub not_none : {A : Type 0} (reason : Illegal) → Some reason ≡ None → A
-not_none reason is = absurd cc
-
 pub hole_turn : (t : CardState) (due : Due) (live : LiveRow) (setup : Setup) (past : Past) (seat : ℕ) (cards : List Slot) → (turn setup past).1 ≡ due → hole_why t live due seat cards ≡ None → due_street due ≡ Some (turn setup past).0
 hole_turn t (dues.Deal on) live setup past seat cards due_is none = ap Some (deal_street setup past on due_is)
 hole_turn t (dues.Draw on) live setup past seat cards due_is none = ap Some (draw_street setup past on due_is)
-hole_turn t dues.BringIn live setup past seat cards due_is none = not_none reasons.WrongKind none
-hole_turn t dues.Move live setup past seat cards due_is none = not_none reasons.WrongKind none
-hole_turn t dues.Show live setup past seat cards due_is none = not_none reasons.WrongKind none
-hole_turn t dues.Over live setup past seat cards due_is none = not_none reasons.HandOver none
+hole_turn t dues.BringIn live setup past seat cards due_is none = from_some_none none
+hole_turn t dues.Move live setup past seat cards due_is none = from_some_none none
+hole_turn t dues.Show live setup past seat cards due_is none = from_some_none none
+hole_turn t dues.Over live setup past seat cards due_is none = from_some_none none
 
 pub board_turn : (t : CardState) (due : Due) (setup : Setup) (past : Past) (cards : List Slot) → (turn setup past).1 ≡ due → board_why t due cards ≡ None → due_street due ≡ Some (turn setup past).0
 board_turn t (dues.Deal on) setup past cards due_is none = ap Some (deal_street setup past on due_is)
-board_turn t (dues.Draw on) setup past cards due_is none = not_none reasons.WrongKind none
-board_turn t dues.BringIn setup past cards due_is none = not_none reasons.WrongKind none
-board_turn t dues.Move setup past cards due_is none = not_none reasons.WrongKind none
-board_turn t dues.Show setup past cards due_is none = not_none reasons.WrongKind none
-board_turn t dues.Over setup past cards due_is none = not_none reasons.HandOver none
+board_turn t (dues.Draw on) setup past cards due_is none = from_some_none none
+board_turn t dues.BringIn setup past cards due_is none = from_some_none none
+board_turn t dues.Move setup past cards due_is none = from_some_none none
+board_turn t dues.Show setup past cards due_is none = from_some_none none
+board_turn t dues.Over setup past cards due_is none = from_some_none none

@@ -2,3 +2,4 @@
 pub mod EachItem
 pub mod Thread
 pub mod MoreDigits
+pub mod DecimalDigits

@@ -3,3 +3,4 @@ pub mod Reading
 pub mod Digits
 pub mod Numbers
 pub mod Words
+pub mod Conditions

@@ -34,3 +34,8 @@ unfoldable pub thread_from : {F D A S : Type 0} → (S → ℕ → D → Result 
 thread_from form counts n [] = Ok ([], counts)
 thread_from form counts n (item ∷ rest) =
     form counts n item >>= λ found. thread_from form found.1 (n + 1) rest >>= λ others. Ok (found.0 ++ others.0, others.1)
+
+-- the same, in a form that may give nothing
+abbrev pub or_none : {F D A : Type 0} → (D → Result (Option A) F) → Option D → Result (Option A) F
+or_none form None = Ok None
+or_none form (Some item) = form item

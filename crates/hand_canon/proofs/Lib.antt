@@ -7,3 +7,4 @@ pub mod ShortScripts
 pub mod CanonParts
 pub mod StreetRows
 pub mod SameSetups
+pub mod SameTraces

@@ -8,8 +8,9 @@ use Rattle.list_laws.proofs.Any.{list_any-filter, list_any-map}
 use Rattle.list_laws.proofs.Counting.{count_agree}
 use Rattle.play_event.specs.declared.played.Move as rows
 use Rattle.play_event.specs.declared.setup.Setup.{Setup}
-use Rattle.play_event.specs.Past.{Move, is_fold, moves_before}
+use Rattle.play_event.specs.Past.{Move, moves_before}
 use Rattle.play_event.specs.Played.{move_said}
+use Rattle.play_event.specs.Seats as moved
 use Rattle.play_event.specs.Seats.{is_live, live_count}
 use Rattle.canonical_play.specs.CanonScript.{plain_move, plain_moves, moves_named, move_named}
 use Rattle.hand_canon.specs.RowTests.{is_fold_before, is_fold_of, said_on, unfolded_count}
@@ -20,10 +21,6 @@ use Rattle.list_laws.proofs.Reversed.{filter-reverse, list_any-reverse}
 pub record AreFolded (moves : List Move) (folded : LiveRow) : Type 0 where
   pub each : (seat : ℕ) → 1 ≤ seat → is_live moves seat ≡ not (flag_of folded seat)
 
--- a fold of a seat
-abbrev folds : ℕ → Move → Bool
-folds seat move = is_fold move.act && (move.seat == seat)
-
 any_row : (q : Move → Bool) (played : List rows.Move) → list_any q (plain_moves (map move_said played)) ≡ list_any (λ row. q (plain_move (move_said row))) played
 any_row q played =
     list_any-reverse q (map plain_move (map move_said played))
@@ -32,15 +29,15 @@ any_row q played =
 
 pub folded_all : (played : List rows.Move) (folded : LiveRow) → ((n : ℕ) → 1 ≤ n → flag_of folded n ≡ list_any (is_fold_of n) played) → AreFolded (plain_moves (map move_said played)) folded
 folded_all played folded flags = record {
-  each = λ seat from. ap not (any_row (folds seat) played ∙ sym (flags seat from));
+  each = λ seat from. ap not (any_row (moved.is_fold_of seat) played ∙ sym (flags seat from));
 }
 
 pub folded_before : (street : ℕ) (played : List rows.Move) (folded : LiveRow) → ((n : ℕ) → 1 ≤ n → flag_of folded n ≡ list_any (is_fold_before street n) played)
     → AreFolded (moves_before street (plain_moves (map move_said played))) folded
 folded_before street played folded flags = record {
   each = λ seat from.
-      ap not (list_any-filter (folds seat) (λ (move : Move). nat_lt move.street street) (plain_moves (map move_said played))
-      ∙ any_row (λ (move : Move). nat_lt move.street street && folds seat move) played
+      ap not (list_any-filter (moved.is_fold_of seat) (λ (move : Move). nat_lt move.street street) (plain_moves (map move_said played))
+      ∙ any_row (λ (move : Move). nat_lt move.street street && moved.is_fold_of seat move) played
       ∙ sym (flags seat from));
 }
 

@@ -1,9 +1,8 @@
 -- A canonical script of few moves is short, so that its events have their numbers.
-use Rattle.std.proofs.Common.{◌≡◌, ℕ, zero, suc, ◌+◌, ◌*◌, ◌≤◌, Bool, ◌&&◌, ◌==◌, nat_le, List, [], ◌∷◌, ◌++◌, length, map, filter, reverse, Some, None, refl, ap, ◌∙◌, arith, length-append}
+use Rattle.std.proofs.Common.{◌≡◌, ℕ, zero, suc, ◌+◌, ◌*◌, ◌≤◌, Bool, ◌&&◌, ◌==◌, nat_le, List, ◌∷◌, ◌++◌, length, map, filter, reverse, Some, None, refl, ap, ◌∙◌, arith, length-append}
 use Rattle.std.specs.List.{flat_map, range_with_len}
 use Rattle.std.proofs.lemmas.List.{length-map, length-reverse}
 use Rattle.std.proofs.lemmas.List.FromFn.{length-range_with_len}
-use Rattle.card_set.specs.declared.card.Slot.{Slot}
 use Rattle.play_event.specs.declared.setup.Setup.{Setup}
 use Rattle.play_event.specs.Past.{Move, moves_before}
 use Rattle.play_event.specs.Said.{Discard}
@@ -16,14 +15,7 @@ use Rattle.canonical_play.specs.CanonScript.{board_said, canonical_script, deal_
 use Rattle.list_laws.proofs.Lists.{kept_few, maybe_few}
 use Rattle.list_laws.proofs.FlatMaps.{flat_few}
 use Rattle.first_fault.specs.Numbers.{kept_number}
-
-one_deal : (seat : ℕ) (cards : List Slot) → length (deal_said seat cards) ≤ 1
-one_deal seat [] = omega arith
-one_deal seat (slot ∷ rest) = omega arith
-
-one_board : (cards : List Slot) → length (board_said cards) ≤ 1
-one_board [] = omega arith
-one_board (slot ∷ rest) = omega arith
+use Rattle.canonical_play.proofs.Deals.{one_board, one_deal}
 
 -- what the seats that pass a test say, an event each
 each_few : {X : Type 0} (setup : Setup) (p : ℕ → Bool) (f : ℕ → X) → length (map f (filter p (all_seats setup))) ≤ 10

@@ -8,11 +8,12 @@ use Rattle.hand_records.specs.declared.record.Record.{Record}
 use Rattle.hand_records.specs.declared.trace.Play.{Play}
 use Rattle.hand_gen.specs.declared.numbers.Counts.{Counts}
 use Rattle.hand_gen.specs.declared.numbers.Summary.{Summary}
-use Rattle.hand_gen.specs.Load.{AreCountsOf, IsLoadTo, IsSummaryOf, hands_of}
+use Rattle.hand_gen.specs.Load.{AreCountsOf, IsLoadTo, IsSummaryOf}
 use Rattle.hand_gen.specs.Loaded.{IsWithCounts}
 use Rattle.hand_gen.specs.Made.{AreMadeFrom, IsMade, number_behind, number_behind_all}
 use Rattle.hand_gen.proofs.MadeLaws.{number_more, one_hand_more}
 use Rattle.list_laws.proofs.Entries.{zip_push}
+use Rattle.hand_records.specs.Plays.{hands_of}
 
 -- one more summand
 one_sum : (f : Counts → ℕ) (counts : List Counts) (more : Counts) (before after : ℕ) → before ≡ sum_by f counts → after ≡ before + f more → after ≡ sum_by f (counts ++ more ∷ [])

@@ -1,10 +1,7 @@
 -- A made setup is that of a hand.
-use Rattle.std.proofs.Common.{◌≡◌, ℕ, zero, suc, ◌+◌, ◌-◌, ◌≤◌, Bool, true, false, not, if◌then◌else◌, refl, ap, sym, subst, arith, inl, inr, ◌==◌}
+use Rattle.std.proofs.Common.{◌≡◌, ℕ, zero, suc, ◌+◌, ◌≤◌, Bool, true, false, not, if◌then◌else◌, refl, ap, sym, subst, arith, inl, inr, ◌==◌}
 use Rattle.std.proofs.lemmas.Bool.{cases_lt}
-use Rattle.chip_ledger.specs.declared.rakes.RakeRow.{RakeRow}
 use Rattle.chip_ledger.specs.declared.rows.SeatRow.{SeatRow}
-use Rattle.chip_ledger.specs.Fillers.{index-replicate}
-use Rattle.chip_ledger.specs.RakeRow.{no_rakes, rake_of}
 use Rattle.chip_ledger.specs.SeatRow.{amount_of}
 use Rattle.play_event.specs.declared.code.Code.{Code}
 use Rattle.play_event.specs.declared.code.Code.TheVariants as games
@@ -79,9 +76,6 @@ two_blinds false = omega arith
 no_blind : (stud : Bool) (seats seat : ℕ) → stud ≡ true → (if stud then 0 else blind_of seats seat) ≡ 0
 no_blind true seats seat is = refl
 no_blind false seats seat is = absurd cc
-
-pub no_rake : (rakes : RakeRow) → rakes ≡ no_rakes → (pot : ℕ) → rake_of rakes pot ≡ 0
-no_rake rakes none pot = subst (λ (row : RakeRow). rake_of row pot ≡ 0) (sym none) (index-replicate {X = ℕ} 11 0 (pot - 1))
 
 -- a made setup is valid
 pub made_valid : (place number : ℕ) (setup : Setup) → IsMadeSetup place number setup → IsValid setup

@@ -1,5 +1,5 @@
 -- The summary of made hands: how many hands, moves and chips of pots there are, and what each format spells of them.
-use Rattle.std.specs.Prelude.{◌≡◌, ℕ, ◌++◌, List, [], ◌∷◌, length, map, codes, sum_by, All, Option, Some, None, Ok, Err}
+use Rattle.std.specs.Prelude.{◌≡◌, ℕ, ◌++◌, List, [], ◌∷◌, length, codes, sum_by, All, Option, Some, None, Ok, Err}
 use Rattle.std.specs.Fmt.{decimal}
 use Rattle.std.specs.List.{AllZip}
 use Rattle.acpc_game.specs.declared.game.Game.{Game}
@@ -9,7 +9,6 @@ use Rattle.acpc_line.specs.Line.{log_text}
 use Rattle.acpc_line.specs.Spelled as logs
 use Rattle.hand_canon.specs.Agreement.{pot_total_of}
 use Rattle.hand_canon.specs.Sound.{IsSound}
-use Rattle.hand_records.specs.declared.record.Record.{Record}
 use Rattle.hand_records.specs.declared.trace.Play.{Play}
 use Rattle.hand_records.specs.declared.writing.Keep.TheVariants as keeps
 use Rattle.hand_records.specs.declared.writing.Unspelled.{Unspelled}
@@ -21,6 +20,7 @@ use Rattle.hand_gen.specs.declared.numbers.Counts.{Counts}
 use Rattle.hand_gen.specs.declared.numbers.Spelled.{Spelled}
 use Rattle.hand_gen.specs.declared.numbers.Summary.{Summary}
 use Rattle.hand_gen.specs.Made.{AreMadeFrom, number_behind_all}
+use Rattle.hand_records.specs.Plays.{hands_of}
 
 -- a hand that has no fact without a spelling is spelled
 abbrev pub hands_spelled : Option Unspelled → ℕ
@@ -70,10 +70,6 @@ pub record IsSummaryOf (plays : List Play) (summary : Summary) : Type 0 where
   pub ohh_bytes : summary.ohh_bytes ≡ sum_by (λ (c : Counts). c.ohh.bytes) counts
   pub acpc : summary.acpc ≡ sum_by (λ (c : Counts). c.acpc.hands) counts
   pub acpc_bytes : summary.acpc_bytes ≡ sum_by (λ (c : Counts). c.acpc.bytes) counts
-
--- the records of plays
-abbrev pub hands_of : List Play → List Record
-hands_of plays = map (λ (play : Play). play.hand) plays
 
 -- a summary is that of the made hands from a seed, up to the number that comes behind them: each has its play, and these are counted
 pub record IsLoadTo (seed number : ℕ) (summary : Summary) : Type 0 where

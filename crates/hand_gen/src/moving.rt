@@ -2,7 +2,7 @@
 ghost use Rattle.std.specs.Prelude.{◌≡◌, ◌≤◌, ℕ, true, None, IfSome};
 ghost use Rattle.std.specs.Option.{option_map};
 ghost use Rattle.betting_numbers.specs.LegalMoves.{IsTurn, WhereUps};
-ghost use Rattle.betting_numbers.specs.SeatsSaid.{seat_said, turn_of};
+ghost use Rattle.betting_numbers.specs.SeatsSaid.{turn_of};
 ghost use Rattle.play_event.specs.Openers.{TheSeat};
 ghost use Rattle.play_event.specs.Past.{moves_of};
 ghost use Rattle.play_event.specs.Said.{kind_said};
@@ -10,6 +10,7 @@ ghost use Rattle.play_event.specs.TurnTargets.{is_bet_due};
 ghost use Rattle.hand_gen.specs.Coming.{move_by, move_of, raise_of};
 ghost use Rattle.hand_gen.specs.Seen.{ends_said};
 ghost use Rattle.hand_gen.specs.Stock.{after_draw, draw_of};
+ghost use Rattle.chip_ledger.specs.SeatsSaid.{seat_said};
 
 use crate::stock::Stock;
 use betting_core::{Betting, Targets};

@@ -1,8 +1,8 @@
 //! Whom the cards owe how many, and who draws next.
 ghost use Rattle.std.specs.Prelude.{◌≡◌, ◌≤◌, ◌+◌, nat_lt, find, IfSome};
 ghost use Rattle.std.specs.List.{range_with_len};
-ghost use Rattle.card_places.specs.Plain.{seat_of};
 ghost use Rattle.card_places.specs.Refusals as cards;
+ghost use Rattle.chip_ledger.specs.SeatsSaid.{seat_said};
 
 use card_places::CardState;
 use chip_ledger::{LiveRow, Seat};
@@ -23,7 +23,7 @@ pub fn first_owed(state: &CardState, live: &LiveRow, on: u8, first: u8, count: u
     requires live { live.now.seats ≡ state.now.seats }
     requires from_one { 1 ≤ first }
     requires within { first + count ≤ state.now.seats + 1 }
-    ensures found { seat_of result
+    ensures found { seat_said result
         ≡ find (λ seat. nat_lt 0 (cards.owed_in state.now live.now on seat))
         (range_with_len first count) }
     ensures in_hand { IfSome result (λ seat. seat.number ≤ state.now.seats) }
@@ -71,7 +71,7 @@ pub fn first_to_draw(
     requires live { live.now.seats ≡ state.now.seats }
     requires from_one { 1 ≤ first }
     requires within { first + count ≤ state.now.seats + 1 }
-    ensures found { seat_of result ≡ find (cards.has_to_draw state.now live.now on)
+    ensures found { seat_said result ≡ find (cards.has_to_draw state.now live.now on)
         (range_with_len first count) }
     ensures in_hand { IfSome result (λ seat. seat.number ≤ state.now.seats) }
 {

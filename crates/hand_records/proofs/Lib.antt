@@ -1,4 +1,5 @@
--- Laws of first refusals, default names and the texts of notes.
+-- Laws of first refusals, the texts of notes, usual numbers of seats and dates.
 pub mod Refusals
-pub mod DefaultNames
 pub mod NoteTexts
+pub mod Usual
+pub mod Dates

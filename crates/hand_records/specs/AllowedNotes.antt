@@ -1,10 +1,10 @@
 -- Which notes may stand in a record: texts that are not too long, numbers in their range, a civil date, and no defaults.
-use Rattle.std.specs.Prelude.{◌≡◌, ◌≢◌, ℕ, ◌-◌, ◌%◌, ◌≤◌, ◌==◌, ◌&&◌, ◌||◌, Bool, not, if◌then◌else◌, List, ◌++◌, codes, length, replicate, slice_index, slice_index_or, None, IfSome, Option, Some, bytes_eq, unwrap_or}
-use Rattle.std.specs.Fmt.{decimal}
+use Rattle.std.specs.Prelude.{◌≡◌, ◌≢◌, ℕ, ◌-◌, ◌%◌, ◌≤◌, ◌==◌, ◌&&◌, ◌||◌, Bool, not, if◌then◌else◌, List, ◌++◌, length, replicate, slice_index, slice_index_or, None, IfSome, Option, Some, bytes_eq, unwrap_or}
 use Rattle.std.specs.List.{range_with_len}
 use Rattle.first_fault.specs.declared.limits.TheConstants.{MOST_TEXT_BYTES}
 use Rattle.hand_records.specs.declared.notes.Clock.{Clock}
 use Rattle.hand_records.specs.declared.notes.Notes.{Notes}
+use Rattle.chip_ledger.specs.SeatsSaid.{default_name}
 
 -- a number lies between two others, or is one of them
 abbrev pub IsWithin : ℕ → ℕ → ℕ → Type 0
@@ -13,10 +13,6 @@ IsWithin least most number = (least ≤ number) × (number ≤ most)
 -- a text of a note
 abbrev pub IsNoteText : List ℕ → Type 0
 IsNoteText text = IsWithin 1 MOST_TEXT_BYTES (length text)
-
--- the name of a seat's player where none is said: p and the seat's number
-abbrev pub default_name : ℕ → List ℕ
-default_name seat = codes "p" ++ decimal seat
 
 -- the name of a seat's player
 pub record IsName (seat : ℕ) (name : List ℕ) : Type 0 where
@@ -84,3 +80,7 @@ name_written notes seat = unwrap_or (slice_index_or notes.names (seat - 1) None)
 -- a note that equals its default is none, and an empty text is none
 abbrev pub noted : List ℕ → List ℕ → Option (List ℕ)
 noted default text = if (length text == 0) || bytes_eq text default then None else Some text
+
+-- numbers of seats, none where they are the usual ones from 1 on
+abbrev pub unless_usual : ℕ → List ℕ → Option (List ℕ)
+unless_usual count numbers = if bytes_eq numbers (range_with_len 1 count) then None else Some numbers

@@ -6,3 +6,5 @@ pub mod SoundRecord
 pub mod Moves
 pub mod Refusals
 pub mod Histories
+pub mod Plays
+pub mod StatedFacts

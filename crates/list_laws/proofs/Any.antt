@@ -153,7 +153,7 @@ not_among x (y ∷ rest) none (suc k) within = not_among x rest (later (y == x) 
     later false is = is
     later true is = absurd (true≢false (sym is))
 
--- a seat that fails a test is not among those that pass it
-pub not_among_kept : (f : ℕ → Bool) (seat : ℕ) (seats : List ℕ) → f seat ≡ false → list_any (λ n. f n && (n == seat)) seats ≡ false
-not_among_kept f seat seats off =
-    false_from_ne_true (list_any (λ n. f n && (n == seat)) seats) (λ is. true≢false (sym (any_found f seat seats is) ∙ off))
+-- a number that fails a test is not among those that pass it
+pub not_among_kept : (f : ℕ → Bool) (number : ℕ) (numbers : List ℕ) → f number ≡ false → list_any (λ n. f n && (n == number)) numbers ≡ false
+not_among_kept f number numbers off =
+    false_from_ne_true (list_any (λ n. f n && (n == number)) numbers) (λ is. true≢false (sym (any_found f number numbers is) ∙ off))

@@ -166,12 +166,12 @@ pub count_by-joined : {X : Type 0} (p : X → Bool) (xs ys : List X) → count_b
 count_by-joined p [] ys = omega arith
 count_by-joined p (x ∷ xs) ys = omega (arith, count_by-cons p x (xs ++ ys), count_by-cons p x xs, count_by-joined p xs ys)
 
--- a seat that was live before, and is not now
-pub some_gone : (p q : ℕ → Bool) (start count : ℕ) → length (filter q (range_with_len start count)) < length (filter p (range_with_len start count)) → (seat : ℕ) × ((p seat ≡ true) × (q seat ≡ false))
+-- where fewer numbers of a range pass a second test, one passes only the first
+pub some_gone : (p q : ℕ → Bool) (start count : ℕ) → length (filter q (range_with_len start count)) < length (filter p (range_with_len start count)) → (number : ℕ) × ((p number ≡ true) × (q number ≡ false))
 some_gone p q start zero less = absurd (omega (arith, less))
 some_gone p q start (suc count) less = by_both (p start) (q start) refl refl less (some_gone p q (start + 1) count)
   where
-    by_both : (a b : Bool) → p start ≡ a → q start ≡ b → length (if b then (start ∷ filter q (range_with_len (start + 1) count)) else filter q (range_with_len (start + 1) count)) < length (if a then (start ∷ filter p (range_with_len (start + 1) count)) else filter p (range_with_len (start + 1) count)) → (length (filter q (range_with_len (start + 1) count)) < length (filter p (range_with_len (start + 1) count)) → (seat : ℕ) × ((p seat ≡ true) × (q seat ≡ false))) → (seat : ℕ) × ((p seat ≡ true) × (q seat ≡ false))
+    by_both : (a b : Bool) → p start ≡ a → q start ≡ b → length (if b then (start ∷ filter q (range_with_len (start + 1) count)) else filter q (range_with_len (start + 1) count)) < length (if a then (start ∷ filter p (range_with_len (start + 1) count)) else filter p (range_with_len (start + 1) count)) → (length (filter q (range_with_len (start + 1) count)) < length (filter p (range_with_len (start + 1) count)) → (number : ℕ) × ((p number ≡ true) × (q number ≡ false))) → (number : ℕ) × ((p number ≡ true) × (q number ≡ false))
     by_both true false is_p is_q it later = (start, (is_p, is_q))
     by_both true true is_p is_q it later = later (omega (arith, it))
     by_both false true is_p is_q it later = later (omega (arith, it))

@@ -101,20 +101,20 @@ zip_push R [] (z ∷ ys) x y all more = absurd all
 zip_push R (z ∷ xs) [] x y all more = absurd all
 zip_push R (first ∷ xs) (second ∷ ys) x y all more = (all.0, zip_push R xs ys x y all.1 more)
 
--- an index is that of a seat, and the entry there is the seat's, or it is past the last seat
-pub same_entries : {X : Type 0} (d : X) (xs ys : List X) (seats : ℕ)
-    → ((n : ℕ) → 1 ≤ n → n ≤ seats → get_or xs (n - 1) d ≡ get_or ys (n - 1) d)
-    → ((k : ℕ) → seats ≤ k → get_or xs k d ≡ d)
-    → ((k : ℕ) → seats ≤ k → get_or ys k d ≡ d)
+-- lists that agree at their first entries, and have the default behind these, agree at each index
+pub same_entries : {X : Type 0} (d : X) (xs ys : List X) (count : ℕ)
+    → ((n : ℕ) → 1 ≤ n → n ≤ count → get_or xs (n - 1) d ≡ get_or ys (n - 1) d)
+    → ((k : ℕ) → count ≤ k → get_or xs k d ≡ d)
+    → ((k : ℕ) → count ≤ k → get_or ys k d ≡ d)
     → (k : ℕ)
     → get_or xs k d ≡ get_or ys k d
-same_entries {X} d xs ys seats h f g k =
+same_entries {X} d xs ys count h f g k =
     ⊎_elim
-    (λ (l : k < seats).
+    (λ (l : k < count).
     let P : ℕ → Type 0 = λ i. get_or xs i d ≡ get_or ys i d in
     subst P (omega arith) (h (k + 1) (omega arith) (omega arith)))
-    (λ (l : seats ≤ k). f k l ∙ sym (g k l))
-    (cases_lt k seats)
+    (λ (l : count ≤ k). f k l ∙ sym (g k l))
+    (cases_lt k count)
 
 pub only_false : (n k : ℕ) → slice_index_or (replicate n false) k false ≡ false
 only_false zero k = refl
@@ -197,9 +197,9 @@ one_more_taken see f xs ps i p within inside at so_far =
     rw (take_more ps i p inside, at, map_push see (take i ps) p) (map_push f (map see (take i ps)) (see p)) in
     take_more_set xs i (f (see p)) within ∙ ap (λ front. front ++ f (see p) ∷ []) so_far ∙ sym whole
 
--- the numbers of a row, where it has nothing but zeros behind its seats
-pub at_taken : (amounts : List ℕ) (seats k : ℕ) → ((j : ℕ) → seats ≤ j → slice_index amounts j ≡ 0) → slice_index (take seats amounts) k ≡ slice_index amounts k
-at_taken amounts seats k zeros = grind (arith, common_steps, zeros k)
+-- the first numbers of a list say as much as the list, where only zeros stand behind them
+pub at_taken : (numbers : List ℕ) (count k : ℕ) → ((j : ℕ) → count ≤ j → slice_index numbers j ≡ 0) → slice_index (take count numbers) k ≡ slice_index numbers k
+at_taken numbers count k zeros = grind (arith, common_steps, zeros k)
 
 pub taken_within : (n : ℕ) (all : List ℕ) (P : ℕ → Type 0) → n ≤ length all → ((k : ℕ) → k < n → P (get_or all k 0)) → (k : ℕ) → k < length (take n all) → P (get_or (take n all) k 0)
 taken_within zero all P few each k within = absurd (omega (arith, within))
@@ -232,7 +232,7 @@ never_at p sign [] fails all k d within = absurd (omega (arith, within))
 never_at p sign (b ∷ rest) fails all zero d within = differs p b sign (eqb b sign) refl fails (and_parts (p b) (list_all p rest) all).0
 never_at p sign (b ∷ rest) fails all (suc k) d within = never_at p sign rest fails (and_parts (p b) (list_all p rest) all).1 k d (omega (arith, within))
 
--- an amount of the first so many
+-- one of the first so many numbers
 pub index_taken_at : (amounts : List ℕ) (count k : ℕ) → k < count → slice_index (take count amounts) k ≡ slice_index amounts k
 index_taken_at amounts zero k within = absurd (omega (arith, within))
 index_taken_at [] (suc count) k within = refl

@@ -85,7 +85,7 @@ pub none_found_still : (p q : ℕ → Bool) (numbers : List ℕ) → ((number : 
 none_found_still p q [] less is = refl
 none_found_still p q (number ∷ rest) less is = found_less p q number rest (p number) (q number) (less number) (none_found_still p q rest less) is
 
--- a seat that is found among seats going round, and one that has to be found
+-- where some element passes, one is found
 pub found_among : (p : ℕ → Bool) (xs : List ℕ) → list_any p xs ≡ true → find p xs ≡ None → ⊥
 found_among p [] any none = false_true any
 found_among p (x ∷ xs) any none = by_first (p x) any none (found_among p xs)

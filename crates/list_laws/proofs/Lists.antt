@@ -72,10 +72,10 @@ lists_same f apart (x ∷ xs) (y ∷ ys) same =
     let tail : xs ≡ ys = lists_same f apart xs ys (cc) in
     ap (λ z. z ∷ xs) head ∙ ap (λ zs. y ∷ zs) tail
 
--- no cards are there where their count is none
-pub none_from_length : {A : Type 0} (cards : List A) → length cards ≤ 0 → cards ≡ []
+-- a list of no length is empty
+pub none_from_length : {A : Type 0} (list : List A) → length list ≤ 0 → list ≡ []
 none_from_length [] none = refl
-none_from_length (card ∷ cards) none = absurd (omega (arith, none))
+none_from_length (first ∷ rest) none = absurd (omega (arith, none))
 
 -- one pair more of the letters
 pub pair_more : (bytes : List ℕ) (index : ℕ) → 2 * index + 1 < length bytes → take (2 * (index + 1)) bytes ≡ take (2 * index) bytes ++ get_or bytes (2 * index) 0 ∷ get_or bytes (2 * index + 1) 0 ∷ []

@@ -82,8 +82,8 @@ next_above a b below unequal = grind arith
 pub unequal : (a b : ℕ) → nat_eq a b ≡ false → a ≢ b
 unequal a b is same = let yes_is : nat_eq a b ≡ true = eq-eqb a b same in absurd cc
 
-pub unequal_other : (seat n : ℕ) → (seat == n) ≡ false → n ≢ seat
-unequal_other seat n differ same = let yes_is : (seat == n) ≡ true = eq-eqb seat n (sym same) in absurd cc
+pub unequal_other : (number n : ℕ) → (number == n) ≡ false → n ≢ number
+unequal_other number n differ same = let yes_is : (number == n) ≡ true = eq-eqb number n (sym same) in absurd cc
 
 pub few_by_test : (n : ℕ) → n < 2 → nat_le 2 n ≡ false
 few_by_test n few = grind (arith, nat_tests)
@@ -94,19 +94,19 @@ many_by_test n few = le-leb 2 n few
 pub less_trans : (x y z : ℕ) → nat_lt x y ≡ true → nat_lt y z ≡ true → nat_lt x z ≡ true
 less_trans x y z p q = lt-ltb x z (let one : x < y = ltb-true x y p in let two : y < z = ltb-true y z q in omega (arith, one, two))
 
--- who has to move had to
+-- what grows is still two or more
 pub two_still : (less more : ℕ) → less ≤ more → nat_le 2 less ≡ true → nat_le 2 more ≡ true
 two_still less more on is = le-leb 2 more (omega (arith, on, leb-true 2 less is))
 
 pub none_below : (a b : ℕ) → b ≤ a → nat_lt 0 a ≡ false → nat_lt 0 b ≡ false
 none_below a b less is = le-ltb 0 b (omega (arith, less, ltb-false 0 a is))
 
--- a seat is no other one
-pub not_other : (seat : ℕ) → not (seat == seat) ≡ false
-not_other seat = not_from_true (seat == seat) (eq-eqb seat seat refl)
+-- a number is no other one
+pub not_other : (number : ℕ) → not (number == number) ≡ false
+not_other number = not_from_true (number == number) (eq-eqb number number refl)
 
 pub equal_by_test : (m n : ℕ) → eqb m n ≡ true → m ≡ n
 equal_by_test m n same = grind (arith, nat_tests, same)
 
-pub same_number : (seat : ℕ) → (seat == seat) ≡ true
-same_number seat = is_true (seat == seat) (eqb_refl seat)
+pub same_number : (number : ℕ) → (number == number) ≡ true
+same_number number = is_true (number == number) (eqb_refl number)

@@ -11,16 +11,6 @@ pub is_none_none : {A : Type 0} (gone : Option A) → is_none gone ≡ true → 
 is_none_none None is = refl
 is_none_none (Some value) is = false_true is
 
--- what holds anyway holds of what is there
-pub anyway : {A : Type 0} (found : Option A) (P : Type 0) → P → IfSome found (λ _. P)
-anyway (Some value) P holds = holds
-anyway None P holds = tt
-
--- a value that stands only if a test holds
-pub only : {A : Type 0} (test : Bool) (found : Option A) (value : A) → cond test found None ≡ Some value → found ≡ Some value
-only true found value is = is
-only false found value is = absurd (cc)
-
 -- what holds of a value holds of what a result has
 pub along : {T E : Type 0} {P Q : T → Type 0} (result : Result T E) → ((value : T) → P value → Q value) → IfOk result P → IfOk result Q
 along (Ok value) goes is = goes value is
@@ -81,14 +71,14 @@ pub none_from_not : {A : Type 0} (x : Option A) → not (is_some x) ≡ true →
 none_from_not None e = refl
 none_from_not (Some x) e = cc
 
--- a card is held where it is not gone
+-- an optional number is none where a test says that it is not there
 pub none_by_test : (gone : Option ℕ) (b : Bool) → is_some gone ≡ b → is_none gone ≡ not b
 none_by_test None true is = false_true is
 none_by_test None false is = refl
 none_by_test (Some count) true is = refl
 none_by_test (Some count) false is = false_true (sym is)
 
--- a way is found where hands are read, and no game is asked for, or one is given
+-- what is there is there after a map
 pub some_mapped : {A B : Type 0} (f : A → B) (found : Option A) → is_some found ≡ true → is_some (option_map f found) ≡ true
 some_mapped f (Some x) some = refl
 some_mapped f None some = cc
@@ -108,14 +98,14 @@ for_none P found is = λ value some. absurd (cc (is, some))
 pub if_none : {A : Type 0} (P : A → Type 0) (found : Option A) → found ≡ None → IfSome found P
 if_none P found is = subst (λ o. IfSome o P) (sym is) tt
 
-pub found_number : (o : Option ℕ) (seat : ℕ) → option_map_or (λ next. next == seat) o false ≡ true → o ≡ Some seat
-found_number None seat is = absurd cc
-found_number (Some next) seat is = ap Some (eqb-true next seat is)
+pub found_number : (o : Option ℕ) (number : ℕ) → option_map_or (λ next. next == number) o false ≡ true → o ≡ Some number
+found_number None number is = absurd cc
+found_number (Some next) number is = ap Some (eqb-true next number is)
 
--- who draws next
-pub next_number : (seat : ℕ) (next : Option ℕ) → not (option_map_or (λ n. n == seat) next false) ≡ false → next ≡ Some seat
-next_number seat None is = false_true (sym is)
-next_number seat (Some other) is = ap Some (eqb-true other seat (not-false (other == seat) is))
+-- the number that is not refused as another one
+pub next_number : (number : ℕ) (next : Option ℕ) → not (option_map_or (λ n. n == number) next false) ≡ false → next ≡ Some number
+next_number number None is = false_true (sym is)
+next_number number (Some other) is = ap Some (eqb-true other number (not-false (other == number) is))
 
 pub none_anyway : (empty : Bool) (text : List ℕ) → cond (empty || true) None (Some text) ≡ None
 none_anyway true text = refl

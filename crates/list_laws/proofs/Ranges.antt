@@ -33,12 +33,6 @@ pub front_of_range : (start n : ℕ) (back : List ℕ) → take n (range_with_le
 front_of_range start zero back = refl
 front_of_range start (suc n) back = ap (λ rest. start ∷ rest) (front_of_range (start + 1) n back)
 
--- the first numbers of a range
-pub take_range : (start n m : ℕ) → n ≤ m → take n (range_with_len start m) ≡ range_with_len start n
-take_range start zero m few = refl
-take_range start (suc n) zero few = absurd (omega (arith, few))
-take_range start (suc n) (suc m) few = ap (λ rest. start ∷ rest) (take_range (start + 1) n m (omega (arith, few)))
-
 -- the first number of a range, and the others
 pub range_step : (first count : ℕ) → 1 ≤ count → range_with_len first count ≡ first ∷ range_with_len (first + 1) (count - 1)
 range_step first zero some = absurd (omega (arith, some))
@@ -49,28 +43,14 @@ range_left index count within =
     let less : (count - index) - 1 ≡ count - (index + 1) = omega (arith, within) in
     range_step (index + 1) (count - index) (omega (arith, within)) ∙ ap (λ n. (index + 1) ∷ range_with_len (index + 1 + 1) n) less
 
--- a seat that does not pass decides
-pub all_fails : (test : ℕ → Bool) (index count : ℕ) (all : Bool) → index < count → test (index + 1) ≡ false
-    → list_all test (range_with_len (index + 1) (count - index)) ≡ all → false ≡ all
-all_fails test index count all within fails is =
-    let first : list_all test ((index + 1) ∷ range_with_len (index + 1 + 1) (count - (index + 1))) ≡ false = rw fails refl in
-    sym first ∙ ap (list_all test) (sym (range_left index count within)) ∙ is
-
--- a seat that passes is followed by the others
+-- where the first number passes, the others decide whether all do
 pub all_goes_on : (test : ℕ → Bool) (index count : ℕ) (all : Bool) → index < count → test (index + 1) ≡ true
     → list_all test (range_with_len (index + 1) (count - index)) ≡ all → list_all test (range_with_len (index + 1 + 1) (count - (index + 1))) ≡ all
 all_goes_on test index count all within passes is =
     let first : list_all test ((index + 1) ∷ range_with_len (index + 1 + 1) (count - (index + 1))) ≡ list_all test (range_with_len (index + 1 + 1) (count - (index + 1))) = rw passes refl in
     sym first ∙ ap (list_all test) (sym (range_left index count within)) ∙ is
 
--- a seat that passes decides
-pub any_found : (test : ℕ → Bool) (index count : ℕ) (all : Bool) → index < count → test (index + 1) ≡ true
-    → list_any test (range_with_len (index + 1) (count - index)) ≡ all → true ≡ all
-any_found test index count all within passes is =
-    let first : list_any test ((index + 1) ∷ range_with_len (index + 1 + 1) (count - (index + 1))) ≡ true = rw passes refl in
-    sym first ∙ ap (list_any test) (sym (range_left index count within)) ∙ is
-
--- a seat that does not pass is followed by the others
+-- where the first number fails, the others decide whether any passes
 pub any_goes_on : (test : ℕ → Bool) (index count : ℕ) (all : Bool) → index < count → test (index + 1) ≡ false
     → list_any test (range_with_len (index + 1) (count - index)) ≡ all → list_any test (range_with_len (index + 1 + 1) (count - (index + 1))) ≡ all
 any_goes_on test index count all within fails is =

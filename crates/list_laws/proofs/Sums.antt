@@ -67,7 +67,7 @@ pub sum_by-none : (ks : List ℕ) → sum_by (λ k. 0) ks ≡ 0
 sum_by-none [] = refl
 sum_by-none (k ∷ ks) = omega (arith, sum_by-cons (λ k. 0) k ks, sum_by-none ks)
 
--- one number at one height
+-- a number that is counted where a test for it passes
 pub sum_by-at : (n h : ℕ) (ks : List ℕ) → sum_by (λ k. cond (h == k) n 0) ks ≡ n * sum_by (λ k. cond (h == k) 1 0) ks
 sum_by-at n h [] = omega arith
 sum_by-at n h (k ∷ ks) = omega (arith, sum_by-cons (λ k. cond (h == k) n 0) k ks, ap (λ (m : ℕ). n * m) (sum_by-cons (λ k. cond (h == k) 1 0) k ks), sum_by-at n h ks, here (h == k))
@@ -76,12 +76,12 @@ sum_by-at n h (k ∷ ks) = omega (arith, sum_by-cons (λ k. cond (h == k) n 0) k
     here true = grind arith
     here false = grind arith
 
--- heights that occur once are as many as their cards
+-- values that are one at most sum to no more than how many of them there are
 pub once_sum : (T : ℕ → ℕ) (hs : List ℕ) → ((h : ℕ) → T h ≤ 1) → sum_by T hs ≤ sum_by (λ h. min 1 (T h)) hs
 once_sum T [] once = omega arith
 once_sum T (h ∷ hs) once = omega (arith, sum_by-cons T h hs, sum_by-cons (λ k. min 1 (T k)) h hs, once h, once_sum T hs once)
 
--- some card is of some height
+-- values that are four at most sum to no more than four for each that is there
 pub some_sum : (T : ℕ → ℕ) (hs : List ℕ) → ((h : ℕ) → T h ≤ 4) → sum_by T hs ≤ 4 * sum_by (λ h. min 1 (T h)) hs
 some_sum T [] few = omega arith
 some_sum T (h ∷ hs) few = omega (arith, sum_by-cons T h hs, sum_by-cons (λ k. min 1 (T k)) h hs, few h, some_sum T hs few)

@@ -168,10 +168,10 @@ pub if_most : (b : Bool) (n : ℕ) → (if b then n else 0) ≤ n
 if_most true n = omega arith
 if_most false n = omega arith
 
--- the least bet is used where the limit is not fixed
-pub if_not_none : (fixed : Bool) (chips : ℕ) → (if not fixed then chips else 0) ≡ (if fixed then 0 else chips)
-if_not_none true chips = refl
-if_not_none false chips = refl
+-- a number that stands where a test fails
+pub if_not_none : (test : Bool) (number : ℕ) → (if not test then number else 0) ≡ (if test then 0 else number)
+if_not_none true number = refl
+if_not_none false number = refl
 
 pub first_of_both : (a b : Bool) → (a && b) ≡ true → a ≡ true
 first_of_both true b is = refl
@@ -189,8 +189,8 @@ pub if_same : (b : Bool) (n : ℕ) → cond b n n ≡ n
 if_same true n = refl
 if_same false n = refl
 
--- a legal target goes above the price
-pub holds_by_both : (legal below above : Bool) → (not legal && below) ≡ false → (below ≡ false → above ≡ false → legal ≡ true) → above ≡ false → legal ≡ true
+-- a test that fails neither below nor above holds
+pub holds_by_both : (holds below above : Bool) → (not holds && below) ≡ false → (below ≡ false → above ≡ false → holds ≡ true) → above ≡ false → holds ≡ true
 holds_by_both true below above small even big = refl
 holds_by_both false below above small even big = even small big
 
@@ -246,3 +246,7 @@ pub not_both_still : (a b c d : Bool) → (a ≡ true → c ≡ true) → (b ≡
 not_both_still false b c d one two none = refl
 not_both_still true false c d one two none = refl
 not_both_still true true c d one two none = absurd (true≢false (sym (ap (λ x. x && d) (one refl) ∙ two refl) ∙ none))
+
+-- a test as a number: 1 where it passes, 0 where it does not
+abbrev pub one_if : Bool → ℕ
+one_if b = cond b 1 0

@@ -170,12 +170,7 @@ all_spared has xs falling pass = passing_spared has 13 1 14 xs (omega arith) fal
 abbrev enough : (ℕ → ℕ) → ℕ → ℕ → Bool
 enough T o h = nat_le o (T h)
 
--- no groups of these sizes make a smaller number than the lowest
-pub record AreLowest (found ks : List ℕ) (n : ℕ) : Type 0 where
-  pub long : length found ≡ n
-  pub least : with_digits 0 found ≤ with_digits 0 ks
-
-pub both_least : (T : ℕ → ℕ) (m n o k : ℕ) (a b : List ℕ) → o ≤ m → length a ≡ n → length b ≡ k → FallingFrom 14 a → FallingFrom 14 b → Pass (is_free T m []) 1 a → Pass (is_free T o a) 1 b → AreLowest (both_ranks T m n o k) (a ++ b) (n + k)
+pub both_least : (T : ℕ → ℕ) (m n o k : ℕ) (a b : List ℕ) → o ≤ m → length a ≡ n → length b ≡ k → FallingFrom 14 a → FallingFrom 14 b → Pass (is_free T m []) 1 a → Pass (is_free T o a) 1 b → IsLeast (both_ranks T m n o k) (a ++ b) (n + k)
 both_least T m n o k a b less long_a long_b falls_a falls_b pass_a pass_b =
     let first = first_ranks T m n in
     let rest = lowest_ranks (is_free T o first) k in

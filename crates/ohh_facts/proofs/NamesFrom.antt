@@ -2,10 +2,11 @@
 use Rattle.std.proofs.Common.{◌≡◌, ℕ, ◌+◌, ◌<◌, ◌≤◌, List, [], ◌∷◌, ◌++◌, length, map, drop, get_or, Option, refl, sym, ap, ◌∙◌, append_assoc}
 use Rattle.std.proofs.lemmas.List.{append-nil, drop_more, drop_all}
 use Rattle.std.specs.Prelude.{option_and_then}
-use Rattle.hand_records.specs.AllowedNotes.{default_name, noted}
+use Rattle.hand_records.specs.AllowedNotes.{noted}
 use Rattle.ohh_members.specs.declared.player.Player.{Player}
 use Rattle.ohh_facts.specs.Notes.{names_from}
 use Rattle.ohh_members.specs.Players.{plain_player}
+use Rattle.chip_ledger.specs.SeatsSaid.{default_name}
 
 -- one more name
 pub name_read : (front : List (Option (List ℕ))) (players : List Player) (index : ℕ) (player : Player) (name : Option (List ℕ)) (whole : List (Option (List ℕ)))

@@ -1,14 +1,13 @@
 -- The notes of a hand, examined in this order. A note that equals its default is none.
-use Rattle.std.specs.Prelude.{ℕ, ◌+◌, ◌==◌, bytes_eq, if◌then◌else◌, List, [], ◌∷◌, codes, length, map, take, Option, Some, None, option_map, option_and_then, nat_le, Result, Ok}
+use Rattle.std.specs.Prelude.{ℕ, ◌+◌, ◌==◌, if◌then◌else◌, List, [], ◌∷◌, codes, length, map, take, Option, Some, None, option_map, option_and_then, nat_le, Result, Ok}
 use Rattle.std.specs.Fmt.{decimal, signed_decimal}
-use Rattle.std.specs.List.{range_with_len}
 use Rattle.serde_json.specs.Data.{Data, string}
 use Rattle.first_fault.specs.declared.limits.TheConstants.{MOST_TEXT_BYTES}
 use Rattle.first_fault.specs.declared.limits.Quantity.TheVariants as quantities
 use Rattle.hand_records.specs.declared.notes.Clock.{Clock}
 use Rattle.hand_records.specs.declared.notes.Notes.{Notes}
-use Rattle.hand_records.specs.AllowedNotes.{default_name, noted}
-use Rattle.first_fault.specs.Reading.{◌>>=◌, read_if}
+use Rattle.hand_records.specs.AllowedNotes.{noted, unless_usual}
+use Rattle.first_fault.specs.Reading.{◌>>=◌, read_if, or_none}
 use Rattle.ohh_members.specs.declared.fault.What.TheVariants as whats
 use Rattle.ohh_members.specs.declared.fault.Path.{Path}
 use Rattle.ohh_members.specs.declared.fault.Path.TheVariants as paths
@@ -18,6 +17,7 @@ use Rattle.ohh_facts.specs.declared.moment.Moment.{Moment}
 use Rattle.ohh_facts.specs.Moments.{moment_said}
 use Rattle.ohh_members.specs.Players.{PlainPlayer}
 use Rattle.ohh_members.specs.Values.{wrong, field, integer_said, number_said, text_said}
+use Rattle.chip_ledger.specs.SeatsSaid.{default_name}
 
 -- the text of a note with this default; it is of at most 255 bytes
 unfoldable pub note_said : List ℕ → Path → List ℕ → Result (Option (List ℕ)) Fault
@@ -32,11 +32,6 @@ text_note_said default path value = text_said path value >>= note_said default p
 unfoldable pub label_said : List ℕ → Path → Data → Result (Option (List ℕ)) Fault
 label_said default path (string text) = note_said default path text
 label_said default path value = integer_said path value >>= λ number. note_said default path (signed_decimal number)
-
--- a note that may lack
-abbrev pub or_none : {A : Type 0} → (Data → Result (Option A) Fault) → Option Data → Result (Option A) Fault
-or_none form None = Ok None
-or_none form (Some value) = form value
 
 -- how many seats the table of a hand with so many seats has
 unfoldable pub seat_count_said : ℕ → Data → Result (Option ℕ) Fault
@@ -105,16 +100,12 @@ abbrev pub names_from : ℕ → List PlainPlayer → List (Option (List ℕ))
 names_from seat [] = []
 names_from seat (player ∷ rest) = option_and_then (noted (default_name seat)) player.name ∷ names_from (seat + 1) rest
 
--- the seats at the table, unless they are 1, 2 and so on
-abbrev pub unless_usual : List ℕ → Option (List ℕ)
-unless_usual seats = if bytes_eq seats (range_with_len 1 (length seats)) then None else Some seats
-
 -- the notes that players and labels make; a moment is one of universal time
 abbrev pub notes_of : List PlainPlayer → PlainLabels → PlainNotes
 notes_of players labels =
     record {
       names = names_from 1 players;
-      seats = unless_usual (map (λ player. player.seat) players);
+      seats = unless_usual (length players) (map (λ player. player.seat) players);
       seat_count = labels.seat_count;
       hand = labels.hand;
       table = labels.table;

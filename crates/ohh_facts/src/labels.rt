@@ -1,13 +1,13 @@
 //! Where and when a hand was played is read from its members.
 ghost use Rattle.std.specs.Prelude.{IfOk, IfSome};
 ghost use Rattle.serde_json.specs.View.{view};
-ghost use Rattle.first_fault.specs.Reading.{Gives, read_if};
+ghost use Rattle.first_fault.specs.Reading.{Gives, read_if, or_none};
 ghost use Rattle.hand_records.specs.AllowedNotes.{IsSeatCount};
 ghost use Rattle.ohh_members.specs.declared.fault.Path.TheVariants as paths;
 ghost use Rattle.ohh_facts.specs.LabelRanges.{AreLabels};
 ghost use Rattle.ohh_facts.specs.MomentRanges.{IsMoment};
 ghost use Rattle.ohh_facts.specs.Moments.{moment_said};
-ghost use Rattle.ohh_facts.specs.Notes.{labels_said, or_none, plain_labels, seat_count_said};
+ghost use Rattle.ohh_facts.specs.Notes.{labels_said, plain_labels, seat_count_said};
 ghost use Rattle.ohh_members.specs.Values.{field as field_said};
 
 use crate::moment::{Moment, read_moment};

@@ -1,15 +1,13 @@
 //! When a hand was played is read from a text: a day of the calendar and a time of the day, in universal time.
-ghost use Rattle.std.specs.Prelude.{◌≡◌, ◌≤◌, ◌+◌, ◌-◌, ◌↔◌, nat_le, pos, length, IfOk, IsTrue};
+ghost use Rattle.std.specs.Prelude.{◌≡◌, ◌≤◌, ◌+◌, ◌-◌, length, IfOk};
 ghost use Rattle.serde_json.specs.View.{view};
-ghost use Rattle.hand_records.specs.AllowedNotes.{IsTime, IsWithin, days_in_month};
-ghost use Rattle.jiff.specs.Words.{IsDate};
+ghost use Rattle.hand_records.specs.AllowedNotes.{IsTime, IsWithin};
 ghost use Rattle.first_fault.specs.Reading.{Gives};
 ghost use Rattle.ohh_facts.specs.MomentRanges.{IsDay, IsMoment};
 ghost use Rattle.ohh_facts.specs.Moments.{clock_said, day_said, digits_in_front as digits_in_front_said, digits_said, fraction_of, fraction_said, has_point as has_point_said, has_signs as has_signs_said, is_universal as is_universal_said, moment_in, moment_said, nine_of, part as part_said, parts_said, zoned};
 
 use first_fault::{Stop, are_digits, read_digits};
-use hand_records::Clock;
-use jiff::civil::Date;
+use hand_records::{Clock, has_day};
 use ohh_members::fault::{Fault, Path, What};
 use ohh_members::values::{read_text, wrong};
 use serde_json::Value;
@@ -89,26 +87,6 @@ fn read_day(text: &[u8]) -> Result<Day, Stop<Fault>>
     } else {
         Err(no_moment())
     }
-}
-
-// Whether the calendar has the day.
-fn has_day(year: u16, month: u8, day: u8) -> bool
-    requires year { IsWithin 1 9999 year }
-    requires month { IsWithin 1 12 month }
-    requires day { IsWithin 1 31 day }
-    ensures { result ≡ nat_le day (days_in_month year month) }
-{
-    is_date(year, month, day)
-}
-
-// Whether the numbers are a date.
-fn is_date(year: u16, month: u8, day: u8) -> bool
-    requires year { year ≤ 9999 }
-    requires month { month ≤ 12 }
-    requires day { day ≤ 31 }
-    ensures { IsTrue result ↔ IsDate (pos year) (pos month) (pos day) }
-{
-    Date::new(year as i16, month as i8, day as i8).is_ok()
 }
 
 // What stands behind the seconds: a point and a fraction, or not, and the zone.

@@ -2,12 +2,13 @@
 ghost use Rattle.std.specs.Prelude.{◌≡◌, ◌≤◌, ◌<◌, ◌-◌, ◌+◌, ℕ, None, bytes_eq, length, map, take, slice_index, slice_index_or, codes, option_and_then, option_map, IfOk, IfSome};
 ghost use Rattle.std.specs.List.{range_with_len};
 ghost use Rattle.serde_json.specs.View.{view};
-ghost use Rattle.hand_records.specs.AllowedNotes.{AreAllowed, AreSeatNumbers, IsName, IsNoteText, IsWithin, default_name};
+ghost use Rattle.hand_records.specs.AllowedNotes.{AreAllowed, AreSeatNumbers, IsName, IsNoteText, IsWithin, unless_usual as unless_usual_said};
 ghost use Rattle.first_fault.specs.Reading.{Gives};
 ghost use Rattle.ohh_facts.specs.LabelRanges.{AreLabels};
-ghost use Rattle.ohh_facts.specs.Notes.{names_from, notes_of as notes_of_said, notes_said, plain_labels, plain_notes, unless_usual as unless_usual_said};
+ghost use Rattle.ohh_facts.specs.Notes.{names_from, notes_of as notes_of_said, notes_said, plain_labels, plain_notes};
 ghost use Rattle.hand_records.specs.AllowedNotes.{noted};
 ghost use Rattle.ohh_members.specs.Players.{plain_player};
+ghost use Rattle.chip_ledger.specs.SeatsSaid.{default_name};
 
 use crate::labels::{Labels, read_labels};
 use crate::moment::Moment;
@@ -122,7 +123,8 @@ fn zone_of(alloc: Global, moment: Option<Moment>) -> Result<Option<Text>, Memory
 fn unless_usual(players: &[Player]) -> Option<[u8; 10]>
     requires { length players.now ≤ 10 }
     ensures said { option_map (take (length players.now)) result
-        ≡ unless_usual_said (map (λ player. player.seat) (map plain_player players.now)) }
+        ≡ unless_usual_said (length (map plain_player players.now))
+        (map (λ player. player.seat) (map plain_player players.now)) }
     ensures allowed { IfSome result (AreSeatNumbers (length players.now)) }
 {
     let seats = seats_of(players);

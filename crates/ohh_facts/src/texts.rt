@@ -3,8 +3,8 @@ ghost use Rattle.std.specs.Prelude.{◌≡◌, ◌≢◌, ◌≤◌, [], length,
 ghost use Rattle.serde_json.specs.View.{view};
 ghost use Rattle.hand_records.specs.AllowedNotes.{IsNoteText};
 ghost use Rattle.first_fault.specs.declared.limits.TheConstants.{MOST_TEXT_BYTES};
-ghost use Rattle.first_fault.specs.Reading.{Gives};
-ghost use Rattle.ohh_facts.specs.Notes.{label_said, note_said, or_none, text_note_said};
+ghost use Rattle.first_fault.specs.Reading.{Gives, or_none};
+ghost use Rattle.ohh_facts.specs.Notes.{label_said, note_said, text_note_said};
 ghost use Rattle.hand_records.specs.AllowedNotes.{noted};
 ghost use Rattle.ohh_members.specs.Values.{field as field_said};
 

@@ -17,7 +17,8 @@ use Rattle.ohh_reading.specs.declared.fault.HandFault.{HandFault}
 use Rattle.ohh_rounds.specs.Steps.{moves_in}
 use Rattle.ohh_format.specs.Again.{hand_again, hands_again}
 use Rattle.ohh_format.proofs.BlocksAgain.{blocks_again, texts}
-use Rattle.ohh_format.proofs.HandAgain.{IsReadable, counted, hand_read, hand_steps, moves_written}
+use Rattle.ohh_format.proofs.HandAgain.{IsReadable, counted, hand_read, hand_steps}
+use Rattle.hand_records.specs.Plays.{moves_written}
 
 -- the text of a hand is its tree
 text_again : (dialect : Dialect) (place : ℕ) (play : Play) → IsTextOf dialect place play → tree_of (hand_text dialect place play) ≡ Some (hand_tree dialect place play)

@@ -24,7 +24,6 @@ use Rattle.ohh_line.specs.Games.{is_spelled_game}
 use Rattle.ohh_line.specs.Spelled.{big_blind, greatest_ante, has_no_ante, has_spelled_antes, has_spelled_blinds, has_spelled_sizes, has_spelled_straddles, has_two_blinds, is_covered_straddle, is_whole_ante}
 use Rattle.ohh_line.specs.Tree.{whole}
 use Rattle.ohh_posts.specs.Table.{PlainTable}
-use Rattle.ohh_posts.proofs.SeatBySeat.{row_listed}
 use Rattle.ohh_posts.proofs.Stacks.{seats_in}
 use Rattle.ohh_reading.specs.Sizes.{sizes_of}
 use Rattle.ohh_format.proofs.PostsAgain.{IsTableOf}
@@ -32,6 +31,7 @@ use Rattle.ohh_format.proofs.SeatingAgain.{players_from}
 use Rattle.ohh_format.proofs.WinsAgain.{ids_written}
 use Rattle.list_laws.proofs.Entries.{at_taken}
 use Rattle.list_laws.proofs.NumbersOfRange.{all_at}
+use Rattle.chip_ledger.proofs.RowLists.{row_listed}
 
 -- what holds of a setup that has a spelling
 pub record IsSpelledSetup (setup : Setup) : Type 0 where

@@ -48,6 +48,7 @@ use Rattle.ohh_format.proofs.ScriptAgain.{posts_read, script_read, showing_event
 use Rattle.ohh_format.proofs.SeatingAgain.{player_of, players_from, seated_read}
 use Rattle.ohh_format.proofs.WinsAgain.{ids_written}
 use Rattle.chip_ledger.specs.SeatRow.{amounts_in}
+use Rattle.hand_records.specs.Plays.{moves_written}
 
 -- what the rounds of a hand are read with
 abbrev pub hand_setting : Dialect → ℕ → Setup → PlainSetting
@@ -59,10 +60,6 @@ hand_setting dialect file_moves setup =
       dialect = dialect;
       file_moves = file_moves;
     }
-
--- the moves that are written of a play
-abbrev pub moves_written : Play → ℕ
-moves_written play = length (core_said play.trace).moves
 
 -- a play reads back when it was written
 pub record IsReadable (play : Play) : Type 0 where
@@ -85,9 +82,6 @@ circle_written count notes some few are = by_said notes.seats are.seats
         by_round true e = said_circle count numbers some is e
         by_round false e = usual_circle count (omega (arith, some)) few
 
-long_enough : (count : ℕ) (numbers : List ℕ) → 2 ≤ count → AreSeatNumbers count numbers → count ≤ length numbers
-long_enough count numbers some are = long count numbers some are
-
 long_written : (count : ℕ) (notes : Notes) → 2 ≤ count → AreAllowed count notes → IfSome (numbers_spelled count notes.seats) (λ all. count ≤ length all)
 long_written count notes some are = by_said notes.seats are.seats
   where
@@ -96,7 +90,7 @@ long_written count notes some are = by_said notes.seats are.seats
     by_said (Some numbers) is = by_round (is_circular (take count numbers))
       where
         by_round : (goes : Bool) → IfSome (cond goes (Some numbers) None) (λ all. count ≤ length all)
-        by_round true = long_enough count numbers some is
+        by_round true = long count numbers some is
         by_round false = tt
 
 module _ (dialect : Dialect) (place : ℕ) (play : Play) (is : IsReadable play) where

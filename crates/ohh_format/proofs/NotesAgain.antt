@@ -1,18 +1,17 @@
 -- The notes of a hand that were written read as the kept notes.
-use Rattle.std.proofs.Common.{◌≡◌, ℕ, zero, suc, ◌+◌, ◌-◌, ◌<◌, ◌≤◌, ◌==◌, Bool, true, false, ◌||◌, cond, bytes_eq, codes, decimal, List, [], ◌∷◌, length, map, take, get_or, Option, Some, None, IfSome, option_map, option_and_then, unwrap_or, Result, Ok, refl, sym, ap, ap₂, subst, ◌∙◌, arith, true≢false}
+use Rattle.std.proofs.Common.{◌≡◌, ℕ, zero, suc, ◌+◌, ◌-◌, ◌<◌, ◌≤◌, ◌==◌, Bool, true, false, ◌||◌, cond, bytes_eq, codes, decimal, List, [], ◌∷◌, length, map, take, get_or, Option, Some, None, IfSome, option_map, option_and_then, unwrap_or, Result, Ok, refl, sym, ap, ap₂, subst, ◌∙◌, arith}
 use Rattle.std.specs.List.{range_with_len}
 use Rattle.std.proofs.lemmas.Bool.{eq-eqb, le-leb, ne_eqb}
 use Rattle.std.proofs.lemmas.Fmt.{length-decimal-le}
 use Rattle.std.proofs.lemmas.List.{length-take-le}
-use Rattle.std.proofs.lemmas.List.FromFn.{length-range_with_len}
 use Rattle.std.proofs.lemmas.Option.{same_Some}
 use Rattle.std.proofs.lemmas.Slice.Eq.{bytes_eq-Decides}
 use Rattle.serde_json.specs.Data.{Data, string}
 use Rattle.chip_ledger.specs.Seat.{seats_of}
 use Rattle.chip_ledger.specs.declared.rows.SeatRow.{SeatRow}
-use Rattle.first_fault.specs.Reading.{read_if}
+use Rattle.first_fault.specs.Reading.{read_if, or_none}
 use Rattle.first_fault.specs.declared.limits.TheConstants.{MOST_HANDS, MOST_TEXT_BYTES}
-use Rattle.hand_records.specs.AllowedNotes.{AreAllowed, IsDayOf, IsName, IsNoteText, IsSeatCount, IsTime, IsWithin, default_name, noted}
+use Rattle.hand_records.specs.AllowedNotes.{AreAllowed, IsDayOf, IsName, IsNoteText, IsSeatCount, IsTime, IsWithin, noted, unless_usual}
 use Rattle.hand_records.specs.declared.notes.Clock.{Clock}
 use Rattle.hand_records.specs.declared.notes.Notes.{Notes}
 use Rattle.ohh_members.specs.declared.fault.Fault.{Fault}
@@ -22,7 +21,7 @@ use Rattle.ohh_members.specs.Players.{PlainPlayer}
 use Rattle.ohh_members.specs.Values.{field, number_said, text_said}
 use Rattle.ohh_facts.specs.declared.moment.Moment as read
 use Rattle.ohh_facts.specs.Moments as moments
-use Rattle.ohh_facts.specs.Notes.{PlainNotes, label_said, labels_said, names_from, note_said, notes_said, or_none, seat_count_said, text_note_said, unless_usual}
+use Rattle.ohh_facts.specs.Notes.{PlainNotes, label_said, labels_said, names_from, note_said, notes_said, seat_count_said, text_note_said}
 use Rattle.ohh_line.specs.declared.moment.Moment.{Moment}
 use Rattle.ohh_line.specs.Moment.{moment_of, moment_said, moment_text}
 use Rattle.ohh_line.specs.Seating.{number_among, numbers_spelled}
@@ -35,6 +34,7 @@ use Rattle.list_laws.proofs.Entries.{zero_taken_at}
 use Rattle.list_laws.proofs.Options.{from_none_some, none_anyway}
 use Rattle.hand_canon.specs.ReadAgain.{kept_label}
 use Rattle.hand_records.proofs.NoteTexts.{not_empty, noted_again}
+use Rattle.chip_ledger.specs.SeatsSaid.{default_name}
 
 -- ---- texts
 
@@ -169,14 +169,13 @@ module _ (place count : ℕ) (stacks : SeatRow) (notes : Notes) (ohh : Data) (fe
       ap₂ (λ (y : ℕ) (ys : List ℕ). y ∷ ys) (ap (λ k. get_or all k 0) (omega arith) ∙ sym (each 0 (omega arith)))
       (said_numbers all (first + 1) many xs (omega arith) (omega (arith, long)) (λ k within. each (suc k) (omega (arith, within)) ∙ ap (λ j. get_or all j 0) (omega (arith, low))))
 
-  seats_again : (found : Option (List ℕ)) → IfSome found (λ all. count ≤ length all) → unless_usual (map (λ (player : PlainPlayer). player.seat) (players_from count stacks notes found 1 count)) ≡ option_and_then (λ all. unless_usual (take count all)) found
+  seats_again : (found : Option (List ℕ)) → IfSome found (λ all. count ≤ length all) → unless_usual count (map (λ (player : PlainPlayer). player.seat) (players_from count stacks notes found 1 count)) ≡ option_and_then (λ all. unless_usual count (take count all)) found
   seats_again None long =
       let usual : map (λ (player : PlainPlayer). player.seat) (players_from count stacks notes None 1 count) ≡ range_with_len 1 count = seats_from None 1 count ∙ same_numbers 1 count in
-      ap unless_usual usual
-      ∙ ap (λ (n : ℕ). cond (bytes_eq (range_with_len 1 count) (range_with_len 1 n)) None (Some (range_with_len 1 count))) (length-range_with_len 1 count)
+      ap (unless_usual count) usual
       ∙ ap (λ (b : Bool). cond b None (Some (range_with_len 1 count))) (same_bytes (range_with_len 1 count))
   seats_again (Some all) long =
-      ap unless_usual (seats_from (Some all) 1 count
+      ap (unless_usual count) (seats_from (Some all) 1 count
       ∙ said_numbers all 1 count (take count all) (omega arith) (length-take-le count all long) (λ k within. zero_taken_at count all k within ∙ ap (λ j. get_or all j 0) (omega arith)))
 
   -- the notes
@@ -190,7 +189,7 @@ module _ (place count : ℕ) (stacks : SeatRow) (notes : Notes) (ohh : Data) (fe
       found year month day time zone =
           Ok (record {
             names = map (λ seat. get_or notes.names (seat - 1) None) (seats_of count);
-            seats = option_and_then (λ all. unless_usual (take count all)) numbers;
+            seats = option_and_then (λ all. unless_usual count (take count all)) numbers;
             seat_count = notes.seat_count;
             hand = kept_label place notes.hand;
             table = notes.table;

@@ -25,9 +25,9 @@ use Rattle.ohh_posts.specs.Posts.{PlainPost, ante_of, first_ante, first_straddle
 use Rattle.ohh_posts.specs.Stakes.{are_dead, held_ante, named_blind, stakes_said}
 use Rattle.ohh_posts.specs.Table as tables
 use Rattle.ohh_posts.specs.Table.{PlainTable, seat_count, stack_of}
-use Rattle.ohh_posts.proofs.SeatBySeat.{row_listed}
 use Rattle.ohh_format.proofs.PutsAgain.{Put, first_both, first_is, first_put, has_both, has_is, has_no, has_put, no_kind, of_seat, other_put, post_at, posts_at, posts_both, puts_of}
 use Rattle.list_laws.proofs.Options.{or_nothing}
+use Rattle.chip_ledger.proofs.RowLists.{row_listed}
 
 -- a seat has an ante, and a straddle
 abbrev pub posts_ante : Setup → ℕ → Bool

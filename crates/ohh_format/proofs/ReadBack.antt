@@ -3,17 +3,14 @@ use Rattle.std.proofs.Common.{◌≡◌, ℕ, ◌+◌, ◌≤◌, Bool, true, fa
 use Rattle.std.specs.List.{AllByRecursion, list_any}
 use Rattle.std.proofs.lemmas.Bool.{not-true}
 use Rattle.list_laws.proofs.Any.{list_any-map}
-use Rattle.chip_ledger.specs.PotRow.{plain_shares}
-use Rattle.chip_ledger.specs.SeatRow.{amount_of}
 use Rattle.play_event.specs.HistoryRules.{history_rules}
-use Rattle.play_event.specs.Past.{Past}
 use Rattle.play_event.specs.Played.{move_said}
 use Rattle.play_event.specs.Said.{Numbered, Said}
 use Rattle.play_event.specs.Scripts.{past_at_end}
 use Rattle.play_event.specs.declared.setup.Rules.{Rules}
 use Rattle.play_event.specs.declared.setup.Setup.{Setup}
 use Rattle.canonical_play.specs.PlayedScript.{IsPlayed}
-use Rattle.canonical_play.specs.TraceCore.{TraceCore, core_after, core_of}
+use Rattle.canonical_play.specs.TraceCore.{TraceCore, core_after}
 use Rattle.canon_laws.specs.Confluence.{HasTraceOf}
 use Rattle.canon_laws.specs.OtherRules.{SuitsRules}
 use Rattle.canon_laws.proofs.SuitedMoves.{played_by}
@@ -22,16 +19,15 @@ use Rattle.hand_records.specs.SoundRecord.{script_said}
 use Rattle.hand_records.specs.TraceRows.{core_said}
 use Rattle.hand_records.specs.declared.record.Record.{Record}
 use Rattle.hand_records.specs.declared.trace.Play.{Play}
-use Rattle.hand_records.specs.declared.trace.Trace.{Trace}
 use Rattle.hand_records.specs.declared.writing.Keep.{Keep}
 use Rattle.hand_canon.specs.LegalHand.{IsLegalHand, IsShareable}
 use Rattle.hand_canon.specs.Sound.{IsSound}
-use Rattle.hand_canon.specs.WholeTrace.{HasShares, IsTraceOf}
+use Rattle.hand_canon.specs.WholeTrace.{IsTraceOf}
 use Rattle.ohh_members.specs.declared.dialect.Dialect.{Dialect}
 use Rattle.ohh_facts.specs.Notes.{plain_notes}
 use Rattle.ohh_line.specs.Games.{is_spelled_game}
 use Rattle.ohh_line.specs.Lines.{Spells}
-use Rattle.ohh_line.specs.Spelled.{first_refusal, first_unspelled, has_closed, has_spelled_antes, has_spelled_blinds, has_spelled_sizes, kept_facts, refusal_from, trace_facts, unspelled}
+use Rattle.ohh_line.specs.Spelled.{first_unspelled, has_closed, has_spelled_antes, has_spelled_blinds, has_spelled_sizes, kept_facts, trace_facts, unspelled}
 use Rattle.ohh_reading.specs.Hand.{PlainHand, plain}
 use Rattle.ohh_reading.specs.Reading.{reading}
 use Rattle.ohh_format.specs.Again.{hand_again, hands_again, is_told, notes_again, numbered_from, script_again}
@@ -47,6 +43,8 @@ use Rattle.first_fault.specs.Numbers.{kept_number}
 use Rattle.hand_records.specs.Moves.{moves_played}
 use Rattle.hand_records.proofs.Refusals.{none_refused}
 use Rattle.play_event.proofs.ScriptLaws.{said_numbered}
+use Rattle.hand_records.specs.Refusals.{refusal_from, first_refusal}
+use Rattle.hand_canon.proofs.SameTraces.{whole_same}
 
 -- a play that the format spells has no closed raise
 spelled_open : (keep : Keep) (play : Play) → unspelled keep play ≡ None → list_any (λ move. move.closed) (core_said play.trace).moves ≡ false
@@ -60,16 +58,6 @@ spelled_open keep play none =
     let blinds = fact_holds (has_spelled_blinds setup) _ _ antes.1 in
     let unclosed = fact_holds (not (has_closed play.trace)) _ _ blinds.1 in
     list_any-map (λ move. move.closed) move_said play.trace.moves ∙ not-true (has_closed play.trace) unclosed.0
-
--- a whole trace of a past is one of each past of which the trace keeps the same
-whole_same : (setup : Setup) (past later : Past) (trace : Trace) → core_of setup later ≡ core_of setup past → IsTraceOf setup past trace → IsTraceOf setup later trace
-whole_same setup past later trace same is =
-    record {
-      same_setup = is.same_setup;
-      seats = is.seats;
-      core = is.core ∙ sym same;
-      shares = subst (λ (core : TraceCore). HasShares setup core (plain_shares trace.shares) (amount_of trace.finish)) (sym same) is.shares;
-    }
 
 -- ---- the play
 
@@ -148,20 +136,20 @@ is_again dialect keep place play hand sound none same =
 
 -- ---- the hands
 
-are_again : (dialect : Dialect) (keep : Keep) (number place : ℕ) (plays : List Play) (hands : List Record) → AllByRecursion IsSound plays → refusal_from keep number plays ≡ None
+are_again : (dialect : Dialect) (keep : Keep) (number place : ℕ) (plays : List Play) (hands : List Record) → AllByRecursion IsSound plays → refusal_from (unspelled keep) number plays ≡ None
     → map plain hands ≡ hands_again dialect place plays → AreAgain KeepsNotes place plays hands
 unfolding AreAgain
 are_again dialect keep number place [] [] each none same = tt
 are_again dialect keep number place [] (hand ∷ hands) each none same = absurd (cc)
 are_again dialect keep number place (play ∷ plays) [] each none same = absurd (cc)
 are_again dialect keep number place (play ∷ plays) (hand ∷ hands) each none same =
-    let parts = none_refused number (unspelled keep play) (refusal_from keep (number + 1) plays) none in
+    let parts = none_refused number (unspelled keep play) (refusal_from (unspelled keep) (number + 1) plays) none in
     let here : plain hand ≡ hand_again dialect place play = cc in
     let there : map plain hands ≡ hands_again dialect (place + 1) plays = cc in
     (is_again dialect keep place play hand each.0 parts.0 here, are_again dialect keep (number + 1) (place + 1) plays hands each.1 parts.1 there)
 
 -- the hands that are read of bytes that spell sound plays
-pub read_back : (dialect : Dialect) (keep : Keep) (plays : List Play) (bytes : List ℕ) → length plays ≤ MOST_HANDS → AllByRecursion IsSound plays → first_refusal keep plays ≡ None → sum_by moves_played plays ≤ MOST_FILE_MOVES → Spells dialect plays bytes
+pub read_back : (dialect : Dialect) (keep : Keep) (plays : List Play) (bytes : List ℕ) → length plays ≤ MOST_HANDS → AllByRecursion IsSound plays → first_refusal (unspelled keep) plays ≡ None → sum_by moves_played plays ≤ MOST_FILE_MOVES → Spells dialect plays bytes
     → (hands : List Record) → reading dialect bytes ≡ Ok (map plain hands) → AreAgain KeepsNotes 0 plays hands
 read_back dialect keep plays bytes few each none moves spells hands reads =
     let again : Ok (map plain hands) ≡ Ok (hands_again dialect 0 plays) = sym reads ∙ sound_again dialect keep plays bytes few each none moves spells in

@@ -14,7 +14,7 @@ use Rattle.chip_ledger.specs.declared.rows.SeatRow.{SeatRow}
 use Rattle.chip_ledger.specs.Seat.{seats_of}
 use Rattle.chip_ledger.specs.SeatRow.{amount_of}
 use Rattle.first_fault.specs.declared.limits.TheConstants.{MOST_TEXT_BYTES}
-use Rattle.hand_records.specs.AllowedNotes.{IsName, default_name, name_written}
+use Rattle.hand_records.specs.AllowedNotes.{IsName, name_written}
 use Rattle.hand_records.specs.declared.notes.Notes.{Notes}
 use Rattle.ohh_members.specs.declared.fault.Path.TheVariants as paths
 use Rattle.ohh_members.specs.Players.{PlainPlayer, above, button_said, has_id, has_seat, id_said, lower, lowest, next_player, player_added, player_at, player_said, players_said, round_from, seat_said, seated, seated_said, short_text_said, stack_said}
@@ -25,6 +25,7 @@ use Rattle.ohh_format.proofs.CardLists.{listed_again}
 use Rattle.ohh_format.proofs.SameNumbers.{other_number}
 use Rattle.ohh_format.proofs.Circle.{IsCircle, after_top, next_higher, one_seat, top_is}
 use Rattle.list_laws.proofs.Integers.{same_whole}
+use Rattle.chip_ledger.specs.SeatsSaid.{default_name}
 
 module _ (count : ℕ) (stacks : SeatRow) (notes : Notes) (numbers : Option (List ℕ)) where
   abbrev number : ℕ → ℕ

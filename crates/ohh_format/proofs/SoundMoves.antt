@@ -7,7 +7,7 @@ use Rattle.canon_ranges.proofs.MoveRanges.{IsMoveInRange}
 use Rattle.play_event.specs.Chips.{all_in}
 use Rattle.play_event.specs.MoveReasons.{actor_of}
 use Rattle.play_event.specs.Openers.{TheSeat}
-use Rattle.play_event.specs.Past.{Act, Called, Folded, Move, Moved, Resolved, is_bring_in, is_fold, is_raise, moves_on}
+use Rattle.play_event.specs.Past.{Called, Move, Moved, is_bring_in, is_fold, is_raise, moves_on}
 use Rattle.play_event.specs.Places.{Place}
 use Rattle.play_event.specs.Price.{price}
 use Rattle.play_event.specs.Said.{Said}
@@ -21,14 +21,7 @@ use Rattle.play_laws.proofs.MovesLaw.{MovesLaw}
 use Rattle.ohh_members.specs.Values.{seat_of}
 use Rattle.ohh_rounds.specs.Setting.{PlainSetting}
 use Rattle.ohh_format.proofs.MovesAgain.{CanBeWritten, HasNotFolded, IsElsewhere}
-
-target_of : Resolved → ℕ
-target_of (Moved move) = move.to
-target_of _ = 0
-
-act_of : Resolved → Act
-act_of (Moved move) = move.act
-act_of _ = Folded
+use Rattle.play_laws.proofs.ResolvedMoves.{act_of, target_of}
 
 -- a call goes no further than the price
 called_fits : (setup : Setup) (older : List Move) (street seat : ℕ) (event : Said) (move : Move) → IsMoveSaid event → resolved_by setup older street (TheSeat seat) event ≡ Moved move → move.act ≡ Called → move.to ≤ price setup older street

@@ -1,9 +1,8 @@
 -- Sound plays that the format spells read back when they were written.
-use Rattle.std.proofs.Common.{◌≡◌, ℕ, zero, suc, ◌+◌, ◌-◌, ◌≤◌, Bool, true, false, ◌&&◌, ◌==◌, nat_lt, if◌then◌else◌, sum_by, List, [], ◌∷◌, ◌++◌, length, reverse, take, pos, Option, Some, None, Ok, refl, sym, ap, subst, ◌∙◌, arith, true≢false}
+use Rattle.std.proofs.Common.{◌≡◌, ℕ, zero, suc, ◌+◌, ◌-◌, ◌≤◌, Bool, true, false, ◌&&◌, ◌==◌, nat_lt, if◌then◌else◌, sum_by, List, [], ◌∷◌, ◌++◌, length, reverse, pos, Option, Some, None, Ok, refl, sym, ap, subst, ◌∙◌, arith, true≢false}
 use Rattle.std.specs.List.{AllByRecursion, flat_map, list_any, range_with_len}
 use Rattle.std.proofs.lemmas.List.Sums.{sum_by-cons}
 use Rattle.canon_laws.proofs.MoveCounts.{move_count, tidy_within}
-use Rattle.canon_laws.proofs.TidyTraces.{as_many}
 use Rattle.canon_ranges.proofs.MoveRanges.{moves_in_range}
 use Rattle.card_set.specs.Known.{is_unknown}
 use Rattle.canonical_play.specs.CanonScript.{dealt_slots, held_slots}
@@ -44,7 +43,7 @@ use Rattle.ohh_members.specs.declared.dialect.Dialect.{Dialect}
 use Rattle.ohh_line.specs.Actions.{big_blind_seat, small_blind_seat}
 use Rattle.ohh_line.specs.Games.{is_spelled_game}
 use Rattle.ohh_line.specs.Lines.{Spells}
-use Rattle.ohh_line.specs.Spelled.{first_refusal, first_unspelled, has_spelled_antes, has_spelled_blinds, has_spelled_sizes, kept_facts, refusal_from, trace_facts, unspelled}
+use Rattle.ohh_line.specs.Spelled.{first_unspelled, has_spelled_antes, has_spelled_blinds, has_spelled_sizes, kept_facts, trace_facts, unspelled}
 use Rattle.ohh_posts.proofs.Stacks.{seats_in}
 use Rattle.ohh_posts.specs.declared.post.PostKind.TheVariants as kinds
 use Rattle.ohh_reading.specs.Reading.{reading}
@@ -55,21 +54,23 @@ use Rattle.ohh_format.proofs.FileAgain.{plays_again}
 use Rattle.ohh_format.proofs.FlopGames.{IsFlopGame, flop_game}
 use Rattle.ohh_format.proofs.FrontAgain as front
 use Rattle.ohh_format.proofs.FrontAgain.{IsSpelledSetup}
-use Rattle.ohh_format.proofs.HandAgain.{IsReadable, hand_setting, moves_written}
+use Rattle.ohh_format.proofs.HandAgain.{IsReadable, hand_setting}
 use Rattle.ohh_format.proofs.MovesAgain.{CanBeWritten, HasNotFolded, IsElsewhere}
 use Rattle.ohh_format.proofs.PlayAgain.{CanBePlayed}
 use Rattle.ohh_format.proofs.SoundMoves.{live_folds, no_moves_on, written_moves}
 use Rattle.ohh_format.proofs.SoundPots.{has_pots}
 use Rattle.ohh_format.proofs.SoundShows.{mucked_live, showdown_is}
-use Rattle.canon_ranges.proofs.StreetsPlayed.{HasStreet, board_known, came_before, first_holes, four_streets, is_passed}
+use Rattle.canon_ranges.proofs.StreetsPlayed.{HasStreet, board_known, came_before, first_holes, four_streets, is_passed, few_on_board}
 use Rattle.ohh_format.proofs.ToldDeeds.{IsGoodPost}
 use Rattle.ohh_format.proofs.WinsAgain.{seat_again}
 use Rattle.list_laws.proofs.Lists.{none_from_length}
 use Rattle.list_laws.proofs.Options.{from_some_none}
 use Rattle.hand_records.specs.Moves.{moves_played}
-use Rattle.hand_records.specs.Refusals.{or_behind}
-use Rattle.canon_laws.proofs.Confluent.{end_of}
+use Rattle.hand_records.specs.Refusals.{or_behind, refusal_from, first_refusal}
 use Rattle.hand_records.proofs.Refusals.{none_refused}
+use Rattle.play_event.proofs.ScriptLaws.{at_end}
+use Rattle.hand_records.specs.Plays.{moves_written}
+use Rattle.play_event.proofs.TracedMoves.{as_many}
 
 -- ---- the facts that are spelled
 
@@ -162,11 +163,6 @@ board_some setup is (suc (suc (suc zero))) low high = omega (arith, is.turn)
 board_some setup is (suc (suc (suc (suc zero)))) low high = omega (arith, is.river)
 board_some setup is (suc (suc (suc (suc (suc more))))) low high = absurd (omega (arith, high))
 
-at_most : (setup : Setup) (events : List Said) (street : ℕ) → HasStreet setup events street → (passed : Bool) → is_passed setup (moves_of (past_of setup events)) street ≡ passed
-    → length (dealt_slots (traced_places setup (past_of setup events)) None street) ≤ board_cards_on setup.code street
-at_most setup events street has true is = omega (arith, has.no_board is)
-at_most setup events street has false is = omega (arith, has.board is)
-
 -- a street without a board was not come to
 passed_there : (setup : Setup) (events : List Said) (street : ℕ) → IsFlopGame setup.code → 2 ≤ street → street ≤ 4 → HasStreet setup events street → (passed : Bool) → is_passed setup (moves_of (past_of setup events)) street ≡ passed
     → dealt_slots (traced_places setup (past_of setup events)) None street ≡ [] → is_passed setup (moves_of (past_of setup events)) street ≡ true
@@ -185,14 +181,14 @@ core_reads setup rules script valid played tidy is =
     let past = past_of setup events in
     let placed = traced_places setup past in
     let list = moves_of past in
-    let complete : is_unfinished (turn setup past).1 ≡ false = sym (ap (λ (p : Past). is_unfinished (turn setup p).1) (end_of setup script)) ∙ played.complete in
+    let complete : is_unfinished (turn setup past).1 ≡ false = sym (ap (λ (p : Past). is_unfinished (turn setup p).1) (at_end setup script)) ∙ played.complete in
     let streets = four_streets setup rules events played.legal complete is.no_draw is.streets in
     let passed : (street : ℕ) → 2 ≤ street → street ≤ 4 → dealt_slots placed None street ≡ [] → is_passed setup list street ≡ true =
     λ street low high none. passed_there setup events street is low high (streets street (omega (arith, low)) high) (is_passed setup list street) refl none in
     record {
       holes = λ seat low high. first_holes setup rules events seat played.legal complete (is.no_draw 1) (omega (arith, is.streets)) low high ∙ is.holes;
       no_more = λ seat street low high from to. none_from_length (dealt_slots placed (Some seat) street) (omega (arith, (streets street (omega (arith, from)) to).holes seat low high, is.later_holes street from));
-      no_board = none_from_length (dealt_slots placed None 1) (omega (arith, at_most setup events 1 (streets 1 (omega arith) (omega arith)) (is_passed setup list 1) refl, is.no_board));
+      no_board = none_from_length (dealt_slots placed None 1) (omega (arith, few_on_board setup events 1 (streets 1 (omega arith) (omega arith)) (is_passed setup list 1) refl, is.no_board));
       boards_few = λ street. tidy.cards.dealt_few None street;
       known = λ street. board_known placed street tidy.cards.board_known;
       turn_follows = λ none. none_later setup events 2 3 (omega arith) (streets 3 (omega arith) (omega arith)) (passed 2 (omega arith) (omega arith) none) (is_passed setup list 3) refl;
@@ -295,20 +291,20 @@ module _ (keep : Keep) (play : Play) (sound : IsSound play) (spelled : unspelled
         showdown = showdown_is setup past trace sound.trace;
       }
 
-all_readable : (keep : Keep) (number : ℕ) (plays : List Play) → AllByRecursion IsSound plays → refusal_from keep number plays ≡ None → AllByRecursion IsReadable plays
+all_readable : (keep : Keep) (number : ℕ) (plays : List Play) → AllByRecursion IsSound plays → refusal_from (unspelled keep) number plays ≡ None → AllByRecursion IsReadable plays
 all_readable keep number [] each none = tt
 all_readable keep number (play ∷ rest) each none =
-    let parts = none_refused number (unspelled keep play) (refusal_from keep (number + 1) rest) none in
+    let parts = none_refused number (unspelled keep play) (refusal_from (unspelled keep) (number + 1) rest) none in
     (sound_readable keep play each.0 parts.0, all_readable keep (number + 1) rest each.1 parts.1)
 
-all_counted : (keep : Keep) (number : ℕ) (plays : List Play) → AllByRecursion IsSound plays → refusal_from keep number plays ≡ None → sum_by moves_written plays ≡ sum_by moves_played plays
+all_counted : (keep : Keep) (number : ℕ) (plays : List Play) → AllByRecursion IsSound plays → refusal_from (unspelled keep) number plays ≡ None → sum_by moves_written plays ≡ sum_by moves_played plays
 all_counted keep number [] each none = refl
 all_counted keep number (play ∷ rest) each none =
-    let parts = none_refused number (unspelled keep play) (refusal_from keep (number + 1) rest) none in
+    let parts = none_refused number (unspelled keep play) (refusal_from (unspelled keep) (number + 1) rest) none in
     omega (arith, sum_by-cons moves_written play rest, sum_by-cons moves_played play rest, same_count keep play each.0 parts.0, all_counted keep (number + 1) rest each.1 parts.1)
 
 -- what was written of sound plays reads as their hands
-pub sound_again : (dialect : Dialect) (keep : Keep) (plays : List Play) (bytes : List ℕ) → length plays ≤ MOST_HANDS → AllByRecursion IsSound plays → first_refusal keep plays ≡ None → sum_by moves_played plays ≤ MOST_FILE_MOVES → Spells dialect plays bytes
+pub sound_again : (dialect : Dialect) (keep : Keep) (plays : List Play) (bytes : List ℕ) → length plays ≤ MOST_HANDS → AllByRecursion IsSound plays → first_refusal (unspelled keep) plays ≡ None → sum_by moves_played plays ≤ MOST_FILE_MOVES → Spells dialect plays bytes
     → reading dialect bytes ≡ Ok (hands_again dialect 0 plays)
 sound_again dialect keep plays bytes few each none moves spells =
     plays_again dialect plays bytes few (all_readable keep 1 plays each none) (omega (arith, moves, all_counted keep 1 plays each none)) spells

@@ -34,6 +34,7 @@ use Rattle.variant_table.specs.Shares.{AllShared, Showdown}
 use Rattle.ohh_line.specs.Tree.{share_at}
 use Rattle.ohh_format.proofs.PotsAgain.{HasPots, SharesFit, chips_of}
 use Rattle.list_laws.proofs.Entries.{taken_at, there}
+use Rattle.chip_ledger.proofs.PlainPots.{no_chips_past}
 
 -- ---- the chips together
 
@@ -63,11 +64,6 @@ seat_less row (suc seat) = elim (cases_lt row.seats (suc seat)) [
   | inl beyond ↦ let none = row.filler (suc seat - 1) (omega (arith, beyond)) in omega (arith, none)
   | inr within ↦ one_of_sum (amount_of row) 1 row.seats (suc seat) (omega arith) (omega (arith, within))
 ]
-
-past_end : (pots : List PlainPot) (index : ℕ) → length pots ≤ index → option_map_or (λ pot. pot.chips) (slice_get pots index) 0 ≡ 0
-past_end [] index late = refl
-past_end (pot ∷ rest) zero late = absurd (omega (arith, late))
-past_end (pot ∷ rest) (suc index) late = past_end rest index (omega (arith, late))
 
 chips_at : (pots : List Pot) (k : ℕ) (pot : Pot) (rest : List Pot) → drop k pots ≡ pot ∷ rest → option_map_or (λ (p : PlainPot). p.chips) (slice_get (map plain pots) k) 0 ≡ pot.chips
 chips_at [] zero pot rest is = absurd (cc (is))
@@ -127,7 +123,7 @@ module _ (setup : Setup) (past : Past) (trace : Trace) (valid : IsValid setup) (
 
   no_more : (pot : ℕ) → trace.pots.count < pot → rake_of setup.rakes pot ≡ 0
   no_more pot late =
-      let none : chips_in (plain_pots trace.pots) pot ≡ 0 = past_end (plain_pots trace.pots) (pot - 1) (omega (arith, late, pot_count, length-map (pots_in trace.pots) plain)) in
+      let none : chips_in (plain_pots trace.pots) pot ≡ 0 = no_chips_past (plain_pots trace.pots) (pot - 1) (omega (arith, late, pot_count, length-map (pots_in trace.pots) plain)) in
       omega (arith, shares_and_rakes setup past trace shareable is pot, none)
 
   pub has_pots : HasPots trace

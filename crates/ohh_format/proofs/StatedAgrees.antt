@@ -11,12 +11,7 @@ use Rattle.hand_records.specs.declared.record.Stated.{Stated}
 use Rattle.hand_records.specs.declared.trace.Trace.{Trace}
 use Rattle.hand_canon.specs.Agreement.{Comparison, finish_compared, first_difference, is_different, pot_total_of, pots_compared, row_compared, total_compared, value_compared, win_compared, win_of}
 use Rattle.list_laws.proofs.Integers.{not_different_whole}
-
--- a number of a list that is made for each seat
-pub at_seat : (f : ℕ → ℕ) (first count k : ℕ) → k < count → get_or (map f (range_with_len first count)) k 0 ≡ f (first + k)
-at_seat f first zero k within = absurd (omega (arith, within))
-at_seat f first (suc count) zero within = ap f (omega arith)
-at_seat f first (suc count) (suc k) within = at_seat f (first + 1) count k (omega (arith, within)) ∙ ap f (omega arith)
+use Rattle.list_laws.proofs.NumbersOfRange.{mapped_at}
 
 -- where no number differs nothing is found but behind
 none_differ : (compared : ℕ → Comparison) (first count : ℕ) (rest : List Comparison) → ((seat : ℕ) → first ≤ seat → seat < first + count → is_different (compared seat) ≡ false)
@@ -44,7 +39,7 @@ module _ (trace : Trace) (row : SeatRow) (same : amounts_in row ≡ map (win_of 
       let number : 1 + (seat - 1) ≡ seat = omega (arith, from) in
       sym (get_or-take row.seats row.amounts (seat - 1) 0 (omega (arith, within, count)))
       ∙ ap (λ (l : List ℕ). get_or l (seat - 1) 0) same
-      ∙ at_seat (win_of trace) 1 seats (seat - 1) within
+      ∙ mapped_at (win_of trace) 0 1 seats (seat - 1) within
       ∙ ap (win_of trace) number
 
   wins_agree : (rest : List Comparison) → find is_different (row_compared trace win_compared (Some row) ++ rest) ≡ find is_different rest

@@ -43,11 +43,7 @@ use Rattle.ohh_reading.specs.Reading.{found_said, hands_said, in_hand, numbered_
 use Rattle.ohh_reading.specs.Sizes.{sizes_of}
 use Rattle.ohh_reading.specs.declared.fault.HandFault.{HandFault}
 use Rattle.ohh_reading.specs.declared.fault.Wrongness.TheVariants as wrongness
-
--- what holds of what follows holds of the whole
-bound : {A B F : Type 0} (P : B → Type 0) (first : Result A F) (next : A → Result B F) → ((a : A) → IfOk (next a) P) → IfOk (first >>= next) P
-bound P (Ok a) next each = each a
-bound P (Err fault) next each = tt
+use Rattle.first_fault.proofs.Thread.{bound}
 
 -- the same, by what holds of what comes first
 bound_by : {A B F : Type 0} (P : A → Type 0) (Q : B → Type 0) (first : Result A F) (next : A → Result B F) → IfOk first P → ((a : A) → P a → IfOk (next a) Q) → IfOk (first >>= next) Q

@@ -3,7 +3,7 @@ use Rattle.std.proofs.Common.{◌≡◌, ℕ, zero, suc, ◌+◌, ◌-◌, ◌*�
 use Rattle.std.specs.List.{list_all, list_any, range_with_len}
 use Rattle.std.specs.Option.{option_map_or}
 use Rattle.std.proofs.lemmas.Bool.{and_from, eq-eqb, le-leb, leb-false, lt-ltb, ltb-false, ne_eqb}
-use Rattle.list_laws.proofs.NumbersOfRange.{at_range, map_agree, all_at, all_of, some_other}
+use Rattle.list_laws.proofs.NumbersOfRange.{at_range, map_agree, all_at, all_of, some_other, mapped_at}
 use Rattle.chip_ledger.specs.Greatest.{greatest}
 use Rattle.chip_ledger.specs.Seat.{seats_of}
 use Rattle.chip_ledger.specs.SeatRow.{amount_of, amounts_in}
@@ -21,7 +21,6 @@ use Rattle.ohh_posts.specs.Stakes.{PlainStakes, are_dead, held_ante, named_blind
 use Rattle.ohh_posts.specs.Table.{PlainTable, seat_count, stack_of}
 use Rattle.ohh_reading.specs.Hand.{plain_setup}
 use Rattle.ohh_reading.specs.declared.sizes.Sizes.{Sizes}
-use Rattle.ohh_format.proofs.StatedAgrees.{at_seat}
 use Rattle.ohh_format.proofs.ToldHands.{IsToldSetup}
 use Rattle.ohh_format.proofs.ToldPosts.{ante_even, ante_within, straddle_few}
 use Rattle.list_laws.proofs.Entries.{at_taken}
@@ -35,7 +34,7 @@ row_at row f count same seat low high =
     let number : 1 + (seat - 1) ≡ seat = omega (arith, low) in
     sym (at_taken row.amounts row.seats (seat - 1) row.filler)
     ∙ ap (λ (l : List ℕ). slice_index l (seat - 1)) same
-    ∙ at_seat f 1 count (seat - 1) within
+    ∙ mapped_at f 0 1 count (seat - 1) within
     ∙ ap f number
 
 greatest_none : (f : ℕ → ℕ) (first count : ℕ) → ((number : ℕ) → first ≤ number → number < first + count → f number ≡ 0) → greatest (map f (range_with_len first count)) ≡ 0

@@ -1,60 +1,39 @@
 -- The canonical script of a play in the words of the format is played to its end, and leaves the trace of the play.
-use Rattle.std.proofs.Common.{◌≡◌, false, ◌&&◌, ◌==◌, not, nat_le, List, [], ◌∷◌, ◌++◌, map, reverse, refl, sym, ap, subst, ◌∙◌, arith, true≢false}
-use Rattle.std.specs.List.{AllByRecursion, flat_map, list_any, range_with_len}
+use Rattle.std.proofs.Common.{◌≡◌, false, List, [], ◌∷◌, ◌++◌, map, reverse, refl, sym, ap, subst, ◌∙◌}
+use Rattle.std.specs.List.{AllByRecursion, flat_map, range_with_len}
 use Rattle.std.proofs.lemmas.List.{map-append, reverse-append, reverse-reverse}
 use Rattle.canon_blocks.proofs.StreetMoves.{AreFalling, legal_falling}
 use Rattle.canon_laws.proofs.AllStreets.{legal_since, none_first}
-use Rattle.canon_laws.proofs.Confluent.{confluent, end_of}
-use Rattle.canon_laws.proofs.SameCore.{plain_again}
+use Rattle.canon_laws.proofs.Confluent.{confluent}
+use Rattle.canon_laws.proofs.SameCore.{plain_again, moves_kept}
 use Rattle.canon_laws.specs.Confluence.{HasTraceOf}
 use Rattle.canonical_play.specs.CanonScript.{canon_of, canonical_script, plain_move, plain_moves, script_of, showdown_said, street_said}
 use Rattle.canonical_play.specs.PlayedScript.{IsPlayed}
 use Rattle.canonical_play.specs.TraceCore.{TraceCore, core_after, core_of}
-use Rattle.play_event.specs.Due.{has_opened_betting, is_unfinished, turn}
-use Rattle.play_event.specs.Games.{street_count}
-use Rattle.play_event.specs.Laws.{AreLegal, NoneHold}
-use Rattle.play_event.specs.Openers.{TheSeat}
-use Rattle.play_event.specs.Past.{Act, Folded, Move, Moved, Past, Resolved, is_bring_in, moves_before, moves_of, moves_on, newest_street}
+use Rattle.play_event.specs.Due.{is_unfinished, turn}
+use Rattle.play_event.specs.Laws.{AreLegal}
+use Rattle.play_event.specs.Past.{Move, Past, moves_before, moves_of}
 use Rattle.play_event.specs.Places.{Place}
 use Rattle.play_event.specs.Said.{Said}
-use Rattle.play_event.specs.Scripts.{past_at_end, past_of, resolved_by}
-use Rattle.play_event.specs.Seats.{able_count}
+use Rattle.play_event.specs.Scripts.{past_at_end, past_of}
 use Rattle.play_event.specs.Streets.{is_stud}
 use Rattle.play_event.specs.Table.{places_of}
 use Rattle.play_event.specs.Trace.{TracedMove}
 use Rattle.play_event.specs.ValidSetup.{IsValid}
-use Rattle.play_event.specs.declared.reason.Due.{Due}
 use Rattle.play_event.specs.declared.setup.Rules.{Rules}
 use Rattle.play_event.specs.declared.setup.Setup.{Setup}
-use Rattle.play_laws.proofs.DoneKept.{all_early}
 use Rattle.play_laws.proofs.FittingPasts.{legal_moves}
-use Rattle.play_laws.proofs.LegalPlaces.{legal_past}
-use Rattle.play_laws.proofs.MoveKinds.{IsMoveSaid, bring_said, call_said, fold_said, raise_said}
-use Rattle.play_laws.proofs.MovesLaw.{IsBetDue, MovesLaw, bring_first, move_now}
-use Rattle.play_laws.proofs.NamedMoves.{move_reasons}
+use Rattle.play_laws.proofs.MovesLaw.{MovesLaw}
 use Rattle.ohh_members.specs.declared.dialect.Dialect.{Dialect}
 use Rattle.ohh_format.specs.Again.{street_again}
 use Rattle.ohh_format.proofs.FlopGames.{IsFlopGame}
 use Rattle.ohh_format.proofs.WordEvents.{HasWord, InWords, words_same}
 use Rattle.ohh_format.proofs.WordScript.{script_words}
+use Rattle.play_event.proofs.ScriptLaws.{at_end}
+use Rattle.play_laws.proofs.ResolvedMoves.{no_bring}
+use Rattle.canon_laws.proofs.LastPast.{before_fifth}
 
 -- ---- no bring-ins
-
--- what a resolved event did
-act_of : Resolved → Act
-act_of (Moved move) = move.act
-act_of _ = Folded
-
--- without up-cards no move is a bring-in
-no_bring : (setup : Setup) (rules : Rules) (older : List Move) (move : Move) (event : Said) (due : Due) → is_stud setup.code ≡ false → IsMoveSaid event → IsBetDue setup older move.street due
-    → NoneHold (move_reasons setup rules older (move.street, due) (TheSeat move.seat) event) → resolved_by setup older move.street (TheSeat move.seat) event ≡ Moved move → is_bring_in move.act ≡ false
-unfolding act_of
-no_bring setup rules older move _ due blinds (fold_said named) is_due none place = sym (ap (λ r. is_bring_in (act_of r)) place)
-no_bring setup rules older move _ due blinds (call_said named stated) is_due none place = sym (ap (λ r. is_bring_in (act_of r)) place)
-no_bring setup rules older move _ due blinds (raise_said named amount) is_due none place = sym (ap (λ r. is_bring_in (act_of r)) place)
-no_bring setup rules older move _ _ blinds (bring_said named) (move_now unopened now) none place = absurd (true≢false none.1.0)
-no_bring setup rules older move _ _ blinds (bring_said named) (bring_first is) none place =
-    absurd (true≢false (sym is ∙ ap (λ b. b && (move.street == 1) && nat_le 2 (able_count setup older) && not (list_any (λ (m : Move). has_opened_betting m.act) (moves_on move.street older))) blinds))
 
 -- so each move has a word
 have_words : (setup : Setup) (rules : Rules) (placed : List Place) (moves : List Move) → is_stud setup.code ≡ false → MovesLaw setup rules placed moves → AllByRecursion HasWord moves
@@ -63,17 +42,6 @@ have_words setup rules placed (move ∷ older) stud law =
     (no_bring setup rules older move law.0.event law.0.due stud law.0.is_move law.0.is_due law.0.none law.0.place, have_words setup rules placed older stud law.1)
 
 -- ---- the script
-
--- the moves of a past by what its trace keeps
-moves_kept : (setup : Setup) (past later : Past) → core_of setup later ≡ core_of setup past → moves_of later ≡ moves_of past
-moves_kept setup past later same =
-    sym (plain_again setup (moves_of later)) ∙ ap (λ (core : TraceCore). plain_moves core.moves) same ∙ plain_again setup (moves_of past)
-
--- the moves before the fifth street are all
-before_fifth : (setup : Setup) (rules : Rules) (events : List Said) → AreLegal setup rules events → street_count setup.code ≡ 4 → moves_before 5 (moves_of (past_of setup events)) ≡ moves_of (past_of setup events)
-before_fifth setup rules events legal four =
-    let law = legal_past setup rules events legal in
-    all_early (newest_street (past_of setup events)) 5 (moves_of (past_of setup events)) law.past.moved (omega (arith, law.past.within, four))
 
 newest_plain : (moves : List TracedMove) → map plain_move (reverse moves) ≡ plain_moves moves
 newest_plain [] = refl
@@ -95,7 +63,7 @@ in_words setup rules script events words has same legal =
     record {
       played = record {
         legal = legal;
-        complete = ap (λ (p : Past). is_unfinished (turn setup p).1) (end_of setup words ∙ same ∙ sym (end_of setup events)) ∙ has.played.complete;
+        complete = ap (λ (p : Past). is_unfinished (turn setup p).1) (at_end setup words ∙ same ∙ sym (at_end setup events)) ∙ has.played.complete;
       };
       same = ap (core_of setup) same ∙ has.same;
     }

@@ -20,13 +20,14 @@ use Rattle.hand_records.specs.declared.trace.Play.{Play}
 use Rattle.hand_records.specs.declared.trace.Trace.{Trace}
 use Rattle.ohh_members.specs.declared.dialect.Dialect.{Dialect}
 use Rattle.ohh_members.specs.declared.dialect.Dialect.TheVariants as dialects
-use Rattle.ohh_facts.specs.Notes.{PlainNotes, unless_usual}
+use Rattle.ohh_facts.specs.Notes.{PlainNotes}
 use Rattle.ohh_line.specs.Actions.{has_known, posts}
 use Rattle.ohh_line.specs.Moment.{moment_of}
 use Rattle.ohh_line.specs.Seating.{numbers_spelled}
 use Rattle.ohh_reading.specs.Hand.{PlainHand, plain_setup}
 use Rattle.first_fault.specs.Numbers.{kept_number}
 use Rattle.hand_canon.specs.ReadAgain.{kept_label}
+use Rattle.hand_records.specs.AllowedNotes.{unless_usual}
 
 -- ---- moves
 
@@ -93,7 +94,7 @@ abbrev pub notes_again : ℕ → ℕ → Notes → PlainNotes
 notes_again place count notes =
     record {
       names = map (λ seat. slice_index_or notes.names (seat - 1) None) (seats_of count);
-      seats = option_and_then (λ numbers. unless_usual (take count numbers)) (numbers_spelled count notes.seats);
+      seats = option_and_then (λ numbers. unless_usual count (take count numbers)) (numbers_spelled count notes.seats);
       seat_count = notes.seat_count;
       hand = kept_label place notes.hand;
       table = notes.table;

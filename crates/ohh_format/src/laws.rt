@@ -9,7 +9,7 @@ ghost use Rattle.hand_records.specs.declared.writing.Keep.{Keep};
 ghost use Rattle.hand_records.specs.declared.writing.Unspelled.{Unspelled};
 ghost use Rattle.ohh_members.specs.declared.dialect.Dialect.{Dialect};
 ghost use Rattle.ohh_line.specs.Lines.{Spells};
-ghost use Rattle.ohh_line.specs.Spelled.{first_refusal, unspelled};
+ghost use Rattle.ohh_line.specs.Spelled.{unspelled};
 ghost use Rattle.ohh_reading.specs.Hand.{plain};
 ghost use Rattle.ohh_reading.specs.Reading.{reading};
 ghost use Rattle.ohh_format.specs.Again.{hands_again};
@@ -18,6 +18,7 @@ ghost use Rattle.hand_canon.specs.ReadAgain.{AreAgain};
 ghost use Rattle.ohh_format.specs.ReadBack.{KeepsNotes};
 ghost use Rattle.ohh_format.specs.Sharp.{is_sharp};
 ghost use Rattle.hand_canon.specs.Sharp.{IsOther};
+ghost use Rattle.hand_records.specs.Refusals.{first_refusal};
 
 /// Bytes that spell sound plays in a dialect, no more of them and of their moves than a file may have, each of which the format
 /// spells, read in the same dialect as the hands of these plays: with their setups and rakes, their canonical scripts in the
@@ -26,7 +27,7 @@ ghost use Rattle.hand_canon.specs.Sharp.{IsOther};
 pub fn law_of_reading_again()
     ensures { (dialect : Dialect) (keep : Keep) (plays : List Play) (bytes : List ℕ)
         → length plays ≤ MOST_HANDS → AllByRecursion IsSound plays
-        → first_refusal keep plays ≡ None → sum_by moves_played plays ≤ MOST_FILE_MOVES
+        → first_refusal (unspelled keep) plays ≡ None → sum_by moves_played plays ≤ MOST_FILE_MOVES
         → Spells dialect plays bytes → reading dialect bytes ≡ Ok (hands_again dialect 0 plays) }
 {}
 
@@ -37,7 +38,7 @@ pub fn law_of_reading_again()
 pub fn law_of_reading_back()
     ensures { (dialect : Dialect) (keep : Keep) (plays : List Play) (bytes : List ℕ)
         → length plays ≤ MOST_HANDS → AllByRecursion IsSound plays
-        → first_refusal keep plays ≡ None → sum_by moves_played plays ≤ MOST_FILE_MOVES
+        → first_refusal (unspelled keep) plays ≡ None → sum_by moves_played plays ≤ MOST_FILE_MOVES
         → Spells dialect plays bytes
         → (hands : List Record) → reading dialect bytes ≡ Ok (map plain hands)
         → AreAgain KeepsNotes 0 plays hands }

@@ -3,4 +3,3 @@ pub mod Counts
 pub mod Lefts
 pub mod Plain
 pub mod Sorted
-pub mod Tidied

@@ -21,6 +21,7 @@ use Rattle.ohh_line.specs.declared.action.Detail.{Detail}
 use Rattle.ohh_line.specs.declared.action.Detail.TheVariants as details
 use Rattle.ohh_line.specs.declared.action.Word.{Word}
 use Rattle.ohh_line.specs.declared.action.Word.TheVariants as words
+use Rattle.chip_ledger.specs.Seat.{big_blind_of, small_blind_of}
 
 -- what an action tells beside its word and its player: nothing, chips and whether the seat has none left, or cards
 pub data PlainDetail : Type 0 where
@@ -60,11 +61,11 @@ with_cards word seat cards = record { word = word; player = seat; detail = Cards
 
 -- the seat of the small blind: the first after the button, and of two seats the button
 abbrev pub small_blind_seat : Setup → ℕ
-small_blind_seat setup = if setup.stacks.seats == 2 then 2 else 1
+small_blind_seat setup = small_blind_of setup.stacks.seats
 
 -- the seat of the big blind: the next one
 abbrev pub big_blind_seat : Setup → ℕ
-big_blind_seat setup = if setup.stacks.seats == 2 then 1 else 2
+big_blind_seat setup = big_blind_of setup.stacks.seats
 
 -- the ante of a seat, where it posts one
 abbrev pub ante_post : Setup → ℕ → List PlainAction

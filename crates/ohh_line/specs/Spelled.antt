@@ -1,5 +1,5 @@
 -- Which facts of a play the format spells, in the order in which they are tried, and the first play with one that it does not.
-use Rattle.std.specs.Prelude.{ℕ, ◌+◌, ◌*◌, ◌-◌, ◌==◌, ◌&&◌, ◌||◌, Bool, min, nat_lt, nat_le, not, if◌then◌else◌, List, [], ◌∷◌, map, Option, Some, None, is_some, is_none}
+use Rattle.std.specs.Prelude.{ℕ, ◌*◌, ◌-◌, ◌==◌, ◌&&◌, ◌||◌, Bool, min, nat_lt, nat_le, not, if◌then◌else◌, List, [], ◌∷◌, map, Option, Some, None, is_some, is_none}
 use Rattle.std.specs.List.{list_all, list_any}
 use Rattle.chip_ledger.specs.Greatest.{greatest}
 use Rattle.chip_ledger.specs.SeatRow.{amount_of}
@@ -15,13 +15,11 @@ use Rattle.hand_records.specs.declared.writing.Keep.{Keep}
 use Rattle.hand_records.specs.declared.writing.Keep.TheVariants as keeps
 use Rattle.hand_records.specs.declared.writing.Unspelled.{Unspelled}
 use Rattle.hand_records.specs.declared.writing.Unspelled.TheVariants as facts
-use Rattle.hand_records.specs.declared.writing.WriteRefusal.{WriteRefusal}
-use Rattle.hand_records.specs.declared.writing.WriteRefusal.TheVariants as refusals
 use Rattle.ohh_line.specs.Actions.{big_blind_seat}
 use Rattle.ohh_line.specs.Games.{is_spelled_game}
 use Rattle.ohh_line.specs.Moment.{moment_of}
 use Rattle.ohh_line.specs.Seating.{numbers_spelled}
-use Rattle.hand_records.specs.Refusals.{or_behind, refused_at}
+use Rattle.hand_records.specs.Refusals.{or_behind}
 
 -- ---- the setup
 
@@ -128,12 +126,3 @@ unfoldable pub unspelled : Keep → Play → Option Unspelled
 unspelled keep play = or_behind (first_unspelled (trace_facts play.trace)) (first_unspelled (kept_facts keep play))
 
 -- ---- plays in order
-
--- the first refusal of plays, of which the first has this number
-abbrev pub refusal_from : Keep → ℕ → List Play → Option WriteRefusal
-refusal_from keep number [] = None
-refusal_from keep number (play ∷ rest) = refused_at number (unspelled keep play) (refusal_from keep (number + 1) rest)
-
--- the first refusal of plays; the first hand has the number 1
-abbrev pub first_refusal : Keep → List Play → Option WriteRefusal
-first_refusal keep plays = refusal_from keep 1 plays

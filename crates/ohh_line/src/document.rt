@@ -5,7 +5,8 @@ ghost use Rattle.hand_canon.specs.Sound.{IsSound};
 ghost use Rattle.first_fault.specs.declared.limits.TheConstants.{MOST_HANDS};
 ghost use Rattle.hand_records.specs.declared.writing.WriteRefusal.TheVariants as refusals;
 ghost use Rattle.ohh_line.specs.Lines.{IsTextOf, Spells, empty_line_before, hand_text};
-ghost use Rattle.ohh_line.specs.Spelled.{first_refusal};
+ghost use Rattle.ohh_line.specs.Spelled.{unspelled};
+ghost use Rattle.hand_records.specs.Refusals.{first_refusal};
 
 use crate::hand::hand_value;
 use crate::spelled::find_refusal;
@@ -25,9 +26,9 @@ pub fn write(
     requires few { length plays.now ≤ MOST_HANDS }
     requires sound { AllByRecursion IsSound plays.now }
     ensures written { IfOk result (λ bytes. Spells dialect plays.now bytes.items) }
-    ensures spelled { OnOk result (first_refusal keep plays.now ≡ None) }
+    ensures spelled { OnOk result (first_refusal (unspelled keep) plays.now ≡ None) }
     ensures refused { IfErr result (λ refusal. (refusal ≡ refusals.Memory)
-        ⊎ (first_refusal keep plays.now ≡ Some refusal)) }
+        ⊎ (first_refusal (unspelled keep) plays.now ≡ Some refusal)) }
 {
     if let Some(refusal) = find_refusal(plays, keep) {
         return Err(refusal);

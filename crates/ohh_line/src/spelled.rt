@@ -2,7 +2,8 @@
 ghost use Rattle.std.specs.Prelude.{◌≡◌, ◌≤◌, length};
 ghost use Rattle.std.specs.List.{list_any};
 ghost use Rattle.first_fault.specs.declared.limits.TheConstants.{MOST_HANDS};
-ghost use Rattle.ohh_line.specs.Spelled.{first_refusal, first_unspelled, has_spelled_numbers as has_numbers_said, kept_facts, note_facts, trace_facts, unspelled};
+ghost use Rattle.ohh_line.specs.Spelled.{first_unspelled, has_spelled_numbers as has_numbers_said, kept_facts, note_facts, trace_facts, unspelled};
+ghost use Rattle.hand_records.specs.Refusals.{first_refusal};
 
 use crate::games::is_spelled_game;
 use crate::moment::moment_of;
@@ -14,7 +15,7 @@ use play_event::Move;
 /// The refusal of the first play that the format does not spell. The first hand has the number 1.
 pub fn find_refusal(plays: &[Play], keep: Keep) -> Option<WriteRefusal>
     requires { length plays.now ≤ MOST_HANDS }
-    ensures { result ≡ first_refusal keep plays.now }
+    ensures { result ≡ first_refusal (unspelled keep) plays.now }
 {
     for (index, play) in plays.iter().enumerate() {
         if let Some(fact) = spells(play, keep) {

@@ -1,7 +1,8 @@
 -- What the posts of a hand are compared with, and whose the blinds are.
-use Rattle.std.specs.Prelude.{ℕ, ◌-◌, ◌==◌, if◌then◌else◌, List, length, slice_index}
+use Rattle.std.specs.Prelude.{ℕ, ◌-◌, List, length, slice_index}
 use Rattle.ohh_posts.specs.declared.table.Table.{Table}
 use Rattle.chip_ledger.specs.SeatRow.{amounts_in}
+use Rattle.chip_ledger.specs.Seat.{big_blind_of, small_blind_of}
 
 -- the starting stacks, p1's first, and both blinds as they are named
 pub record PlainTable : Type 0 where
@@ -19,11 +20,11 @@ seat_count table = length table.stacks
 
 -- the seat of the small blind: p1, or p2 of two
 abbrev pub small_blind_seat : PlainTable → ℕ
-small_blind_seat table = if seat_count table == 2 then 2 else 1
+small_blind_seat table = small_blind_of (seat_count table)
 
 -- the seat of the big blind: p2, or p1 of two
 abbrev pub big_blind_seat : PlainTable → ℕ
-big_blind_seat table = if seat_count table == 2 then 1 else 2
+big_blind_seat table = big_blind_of (seat_count table)
 
 -- the stack of a seat
 abbrev pub stack_of : PlainTable → ℕ → ℕ

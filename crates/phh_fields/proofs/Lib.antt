@@ -2,6 +2,4 @@
 pub mod Lists
 pub mod Zeros
 pub mod Games
-pub mod Calendar
-pub mod Usual
 pub mod NoRakes

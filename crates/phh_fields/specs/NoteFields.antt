@@ -1,7 +1,6 @@
 -- The notes that the fields of a hand say, examined in this order. A note that equals its default is none.
-use Rattle.std.specs.Prelude.{ℕ, ◌==◌, Bool, true, nat_le, ◌&&◌, bytes_eq, if◌then◌else◌, List, [], length, take, replicate, Option, Some, None, option_map, Result, Ok}
+use Rattle.std.specs.Prelude.{ℕ, ◌==◌, Bool, true, nat_le, ◌&&◌, if◌then◌else◌, List, [], length, take, replicate, Option, Some, None, option_map, Result, Ok}
 use Rattle.std.specs.Fmt.{decimal, signed_decimal}
-use Rattle.std.specs.List.{range_with_len}
 use Rattle.toml.specs.Data.{Data, string, integer, datetime, Members}
 use Rattle.toml_datetime.specs.declared.datetime.Date.{Date}
 use Rattle.toml_datetime.specs.declared.datetime.Offset.{Offset}
@@ -10,8 +9,8 @@ use Rattle.first_fault.specs.declared.limits.TheConstants.{MOST_TEXT_BYTES}
 use Rattle.first_fault.specs.declared.limits.Quantity.TheVariants as quantities
 use Rattle.hand_records.specs.declared.notes.Clock.{Clock}
 use Rattle.hand_records.specs.declared.notes.Notes.{Notes}
-use Rattle.hand_records.specs.AllowedNotes.{default_name, days_in_month, noted}
-use Rattle.first_fault.specs.Reading.{◌>>=◌, each_from, read_if}
+use Rattle.hand_records.specs.AllowedNotes.{days_in_month, noted, unless_usual}
+use Rattle.first_fault.specs.Reading.{◌>>=◌, each_from, read_if, or_none}
 use Rattle.phh_fields.specs.declared.fault.Key.TheVariants as keys
 use Rattle.phh_fields.specs.declared.fault.What.TheVariants as whats
 use Rattle.phh_fields.specs.declared.fault.Place.{Place}
@@ -20,6 +19,7 @@ use Rattle.phh_fields.specs.declared.date.Day.{Day}
 use Rattle.phh_fields.specs.declared.labels.Labels.{Labels}
 use Rattle.phh_fields.specs.declared.seating.Seating.{Seating}
 use Rattle.phh_fields.specs.Fields.{at_key, at_item, wrong, field, text_said, items_said, number_said}
+use Rattle.chip_ledger.specs.SeatsSaid.{default_name}
 
 -- who sits where, with plain lists
 pub record PlainSeating : Type 0 where
@@ -76,11 +76,6 @@ label_said default place (string text) = note_said default place text
 label_said default place (integer number) = note_said default place (signed_decimal number)
 label_said default place _ = wrong whats.WrongType place
 
--- a note that may lack
-abbrev pub or_none : {A : Type 0} → (Data → Result (Option A) Fault) → Option Data → Result (Option A) Fault
-or_none form None = Ok None
-or_none form (Some value) = form value
-
 -- the names of the players of so many seats
 abbrev pub names_from : List Data → Result (List (Option (List ℕ))) Fault
 names_from items = each_from (λ n value. text_note_said (default_name n) (at_item keys.Players n) value) 1 items
@@ -93,10 +88,6 @@ names_said count (Some value) = items_said count keys.Players value >>= names_fr
 -- the numbers of so many seats
 abbrev pub numbers_from : List Data → Result (List ℕ) Fault
 numbers_from items = each_from (λ n value. number_said 1 255 (at_item keys.Seats n) value) 1 items
-
--- numbers of seats, none where they are the usual ones from 1 on
-abbrev pub unless_usual : ℕ → List ℕ → Option (List ℕ)
-unless_usual count numbers = if bytes_eq numbers (range_with_len 1 count) then None else Some numbers
 
 -- the numbers that the players have at the table
 unfoldable pub seats_said : ℕ → Data → Result (Option (List ℕ)) Fault

@@ -1,8 +1,7 @@
 //! When a hand was played is read from its fields: a day of the calendar, and a time of the day.
-ghost use Rattle.std.specs.Prelude.{◌≡◌, ◌≤◌, Option, Some, None, nat_le, true, IfOk, IfSome, IsTrue, pos, ◌↔◌};
+ghost use Rattle.std.specs.Prelude.{◌≡◌, Option, Some, None, true, IfOk, IfSome};
 ghost use Rattle.toml.specs.View.{table_view, view};
-ghost use Rattle.hand_records.specs.AllowedNotes.{IsTime, IsWithin, days_in_month};
-ghost use Rattle.jiff.specs.Words.{IsDate};
+ghost use Rattle.hand_records.specs.AllowedNotes.{IsTime, IsWithin};
 ghost use Rattle.first_fault.specs.Reading.{Gives, read_if};
 ghost use Rattle.phh_fields.specs.declared.fault.Key.TheVariants as keys;
 ghost use Rattle.phh_fields.specs.Fields.{at_key, field as field_said, number_said};
@@ -11,8 +10,7 @@ ghost use Rattle.phh_fields.specs.NoteFields.{clock_of as clock_of_said, clock_s
 use crate::fault::{Fault, Key, Place, What};
 use crate::values::{field, read_number, wrong};
 use first_fault::Stop;
-use hand_records::Clock;
-use jiff::civil::Date;
+use hand_records::{Clock, has_day};
 use toml::value::{Datetime, Time};
 use toml::{Table, Value};
 
@@ -87,26 +85,6 @@ fn is_in_calendar(date: Day) -> bool
         (Some(year), Some(month), Some(day)) => has_day(year, month, day),
         _ => true,
     }
-}
-
-// Whether the calendar has the day.
-fn has_day(year: u16, month: u8, day: u8) -> bool
-    requires year { IsWithin 1 9999 year }
-    requires month { IsWithin 1 12 month }
-    requires day { IsWithin 1 31 day }
-    ensures { result ≡ nat_le day (days_in_month year month) }
-{
-    is_date(year, month, day)
-}
-
-// Whether the numbers are a date.
-fn is_date(year: u16, month: u8, day: u8) -> bool
-    requires year { year ≤ 9999 }
-    requires month { month ≤ 12 }
-    requires day { day ≤ 31 }
-    ensures { IsTrue result ↔ IsDate (pos year) (pos month) (pos day) }
-{
-    Date::new(year as i16, month as i8, day as i8).is_ok()
 }
 
 /// The time of the day, if it is said.

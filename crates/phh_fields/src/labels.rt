@@ -3,10 +3,10 @@ ghost use Rattle.std.specs.Prelude.{◌<◌, [], IfOk, IfSome};
 ghost use Rattle.std.specs.Fmt.{decimal};
 ghost use Rattle.toml.specs.View.{table_view};
 ghost use Rattle.hand_records.specs.AllowedNotes.{IsNoteText};
-ghost use Rattle.first_fault.specs.Reading.{Gives};
+ghost use Rattle.first_fault.specs.Reading.{Gives, or_none};
 ghost use Rattle.phh_fields.specs.declared.fault.Key.TheVariants as keys;
 ghost use Rattle.phh_fields.specs.Fields.{at_key, field as field_said};
-ghost use Rattle.phh_fields.specs.NoteFields.{label_said, labels_said, or_none, plain_labels, text_note_said};
+ghost use Rattle.phh_fields.specs.NoteFields.{label_said, labels_said, plain_labels, text_note_said};
 
 use crate::fault::{Fault, Key, Place};
 use crate::texts::{read_label, read_text_note};

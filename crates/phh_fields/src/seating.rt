@@ -2,11 +2,12 @@
 ghost use Rattle.std.specs.Prelude.{◌≡◌, ℕ, ◌+◌, ◌-◌, ◌≤◌, ◌<◌, None, length, map, replicate, take, slice_index, slice_index_or, bytes_eq, IfOk, IfSome, option_map};
 ghost use Rattle.std.specs.List.{range_with_len};
 ghost use Rattle.toml.specs.View.{table_view, view};
-ghost use Rattle.hand_records.specs.AllowedNotes.{AreSeatNumbers, IsName, IsSeatCount, IsWithin, default_name};
-ghost use Rattle.first_fault.specs.Reading.{Gives};
+ghost use Rattle.hand_records.specs.AllowedNotes.{AreSeatNumbers, IsName, IsSeatCount, IsWithin};
+ghost use Rattle.first_fault.specs.Reading.{Gives, or_none};
 ghost use Rattle.phh_fields.specs.declared.fault.Key.TheVariants as keys;
 ghost use Rattle.phh_fields.specs.Fields.{at_item, field as field_said};
-ghost use Rattle.phh_fields.specs.NoteFields.{names_from, names_said, numbers_from, or_none, plain_seating, seat_count_said, seating_said, seats_said, text_note_said};
+ghost use Rattle.phh_fields.specs.NoteFields.{names_from, names_said, numbers_from, plain_seating, seat_count_said, seating_said, seats_said, text_note_said};
+ghost use Rattle.chip_ledger.specs.SeatsSaid.{default_name};
 
 use crate::fault::{Fault, Key, Place};
 use crate::texts::read_text_note;

@@ -9,13 +9,14 @@ use Rattle.canonical_play.specs.declared.limits.TheConstants.{MOST_MOVES, MOST_O
 use Rattle.canonical_play.specs.PlayedScript.{is_move}
 use Rattle.first_fault.specs.declared.limits.TheConstants.{MOST_FILE_MOVES}
 use Rattle.play_event.specs.Said.{Said}
-use Rattle.phh_words.specs.Written.{CanBeSaid, event_text}
+use Rattle.phh_words.specs.Written.{event_text}
 use Rattle.phh_words.proofs.SaidAgain.{event_again}
 use Rattle.phh_fields.specs.declared.fault.Key.TheVariants as keys
 use Rattle.phh_fields.specs.Fields.{at_item, text_said}
 use Rattle.phh_reading.specs.declared.events.Counts.{Counts}
 use Rattle.phh_reading.specs.Events.{added, counted, event_said}
 use Rattle.phh_format.specs.Again.{numbered_from}
+use Rattle.play_event.specs.Ranges.{IsInRange}
 
 -- the counts after one more event, which is a move or not
 abbrev pub one_more : Counts → Bool → Counts
@@ -49,7 +50,7 @@ other_count event rest true is = count_by-cons (λ event. not (is_move event)) e
 other_count event rest false is = count_by-cons (λ event. not (is_move event)) event rest ∙ rw is refl
 
 module _ (seats : ℕ) (few : seats ≤ 10) where
-  pub events_again : (n : ℕ) (counts : Counts) (events : List Said) → AllByRecursion (CanBeSaid seats) events → HaveRoom counts events
+  pub events_again : (n : ℕ) (counts : Counts) (events : List Said) → AllByRecursion (IsInRange seats) events → HaveRoom counts events
       → thread_from (event_said seats) counts n (map string (map event_text events)) ≡ Ok (numbered_from n events, counts_with counts events)
   unfolding thread_from event_said added text_said
   events_again n counts [] each room = refl

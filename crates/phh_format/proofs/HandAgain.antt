@@ -23,7 +23,7 @@ use Rattle.phh_table.proofs.Puts.{field_at}
 use Rattle.phh_fields.proofs.Zeros.{with_zeros}
 use Rattle.phh_format.proofs.Readable.{IsReadable}
 use Rattle.phh_format.specs.Again.{hand_again, notes_again}
-use Rattle.phh_format.proofs.RowsAgain.{IsBetween, amount_count, amounts_again, each_amount, list_again, listed_again, number_data, row_again}
+use Rattle.phh_format.proofs.RowsAgain.{amount_count, amounts_again, each_amount, list_again, listed_again, number_data, row_again}
 use Rattle.phh_format.proofs.SetupAgain.{at, field_alone, setup_again}
 use Rattle.phh_format.proofs.NotesAgain.{calendar_again, name_again, said_again, table_again, text_note_again, time_again}
 use Rattle.phh_format.proofs.SeatingAgain.{names_again, seat_count_again, seats_again}
@@ -32,6 +32,7 @@ use Rattle.list_laws.proofs.Entries.{cut_zeros, each_taken}
 use Rattle.list_laws.proofs.Any.{zero_from_none_taken}
 use Rattle.chip_ledger.specs.SeatRow.{amounts_in}
 use Rattle.hand_canon.specs.ReadAgain.{kept_label}
+use Rattle.hand_records.specs.AllowedNotes.{IsWithin}
 
 all_zero : (all : List ℕ) → length all ≡ 11 → ((k : ℕ) → get_or all k 0 ≡ 0) → all ≡ replicate 11 0
 all_zero all eleven none =
@@ -68,7 +69,7 @@ module _ (place : ℕ) (play : Play) (is : IsReadable play) where
       rw (
         here keys.FinishingStacks,
         row_again seats MOST_AMOUNT keys.FinishingStacks (amounts_in play.trace.finish) (amount_count play.trace.finish ∙ is.finish)
-            (each_amount (IsBetween 0 MOST_AMOUNT) play.trace.finish (λ seat _ _. (omega arith, play.trace.finish.bounded (seat - 1)))),
+            (each_amount (IsWithin 0 MOST_AMOUNT) play.trace.finish (λ seat _ _. (omega arith, play.trace.finish.bounded (seat - 1)))),
       ) refl
 
   day_again : day_said members ≡ Ok (record { year = play.hand.notes.year; month = play.hand.notes.month; day = play.hand.notes.day })
@@ -142,7 +143,7 @@ module _ (place : ℕ) (play : Play) (is : IsReadable play) where
   none_behind : (k : ℕ) → play.trace.pots.count ≤ k → get_or setup.rakes.rakes k 0 ≡ 0
   none_behind k late = subst (λ (n : ℕ). get_or setup.rakes.rakes n 0 ≡ 0) (omega arith) (is.no_more_rakes (k + 1) (omega (arith, late)))
 
-  rake_few : (k : ℕ) → k < play.trace.pots.count → IsBetween 0 MOST_AMOUNT (get_or setup.rakes.rakes k 0)
+  rake_few : (k : ℕ) → k < play.trace.pots.count → IsWithin 0 MOST_AMOUNT (get_or setup.rakes.rakes k 0)
   rake_few k within = (omega arith, subst (λ (n : ℕ). get_or setup.rakes.rakes n 0 ≤ MOST_AMOUNT) (omega arith) (is.valid.rakes (k + 1)))
 
   rakes_by : (some : Bool) → list_any (nat_lt 0) (take play.trace.pots.count setup.rakes.rakes) ≡ some
@@ -155,7 +156,7 @@ module _ (place : ℕ) (play : Play) (is : IsReadable play) where
       rw (
         list_again (at_key keys.Rakes) taken,
         le-leb (length (number_data taken)) 11 (omega (arith, count, short)),
-        amounts_again 0 MOST_AMOUNT keys.Rakes taken (each_taken (IsBetween 0 MOST_AMOUNT) play.trace.pots.count setup.rakes.rakes (omega (arith, setup.rakes.full, play.trace.pots.most)) rake_few),
+        amounts_again 0 MOST_AMOUNT keys.Rakes taken (each_taken (IsWithin 0 MOST_AMOUNT) play.trace.pots.count setup.rakes.rakes (omega (arith, setup.rakes.full, play.trace.pots.most)) rake_few),
       )
       (ap (λ rakes. Ok rakes) (with_zeros setup.rakes.rakes play.trace.pots.count setup.rakes.full play.trace.pots.most none_behind))
   rakes_by false found = ap (λ rakes. Ok rakes) (sym (all_zero setup.rakes.rakes setup.rakes.full every))

@@ -7,13 +7,13 @@ use Rattle.std.proofs.lemmas.Bool.{and_parts, eqb-true, eq-eqb, le-leb, leb-true
 use Rattle.std.proofs.lemmas.Fmt.{decimal-digits_value}
 use Rattle.toml.specs.Data.{string, integer}
 use Rattle.first_fault.specs.Digits.{are_digits, number_of}
-use Rattle.first_fault.specs.Reading.{read_if}
+use Rattle.first_fault.specs.Reading.{read_if, or_none}
 use Rattle.first_fault.specs.declared.limits.TheConstants.{MOST_TEXT_BYTES}
 use Rattle.hand_records.specs.declared.notes.Clock.{Clock}
 use Rattle.hand_records.specs.AllowedNotes.{IsNoteText, IsTime, IsWithin, days_in_month}
 use Rattle.phh_fields.specs.declared.fault.Place.{Place}
 use Rattle.phh_fields.specs.Fields.{number_said, kept_within, text_said}
-use Rattle.phh_fields.specs.NoteFields.{clock_said, is_in_calendar, label_said, note_said, or_none, or_zero, text_note_said, time_said}
+use Rattle.phh_fields.specs.NoteFields.{clock_said, is_in_calendar, label_said, note_said, or_zero, text_note_said, time_said}
 use Rattle.phh_table.specs.HandFields.{hand_field, label, local_time, number_field, number_written}
 use Rattle.list_laws.proofs.Tests.{implied}
 use Rattle.list_laws.proofs.Digits.{all_digits, own_digits}

@@ -1,17 +1,15 @@
 -- Hands that were written under 1, 2 and so on are read in this order: it does not matter in which order they are placed.
-use Rattle.std.proofs.Common.{◌≡◌, ℕ, ◌+◌, ◌≤◌, ◌<◌, ◌^◌, ◌&&◌, true, List, [], ◌∷◌, ◌++◌, length, map, decimal, Ordering, Less, Equal, Greater, nat_cmp, is_eq, refl, sym, ap, ◌∙◌, arith, append_assoc, true≢false}
-use Rattle.std.specs.Char.{digit_value, is_digit}
-use Rattle.std.specs.List.{AllByRecursion, list_all}
+use Rattle.std.proofs.Common.{◌≡◌, ℕ, ◌+◌, ◌≤◌, ◌<◌, ◌^◌, ◌&&◌, true, List, [], ◌∷◌, ◌++◌, length, map, decimal, Ordering, Less, Equal, Greater, nat_cmp, is_eq, refl, sym, ap, ◌∙◌, arith, append_assoc}
+use Rattle.std.specs.List.{AllByRecursion}
 use Rattle.std.specs.Cmp.{IsTotalOrder, nat_cmp_is}
 use Rattle.std.specs.Ordering.{match_ordering, ordering_reverse}
 use Rattle.std.specs.Cmp.Lexicographic.{slice_cmp}
-use Rattle.std.specs.Str.Parse.{AllDigits, digits_value}
+use Rattle.std.specs.Str.Parse.{digits_value}
 use Rattle.first_fault.specs.Digits.{are_digits}
-use Rattle.std.proofs.lemmas.Bool.{and_parts, lt-ltb}
+use Rattle.std.proofs.lemmas.Bool.{and_parts}
 use Rattle.std.proofs.lemmas.Cmp.{nat_cmp_total, nat_list_cmp_total, then_total, tied_itself}
 use Rattle.std.proofs.lemmas.Map.Text.{is_eq-slice_cmp}
 use Rattle.std.proofs.lemmas.Slice.Eq.{bytes_eq-Decides}
-use Rattle.std.proofs.lemmas.Fmt.{decimal_is_IsNumeral}
 use Rattle.std.proofs.lemmas.List.{append-nil}
 use Rattle.toml.specs.Data.{Data, Members, no_members, member, table}
 use Rattle.hand_records.specs.declared.trace.Play.{Play}
@@ -20,6 +18,7 @@ use Rattle.phh_table.specs.Members.{put, table_of}
 use Rattle.phh_table.specs.Document.{hand_table, numbered_hands}
 use Rattle.list_laws.proofs.Digits.{number_said}
 use Rattle.list_laws.proofs.Orderings.{less_not_equal}
+use Rattle.first_fault.proofs.DecimalDigits.{decimal_digits}
 
 number_total : IsTotalOrder (λ (k l : List ℕ). nat_cmp (digits_value 10 k) (digits_value 10 l))
 number_total =
@@ -203,15 +202,6 @@ pub in_order_again : (plays : List Play) → length plays < 2 ^ 64 → in_order 
 in_order_again plays small =
     ap (λ (entries : List Entry). tables_among (map (λ entry. entry.1) entries)) (placed_in_order 0 plays [] tt (omega (arith, small))) ∙ tables_from 0 plays
 
--- each key of hands that were written is a number
-number_key : (n : ℕ) → n < 2 ^ 64 → are_digits (decimal n) ≡ true
-unfolding are_digits
-number_key n small = let is = decimal_is_IsNumeral n small in rw (lt-ltb 0 (length (decimal n)) is.0.0, each_digit (decimal n) is.0.1) refl
-  where
-    each_digit : (digits : List ℕ) → AllDigits 10 digits → list_all (λ sign. is_digit sign 10) digits ≡ true
-    each_digit [] each = refl
-    each_digit (digit ∷ digits) each = rw (lt-ltb (digit_value digit) 10 each.0, each_digit digits each.1) refl
-
 hands_at : (o : Ordering) (k l : List ℕ) (v w : Data) (rest more : Members) → (are_digits k && is_table v) ≡ true → slice_cmp nat_cmp k l ≡ o → are_hands (member l w rest) ≡ true → are_hands more ≡ true
     → are_hands (match_ordering o (member k v (member l w rest)) (member l v rest) (member l w more)) ≡ true
 hands_at Less k l v w rest more one is all later = rw one all
@@ -229,4 +219,4 @@ pub are_hands_again : (place : ℕ) (plays : List Play) → place + length plays
 are_hands_again place [] small = refl
 are_hands_again place (play ∷ rest) small =
     hands_put (decimal (place + 1)) (table (hand_table place play)) (table_of (numbered_hands (place + 1) rest))
-    (rw (number_key (place + 1) (omega (arith, small))) refl) (are_hands_again (place + 1) rest (omega (arith, small)))
+    (rw (decimal_digits (place + 1) (omega (arith, small))) refl) (are_hands_again (place + 1) rest (omega (arith, small)))

@@ -37,7 +37,7 @@ use Rattle.phh_reading.specs.Reading.{reading}
 use Rattle.phh_reading.proofs.SamePlay.{same_setup, same_stated}
 use Rattle.phh_table.specs.Document.{Spells}
 use Rattle.phh_table.specs.HandFields.{script_of}
-use Rattle.phh_table.specs.Spelled.{refusal_from, unspelled, first_refusal}
+use Rattle.phh_table.specs.Spelled.{unspelled}
 use Rattle.phh_format.specs.Again.{hand_again, hands_again, notes_again, numbered_from}
 use Rattle.hand_canon.specs.ReadAgain.{AreAgain, IsAgain}
 use Rattle.phh_format.specs.ReadBack.{KeepsNotes}
@@ -46,6 +46,7 @@ use Rattle.phh_format.proofs.SoundPlays.{same_script, sound_again}
 use Rattle.hand_records.specs.Moves.{moves_played}
 use Rattle.hand_records.proofs.Refusals.{none_refused}
 use Rattle.play_event.proofs.ScriptLaws.{said_numbered}
+use Rattle.hand_records.specs.Refusals.{refusal_from, first_refusal}
 
 -- a play that the format spells has no closed raise
 spelled_open : (play : Play) → unspelled play ≡ None → list_any (λ move. move.closed) (core_said play.trace).moves ≡ false
@@ -180,17 +181,17 @@ is_again place play hand sound spelled same =
           (ap (λ (read : PlainHand). read.notes) same);
     }
 
-are_again : (number place : ℕ) (plays : List Play) (hands : List Record) → AllByRecursion IsSound plays → refusal_from number plays ≡ None → map plain hands ≡ hands_again place plays → AreAgain KeepsNotes place plays hands
+are_again : (number place : ℕ) (plays : List Play) (hands : List Record) → AllByRecursion IsSound plays → refusal_from unspelled number plays ≡ None → map plain hands ≡ hands_again place plays → AreAgain KeepsNotes place plays hands
 unfolding AreAgain
 are_again number place [] [] each spelled same = tt
 are_again number place [] (hand ∷ hands) each spelled same = absurd (cc)
 are_again number place (play ∷ plays) [] each spelled same = absurd (cc)
 are_again number place (play ∷ plays) (hand ∷ hands) each spelled same =
-    let told = none_refused number (unspelled play) (refusal_from (number + 1) plays) spelled in
+    let told = none_refused number (unspelled play) (refusal_from unspelled (number + 1) plays) spelled in
     (is_again place play hand each.0 told.0 (cc), are_again (number + 1) (place + 1) plays hands each.1 told.1 (cc))
 
 -- the hands that are read of bytes that spell sound plays
-pub read_back : (plays : List Play) (bytes : List ℕ) → length plays ≤ MOST_HANDS → AllByRecursion IsSound plays → sum_by moves_played plays ≤ MOST_FILE_MOVES → first_refusal plays ≡ None → Spells plays bytes
+pub read_back : (plays : List Play) (bytes : List ℕ) → length plays ≤ MOST_HANDS → AllByRecursion IsSound plays → sum_by moves_played plays ≤ MOST_FILE_MOVES → first_refusal unspelled plays ≡ None → Spells plays bytes
     → (hands : List Record) → reading bytes ≡ Ok (map plain hands) → AreAgain KeepsNotes 0 plays hands
 read_back plays bytes few each moves spelled spells hands reads =
     let again : Ok (map plain hands) ≡ Ok (hands_again 0 plays) = sym reads ∙ sound_again plays bytes few each moves spells in

@@ -6,14 +6,14 @@ use Rattle.chip_ledger.specs.RakeRow.{rake_of}
 use Rattle.play_event.specs.ValidSetup.{IsValid}
 use Rattle.hand_records.specs.declared.trace.Play.{Play}
 use Rattle.hand_records.specs.AllowedNotes.{AreAllowed}
-use Rattle.phh_words.specs.Written.{CanBeSaid}
 use Rattle.phh_table.specs.HandFields.{script_of}
+use Rattle.play_event.specs.Ranges.{IsInRange}
 
 -- Its setup is valid, an action can say each event of its canonical script, which is within the limits, past the last pot
 -- there is no rake, and its notes are allowed.
 pub record IsReadable (play : Play) : Type 0 where
   pub valid : IsValid play.trace.setup
-  pub events : AllByRecursion (CanBeSaid play.trace.setup.stacks.seats) (script_of play.trace)
+  pub events : AllByRecursion (IsInRange play.trace.setup.stacks.seats) (script_of play.trace)
   pub within : IsWithinLimits (script_of play.trace)
   pub finish : play.trace.finish.seats ≡ play.trace.setup.stacks.seats
   pub no_more_rakes : (pot : ℕ) → play.trace.pots.count < pot → rake_of play.trace.setup.rakes pot ≡ 0

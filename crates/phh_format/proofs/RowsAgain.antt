@@ -14,6 +14,7 @@ use Rattle.phh_fields.specs.Fields.{amount_said, at_item, items_said, kept_withi
 use Rattle.phh_fields.specs.Rows.{amounts_said, row_said}
 use Rattle.phh_table.specs.HandFields.{numbers}
 use Rattle.list_laws.proofs.Entries.{each_taken}
+use Rattle.hand_records.specs.AllowedNotes.{IsWithin}
 
 -- the items of a list, in order
 pub listed_again : (all : List Data) → listed (items_of all) ≡ all
@@ -28,11 +29,7 @@ pub amount_again : (least most number : ℕ) (place : Place) → least ≤ numbe
 unfolding amount_said kept_within
 amount_again least most number place low high = rw (le-leb least number low, le-leb number most high) refl
 
--- a number lies between two others, or is one of them
-abbrev pub IsBetween : ℕ → ℕ → ℕ → Type 0
-IsBetween least most number = (least ≤ number) × (number ≤ most)
-
-amounts_from : (least most : ℕ) (key : Key) (n : ℕ) (all : List ℕ) → AllByRecursion (IsBetween least most) all
+amounts_from : (least most : ℕ) (key : Key) (n : ℕ) (all : List ℕ) → AllByRecursion (IsWithin least most) all
     → each_from (λ n value. amount_said least most (at_item key n) value) n (number_data all) ≡ Ok all
 unfolding each_from
 amounts_from least most key n [] each = refl
@@ -40,7 +37,7 @@ amounts_from least most key n (number ∷ rest) each =
     rw (amount_again least most number (at_item key n) each.0.0 each.0.1, amounts_from least most key (n + 1) rest each.1) refl
 
 -- amounts that were written
-pub amounts_again : (least most : ℕ) (key : Key) (all : List ℕ) → AllByRecursion (IsBetween least most) all → amounts_said least most key (number_data all) ≡ Ok all
+pub amounts_again : (least most : ℕ) (key : Key) (all : List ℕ) → AllByRecursion (IsWithin least most) all → amounts_said least most key (number_data all) ≡ Ok all
 amounts_again least most key all each = amounts_from least most key 1 all each
 
 pub list_again : (place : Place) (all : List ℕ) → list_said place (numbers all) ≡ Ok (number_data all)
@@ -52,7 +49,7 @@ unfolding items_said
 items_again seats key all count = rw (list_again (record { key = key; item = 0 }) all, eq-eqb (length (number_data all)) seats (length-map all (λ number. integer (pos number)) ∙ count)) refl
 
 -- a row that was written
-pub row_again : (seats most : ℕ) (key : Key) (all : List ℕ) → length all ≡ seats → AllByRecursion (IsBetween 0 most) all → row_said seats most key (numbers all) ≡ Ok all
+pub row_again : (seats most : ℕ) (key : Key) (all : List ℕ) → length all ≡ seats → AllByRecursion (IsWithin 0 most) all → row_said seats most key (numbers all) ≡ Ok all
 unfolding row_said
 row_again seats most key all count each = rw (items_again seats key all count) (amounts_again 0 most key all each)
 

@@ -7,20 +7,21 @@ use Rattle.std.proofs.lemmas.List.{get_or_past, length-map, length-take-le}
 use Rattle.std.proofs.lemmas.List.FromFn.{length-map-range_with_len}
 use Rattle.std.proofs.lemmas.Slice.Eq.{bytes_eq-Decides}
 use Rattle.toml.specs.Data.{string}
-use Rattle.first_fault.specs.Reading.{each_from}
+use Rattle.first_fault.specs.Reading.{each_from, or_none}
 use Rattle.first_fault.specs.declared.limits.TheConstants.{MOST_TEXT_BYTES}
 use Rattle.hand_records.specs.declared.notes.Notes.{Notes}
-use Rattle.hand_records.specs.AllowedNotes.{AreSeatNumbers, IsName, IsSeatCount, IsWithin, default_name, name_written}
+use Rattle.hand_records.specs.AllowedNotes.{AreSeatNumbers, IsName, IsSeatCount, IsWithin, name_written, unless_usual}
 use Rattle.phh_fields.specs.declared.fault.Key.TheVariants as keys
 use Rattle.phh_fields.specs.declared.fault.Place.{Place}
 use Rattle.phh_fields.specs.Fields.{at_item, at_key, items_said, list_said, number_said, text_said}
-use Rattle.phh_fields.specs.NoteFields.{names_said, note_said, or_none, seat_count_said, seats_said, text_note_said, unless_usual}
+use Rattle.phh_fields.specs.NoteFields.{names_said, note_said, seat_count_said, seats_said, text_note_said}
 use Rattle.phh_table.specs.HandFields.{names_field, number_field, numbers, texts}
 use Rattle.phh_format.proofs.RowsAgain.{items_again, listed_again, number_data}
 use Rattle.phh_format.proofs.NotesAgain.{note_again, number_again}
 use Rattle.list_laws.proofs.Bytes.{different_bytes}
 use Rattle.list_laws.proofs.Entries.{taken_within}
 use Rattle.list_laws.proofs.Options.{none_anyway}
+use Rattle.chip_ledger.specs.SeatsSaid.{default_name}
 
 -- the name that a seat has, if it has one
 abbrev pub name_at : Notes → ℕ → Option (List ℕ)

@@ -20,10 +20,11 @@ use Rattle.phh_fields.specs.SetupFields.{are_dead, blinds_said, plain_setup, set
 use Rattle.phh_table.specs.Document.{hand_table}
 use Rattle.phh_table.specs.HandFields.{blinds_written, hand_fields, numbers, size_field}
 use Rattle.phh_table.proofs.Puts.{field_at, get_member-table_of, or_later}
-use Rattle.phh_format.proofs.RowsAgain.{IsBetween, amount_again, amount_count, amounts_again, each_amount, items_again, list_again, number_data, row_again}
+use Rattle.phh_format.proofs.RowsAgain.{amount_again, amount_count, amounts_again, each_amount, items_again, list_again, number_data, row_again}
 use Rattle.phh_fields.proofs.Games.{own_code}
 use Rattle.list_laws.proofs.Entries.{less_taken, taken_zeros}
 use Rattle.list_laws.proofs.NumbersOfRange.{any_taken}
+use Rattle.hand_records.specs.AllowedNotes.{IsWithin}
 
 -- an ante that is no more than the stack stands as it is
 ante_again : (stack ante n : ℕ) → ante ≤ stack → ante ≤ MOST_CHIPS → ante_said stack (at_item keys.Antes n) (integer (pos ante)) ≡ Ok ante
@@ -32,7 +33,7 @@ ante_again stack ante n less few =
     let kept : min ante stack ≡ ante = omega (arith, less) in
     rw (amount_again 0 MOST_CHIPS ante (at_item keys.Antes n) (omega arith) few) (ap (λ kept. Ok kept) kept)
 
-antes_at : (stacks : List ℕ) (n : ℕ) (antes : List ℕ) → AllByRecursion (IsBetween 0 MOST_CHIPS) antes → ((k : ℕ) → get_or antes k 0 ≤ get_or stacks (n + k) 0)
+antes_at : (stacks : List ℕ) (n : ℕ) (antes : List ℕ) → AllByRecursion (IsWithin 0 MOST_CHIPS) antes → ((k : ℕ) → get_or antes k 0 ≤ get_or stacks (n + k) 0)
     → each_from (λ m value. ante_said (get_or stacks (m - 1) 0) (at_item keys.Antes m) value) (n + 1) (number_data antes) ≡ Ok antes
 unfolding each_from
 antes_at stacks n [] each less = refl
@@ -42,7 +43,7 @@ antes_at stacks n (ante ∷ rest) each less =
     let behind = antes_at stacks (n + 1) rest each.1 (λ k. subst (λ (j : ℕ). get_or rest k 0 ≤ get_or stacks j 0) (omega arith) (less (suc k))) in
     rw (ante_again (get_or stacks (n + 1 - 1) 0) ante (n + 1) first each.0.1, behind) refl
 
-antes_kept : (stacks antes : List ℕ) → length antes ≡ length stacks → AllByRecursion (IsBetween 0 MOST_CHIPS) antes → ((k : ℕ) → get_or antes k 0 ≤ get_or stacks k 0) → antes_said stacks (numbers antes) ≡ Ok antes
+antes_kept : (stacks antes : List ℕ) → length antes ≡ length stacks → AllByRecursion (IsWithin 0 MOST_CHIPS) antes → ((k : ℕ) → get_or antes k 0 ≤ get_or stacks k 0) → antes_said stacks (numbers antes) ≡ Ok antes
 unfolding antes_said
 antes_kept stacks antes same each less =
     rw (items_again (length stacks) keys.Antes antes same) (antes_at stacks 0 antes each (λ k. subst (λ (j : ℕ). get_or antes k 0 ≤ get_or stacks j 0) (omega arith) (less k)))
@@ -63,7 +64,7 @@ blinds_count (first ∷ []) = refl
 blinds_count (first ∷ second ∷ []) = refl
 blinds_count (first ∷ second ∷ third ∷ rest) = refl
 
-blinds_between : (most : ℕ) (blinds : List ℕ) → AllByRecursion (IsBetween 0 most) blinds → AllByRecursion (IsBetween 0 most) (blinds_written blinds)
+blinds_between : (most : ℕ) (blinds : List ℕ) → AllByRecursion (IsWithin 0 most) blinds → AllByRecursion (IsWithin 0 most) (blinds_written blinds)
 blinds_between most [] each = each
 blinds_between most (first ∷ []) each = each
 blinds_between most (first ∷ second ∷ []) each =
@@ -109,17 +110,17 @@ module _ (place : ℕ) (play : Play) (valid : IsValid play.trace.setup) where
       let all = amounts_in setup.stacks in
       let count : length (number_data all) ≡ setup.stacks.seats = length-map all (λ number. integer (pos number)) ∙ stacks_count in
       rw (at keys.StartingStacks, list_again (at_key keys.StartingStacks) all, le-leb 2 (length (number_data all)) (omega (arith, count, setup.stacks.least)), le-leb (length (number_data all)) (game_of setup.code).seats (omega (arith, count, valid.few_seats)))
-      (amounts_again 1 MOST_CHIPS keys.StartingStacks all (each_amount (IsBetween 1 MOST_CHIPS) setup.stacks valid.stacks))
+      (amounts_again 1 MOST_CHIPS keys.StartingStacks all (each_amount (IsWithin 1 MOST_CHIPS) setup.stacks valid.stacks))
 
   antes_count : length (amounts_in setup.antes) ≡ length (amounts_in setup.stacks)
   antes_count = amount_count setup.antes ∙ valid.same_antes ∙ sym stacks_count
 
-  ante_few : (seat : ℕ) → 1 ≤ seat → seat ≤ setup.antes.seats → IsBetween 0 MOST_CHIPS (amount_of setup.antes seat)
+  ante_few : (seat : ℕ) → 1 ≤ seat → seat ≤ setup.antes.seats → IsWithin 0 MOST_CHIPS (amount_of setup.antes seat)
   ante_few seat from within = (omega arith, omega (arith, valid.antes seat, (valid.stacks seat from (omega (arith, within, valid.same_antes))).1))
 
   antes_again : (needed keys.Antes members >>= antes_said (amounts_in setup.stacks)) ≡ Ok (amounts_in setup.antes)
   unfolding needed
-  antes_again = rw (at keys.Antes) (antes_kept (amounts_in setup.stacks) (amounts_in setup.antes) antes_count (each_amount (IsBetween 0 MOST_CHIPS) setup.antes ante_few) ante_less)
+  antes_again = rw (at keys.Antes) (antes_kept (amounts_in setup.stacks) (amounts_in setup.antes) antes_count (each_amount (IsWithin 0 MOST_CHIPS) setup.antes ante_few) ante_less)
     where
       ante_less : (k : ℕ) → get_or (amounts_in setup.antes) k 0 ≤ get_or (amounts_in setup.stacks) k 0
       ante_less k =
@@ -144,7 +145,7 @@ module _ (place : ℕ) (play : Play) (valid : IsValid play.trace.setup) where
   blinds_seats : setup.blinds.seats ≡ length (amounts_in setup.stacks)
   blinds_seats = valid.same_blinds ∙ sym stacks_count
 
-  blind_few : (seat : ℕ) → 1 ≤ seat → seat ≤ setup.blinds.seats → IsBetween 0 MOST_CHIPS (amount_of setup.blinds seat)
+  blind_few : (seat : ℕ) → 1 ≤ seat → seat ≤ setup.blinds.seats → IsWithin 0 MOST_CHIPS (amount_of setup.blinds seat)
   blind_few seat from within = (omega arith, valid.blinds seat)
 
   greater_first : length (amounts_in setup.blinds) ≡ 2 → get_or (amounts_in setup.blinds) 1 0 ≤ get_or (amounts_in setup.blinds) 0 0
@@ -162,7 +163,7 @@ module _ (place : ℕ) (play : Play) (valid : IsValid play.trace.setup) where
   blinds_by false is =
       let all = amounts_in setup.blinds in
       let written = row_again (length (amounts_in setup.stacks)) MOST_CHIPS keys.BlindsOrStraddles (blinds_written all) (blinds_count all ∙ amount_count setup.blinds ∙ blinds_seats)
-      (blinds_between MOST_CHIPS all (each_amount (IsBetween 0 MOST_CHIPS) setup.blinds blind_few)) in
+      (blinds_between MOST_CHIPS all (each_amount (IsWithin 0 MOST_CHIPS) setup.blinds blind_few)) in
       rw (is, at keys.BlindsOrStraddles, is, written) (ap (λ blinds. Ok blinds) (posted_again all greater_first))
 
   blinds_again : blinds_said setup.code (length (amounts_in setup.stacks)) members ≡ Ok (amounts_in setup.blinds)

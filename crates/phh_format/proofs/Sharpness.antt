@@ -18,7 +18,6 @@ use Rattle.first_fault.specs.Reading.{◌>>=◌, read_if, thread_from}
 use Rattle.play_event.specs.HistoryRules.{history_rules}
 use Rattle.play_event.specs.Played.{move_said}
 use Rattle.hand_records.specs.SoundRecord.{script_said}
-use Rattle.hand_records.specs.TraceRows.{core_said}
 use Rattle.hand_records.specs.declared.record.Record.{Record}
 use Rattle.hand_records.specs.declared.trace.Play.{Play}
 use Rattle.hand_records.specs.declared.writing.Unspelled.{Unspelled}
@@ -35,11 +34,7 @@ use Rattle.first_fault.specs.declared.limits.Quantity.TheVariants as quantities
 use Rattle.first_fault.specs.declared.limits.TheConstants.{MOST_HANDS}
 use Rattle.phh_table.specs.Spelled.{unspelled}
 use Rattle.hand_canon.specs.Sharp.{IsOther}
-
--- what holds of what follows holds of the whole
-bound : {A B F : Type 0} (P : B → Type 0) (first : Result A F) (next : A → Result B F) → ((a : A) → IfOk (next a) P) → IfOk (first >>= next) P
-bound P (Ok a) next each = each a
-bound P (Err fault) next each = tt
+use Rattle.first_fault.proofs.Thread.{bound}
 
 -- a hand under the rules of hand histories
 abbrev IsRuled : PlainHand → Type 0

@@ -1,23 +1,18 @@
 -- Sound plays have all that a reader needs, so what was written of them reads back.
-use Rattle.std.proofs.Common.{◌≡◌, ℕ, zero, suc, ◌-◌, ◌≤◌, ◌<◌, List, [], ◌∷◌, length, count_by, sum_by, slice_get, Some, None, Ok, refl, sym, ap, subst, ◌∙◌, arith}
+use Rattle.std.proofs.Common.{◌≡◌, ℕ, ◌-◌, ◌≤◌, ◌<◌, List, [], ◌∷◌, length, count_by, sum_by, Ok, refl, sym, ap, subst, ◌∙◌, arith}
 use Rattle.std.specs.List.{AllByRecursion}
-use Rattle.std.specs.Option.{option_map_or}
 use Rattle.std.proofs.lemmas.List.{length-map, length-take-le}
 use Rattle.std.proofs.lemmas.List.Sums.{sum_by-cons}
-use Rattle.chip_ledger.specs.Pots.{PlainPot}
 use Rattle.chip_ledger.specs.PotRow.{plain, plain_pots, pots_in}
 use Rattle.chip_ledger.specs.RakeRow.{rake_of}
 use Rattle.chip_ledger.specs.Rakes.{chips_in}
 use Rattle.chip_ledger.specs.declared.pots.PotRow.{PotRow}
-use Rattle.play_event.specs.Said as said
 use Rattle.play_event.specs.Said.{Said}
 use Rattle.play_event.specs.Scripts.{past_at_end}
 use Rattle.play_event.specs.ValidSetup.{IsValid}
-use Rattle.play_event.specs.declared.event.Spelled.TheVariants as spelled
 use Rattle.play_event.specs.declared.setup.Setup.{Setup}
 use Rattle.canonical_play.specs.CanonScript.{canon_of, canonical_script}
 use Rattle.canonical_play.specs.PlayedScript.{IsWithinLimits, is_move}
-use Rattle.canon_ranges.specs.Ranges.{IsInRange}
 use Rattle.canon_ranges.proofs.EventRanges.{events_in_range}
 use Rattle.canon_ranges.proofs.SameMoves.{canon_within, same_moves}
 use Rattle.hand_records.specs.AllowedNotes.{AreAllowed}
@@ -30,45 +25,16 @@ use Rattle.trace_laws.proofs.ShareBounds.{shares_and_rakes}
 use Rattle.phh_reading.specs.Reading.{reading}
 use Rattle.phh_table.specs.Document.{Spells}
 use Rattle.phh_table.specs.HandFields.{script_of}
-use Rattle.phh_words.specs.Written.{CanBeSaid}
 use Rattle.phh_format.specs.Again.{hands_again}
 use Rattle.phh_format.proofs.FileAgain.{plays_again}
 use Rattle.phh_format.proofs.Readable.{IsReadable, moves_written}
 use Rattle.hand_records.specs.Moves.{moves_played}
-
--- an action can say what lies in its range
-can_be_said : (seats : ℕ) (event : Said) → IsInRange seats event → CanBeSaid seats event
-can_be_said seats (said.Hole seat slots) is = is
-can_be_said seats (said.Board cards) is = is
-can_be_said seats (said.Fold (Some seat)) is = is
-can_be_said seats (said.Fold None) is = is
-can_be_said seats (said.Call (Some seat) None) is = is
-can_be_said seats (said.Call (Some seat) (Some stated)) is = is
-can_be_said seats (said.Call None stated) is = absurd is
-can_be_said seats (said.Raise (Some seat) (spelled.To target)) is = is
-can_be_said seats (said.Raise (Some seat) (spelled.Added chips)) is = is
-can_be_said seats (said.Raise (Some seat) (spelled.HandTotal chips)) is = is
-can_be_said seats (said.Raise (Some seat) spelled.Unit) is = is
-can_be_said seats (said.Raise None amount) is = absurd is
-can_be_said seats (said.BringIn (Some seat)) is = is
-can_be_said seats (said.BringIn None) is = is
-can_be_said seats (said.Discard seat slots) is = is
-can_be_said seats (said.Show seat cards) is = is
-can_be_said seats (said.Muck seat) is = is
-
-all_said : (seats : ℕ) (events : List Said) → AllByRecursion (IsInRange seats) events → AllByRecursion (CanBeSaid seats) events
-all_said seats [] each = tt
-all_said seats (event ∷ rest) each = (can_be_said seats event each.0, all_said seats rest each.1)
-
--- past the last pot there are no chips
-past_end : (pots : List PlainPot) (index : ℕ) → length pots ≤ index → option_map_or (λ pot. pot.chips) (slice_get pots index) 0 ≡ 0
-past_end [] index late = refl
-past_end (pot ∷ rest) zero late = absurd (omega (arith, late))
-past_end (pot ∷ rest) (suc index) late = past_end rest index (omega (arith, late))
+use Rattle.play_event.specs.Ranges.{IsInRange}
+use Rattle.chip_ledger.proofs.PlainPots.{no_chips_past}
 
 none_past : (row : PotRow) (pot : ℕ) → row.count < pot → chips_in (plain_pots row) pot ≡ 0
 none_past row pot late =
-    past_end (plain_pots row) (pot - 1) (omega (
+    no_chips_past (plain_pots row) (pot - 1) (omega (
       arith,
       late,
       row.most,
@@ -98,11 +64,11 @@ module _ (play : Play) (sound : IsSound play) where
   same_count =
       ap (count_by is_move) (sym same_script) ∙ same_moves setup play.hand.rules script sound.legal.played
 
-  events : AllByRecursion (CanBeSaid play.trace.setup.stacks.seats) (script_of play.trace)
+  events : AllByRecursion (IsInRange play.trace.setup.stacks.seats) (script_of play.trace)
   events =
-      subst (λ (of : Setup). AllByRecursion (CanBeSaid of.stacks.seats) (script_of play.trace)) same_setup
-      (subst (AllByRecursion (CanBeSaid setup.stacks.seats)) same_script
-      (all_said setup.stacks.seats (canon_of setup script) (events_in_range setup play.hand.rules script sound.valid sound.legal.played)))
+      subst (λ (of : Setup). AllByRecursion (IsInRange of.stacks.seats) (script_of play.trace)) same_setup
+      (subst (AllByRecursion (IsInRange setup.stacks.seats)) same_script
+      (events_in_range setup play.hand.rules script sound.valid sound.legal.played))
 
   no_more_rakes : (pot : ℕ) → play.trace.pots.count < pot → rake_of play.trace.setup.rakes pot ≡ 0
   no_more_rakes pot late =

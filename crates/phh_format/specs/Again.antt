@@ -6,13 +6,14 @@ use Rattle.play_event.specs.HistoryRules.{history_rules}
 use Rattle.play_event.specs.Said.{Numbered, Said}
 use Rattle.hand_records.specs.declared.notes.Notes.{Notes}
 use Rattle.hand_records.specs.declared.trace.Play.{Play}
-use Rattle.phh_fields.specs.NoteFields.{PlainNotes, unless_usual}
+use Rattle.phh_fields.specs.NoteFields.{PlainNotes}
 use Rattle.phh_fields.specs.SetupFields.{plain_setup}
 use Rattle.phh_reading.specs.Hand.{PlainHand, finish_stated}
 use Rattle.phh_table.specs.HandFields.{script_of}
 use Rattle.chip_ledger.specs.SeatRow.{amounts_in}
 use Rattle.first_fault.specs.Numbers.{kept_number}
 use Rattle.hand_canon.specs.ReadAgain.{kept_label}
+use Rattle.hand_records.specs.AllowedNotes.{unless_usual}
 
 -- the kept notes of so many seats, at a place of the file
 abbrev pub notes_again : ℕ → ℕ → Notes → PlainNotes

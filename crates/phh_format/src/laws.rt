@@ -9,12 +9,13 @@ ghost use Rattle.hand_canon.specs.Sound.{IsSound};
 ghost use Rattle.phh_reading.specs.Hand.{plain};
 ghost use Rattle.phh_reading.specs.Reading.{reading};
 ghost use Rattle.phh_table.specs.Document.{Spells};
-ghost use Rattle.phh_table.specs.Spelled.{first_refusal, unspelled};
+ghost use Rattle.phh_table.specs.Spelled.{unspelled};
 ghost use Rattle.phh_format.specs.Again.{hands_again};
 ghost use Rattle.hand_records.specs.Moves.{moves_played};
 ghost use Rattle.hand_canon.specs.ReadAgain.{AreAgain};
 ghost use Rattle.phh_format.specs.ReadBack.{KeepsNotes};
 ghost use Rattle.hand_canon.specs.Sharp.{IsOther};
+ghost use Rattle.hand_records.specs.Refusals.{first_refusal};
 
 /// Bytes that spell sound plays, no more of them and of their moves than a file may have, read as the hands of these plays:
 /// with their setups, rakes and finishing stacks, their canonical scripts, and their kept notes. The function does nothing:
@@ -33,7 +34,7 @@ pub fn law_of_reading_back()
     ensures { (plays : List Play) (bytes : List ℕ)
         → length plays ≤ MOST_HANDS → AllByRecursion IsSound plays
         → sum_by moves_played plays ≤ MOST_FILE_MOVES
-        → first_refusal plays ≡ None → Spells plays bytes
+        → first_refusal unspelled plays ≡ None → Spells plays bytes
         → (hands : List Record) → reading bytes ≡ Ok (map plain hands)
         → AreAgain KeepsNotes 0 plays hands }
 {}

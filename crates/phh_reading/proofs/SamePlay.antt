@@ -1,15 +1,12 @@
 -- Records that say the same plain hand say the same play.
-use Rattle.std.proofs.Common.{◌≡◌, ℕ, ◌-◌, ◌<◌, [], get_or, slice_index_or, Option, None, sym, ap, ap₂, ◌∙◌, arith}
+use Rattle.std.proofs.Common.{◌≡◌, ℕ, ◌-◌, ◌<◌, get_or, slice_index_or, Option, None, sym, ap, ap₂, ◌∙◌, arith}
 use Rattle.std.proofs.lemmas.List.{get_or-take}
 use Rattle.card_set.proofs.RowLaws.{cards_same, slots_same}
 use Rattle.chip_ledger.specs.declared.numbers.Seat.{Seat}
-use Rattle.chip_ledger.specs.declared.rows.SeatRow.{SeatRow}
 use Rattle.chip_ledger.proofs.Same.{seat_same}
 use Rattle.hand_canon.proofs.SameSetups.{amounts_same, rakes_same, setups_same}
 use Rattle.list_laws.proofs.Options.{options_same}
-use Rattle.hand_records.specs.declared.record.NetRow.{NetRow}
 use Rattle.hand_records.specs.declared.record.Record.{Record}
-use Rattle.hand_records.specs.declared.record.Stated.{Stated}
 use Rattle.play_event.specs.declared.event.Event.{Event}
 use Rattle.play_event.specs.declared.event.Kind.{Kind}
 use Rattle.play_event.specs.declared.event.Kind.TheVariants as kinds
@@ -18,6 +15,7 @@ use Rattle.play_event.specs.Said.{Numbered, kind_said, numbered, seat_named}
 use Rattle.phh_reading.specs.Hand.{PlainHand, plain}
 use Rattle.list_laws.proofs.Lists.{lists_same}
 use Rattle.chip_ledger.specs.SeatRow.{amounts_in}
+use Rattle.hand_records.specs.StatedFacts.{stated_from}
 
 actor_same : (a b : Option Seat) → seat_named a ≡ seat_named b → a ≡ b
 actor_same a b same = options_same (λ (seat : Seat). seat.number) seat_same a b same
@@ -61,9 +59,6 @@ same_rules a b same = ap (λ (hand : PlainHand). hand.rules) same
 
 pub same_script : (a b : Record) → plain a ≡ plain b → a.script ≡ b.script
 same_script a b same = lists_same numbered event_same a.script b.script (ap (λ (hand : PlainHand). hand.script) same)
-
-stated_from : Option SeatRow → Option SeatRow → Option ℕ → Option NetRow → Stated
-stated_from finish wins pot_total values = record { finish = finish; wins = wins; pot_total = pot_total; values = values }
 
 pub same_stated : (a b : Record) → plain a ≡ plain b → a.stated ≡ b.stated
 unfolding stated_from

@@ -3,4 +3,3 @@ pub mod CanonWords
 pub mod Puts
 pub mod Shape
 pub mod Spelt
-pub mod Tidied

@@ -7,7 +7,8 @@ ghost use Rattle.first_fault.specs.declared.limits.TheConstants.{MOST_HANDS};
 ghost use Rattle.hand_records.specs.declared.writing.WriteRefusal.TheVariants as refusals;
 ghost use Rattle.phh_table.specs.Members.{table_of};
 ghost use Rattle.phh_table.specs.Document.{Spells, document, hand_table, numbered_hands};
-ghost use Rattle.phh_table.specs.Spelled.{first_refusal};
+ghost use Rattle.phh_table.specs.Spelled.{unspelled};
+ghost use Rattle.hand_records.specs.Refusals.{first_refusal};
 
 use crate::members::put;
 use crate::notes::put_notes;
@@ -28,9 +29,9 @@ pub fn write(alloc: Global, plays: &[Play], keep: Keep) -> Result<Vec<u8>, Write
     requires sound { AllByRecursion IsSound plays.now }
     ensures written { IfOk result (λ bytes. Spells plays.now bytes.items) }
     ensures nothing { plays.now ≡ [] → IfOk result (λ bytes. bytes.items ≡ []) }
-    ensures spelled { OnOk result (first_refusal plays.now ≡ None) }
+    ensures spelled { OnOk result (first_refusal unspelled plays.now ≡ None) }
     ensures refused { IfErr result (λ refusal. (refusal ≡ refusals.Memory)
-        ⊎ (first_refusal plays.now ≡ Some refusal)) }
+        ⊎ (first_refusal unspelled plays.now ≡ Some refusal)) }
 {
     if let Some(refusal) = find_refusal(plays, keep) {
         return Err(refusal);

@@ -2,7 +2,8 @@
 ghost use Rattle.std.specs.Prelude.{◌≡◌, ◌≤◌, length};
 ghost use Rattle.std.specs.List.{list_any};
 ghost use Rattle.first_fault.specs.declared.limits.TheConstants.{MOST_HANDS};
-ghost use Rattle.phh_table.specs.Spelled.{first_refusal, unspelled};
+ghost use Rattle.phh_table.specs.Spelled.{unspelled};
+ghost use Rattle.hand_records.specs.Refusals.{first_refusal};
 
 use hand_records::{Keep, Play, Unspelled, WriteRefusal};
 use play_event::Move;
@@ -10,7 +11,7 @@ use play_event::Move;
 /// The refusal of the first play that the format does not spell. The first hand has the number 1.
 pub fn find_refusal(plays: &[Play], keep: Keep) -> Option<WriteRefusal>
     requires { length plays.now ≤ MOST_HANDS }
-    ensures { result ≡ first_refusal plays.now }
+    ensures { result ≡ first_refusal unspelled plays.now }
 {
     for (index, play) in plays.iter().enumerate() {
         if let Some(fact) = spells(play, keep) {

@@ -1,5 +1,4 @@
 pub mod CardLaws
 pub mod PartsAgain
 pub mod SaidAgain
-pub mod SeatLaws
 pub mod WordsAgain

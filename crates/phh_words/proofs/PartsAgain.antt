@@ -19,11 +19,11 @@ use Rattle.card_set.specs.Spelling.{rank_letter, spelling, suit_letter}
 use Rattle.chip_ledger.specs.declared.numbers.TheConstants.{MOST_CHIPS}
 use Rattle.first_fault.specs.Digits.{are_digits, number_of}
 use Rattle.phh_words.specs.Action.{amount_said, cards_said, seat_named, seat_said, slots_said}
-use Rattle.phh_words.specs.Words.{seat_name}
 use Rattle.phh_words.proofs.CardLaws.{slots_read}
 use Rattle.phh_words.proofs.WordsAgain.{IsWord, is_plain}
 use Rattle.card_set.proofs.KnownCards.{all_known}
 use Rattle.list_laws.proofs.Digits.{of_digits}
+use Rattle.chip_ledger.specs.SeatsSaid.{default_name}
 
 -- digits are bytes of a word
 digit_plain : (sign : ℕ) → digit_value sign < 10 → is_plain sign ≡ true
@@ -40,7 +40,7 @@ decimal_word number small =
     record { some = is.0.0; plain = digits_plain (decimal number) is.0.1 }
 
 -- the name of a seat is a word
-pub name_word : (seat : ℕ) → seat ≤ 10 → IsWord (seat_name seat)
+pub name_word : (seat : ℕ) → seat ≤ 10 → IsWord (default_name seat)
 name_word seat few =
     record { some = omega arith; plain = digits_plain (decimal seat) (decimal_is_IsNumeral seat (omega (arith, few))).0.1 }
 
@@ -93,22 +93,22 @@ first_found test first (suc count) n from within before passes =
     ]
 
 -- the name of a seat is that of no other seat
-names_differ : (seat other : ℕ) → seat ≤ 10 → other < seat → bytes_eq (seat_name seat) (seat_name other) ≡ false
+names_differ : (seat other : ℕ) → seat ≤ 10 → other < seat → bytes_eq (default_name seat) (default_name other) ≡ false
 names_differ seat other few below =
-    elim (cases_Bool (bytes_eq (seat_name seat) (seat_name other))) [
+    elim (cases_Bool (bytes_eq (default_name seat) (default_name other))) [
       | inl same ↦
-          let names : seat_name seat ≡ seat_name other = (bytes_eq-Decides (seat_name seat) (seat_name other)).0 same in
+          let names : default_name seat ≡ default_name other = (bytes_eq-Decides (default_name seat) (default_name other)).0 same in
           let numbers : decimal seat ≡ decimal other = ap (λ (name : List ℕ). drop 1 name) names in
           absurd (omega (arith, below, decimal_injective seat other (omega (arith, few)) (omega (arith, few, below)) numbers))
       | inr differ ↦ differ
     ]
 
 -- the name of a seat names that seat
-pub seat_again : (seats seat : ℕ) → seats ≤ 10 → 1 ≤ seat → seat ≤ seats → seat_said seats (seat_name seat) ≡ Ok seat
+pub seat_again : (seats seat : ℕ) → seats ≤ 10 → 1 ≤ seat → seat ≤ seats → seat_said seats (default_name seat) ≡ Ok seat
 unfolding seat_said seat_named
 seat_again seats seat few from within =
-    let found = first_found (λ other. bytes_eq (seat_name seat) (seat_name other)) 1 seats seat from (omega (arith, within))
-    (λ other _ below. names_differ seat other (omega (arith, few, within)) below) ((bytes_eq-Decides (seat_name seat) (seat_name seat)).1 refl) in
+    let found = first_found (λ other. bytes_eq (default_name seat) (default_name other)) 1 seats seat from (omega (arith, within))
+    (λ other _ below. names_differ seat other (omega (arith, few, within)) below) ((bytes_eq-Decides (default_name seat) (default_name seat)).1 refl) in
     rw found refl
 
 -- an amount that is written says that amount

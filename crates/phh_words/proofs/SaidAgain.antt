@@ -5,11 +5,12 @@ use Rattle.play_event.specs.declared.event.Spelled.TheVariants as spelled
 use Rattle.play_event.specs.Said as said
 use Rattle.play_event.specs.Said.{Said}
 use Rattle.phh_words.specs.Action.{action_said, act_said, act_with_said, four_say, three_say, two_say, words_say}
-use Rattle.phh_words.specs.Words.{seat_name}
-use Rattle.phh_words.specs.Written.{CanBeSaid, event_text, event_words}
+use Rattle.phh_words.specs.Written.{event_text, event_words}
 use Rattle.phh_words.proofs.WordsAgain.{IsWord, words_again}
 use Rattle.phh_words.proofs.PartsAgain.{amount_again, cards_again, cards_word, decimal_word, name_word, seat_again, slots_again, slots_word}
 use Rattle.chip_ledger.specs.Seat.{IsSeatOf}
+use Rattle.play_event.specs.Ranges.{IsInRange}
+use Rattle.chip_ledger.specs.SeatsSaid.{default_name}
 
 -- the words that each event of a form has
 dealer_word : IsWord (codes "d")
@@ -39,11 +40,11 @@ discard_word = record { some = omega arith; plain = refl }
 show_word : IsWord (codes "sm")
 show_word = record { some = omega arith; plain = refl }
 
-seat_word : (seats seat : ℕ) → seats ≤ 10 → IsSeatOf seats seat → IsWord (seat_name seat)
+seat_word : (seats seat : ℕ) → seats ≤ 10 → IsSeatOf seats seat → IsWord (default_name seat)
 seat_word seats seat few is = name_word seat (omega (arith, few, is.1))
 
 -- each word of an event is a word
-are_words : (seats : ℕ) (event : Said) → seats ≤ 10 → CanBeSaid seats event → AllByRecursion IsWord (event_words event)
+are_words : (seats : ℕ) (event : Said) → seats ≤ 10 → IsInRange seats event → AllByRecursion IsWord (event_words event)
 are_words seats (said.Hole seat slots) few can = (dealer_word, (hole_word, (seat_word seats seat few can.0, (slots_word slots can.1, tt))))
 are_words seats (said.Board cards) few can = (dealer_word, (board_word, (cards_word cards can.0, tt)))
 are_words seats (said.Fold (Some seat)) few can = (seat_word seats seat few can, (fold_word, tt))
@@ -64,7 +65,7 @@ are_words seats (said.Raise (Some seat) spelled.Unit) few can = absurd can
 are_words seats (said.BringIn None) few can = absurd can
 
 -- the words of an event say that event
-words_back : (seats : ℕ) (event : Said) → seats ≤ 10 → CanBeSaid seats event → words_say seats (event_words event) ≡ Ok (Some event)
+words_back : (seats : ℕ) (event : Said) → seats ≤ 10 → IsInRange seats event → words_say seats (event_words event) ≡ Ok (Some event)
 unfolding words_say two_say three_say four_say act_said act_with_said
 words_back seats (said.Hole seat slots) few can = rw (seat_again seats seat few can.0.0 can.0.1, slots_again 7 slots can.1 can.2) refl
 words_back seats (said.Board cards) few can = rw (cards_again 5 cards can.0 can.1) refl
@@ -86,6 +87,6 @@ words_back seats (said.Raise (Some seat) spelled.Unit) few can = absurd can
 words_back seats (said.BringIn None) few can = absurd can
 
 -- the text of an event says that event
-pub event_again : (seats : ℕ) (event : Said) → seats ≤ 10 → CanBeSaid seats event → action_said seats (event_text event) ≡ Ok (Some event)
+pub event_again : (seats : ℕ) (event : Said) → seats ≤ 10 → IsInRange seats event → action_said seats (event_text event) ≡ Ok (Some event)
 unfolding event_text
 event_again seats event few can = ap (words_say seats) (words_again (event_words event) (are_words seats event few can)) ∙ words_back seats event few can

@@ -14,8 +14,9 @@ use Rattle.play_event.specs.Said as said
 use Rattle.play_event.specs.Said.{Said}
 use Rattle.phh_words.specs.declared.fault.ActionFault.{ActionFault}
 use Rattle.phh_words.specs.declared.fault.ActionFault.TheVariants as faults
-use Rattle.phh_words.specs.Words.{before_commentary, seat_name}
+use Rattle.phh_words.specs.Words.{before_commentary}
 use Rattle.first_fault.specs.Words.{words_of}
+use Rattle.chip_ledger.specs.SeatsSaid.{default_name}
 
 -- a value that is read, or what is wrong
 abbrev pub Read : Type 0 → Type 0
@@ -33,7 +34,7 @@ or_fault fault None = Err fault
 
 -- the seat with this name, in a hand with so many seats
 unfoldable pub seat_named : ℕ → List ℕ → Option ℕ
-seat_named seats word = find (λ seat. bytes_eq word (seat_name seat)) (seats_of seats)
+seat_named seats word = find (λ seat. bytes_eq word (default_name seat)) (seats_of seats)
 
 -- the seat that a word names
 unfoldable pub seat_said : ℕ → List ℕ → Read ℕ

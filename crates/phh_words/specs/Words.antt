@@ -1,5 +1,5 @@
 -- A text and its words: what stands behind the first # is commentary, and spaces divide what stands before it.
-use Rattle.std.specs.Prelude.{ℕ, ◌==◌, List, ◌++◌, codes, decimal, take}
+use Rattle.std.specs.Prelude.{ℕ, ◌==◌, List, take}
 use Rattle.std.specs.List.{position_or_len}
 
 -- the sign with which a commentary begins: #
@@ -9,7 +9,3 @@ commentary_sign = 35
 -- the text before its commentary
 abbrev pub before_commentary : List ℕ → List ℕ
 before_commentary text = take (position_or_len (λ sign. sign == commentary_sign) text) text
-
--- the name of a seat: p and its number
-abbrev pub seat_name : ℕ → List ℕ
-seat_name seat = codes "p" ++ decimal seat

@@ -4,7 +4,7 @@ ghost use Rattle.std.specs.List.{list_any};
 ghost use Rattle.card_set.specs.Known.{is_unknown, known_cards};
 ghost use Rattle.card_set.specs.Row.{cards_of, slots_of};
 ghost use Rattle.phh_words.specs.Action.{amount_said, cards_said, has_fraction, one_to, seat_named, seat_said, seen_by, slots_said};
-ghost use Rattle.phh_words.specs.Words.{seat_name};
+ghost use Rattle.chip_ledger.specs.SeatsSaid.{default_name};
 
 use crate::fault::ActionFault;
 use crate::words::{is_word, place_of};
@@ -42,7 +42,7 @@ fn find_seat(seats: u8, name: &[u8]) -> Option<Seat>
 fn names_seat(name: &[u8], seat: u8) -> bool
     requires first { 1 ≤ seat }
     requires last { seat ≤ 10 }
-    ensures { result ≡ bytes_eq name.now (seat_name seat) }
+    ensures { result ≡ bytes_eq name.now (default_name seat) }
 {
     if seat < 10 {
         name == [b'p', b'0' + seat].as_slice()

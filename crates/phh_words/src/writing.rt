@@ -4,8 +4,9 @@ ghost use Rattle.card_set.specs.Known.{known_slots};
 ghost use Rattle.card_set.specs.Spelling.{slot_spelling, spelling};
 ghost use Rattle.play_event.specs.Said.{Board, Discard, Hole, Raise, Said, Show, kind_said};
 ghost use Rattle.phh_words.specs.Action.{action_said};
-ghost use Rattle.phh_words.specs.Words.{seat_name};
-ghost use Rattle.phh_words.specs.Written.{CanBeSaid, event_text as text_said, has_words};
+ghost use Rattle.phh_words.specs.Written.{event_text as text_said, has_words};
+ghost use Rattle.play_event.specs.Ranges.{IsInRange};
+ghost use Rattle.chip_ledger.specs.SeatsSaid.{default_name};
 
 use card_set::{Card, Memory, Slot, slot_text};
 use chip_ledger::Seat;
@@ -97,7 +98,7 @@ fn show_text(alloc: Global, seat: Seat, cards: &[Card]) -> Result<String, Memory
 
 // What a seat does, in one word.
 fn act_text(alloc: Global, seat: Seat, act: &str) -> Result<String, Memory>
-    ensures { IfOk result (λ text. string_bytes text ≡ seat_name seat.number ++ 32 ∷ act.now) }
+    ensures { IfOk result (λ text. string_bytes text ≡ default_name seat.number ++ 32 ∷ act.now) }
 {
     let number = seat.number();
     Ok(format!(in alloc; "p{number} {act}")?)
@@ -138,6 +139,6 @@ fn letters_of(slot: Slot) -> [u8; 2]
 /// contract is a law.
 #[tactic(auto, using(crate::proofs::SaidAgain::event_again))]
 pub fn law_of_words()
-    ensures { (seats : ℕ) (event : Said) → seats ≤ 10 → CanBeSaid seats event
+    ensures { (seats : ℕ) (event : Said) → seats ≤ 10 → IsInRange seats event
         → action_said seats (text_said event) ≡ Ok (Some event) }
 {}

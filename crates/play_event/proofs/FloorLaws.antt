@@ -281,7 +281,7 @@ blinds_by openers.Blinds is = refl
 blinds_by openers.LowUp is = false_true (sym is)
 blinds_by openers.HighUp is = false_true (sym is)
 
-opener_from_one : (setup : Setup) (street : ℕ) → 1 ≤ blinds_opener setup street
+pub opener_from_one : (setup : Setup) (street : ℕ) → 1 ≤ blinds_opener setup street
 opener_from_one setup street = by_street (street == 1) (setup.stacks.seats == 2)
   where
     after_from_one : (last : Bool) (seat : ℕ) → 1 ≤ (if last then 1 else seat + 1)
@@ -416,8 +416,8 @@ target_above limits.Pot reopens setup moves street seat target bounded low some 
   | inr all ↦ omega (arith, chips, eqb-true target (all_in setup moves street seat) (and_parts (target == all_in setup moves street seat) (nat_le target (pot_ceiling setup moves street seat)) all).0)
 ]
 
-is_legal_by : (reopens : Reopen) (setup : Setup) (moves : List Move) (street seat target : ℕ) → nat_lt target (greatest_target setup moves street seat) ≡ false → nat_lt (greatest_target setup moves street seat) target ≡ false → is_legal_target reopens setup moves street seat target ≡ true
-is_legal_by reopens setup moves street seat target small big =
+pub fits_target : (reopens : Reopen) (setup : Setup) (moves : List Move) (street seat target : ℕ) → nat_lt target (greatest_target setup moves street seat) ≡ false → nat_lt (greatest_target setup moves street seat) target ≡ false → is_legal_target reopens setup moves street seat target ≡ true
+fits_target reopens setup moves street seat target small big =
     let low = ltb-false target (greatest_target setup moves street seat) small in
     let high = ltb-false (greatest_target setup moves street seat) target big in
     let same : target ≡ greatest_target setup moves street seat = omega (arith, low, high) in
@@ -440,7 +440,7 @@ module _ (setup : Setup) (rules : Rules) (blinds : is_stud setup.code ≡ false)
       let due_move = move_is_due setup before blinds bet in
       let may = not-false (may_raise setup rules moves street seat) reasons.1.1.1.1.1.1.1.1.0 in
       let chips = ltb-true (price setup moves street) (all_in setup moves street seat) (and_parts (has_able_opponent setup moves seat) (nat_lt (price setup moves street) (all_in setup moves street seat)) (and_parts (has_able_opponent setup moves seat && nat_lt (price setup moves street) (all_in setup moves street seat)) (is_within_cap rules.caps moves street) (and_parts (has_able_opponent setup moves seat && nat_lt (price setup moves street) (all_in setup moves street seat) && is_within_cap rules.caps moves street) (is_reopened rules.reopen setup moves street seat) may).0).0).1 in
-      let target_legal = holds_by_both (is_legal_target rules.reopen setup moves street seat target) (nat_lt target (greatest_target setup moves street seat)) (nat_lt (greatest_target setup moves street seat) target) reasons.1.1.1.1.1.1.1.1.1.0 (is_legal_by rules.reopen setup moves street seat target) reasons.1.1.1.1.1.1.1.1.1.1.0 in (
+      let target_legal = holds_by_both (is_legal_target rules.reopen setup moves street seat target) (nat_lt target (greatest_target setup moves street seat)) (nat_lt (greatest_target setup moves street seat) target) reasons.1.1.1.1.1.1.1.1.1.0 (fits_target rules.reopen setup moves street seat target) reasons.1.1.1.1.1.1.1.1.1.1.0 in (
         target_above (limit_of setup.code) rules.reopen setup moves street seat target bounded (floor_above rules.reopen setup moves street some fits) some chips target_legal,
         elim (mover_of setup moves named in_turn_now reasons.1.1.0 reasons.1.1.1.1.1.1.0) [
           | inl is ↦ (mover_from_one setup moves street blinds ups seat is, mover_in_hand setup moves street blinds ups seat is)

@@ -19,3 +19,5 @@ pub mod StillAble
 pub mod DueStreets
 pub mod DealingLaws
 pub mod SaidSoFar
+pub mod Sizes
+pub mod TracedMoves

@@ -1,7 +1,7 @@
 -- The walk over a written script finds its first illegal event, or that all are legal.
 use Rattle.std.proofs.Common.{◌≡◌, ℕ, ◌+◌, ◌≤◌, ◌<◌, inl, inr, Option, Some, None, List, [], ◌∷◌, length, take, drop, reverse, get_or, slice_get, option_and_then, refl, sym, ◌∙◌, ap, arith, map}
 use Rattle.std.proofs.lemmas.Bool.{cases_lt}
-use Rattle.std.proofs.lemmas.List.{drop_more, drop_all, take_more, reverse-append}
+use Rattle.std.proofs.lemmas.List.{drop_more, drop_all, take_more, reverse-append, take_all}
 use Rattle.std.proofs.lemmas.Option.{slice_get_within, get_or_from_slice_get, slice_get-get_or, same_Some}
 use Rattle.list_laws.proofs.Options.{some_is_none}
 use Rattle.play_event.specs.declared.reason.Illegal.{Illegal}
@@ -10,7 +10,7 @@ use Rattle.play_event.specs.declared.setup.Rules.{Rules}
 use Rattle.play_event.specs.Said.{Said, Numbered, numbered, said_of}
 use Rattle.play_event.specs.Past.{Past}
 use Rattle.play_event.specs.Reasons.{why}
-use Rattle.play_event.specs.Scripts.{past_of, past_after, with_event, why_at, HasNoIllegalEvent, IsFirstIllegal, illegal_event, illegal_event_from}
+use Rattle.play_event.specs.Scripts.{past_of, past_after, with_event, why_at, HasNoIllegalEvent, IsFirstIllegal, illegal_event, illegal_event_from, past_at_end}
 use Rattle.play_event.specs.declared.event.Event.{Event}
 
 -- the past after one event more
@@ -149,3 +149,7 @@ legal_whole setup rules script is = λ index within. legal_from setup rules scri
 pub said_numbered : (events : List Event) → map (λ (event : Numbered). event.1) (map numbered events) ≡ map said_of events
 said_numbered [] = refl
 said_numbered (event ∷ rest) = ap (λ (said : List Said). said_of event ∷ said) (said_numbered rest)
+
+-- after all its events a script is at its end
+pub at_end : (setup : Setup) (script : List Said) → past_after setup script (length script) ≡ past_at_end setup script
+at_end setup script = ap (λ events. past_of setup (reverse events)) (take_all (length script) script (omega arith))

@@ -13,6 +13,8 @@ use Rattle.play_event.specs.Seats.{live_count}
 use Rattle.play_event.specs.Showing.{is_show_due}
 use Rattle.play_event.specs.Due.{turn, due_on, first_due, found_or, showdown, is_unfinished}
 use Rattle.play_event.specs.Laws.{IsFirstStreet}
+use Rattle.play_event.specs.declared.code.Code.{Code}
+use Rattle.play_event.specs.declared.code.Code.TheVariants as games
 
 -- the first of so many streets on which something is due
 found_step : (on : ℕ → Option Due) (rest street found : ℕ) (due : Due) (here : Option Due) → on street ≡ here → (first_due on rest (street + 1) ≡ Some (found, due) → IsFirstStreet on (street + 1) found due) → found_or (option_map (λ d. (street, d)) here) (first_due on rest (street + 1)) ≡ Some (found, due) → IsFirstStreet on street found due
@@ -89,3 +91,8 @@ first_is_due setup past street due more first within =
     let here : ℕ × Due = (newest_street past, dues.Over) in
     ap (λ b. if b then here else unwrap_or (first_due (due_on setup past) (street_count setup.code + 1 - newest_street past) (newest_street past)) (street_count setup.code, showdown setup past)) more
     ∙ ap (λ o. unwrap_or o (street_count setup.code, showdown setup past)) (first_street (due_on setup past) (street_count setup.code + 1 - newest_street past) (newest_street past) street due first (omega (arith, first.reached, within)))
+
+-- a game has five streets at most
+pub few_streets : (code : Code) → street_count code ≤ 5
+few_streets games.FT = omega arith
+few_streets _ = omega arith

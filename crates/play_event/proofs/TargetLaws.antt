@@ -12,24 +12,8 @@ use Rattle.play_event.specs.Streets.{limit_of, unit}
 use Rattle.play_event.specs.Past.{Move}
 use Rattle.play_event.specs.Chips.{all_in}
 use Rattle.play_event.specs.Price.{price, full_raise, full_bet}
-use Rattle.play_event.specs.Targets.{floor, pot_ceiling, full_targets, smallest, is_target_in, least_target_in, greatest_target_in, is_legal_target, least_target, greatest_target}
+use Rattle.play_event.specs.Targets.{floor, pot_ceiling, full_targets, smallest, is_target_in, least_target_in, greatest_target_in, is_legal_target, least_target, greatest_target, is_legal_by, least_by, greatest_by}
 use Rattle.play_event.specs.TurnTargets.{AreTargets}
-
--- a target is legal, where the amounts that bound it are these
-abbrev target_by : Limit → (floor least all_in ceiling : ℕ) → (fulls : List ℕ) → (target : ℕ) → Bool
-target_by limits.No floor least all_in ceiling fulls target = (nat_le floor target && nat_le target all_in) || (target == all_in)
-target_by limits.Pot floor least all_in ceiling fulls target = (nat_le least target && nat_le target (min all_in ceiling)) || ((target == all_in) && nat_le target ceiling)
-target_by limits.Fixed floor least all_in ceiling fulls target = (list_any (λ full. target == full) fulls && nat_le target all_in) || ((target == all_in) && nat_lt target (greatest fulls))
-
-abbrev least_by : Limit → (floor least all_in : ℕ) → (fulls : List ℕ) → ℕ
-least_by limits.No floor least all_in fulls = min all_in floor
-least_by limits.Pot floor least all_in fulls = min all_in least
-least_by limits.Fixed floor least all_in fulls = min all_in (smallest fulls)
-
-abbrev greatest_by : Limit → (all_in ceiling : ℕ) → (fulls : List ℕ) → ℕ
-greatest_by limits.No all_in ceiling fulls = all_in
-greatest_by limits.Pot all_in ceiling fulls = min all_in ceiling
-greatest_by limits.Fixed all_in ceiling fulls = min all_in (greatest fulls)
 
 -- one full target, or two
 abbrev full_list : ℕ → Option ℕ → List ℕ
@@ -39,10 +23,10 @@ full_list first (Some other) = first ∷ other ∷ []
 abbrev any_full : ℕ → List ℕ → Bool
 any_full t fulls = list_any (λ full. t == full) fulls
 
-fixed_full : (fulls : List ℕ) (t all_in floor least ceiling : ℕ) → any_full t fulls ≡ true → t ≤ all_in → target_by limits.Fixed floor least all_in ceiling fulls t ≡ true
+fixed_full : (fulls : List ℕ) (t all_in floor least ceiling : ℕ) → any_full t fulls ≡ true → t ≤ all_in → is_legal_by limits.Fixed floor least all_in ceiling fulls t ≡ true
 fixed_full fulls t all_in floor least ceiling any within = or_left (any_full t fulls && nat_le t all_in) ((t == all_in) && nat_lt t (greatest fulls)) (and_from (any_full t fulls) (nat_le t all_in) any (le-leb t all_in within))
 
-fixed_all_in : (fulls : List ℕ) (t all_in floor least ceiling : ℕ) → t ≡ all_in → t < greatest fulls → target_by limits.Fixed floor least all_in ceiling fulls t ≡ true
+fixed_all_in : (fulls : List ℕ) (t all_in floor least ceiling : ℕ) → t ≡ all_in → t < greatest fulls → is_legal_by limits.Fixed floor least all_in ceiling fulls t ≡ true
 fixed_all_in fulls t all_in floor least ceiling is less = or_right (any_full t fulls && nat_le t all_in) ((t == all_in) && nat_lt t (greatest fulls)) (and_from (t == all_in) (nat_lt t (greatest fulls)) (eq-eqb t all_in is) (lt-ltb t (greatest fulls) less))
 
 first_full : (t a : ℕ) (rest : List ℕ) → t ≡ a → any_full t (a ∷ rest) ≡ true
@@ -52,7 +36,7 @@ later_full : (t a : ℕ) (rest : List ℕ) → any_full t rest ≡ true → any_
 later_full t a rest is = or_right (t == a) (any_full t rest) is
 
 module _ (all_in floor least ceiling : ℕ) where
-  least_full : (a : ℕ) (other : Option ℕ) → target_by limits.Fixed floor least all_in ceiling (full_list a other) (min all_in (smallest (full_list a other))) ≡ true
+  least_full : (a : ℕ) (other : Option ℕ) → is_legal_by limits.Fixed floor least all_in ceiling (full_list a other) (min all_in (smallest (full_list a other))) ≡ true
   least_full a None = elim (cases_lt all_in a) [
     | inl less ↦ fixed_all_in (a ∷ []) (min all_in a) all_in floor least ceiling (omega (arith, less)) (omega (arith, less))
     | inr reach ↦ fixed_full (a ∷ []) (min all_in a) all_in floor least ceiling (first_full (min all_in a) a [] (omega (arith, reach))) (omega arith)
@@ -65,7 +49,7 @@ module _ (all_in floor least ceiling : ℕ) where
     ]) (omega arith)
   ]
 
-  greatest_full : (a : ℕ) (other : Option ℕ) → target_by limits.Fixed floor least all_in ceiling (full_list a other) (min all_in (greatest (full_list a other))) ≡ true
+  greatest_full : (a : ℕ) (other : Option ℕ) → is_legal_by limits.Fixed floor least all_in ceiling (full_list a other) (min all_in (greatest (full_list a other))) ≡ true
   greatest_full a None = elim (cases_lt all_in a) [
     | inl less ↦ fixed_all_in (a ∷ []) (min all_in (max a 0)) all_in floor least ceiling (omega (arith, less)) (omega (arith, less))
     | inr reach ↦ fixed_full (a ∷ []) (min all_in (max a 0)) all_in floor least ceiling (first_full (min all_in (max a 0)) a [] (omega (arith, reach))) (omega arith)
@@ -95,7 +79,7 @@ module _ (all_in floor least ceiling : ℕ) where
   smallest_below a None = omega arith
   smallest_below a (Some b) = omega arith
 
-  fixed_within : (a : ℕ) (other : Option ℕ) (t : ℕ) → target_by limits.Fixed floor least all_in ceiling (full_list a other) t ≡ true → (min all_in (smallest (full_list a other)) ≤ t) × (t ≤ min all_in (greatest (full_list a other)))
+  fixed_within : (a : ℕ) (other : Option ℕ) (t : ℕ) → is_legal_by limits.Fixed floor least all_in ceiling (full_list a other) t ≡ true → (min all_in (smallest (full_list a other)) ≤ t) × (t ≤ min all_in (greatest (full_list a other)))
   fixed_within a other t legal = elim (or_cases (any_full t (full_list a other) && nat_le t all_in) ((t == all_in) && nat_lt t (greatest (full_list a other))) legal) [
     | inl full ↦
         let parts = and_parts (any_full t (full_list a other)) (nat_le t all_in) full in
@@ -112,16 +96,16 @@ module _ (all_in floor least ceiling : ℕ) where
   ]
 
   -- in no limit
-  no_limit_least : target_by limits.No floor least all_in ceiling [] (min all_in floor) ≡ true
+  no_limit_least : is_legal_by limits.No floor least all_in ceiling [] (min all_in floor) ≡ true
   no_limit_least = elim (cases_lt all_in floor) [
     | inl less ↦ or_right (nat_le floor (min all_in floor) && nat_le (min all_in floor) all_in) (min all_in floor == all_in) (eq-eqb (min all_in floor) all_in (omega (arith, less)))
     | inr reach ↦ or_left (nat_le floor (min all_in floor) && nat_le (min all_in floor) all_in) (min all_in floor == all_in) (and_from (nat_le floor (min all_in floor)) (nat_le (min all_in floor) all_in) (le-leb floor (min all_in floor) (omega (arith, reach))) (le-leb (min all_in floor) all_in (omega arith)))
   ]
 
-  no_limit_greatest : target_by limits.No floor least all_in ceiling [] all_in ≡ true
+  no_limit_greatest : is_legal_by limits.No floor least all_in ceiling [] all_in ≡ true
   no_limit_greatest = or_right (nat_le floor all_in && nat_le all_in all_in) (all_in == all_in) (eq-eqb all_in all_in refl)
 
-  no_limit_within : (t : ℕ) → target_by limits.No floor least all_in ceiling [] t ≡ true → (min all_in floor ≤ t) × (t ≤ all_in)
+  no_limit_within : (t : ℕ) → is_legal_by limits.No floor least all_in ceiling [] t ≡ true → (min all_in floor ≤ t) × (t ≤ all_in)
   no_limit_within t legal = elim (or_cases (nat_le floor t && nat_le t all_in) (t == all_in) legal) [
     | inl between ↦
         let parts = and_parts (nat_le floor t) (nat_le t all_in) between in
@@ -132,19 +116,19 @@ module _ (all_in floor least ceiling : ℕ) where
   ]
 
   -- in pot limit
-  pot_least : least ≤ ceiling → target_by limits.Pot floor least all_in ceiling [] (min all_in least) ≡ true
+  pot_least : least ≤ ceiling → is_legal_by limits.Pot floor least all_in ceiling [] (min all_in least) ≡ true
   pot_least under = elim (cases_lt all_in least) [
     | inl less ↦ or_right (nat_le least (min all_in least) && nat_le (min all_in least) (min all_in ceiling)) ((min all_in least == all_in) && nat_le (min all_in least) ceiling) (and_from (min all_in least == all_in) (nat_le (min all_in least) ceiling) (eq-eqb (min all_in least) all_in (omega (arith, less))) (le-leb (min all_in least) ceiling (omega (arith, under))))
     | inr reach ↦ or_left (nat_le least (min all_in least) && nat_le (min all_in least) (min all_in ceiling)) ((min all_in least == all_in) && nat_le (min all_in least) ceiling) (and_from (nat_le least (min all_in least)) (nat_le (min all_in least) (min all_in ceiling)) (le-leb least (min all_in least) (omega (arith, reach))) (le-leb (min all_in least) (min all_in ceiling) (omega (arith, under))))
   ]
 
-  pot_greatest : least ≤ ceiling → target_by limits.Pot floor least all_in ceiling [] (min all_in ceiling) ≡ true
+  pot_greatest : least ≤ ceiling → is_legal_by limits.Pot floor least all_in ceiling [] (min all_in ceiling) ≡ true
   pot_greatest under = elim (cases_lt all_in least) [
     | inl less ↦ or_right (nat_le least (min all_in ceiling) && nat_le (min all_in ceiling) (min all_in ceiling)) ((min all_in ceiling == all_in) && nat_le (min all_in ceiling) ceiling) (and_from (min all_in ceiling == all_in) (nat_le (min all_in ceiling) ceiling) (eq-eqb (min all_in ceiling) all_in (omega (arith, less, under))) (le-leb (min all_in ceiling) ceiling (omega arith)))
     | inr reach ↦ or_left (nat_le least (min all_in ceiling) && nat_le (min all_in ceiling) (min all_in ceiling)) ((min all_in ceiling == all_in) && nat_le (min all_in ceiling) ceiling) (and_from (nat_le least (min all_in ceiling)) (nat_le (min all_in ceiling) (min all_in ceiling)) (le-leb least (min all_in ceiling) (omega (arith, reach, under))) (le-leb (min all_in ceiling) (min all_in ceiling) (omega arith)))
   ]
 
-  pot_within : (t : ℕ) → target_by limits.Pot floor least all_in ceiling [] t ≡ true → (min all_in least ≤ t) × (t ≤ min all_in ceiling)
+  pot_within : (t : ℕ) → is_legal_by limits.Pot floor least all_in ceiling [] t ≡ true → (min all_in least ≤ t) × (t ≤ min all_in ceiling)
   pot_within t legal = elim (or_cases (nat_le least t && nat_le t (min all_in ceiling)) ((t == all_in) && nat_le t ceiling) legal) [
     | inl between ↦
         let parts = and_parts (nat_le least t) (nat_le t (min all_in ceiling)) between in
@@ -160,9 +144,9 @@ module _ (all_in floor least ceiling : ℕ) where
 
   -- the ends of the legal targets, whatever the limit, where the full targets are these
   pub record Ends (limit : Limit) (fulls : List ℕ) : Type 0 where
-    pub at_least : target_by limit floor least all_in ceiling fulls (least_by limit floor least all_in fulls) ≡ true
-    pub at_most : target_by limit floor least all_in ceiling fulls (greatest_by limit all_in ceiling fulls) ≡ true
-    pub within : (t : ℕ) → target_by limit floor least all_in ceiling fulls t ≡ true → (least_by limit floor least all_in fulls ≤ t) × (t ≤ greatest_by limit all_in ceiling fulls)
+    pub at_least : is_legal_by limit floor least all_in ceiling fulls (least_by limit floor least all_in fulls) ≡ true
+    pub at_most : is_legal_by limit floor least all_in ceiling fulls (greatest_by limit all_in ceiling fulls) ≡ true
+    pub within : (t : ℕ) → is_legal_by limit floor least all_in ceiling fulls t ≡ true → (least_by limit floor least all_in fulls ≤ t) × (t ≤ greatest_by limit all_in ceiling fulls)
 
   pub ends : (limit : Limit) (a : ℕ) (other : Option ℕ) → least ≤ ceiling → Ends limit (full_list a other)
   ends limits.No a other under = record { at_least = no_limit_least; at_most = no_limit_greatest; within = no_limit_within }
@@ -191,7 +175,7 @@ module _ (reopens : Reopen) (setup : Setup) (moves : List Move) (street seat : �
   abbrev the_fulls : List ℕ
   the_fulls = full_targets setup moves street
 
-  plain_target : (limit : Limit) (target : ℕ) → is_target_in limit reopens setup moves street seat target ≡ target_by limit the_floor the_least the_all_in the_ceiling the_fulls target
+  plain_target : (limit : Limit) (target : ℕ) → is_target_in limit reopens setup moves street seat target ≡ is_legal_by limit the_floor the_least the_all_in the_ceiling the_fulls target
   plain_target limits.No target = refl
   plain_target limits.Pot target = refl
   plain_target limits.Fixed target = refl

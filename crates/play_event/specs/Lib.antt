@@ -39,3 +39,4 @@ pub mod Stakes
 pub mod HistoryRules
 pub mod Rows
 pub mod Laws
+pub mod Ranges

@@ -1,5 +1,5 @@
 -- How cards that a discard or a show names find the places that it covers.
-use Rattle.std.specs.Prelude.{ℕ, zero, suc, Bool, ◌&&◌, ◌||◌, ◌==◌, not, if◌then◌else◌, List, [], ◌∷◌, filter, length, count_by, Some}
+use Rattle.std.specs.Prelude.{ℕ, zero, suc, Bool, ◌&&◌, ◌||◌, ◌==◌, not, if◌then◌else◌, List, [], ◌∷◌, filter, length, count_by, Some, false, ◌+◌}
 use Rattle.std.specs.List.{list_any}
 use Rattle.card_set.specs.declared.card.Card.{Card}
 use Rattle.card_set.specs.declared.card.Slot.{Slot}
@@ -23,6 +23,21 @@ other_names (place ∷ rest) names = other_names rest (without place.slot names)
 -- a card is among the names
 abbrev pub is_named : Card → List Card → Bool
 is_named card names = list_any (is_same_card card) names
+
+-- a slot bears a named card
+abbrev pub is_named_slot : List Card → Slot → Bool
+is_named_slot names (slots.Known card) = is_named card names
+is_named_slot names slots.Unknown = false
+
+-- how many places bear a named card
+abbrev pub named_count : List Card → List Place → ℕ
+named_count names [] = 0
+named_count names (place ∷ rest) = (if is_named_slot names place.slot then 1 else 0) + named_count names rest
+
+-- how many of some places are unknown
+abbrev pub unknown_count : List Place → ℕ
+unknown_count [] = 0
+unknown_count (place ∷ rest) = (if is_unknown place.slot then 1 else 0) + unknown_count rest
 
 -- what a covered place becomes, and the names and blanks that are left for the next
 pub record Found : Type 0 where

@@ -28,6 +28,10 @@ is_same_owner None (Some other) = false
 abbrev pub is_in_group : Option ℕ → ℕ → Place → Bool
 is_in_group owner street place = is_same_owner place.owner owner && (place.street == street)
 
+-- those among places
+abbrev pub group_of : List Place → ℕ → Option ℕ → List Place
+group_of placed street owner = filter (is_in_group owner street) placed
+
 -- the places of cards that are dealt to one owner together: indices and numbers count up
 abbrev pub places_dealt : Option ℕ → ℕ → Bool → (index number : ℕ) → List Slot → List Place
 places_dealt owner street late index number [] = []

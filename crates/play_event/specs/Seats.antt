@@ -6,6 +6,10 @@ use Rattle.play_event.specs.declared.setup.Setup.{Setup}
 use Rattle.play_event.specs.Past.{Move, is_fold}
 use Rattle.play_event.specs.Chips.{chips_left}
 
+-- a move folds a seat
+abbrev pub is_fold_of : ℕ → Move → Bool
+is_fold_of seat move = is_fold move.act && (move.seat == seat)
+
 -- a seat is live: it has not folded
 abbrev pub is_live : List Move → ℕ → Bool
 is_live moves seat = not (list_any (λ move. is_fold move.act && (move.seat == seat)) moves)

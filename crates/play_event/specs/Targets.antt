@@ -34,6 +34,18 @@ full_targets setup moves street =
     if nat_lt (price setup moves street) (unit setup street) then (unit setup street ∷ [])
     else ((price setup moves street + unit setup street) ∷ above_price (price setup moves street) (full_bet setup moves street + unit setup street))
 
+-- a target is legal, where the amounts that bound it are these
+abbrev pub is_legal_by : Limit → (floor least all_in ceiling : ℕ) → (fulls : List ℕ) → (target : ℕ) → Bool
+is_legal_by limits.No floor least all_in ceiling fulls target = (nat_le floor target && nat_le target all_in) || (target == all_in)
+is_legal_by limits.Pot floor least all_in ceiling fulls target = (nat_le least target && nat_le target (min all_in ceiling)) || ((target == all_in) && nat_le target ceiling)
+is_legal_by limits.Fixed floor least all_in ceiling fulls target = (list_any (λ full. target == full) fulls && nat_le target all_in) || ((target == all_in) && nat_lt target (greatest fulls))
+
+-- the greatest legal target, where the amounts that bound it are these
+abbrev pub greatest_by : Limit → (all_in ceiling : ℕ) → (fulls : List ℕ) → ℕ
+greatest_by limits.No all_in ceiling fulls = all_in
+greatest_by limits.Pot all_in ceiling fulls = min all_in ceiling
+greatest_by limits.Fixed all_in ceiling fulls = min all_in (greatest fulls)
+
 -- the legal targets: from the least raise up to all-in or the limit's greatest, and all-in itself where the limit reaches so far
 abbrev pub is_target_in : Limit → Reopen → Setup → List Move → ℕ → ℕ → ℕ → Bool
 is_target_in limits.No reopens setup moves street seat target =
@@ -61,6 +73,12 @@ smallest_from first (next ∷ rest) = min first (smallest_from next rest)
 abbrev pub smallest : List ℕ → ℕ
 smallest [] = 0
 smallest (first ∷ rest) = smallest_from first rest
+
+-- the least legal target, where the amounts that bound it are these
+abbrev pub least_by : Limit → (floor least all_in : ℕ) → (fulls : List ℕ) → ℕ
+least_by limits.No floor least all_in fulls = min all_in floor
+least_by limits.Pot floor least all_in fulls = min all_in least
+least_by limits.Fixed floor least all_in fulls = min all_in (smallest fulls)
 
 -- the least legal target: the least raise of the limit, or all-in where that is less
 abbrev pub least_target_in : Limit → Reopen → Setup → List Move → ℕ → ℕ → ℕ

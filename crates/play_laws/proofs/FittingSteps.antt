@@ -24,7 +24,7 @@ use Rattle.list_laws.proofs.Tests.{false_true}
 use Rattle.play_laws.specs.PastLaws.{AreReached, has_move, PastLaw}
 use Rattle.play_laws.proofs.LegalPlaces.{legal_past}
 use Rattle.play_laws.proofs.DueAtEvents.{Reaches, turn_reaches, unfinished_due}
-use Rattle.play_laws.proofs.LegalEvents.{Stepped, deals, boards, moves, discards, shows, mucks, stepped, is_betting_due, unfinished_move, fold_kind, call_kind, raise_kind, bring_kind}
+use Rattle.play_laws.proofs.LegalEvents.{Stepped, deals, boards, moves, discards, shows, mucks, stepped, unfinished_move, fold_kind, call_kind, raise_kind, bring_kind}
 use Rattle.play_laws.proofs.PastLawKept.{unmoved_deal, drawing}
 use Rattle.play_laws.proofs.MoverUps.{SameUps}
 use Rattle.play_event.proofs.ReasonLaws.{none_hold}
@@ -35,6 +35,7 @@ use Rattle.play_laws.proofs.KnownUpCards.{AreBefore, moves_deal, moves_sure, dis
 use Rattle.play_laws.proofs.FittingMoves.{is_mover, ups_now}
 use Rattle.play_laws.proofs.BettingDue.{bet_of}
 use Rattle.std.specs.Prelude.{length}
+use Rattle.play_event.specs.TurnTargets.{is_bet_due}
 
 -- where a bring-in or a move is due, some seat is in turn, or it is not known which
 abbrev pub HasMovers : Setup → Rules → Type 0
@@ -60,7 +61,7 @@ drew setup rules (event ∷ events) legal street other has =
     drew_step setup (past_of setup events) (turn setup (past_of setup events)).0 _ street other (stepped setup rules (past_of setup events) event legal.0) (drew setup rules events legal.1 street other) has
 
 -- the kinds of moves
-move_kind : (setup : Setup) (due : Due) (event : Said) → IsMoveSaid event → is_due_kind setup.code due event ≡ true → is_betting_due due ≡ true
+move_kind : (setup : Setup) (due : Due) (event : Said) → IsMoveSaid event → is_due_kind setup.code due event ≡ true → is_bet_due due ≡ true
 move_kind setup due _ (fold_said named) is = fold_kind setup named due is
 move_kind setup due _ (call_said named stated) is = call_kind setup named stated due is
 move_kind setup due _ (raise_said named amount) is = raise_kind setup named amount due is

@@ -19,7 +19,7 @@ use Rattle.play_event.specs.Laws.{AreLegal, IsAmong}
 use Rattle.play_laws.proofs.LegalPlaces.{legal_past, group_count, LegalPast}
 use Rattle.play_laws.proofs.DonePasts.{legal_done}
 use Rattle.play_laws.proofs.DiscardCounts.{is_out_of, out_counts}
-use Rattle.list_laws.proofs.Tests.{false_true}
+use Rattle.list_laws.proofs.Tests.{false_true, one_if}
 
 -- the hole cards of the first streets
 unfoldable pub first_holes : List Street → ℕ → ℕ
@@ -27,7 +27,8 @@ first_holes [] count = 0
 first_holes (s ∷ rest) zero = 0
 first_holes (s ∷ rest) (suc count) = (s.down + s.up) + first_holes rest count
 
-all_holes : List Street → ℕ
+-- the hole cards of all streets
+unfoldable pub all_holes : List Street → ℕ
 all_holes [] = 0
 all_holes (s ∷ rest) = (s.down + s.up) + all_holes rest
 
@@ -44,7 +45,8 @@ one_more [] count = refl
 one_more (s ∷ rest) zero = omega (arith, no_holes rest)
 one_more (s ∷ rest) (suc count) = omega (arith, one_more rest count)
 
-not_more : (streets : List Street) (count : ℕ) → first_holes streets count ≤ all_holes streets
+-- the first streets have no more than all of them
+pub not_more : (streets : List Street) (count : ℕ) → first_holes streets count ≤ all_holes streets
 unfolding first_holes all_holes
 not_more [] count = omega arith
 not_more (s ∷ rest) zero = omega arith
@@ -91,13 +93,11 @@ none_pass p (place ∷ rest) none =
     ap (λ b. length (if b then (place ∷ filter p rest) else filter p rest)) (none place (inl refl)) ∙ none_pass p rest (λ other among. none other (inr among))
 
 -- what is held next, and what was discarded, are what was held and what was dealt
-abbrev one : Bool → ℕ
-one b = if b then 1 else 0
 
-four : (a b c d : Bool) (w x y z : Bool) → a ≡ w → b ≡ x → c ≡ y → d ≡ z → one w + one x ≡ one y + one z → one a + one b ≡ one c + one d
-four a b c d w x y z p q r s is = omega (arith, ap one p, ap one q, ap one r, ap one s, is)
+four : (a b c d : Bool) (w x y z : Bool) → a ≡ w → b ≡ x → c ≡ y → d ≡ z → one_if w + one_if x ≡ one_if y + one_if z → one_if a + one_if b ≡ one_if c + one_if d
+four a b c d w x y z p q r s is = omega (arith, ap one_if p, ap one_if q, ap one_if r, ap one_if s, is)
 
-one_place : (seat street : ℕ) (place : Place) (owned : Bool) → 1 ≤ street → (0 < place.discarded → place.street < place.discarded) → one (owned && (nat_lt place.street (street + 1) && not (nat_lt 0 place.discarded && nat_lt place.discarded (street + 1)))) + one (owned && (place.discarded == street)) ≡ one (owned && (nat_lt place.street street && not (nat_lt 0 place.discarded && nat_lt place.discarded street))) + one (owned && (place.street == street))
+one_place : (seat street : ℕ) (place : Place) (owned : Bool) → 1 ≤ street → (0 < place.discarded → place.street < place.discarded) → one_if (owned && (nat_lt place.street (street + 1) && not (nat_lt 0 place.discarded && nat_lt place.discarded (street + 1)))) + one_if (owned && (place.discarded == street)) ≡ one_if (owned && (nat_lt place.street street && not (nat_lt 0 place.discarded && nat_lt place.discarded street))) + one_if (owned && (place.street == street))
 one_place seat street place false some after = refl
 one_place seat street place true some after = elim (cases_lt place.street street) [
   | inl early ↦ elim (cases_lt 0 place.discarded) [
@@ -132,7 +132,7 @@ one_place seat street place true some after = elim (cases_lt place.street street
   ]
 ]
   where
-    by : (w x y z : Bool) → (nat_lt place.street (street + 1) && not (nat_lt 0 place.discarded && nat_lt place.discarded (street + 1))) ≡ w → (place.discarded == street) ≡ x → (nat_lt place.street street && not (nat_lt 0 place.discarded && nat_lt place.discarded street)) ≡ y → (place.street == street) ≡ z → one w + one x ≡ one y + one z → one (nat_lt place.street (street + 1) && not (nat_lt 0 place.discarded && nat_lt place.discarded (street + 1))) + one (place.discarded == street) ≡ one (nat_lt place.street street && not (nat_lt 0 place.discarded && nat_lt place.discarded street)) + one (place.street == street)
+    by : (w x y z : Bool) → (nat_lt place.street (street + 1) && not (nat_lt 0 place.discarded && nat_lt place.discarded (street + 1))) ≡ w → (place.discarded == street) ≡ x → (nat_lt place.street street && not (nat_lt 0 place.discarded && nat_lt place.discarded street)) ≡ y → (place.street == street) ≡ z → one_if w + one_if x ≡ one_if y + one_if z → one_if (nat_lt place.street (street + 1) && not (nat_lt 0 place.discarded && nat_lt place.discarded (street + 1))) + one_if (place.discarded == street) ≡ one_if (nat_lt place.street street && not (nat_lt 0 place.discarded && nat_lt place.discarded street)) + one_if (place.street == street)
     by w x y z p q r s is = four (nat_lt place.street (street + 1) && not (nat_lt 0 place.discarded && nat_lt place.discarded (street + 1))) (place.discarded == street) (nat_lt place.street street && not (nat_lt 0 place.discarded && nat_lt place.discarded street)) (place.street == street) w x y z p q r s is
 
     now_in : place.street < street + 1 → (nat_lt 0 place.discarded && nat_lt place.discarded (street + 1)) ≡ false → (nat_lt place.street (street + 1) && not (nat_lt 0 place.discarded && nat_lt place.discarded (street + 1))) ≡ true
@@ -154,10 +154,10 @@ one_place seat street place true some after = elim (cases_lt place.street street
     new_in here (inr none) = and_left (nat_lt 0 place.discarded) (nat_lt place.discarded (street + 1)) none
     new_in here (inl out) = and_right (nat_lt 0 place.discarded) (nat_lt place.discarded (street + 1)) (le-ltb place.discarded (street + 1) (omega (arith, here, after (ltb-true 0 place.discarded out))))
 
-sum_step : (p q r t : Place → Bool) (place : Place) (rest : List Place) (a b c d : Bool) → one a + one b ≡ one c + one d → length (filter p rest) + length (filter q rest) ≡ length (filter r rest) + length (filter t rest) → length (if a then (place ∷ filter p rest) else filter p rest) + length (if b then (place ∷ filter q rest) else filter q rest) ≡ length (if c then (place ∷ filter r rest) else filter r rest) + length (if d then (place ∷ filter t rest) else filter t rest)
+sum_step : (p q r t : Place → Bool) (place : Place) (rest : List Place) (a b c d : Bool) → one_if a + one_if b ≡ one_if c + one_if d → length (filter p rest) + length (filter q rest) ≡ length (filter r rest) + length (filter t rest) → length (if a then (place ∷ filter p rest) else filter p rest) + length (if b then (place ∷ filter q rest) else filter q rest) ≡ length (if c then (place ∷ filter r rest) else filter r rest) + length (if d then (place ∷ filter t rest) else filter t rest)
 sum_step p q r t place rest a b c d is later = omega (arith, is, later, counted p place rest a, counted q place rest b, counted r place rest c, counted t place rest d)
   where
-    counted : (p : Place → Bool) (place : Place) (rest : List Place) (a : Bool) → length (if a then (place ∷ filter p rest) else filter p rest) ≡ one a + length (filter p rest)
+    counted : (p : Place → Bool) (place : Place) (rest : List Place) (a : Bool) → length (if a then (place ∷ filter p rest) else filter p rest) ≡ one_if a + length (filter p rest)
     counted p place rest true = omega arith
     counted p place rest false = omega arith
 

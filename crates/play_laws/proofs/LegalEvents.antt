@@ -1,5 +1,5 @@
 -- What a legal event tells of the past before it.
-use Rattle.std.proofs.Common.{◌≡◌, ℕ, zero, suc, ◌≤◌, Bool, true, false, ◌==◌, nat_lt, inl, inr, ◌⊎◌, Option, Some, None, List, map, length, refl, sym, arith}
+use Rattle.std.proofs.Common.{◌≡◌, ℕ, zero, suc, ◌≤◌, true, false, ◌==◌, nat_lt, inl, inr, ◌⊎◌, Option, Some, None, List, map, length, refl, sym, arith}
 use Rattle.std.proofs.lemmas.Bool.{or_parts, not-false, ltb-false}
 use Rattle.card_set.specs.declared.card.Slot.{Slot}
 use Rattle.card_set.specs.declared.card.Slot.TheVariants as slots
@@ -25,6 +25,7 @@ use Rattle.list_laws.proofs.Tests.{false_true, first_holds}
 use Rattle.play_laws.proofs.DueAtEvents.{IsDue, deal, draw, bring, move, unfinished_due}
 use Rattle.play_event.proofs.FloorLaws.{may_come_by}
 use Rattle.list_laws.proofs.Options.{next_number}
+use Rattle.play_event.specs.TurnTargets.{is_bet_due}
 
 -- what an event tells, by its kind
 pub data Stepped (setup : Setup) (before : Past) (street : ℕ) : Resolved → Type 0 where
@@ -84,23 +85,14 @@ draw_by setup before seat cards dues.Move is kind = false_true kind
 draw_by setup before seat cards dues.Show is kind = false_true kind
 draw_by setup before seat cards dues.Over is kind = false_true kind
 
--- a move
-abbrev pub is_betting_due : Due → Bool
-is_betting_due dues.BringIn = true
-is_betting_due dues.Move = true
-is_betting_due (dues.Deal street) = false
-is_betting_due (dues.Draw street) = false
-is_betting_due dues.Show = false
-is_betting_due dues.Over = false
-
-bet_by : (setup : Setup) (before : Past) (due : Due) → IsDue setup before (turn setup before).0 due → is_betting_due due ≡ true → (is_deal_due setup before (turn setup before).0 ≡ false) × (is_draw_due setup before (turn setup before).0 ≡ false)
+bet_by : (setup : Setup) (before : Past) (due : Due) → IsDue setup before (turn setup before).0 due → is_bet_due due ≡ true → (is_deal_due setup before (turn setup before).0 ≡ false) × (is_draw_due setup before (turn setup before).0 ≡ false)
 bet_by setup before _ (deal so) is = false_true is
 bet_by setup before _ (draw no_deal so) is = false_true is
 bet_by setup before _ (bring no_deal no_draw so) is = (no_deal, no_draw)
 bet_by setup before _ (move no_deal no_draw no_bring so) is = (no_deal, no_draw)
 
 -- where a bring-in or a move is due the hand goes on
-pub unfinished_move : (due : Due) → is_betting_due due ≡ true → is_unfinished due ≡ true
+pub unfinished_move : (due : Due) → is_bet_due due ≡ true → is_unfinished due ≡ true
 unfinished_move dues.BringIn is = refl
 unfinished_move dues.Move is = refl
 unfinished_move (dues.Deal street) is = false_true is
@@ -108,11 +100,11 @@ unfinished_move (dues.Draw street) is = false_true is
 unfinished_move dues.Show is = false_true is
 unfinished_move dues.Over is = false_true is
 
-move_by : (setup : Setup) (before : Past) → is_betting_due (turn setup before).1 ≡ true → (is_deal_due setup before (turn setup before).0 ≡ false) × (is_draw_due setup before (turn setup before).0 ≡ false)
+move_by : (setup : Setup) (before : Past) → is_bet_due (turn setup before).1 ≡ true → (is_deal_due setup before (turn setup before).0 ≡ false) × (is_draw_due setup before (turn setup before).0 ≡ false)
 move_by setup before is = bet_by setup before (turn setup before).1 (unfinished_due setup before (turn setup before).1 refl (unfinished_move (turn setup before).1 is)) is
 
 -- a fold may come only where a bring-in or a move is due
-pub fold_kind : (setup : Setup) (named : Option ℕ) (due : Due) → is_due_kind setup.code due (said.Fold named) ≡ true → is_betting_due due ≡ true
+pub fold_kind : (setup : Setup) (named : Option ℕ) (due : Due) → is_due_kind setup.code due (said.Fold named) ≡ true → is_bet_due due ≡ true
 fold_kind setup named dues.Move is = refl
 fold_kind setup named dues.BringIn is = false_true is
 fold_kind setup named (dues.Deal street) is = false_true is
@@ -121,7 +113,7 @@ fold_kind setup named dues.Show is = false_true is
 fold_kind setup named dues.Over is = false_true is
 
 -- so may a call
-pub call_kind : (setup : Setup) (named stated : Option ℕ) (due : Due) → is_due_kind setup.code due (said.Call named stated) ≡ true → is_betting_due due ≡ true
+pub call_kind : (setup : Setup) (named stated : Option ℕ) (due : Due) → is_due_kind setup.code due (said.Call named stated) ≡ true → is_bet_due due ≡ true
 call_kind setup named stated dues.Move is = refl
 call_kind setup named stated dues.BringIn is = false_true is
 call_kind setup named stated (dues.Deal street) is = false_true is
@@ -130,7 +122,7 @@ call_kind setup named stated dues.Show is = false_true is
 call_kind setup named stated dues.Over is = false_true is
 
 -- a raise
-pub raise_kind : (setup : Setup) (named : Option ℕ) (amount : Spelled) (due : Due) → is_due_kind setup.code due (said.Raise named amount) ≡ true → is_betting_due due ≡ true
+pub raise_kind : (setup : Setup) (named : Option ℕ) (amount : Spelled) (due : Due) → is_due_kind setup.code due (said.Raise named amount) ≡ true → is_bet_due due ≡ true
 raise_kind setup named amount dues.Move is = refl
 raise_kind setup named amount dues.BringIn is = refl
 raise_kind setup named amount (dues.Deal street) is = false_true is
@@ -139,7 +131,7 @@ raise_kind setup named amount dues.Show is = false_true is
 raise_kind setup named amount dues.Over is = false_true is
 
 -- and a bring-in
-pub bring_kind : (setup : Setup) (named : Option ℕ) (due : Due) → is_due_kind setup.code due (said.BringIn named) ≡ true → is_betting_due due ≡ true
+pub bring_kind : (setup : Setup) (named : Option ℕ) (due : Due) → is_due_kind setup.code due (said.BringIn named) ≡ true → is_bet_due due ≡ true
 bring_kind setup named dues.Move is = false_true is
 bring_kind setup named dues.BringIn is = refl
 bring_kind setup named (dues.Deal street) is = false_true is

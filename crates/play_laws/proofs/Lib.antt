@@ -38,3 +38,4 @@ pub mod LegalScripts
 pub mod DrawTables
 pub mod HeldFew
 pub mod InFull
+pub mod ResolvedMoves

@@ -1,5 +1,5 @@
 -- A discard takes as many places as it names.
-use Rattle.std.proofs.Common.{◌≡◌, ℕ, zero, suc, ◌+◌, ◌≤◌, Bool, true, false, ◌&&◌, ◌||◌, not, inl, inr, List, [], ◌∷◌, filter, length, count_by, refl, sym, ◌∙◌, ap, arith, if◌then◌else◌}
+use Rattle.std.proofs.Common.{◌≡◌, ℕ, zero, suc, ◌+◌, ◌≤◌, Bool, true, false, ◌||◌, inl, inr, List, [], ◌∷◌, filter, length, count_by, refl, sym, ◌∙◌, ap, arith, if◌then◌else◌}
 use Rattle.std.proofs.lemmas.Bool.{eqb-true, eq-eqb, ltb-false, false_from_ne_true, both_ways}
 use Rattle.std.proofs.lemmas.List.Sums.{length-filter}
 use Rattle.card_set.specs.declared.card.Card.{Card}
@@ -8,26 +8,11 @@ use Rattle.card_set.specs.declared.card.Slot.TheVariants as slots
 use Rattle.card_set.specs.Deck.{is_same_card, deck_place}
 use Rattle.card_set.specs.Known.{is_unknown, known_cards}
 use Rattle.play_event.specs.Places.{Place, is_held_by}
-use Rattle.play_event.specs.Naming.{without, other_names, is_named, found_by, after_names, after_discard, discarded_now, blanks_in}
+use Rattle.play_event.specs.Naming.{without, other_names, is_named, found_by, after_names, after_discard, discarded_now, blanks_in, is_named_slot, named_count, unknown_count}
 use Rattle.play_event.specs.Taken.{is_one_card}
 use Rattle.play_event.specs.CardReasons.{has_no_place}
 use Rattle.play_event.specs.Laws.{IsAmong}
-use Rattle.list_laws.proofs.Tests.{false_true}
-
--- a slot bears a named card
-abbrev pub is_named_slot : List Card → Slot → Bool
-is_named_slot names (slots.Known card) = is_named card names
-is_named_slot names slots.Unknown = false
-
--- how many known places bear a named card, and how many are unknown
-abbrev pub named_count : List Card → List Place → ℕ
-named_count names [] = 0
-named_count names (place ∷ rest) = (if (not (is_unknown place.slot)) && is_named_slot names place.slot then 1 else 0) + named_count names rest
-
--- how many of some places are unknown
-abbrev pub unknown_count : List Place → ℕ
-unknown_count [] = 0
-unknown_count (place ∷ rest) = (if is_unknown place.slot then 1 else 0) + unknown_count rest
+use Rattle.list_laws.proofs.Tests.{false_true, one_if}
 
 -- no later place bears the card of an earlier one
 abbrev pub AllApart : List Place → Type 0
@@ -64,12 +49,9 @@ other_named card other (name ∷ rest) differ = by_first (is_same_card card name
         both_ways (is_same_card card other) differ (eq-eqb (deck_place card) (deck_place other) (eqb-true (deck_place card) (deck_place name) same ∙ sym (eqb-true (deck_place other) (deck_place name) now)))) in
         sym (ap (λ b. b || is_named other rest) not_it)
 
-one_same : (card : Card) (names : List Card) (slot : Slot) → is_one_card (slots.Known card) slot ≡ false → ◌≡◌ {A = ℕ} (if (not (is_unknown slot)) && is_named_slot (without (slots.Known card) names) slot then 1 else 0) (if (not (is_unknown slot)) && is_named_slot names slot then 1 else 0)
+one_same : (card : Card) (names : List Card) (slot : Slot) → is_one_card (slots.Known card) slot ≡ false → ◌≡◌ {A = ℕ} (if is_named_slot (without (slots.Known card) names) slot then 1 else 0) (if is_named_slot names slot then 1 else 0)
 one_same card names slots.Unknown apart = refl
 one_same card names (slots.Known other) apart = ap one_if (other_named card other names apart)
-  where
-    one_if : Bool → ℕ
-    one_if b = if b then 1 else 0
 
 count_same : (card : Card) (names : List Card) (places : List Place) → ((later : Place) → IsAmong places later → is_one_card (slots.Known card) later.slot ≡ false) → named_count (without (slots.Known card) names) places ≡ named_count names places
 count_same card names [] apart = refl
@@ -86,11 +68,11 @@ names_split (place ∷ rest) names apart = by_slot place.slot refl (λ more. nam
         omega (arith, drop_length card names named, later (without (slots.Known card) names), same)
     by_named card here false named later = omega (arith, later names, ap (λ l. length (other_names rest l)) (keep_length card names named))
 
-    by_slot : (slot : Slot) → place.slot ≡ slot → ((more : List Card) → length more ≡ named_count more rest + length (other_names rest more)) → length names ≡ ((if (not (is_unknown place.slot)) && is_named_slot names place.slot then 1 else 0) + named_count names rest) + length (other_names rest (without place.slot names))
+    by_slot : (slot : Slot) → place.slot ≡ slot → ((more : List Card) → length more ≡ named_count more rest + length (other_names rest more)) → length names ≡ ((if is_named_slot names place.slot then 1 else 0) + named_count names rest) + length (other_names rest (without place.slot names))
     by_slot slots.Unknown here later =
-        omega (arith, later names, ap {B = ℕ} (λ s. if (not (is_unknown s)) && is_named_slot names s then 1 else 0) here, ap (λ s. length (other_names rest (without s names))) here)
+        omega (arith, later names, ap {B = ℕ} (λ s. if is_named_slot names s then 1 else 0) here, ap (λ s. length (other_names rest (without s names))) here)
     by_slot (slots.Known card) here later =
-        omega (arith, by_named card here (is_named card names) refl later, ap {B = ℕ} (λ s. if (not (is_unknown s)) && is_named_slot names s then 1 else 0) here, ap (λ s. length (other_names rest (without s names))) here)
+        omega (arith, by_named card here (is_named card names) refl later, ap {B = ℕ} (λ s. if is_named_slot names s then 1 else 0) here, ap (λ s. length (other_names rest (without s names))) here)
 
 -- the marked places
 pub record IsMarking (covers out : Place → Bool) (mark : Place → Place) (placed : List Place) : Type 0 where
@@ -129,12 +111,12 @@ count_step covers out mark names place rest slots.Unknown (card ∷ others) blan
     unknown_one s = if is_unknown s then 1 else 0
 
     named_one : List Card → Slot → ℕ
-    named_one l s = if (not (is_unknown s)) && is_named_slot l s then 1 else 0
+    named_one l s = if is_named_slot l s then 1 else 0
 count_step covers out mark names place rest slots.Unknown [] zero true here covered is later few =
     omega (arith, same_more out place rest (after_names covers mark names [] 0 rest) (named_count names (filter covers rest) + 0) (later [] 0 (omega arith)), ap (named_one names) here)
   where
     named_one : List Card → Slot → ℕ
-    named_one l s = if (not (is_unknown s)) && is_named_slot l s then 1 else 0
+    named_one l s = if is_named_slot l s then 1 else 0
 count_step covers out mark names place rest slots.Unknown [] (suc blanks) true here covered is later few =
     omega (
       arith,
@@ -147,14 +129,14 @@ count_step covers out mark names place rest slots.Unknown [] (suc blanks) true h
     unknown_one s = if is_unknown s then 1 else 0
 
     named_one : List Card → Slot → ℕ
-    named_one l s = if (not (is_unknown s)) && is_named_slot l s then 1 else 0
+    named_one l s = if is_named_slot l s then 1 else 0
 count_step covers out mark names place rest (slots.Known card) others blanks true here covered is later few = by_named (is_named card names) refl
   where
     unknown_one : Slot → ℕ
     unknown_one s = if is_unknown s then 1 else 0
 
     named_one : List Card → Slot → ℕ
-    named_one l s = if (not (is_unknown s)) && is_named_slot l s then 1 else 0
+    named_one l s = if is_named_slot l s then 1 else 0
 
     by_named : (b : Bool) → is_named card names ≡ b → length (if out (if b then mark place else place) then ((if b then mark place else place) ∷ filter out (after_names covers mark names others blanks rest)) else filter out (after_names covers mark names others blanks rest)) ≡ length (if out place then (place ∷ filter out rest) else filter out rest) + (named_count names (place ∷ filter covers rest) + (length others + blanks))
     by_named true named =

@@ -2,7 +2,7 @@
 use Rattle.std.proofs.Common.{◌≡◌, ℕ, ◌+◌, ◌≤◌, Bool, true, false, inl, inr, Option, List, [], ◌∷◌, ◌++◌, map, filter, length, count_by, refl, sym, ◌∙◌, ap, arith, if◌then◌else◌, ◌<◌}
 use Rattle.std.proofs.lemmas.List.Sums.{length-filter}
 use Rattle.card_set.specs.declared.card.Slot.{Slot}
-use Rattle.play_event.specs.Places.{Place, is_in_group}
+use Rattle.play_event.specs.Places.{Place, group_of}
 use Rattle.play_event.specs.Laws.{IsAmong}
 
 -- numbers count up
@@ -41,10 +41,6 @@ rising_at p first rest false rising later = later
 pub rising_filter : (p : Place → Bool) (placed : List Place) → AreRising placed → AreRising (filter p placed)
 rising_filter p [] rising = tt
 rising_filter p (first ∷ rest) rising = rising_at p first rest (p first) rising (rising_filter p rest rising.1)
-
--- the cards of an owner on a street
-abbrev pub group_of : List Place → ℕ → Option ℕ → List Place
-group_of placed street owner = filter (is_in_group owner street) placed
 
 -- and what is known of them
 abbrev pub group_slots : List Place → ℕ → Option ℕ → List Slot

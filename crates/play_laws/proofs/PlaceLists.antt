@@ -11,7 +11,7 @@ use Rattle.play_event.specs.declared.code.Code.{Code}
 use Rattle.play_event.specs.declared.setup.Setup.{Setup}
 use Rattle.play_event.specs.Past.{Past, Resolved, is_fold}
 use Rattle.card_set.specs.Known.{is_unknown, known_cards}
-use Rattle.play_event.specs.Places.{Place, is_same_owner, is_in_group, is_past_deck, places_dealt, after_deal, is_held_by, folded_place, after_fold, gone_now}
+use Rattle.play_event.specs.Places.{Place, is_same_owner, is_in_group, is_past_deck, places_dealt, after_deal, is_held_by, folded_place, after_fold, gone_now, group_of}
 use Rattle.play_event.specs.Naming.{after_names, after_discard, after_show, other_names, blanks_in, is_covered, is_show_of_all, found_by, is_named}
 use Rattle.play_event.specs.Table.{places_of}
 use Rattle.play_event.specs.Laws.{IsAmong}
@@ -25,7 +25,7 @@ use Rattle.play_laws.proofs.PastLawKept.{is_next_to_draw}
 use Rattle.play_laws.proofs.LegalPlaces.{PlacesOf}
 use Rattle.play_laws.proofs.DealtPlaces.{are_new}
 use Rattle.play_laws.proofs.QuietEvents.{AreMarked, discard_marks, show_marks, is_nothing}
-use Rattle.play_laws.proofs.PlaceGroups.{AreRising, group_of, AreIndexed}
+use Rattle.play_laws.proofs.PlaceGroups.{AreRising, AreIndexed}
 use Rattle.play_laws.proofs.UnknownCards.{discard_unknowns}
 use Rattle.play_laws.proofs.DrawnDiscards.{covers_hand}
 use Rattle.play_event.proofs.OwnerLaws.{is_same_owner-true}

@@ -15,7 +15,7 @@ use Rattle.play_event.specs.Seats.{is_live, all_seats, live_count}
 use Rattle.play_event.specs.Dealing.{is_deal_due, is_draw_due, board_cards_dealt, board_cards_owed, hole_cards_owed, cards_discarded}
 use Rattle.play_event.specs.Due.{turn, due_on, first_due, is_bring_in_due, is_move_due, is_unfinished}
 use Rattle.card_set.specs.Known.{known_cards}
-use Rattle.play_event.specs.Places.{Place, is_in_group, is_same_owner, after_fold, is_held_by}
+use Rattle.play_event.specs.Places.{Place, is_in_group, is_same_owner, after_fold, is_held_by, group_of}
 use Rattle.play_event.specs.Naming.{after_discard, after_show, other_names, blanks_in, is_covered, is_show_of_all}
 use Rattle.play_event.specs.Table.{places_of}
 use Rattle.play_event.specs.Laws.{IsAmong}
@@ -28,7 +28,7 @@ use Rattle.play_laws.proofs.DoneKept.{late_fold, all_early}
 use Rattle.play_laws.proofs.SettledStreets.{none_owed}
 use Rattle.play_laws.proofs.LegalPlaces.{PlacesOf, group_count, deal_group, changed_group}
 use Rattle.play_laws.proofs.QuietEvents.{discard_marks, show_marks, is_nothing, marked_changed, held_parts, fold_changed}
-use Rattle.play_laws.proofs.PlaceGroups.{group_of, Passed, passed}
+use Rattle.play_laws.proofs.PlaceGroups.{Passed, passed}
 use Rattle.play_laws.proofs.DiscardCounts.{is_out_of}
 use Rattle.play_event.proofs.OwnerLaws.{is_same_owner-true}
 use Rattle.std.proofs.lemmas.List.{length-map}

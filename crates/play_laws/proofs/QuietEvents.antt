@@ -7,7 +7,7 @@ use Rattle.card_set.specs.declared.card.Slot.{Slot}
 use Rattle.card_set.specs.declared.card.Slot.TheVariants as slots
 use Rattle.play_event.specs.declared.code.Code.{Code}
 use Rattle.play_event.specs.Past.{Move, is_fold, moves_before}
-use Rattle.play_event.specs.Seats.{is_live}
+use Rattle.play_event.specs.Seats.{is_live, is_fold_of}
 use Rattle.play_event.specs.Places.{Place, is_same_owner, is_held_by, folded_place, gone_now, after_fold}
 use Rattle.play_event.specs.Naming.{found_by, after_names, discarded_now, is_named}
 use Rattle.play_event.specs.Laws.{IsAmong}
@@ -18,10 +18,6 @@ use Rattle.play_laws.proofs.PlaceChanges.{HowGone, stays, out, folds, IsChange, 
 use Rattle.play_laws.proofs.KeptPlaces.{change_law}
 use Rattle.play_event.proofs.OwnerLaws.{is_same_owner-true}
 use Rattle.list_laws.proofs.Options.{some_or_none}
-
--- a seat that a move folds
-abbrev pub is_fold_of : ℕ → Move → Bool
-is_fold_of seat move = is_fold move.act && (move.seat == seat)
 
 -- who folded has folded with one move more
 pub folded_first : (move : Move) (moves : List Move) (owner : Option ℕ) → has_owner_folded moves owner ≡ true → has_owner_folded (move ∷ moves) owner ≡ true

@@ -7,7 +7,7 @@ use Rattle.std.proofs.lemmas.List.{get_or-take}
 use Rattle.std.proofs.lemmas.Option.{same_Some}
 use Rattle.serde_json.specs.Data as json
 use Rattle.toml.specs.Data as toml
-use Rattle.hand_records.specs.AllowedNotes.{default_name, name_written}
+use Rattle.hand_records.specs.AllowedNotes.{name_written}
 use Rattle.hand_records.specs.declared.notes.Notes.{Notes}
 use Rattle.hand_records.specs.declared.trace.Trace.{Trace}
 use Rattle.acpc_line.specs.Names.{name_or_default, name_text, names_text}
@@ -26,6 +26,7 @@ use Rattle.phh_table.specs.HandFields.{hand_field, label, local_time, names_fiel
 use Rattle.phh_table.specs.Members.{Field}
 use Rattle.convert_core.specs.SameRecords.{NoteTheSame}
 use Rattle.list_laws.proofs.NumbersOfRange.{flat_same, map_agree}
+use Rattle.chip_ledger.specs.SeatsSaid.{default_name}
 
 -- the plain notes of so many seats
 plain_same : (count : ℕ) (notes others : Notes) → NoteTheSame count notes others → plain_notes count notes ≡ plain_notes count others

@@ -13,8 +13,9 @@ use Rattle.printed_hands.proofs.Hands.{one_hand_more}
 use Rattle.hand_canon.specs.Judged.{IsJudged}
 use Rattle.convert_core.specs.Judged.{IsFaultAt, IsPlaysFaultOf}
 use Rattle.convert_core.specs.declared.fault.PlaysFault.{PlaysFault}
-use Rattle.convert_core.proofs.JudgedPlays.{first_refused, hands_of, judged_sound, one_more}
+use Rattle.convert_core.proofs.JudgedPlays.{first_refused, judged_sound, one_more}
 use Rattle.poker_cli.specs.Printing.{AreLinesOf, IsPrinted}
+use Rattle.hand_records.specs.Plays.{hands_of}
 
 -- a text has the lines of the plays of the first records, so many of them, and these are left
 pub record ArePrintedTo (lines : ℕ → Play → List ℕ) (records left : List Record) (text : List ℕ) (count : ℕ) : Type 0 where

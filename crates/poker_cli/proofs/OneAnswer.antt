@@ -18,7 +18,6 @@ use Rattle.hand_records.specs.declared.writing.Unspelled.{Unspelled}
 use Rattle.hand_records.specs.declared.writing.WriteRefusal.TheVariants as refusals
 use Rattle.hand_records.specs.declared.trace.Play.{Play}
 use Rattle.hand_records.specs.declared.trace.Trace.{Trace}
-use Rattle.hand_records.specs.AllowedNotes.{default_name}
 use Rattle.play_event.specs.declared.event.Event.{Event}
 use Rattle.play_event.specs.declared.setup.Setup.{Setup}
 use Rattle.printed_hands.specs.Check.{check_end, check_line, each_hand}
@@ -36,9 +35,8 @@ use Rattle.convert_core.specs.HistoryAlike as histories_alike
 use Rattle.convert_core.specs.LogAlike as logs_alike
 use Rattle.convert_core.specs.SameRecords.{AllAlike, AreAlike, SayTheSame}
 use Rattle.convert_core.specs.TreeAlike as trees_alike
-use Rattle.convert_core.proofs.OneConversion.{AllPlayedAlike, all_same, played_alike}
+use Rattle.convert_core.proofs.OneConversion.{AllPlayedAlike, all_same, played_alike, IsReadAlike}
 use Rattle.convert_core.proofs.OneOutcome.{AllTraced, no_plays, same_refused, same_traces}
-use Rattle.convert_core.proofs.JudgedPlays.{hands_of}
 use Rattle.poker_cli.specs.Answer.{Answer, Files, GivesGame, GivesNoGame, IsAnswer, IsAnswerIn, IsAnswerTo, IsConversion, IsMadeOf, IsWay, done, most_input, text_of, to_excess, to_fault, to_first_game, to_refusal, to_unspelled, to_wrong_history, to_wrong_log, to_wrong_tree}
 use Rattle.poker_cli.specs.Answer as answers
 use Rattle.poker_cli.specs.Inputs.{HaveFault, SayRecords}
@@ -56,6 +54,8 @@ use Rattle.poker_cli.specs.declared.task.Way.{Way}
 use Rattle.poker_cli.proofs.AlikeGames.{one_game}
 use Rattle.poker_cli.proofs.AlikeOutputs.{document_same, lines_same, log_same, refusal_same}
 use Rattle.list_laws.proofs.NumbersOfRange.{map_agree}
+use Rattle.chip_ledger.specs.SeatsSaid.{default_name}
+use Rattle.hand_records.specs.Plays.{hands_of}
 
 -- the lines of hands with the same traces
 same_lines : (lines : ℕ → Play → List ℕ)
@@ -183,10 +183,6 @@ alike_hands : (records others : List Record) (ps qs : List Play) → AllAlike re
 alike_hands records others ps qs alike are is =
     subst (λ (hands : List Record). AllAlike hands (hands_of qs)) (sym are.same) (subst (AllAlike records) (sym is.same) alike)
 
--- the answer to bytes of which all records are alike, and all faults told alike
-AllSaidAlike : (List Record → Type 0) → Type 0
-AllSaidAlike Say = (records others : List Record) → Say records → Say others → AllAlike records others
-
 AllToldAlike : (FormatFault → Type 0) → Type 0
 AllToldAlike HaveFault =
     (fault other : FormatFault) (answer too : Answer) → HaveFault fault → HaveFault other → to_fault fault ≡ Some answer → to_fault other ≡ Some too → answer ≡ too
@@ -200,9 +196,9 @@ refused_or_played records others number why plays alike first are =
     no_plays records others number why plays (all_same records others alike) first are
 
 same_answer : (Say : List Record → Type 0) (HaveFault : FormatFault → Type 0) (task : Task) (answer other : Answer)
-    → AllSaidAlike Say → AllToldAlike HaveFault → SayOrFault Say HaveFault
+    → IsReadAlike Say → AllToldAlike HaveFault → SayOrFault Say HaveFault
     → IsAnswerTo Say HaveFault (IsMadeOf task) answer → IsAnswerTo Say HaveFault (IsMadeOf task) other → AreOneAnswer task answer other
-unfolding AllSaidAlike AllToldAlike SayOrFault
+unfolding AllToldAlike SayOrFault
 same_answer Say HaveFault task answer other alike told apart (answers.Unread fault have _ is) (answers.Unread found has _ it) =
     one_itself task answer other (told fault found answer other have has is it)
 same_answer Say HaveFault task answer _ alike told apart (answers.Unread fault have _ is) (answers.Refused number why first) =
@@ -270,8 +266,7 @@ unfolding SayOrFault
 no_fault reader bytes records fault say have = say_or_fault reader bytes records fault say have
 
 -- the records of bytes are alike
-said_alike : (reader : Reader) (bytes : List ℕ) → AllSaidAlike (SayRecords reader bytes)
-unfolding AllSaidAlike
+said_alike : (reader : Reader) (bytes : List ℕ) → IsReadAlike (SayRecords reader bytes)
 said_alike readers.Phh bytes records others is it = histories_alike.one_reading bytes records others is it
 said_alike (readers.Ohh dialect) bytes records others is it = trees_alike.one_reading dialect bytes records others is it
 said_alike (readers.Acpc game) bytes records others is it = logs_alike.one_reading game bytes records others is it
@@ -293,8 +288,8 @@ record IsMadeAlike (task : Task) (plays : List Play) (answer : Answer) : Type 0 
   made : IsMadeOf task others answer
 
 made_of : (Say : List Record → Type 0) (HaveFault : FormatFault → Type 0) (task : Task) (records : List Record) (plays : List Play) (answer : Answer)
-    → AllSaidAlike Say → SayOrFault Say HaveFault → Say records → ArePlaysOf records plays → IsAnswerTo Say HaveFault (IsMadeOf task) answer → IsMadeAlike task plays answer
-unfolding AllSaidAlike SayOrFault
+    → IsReadAlike Say → SayOrFault Say HaveFault → Say records → ArePlaysOf records plays → IsAnswerTo Say HaveFault (IsMadeOf task) answer → IsMadeAlike task plays answer
+unfolding SayOrFault
 made_of Say HaveFault task records plays answer alike apart say are (answers.Unread fault have _ is) = absurd (apart records fault say have)
 made_of Say HaveFault task records plays _ alike apart say are (answers.Refused number why first) =
     absurd (refused_or_played first.records records number why plays (alike first.records records first.say say) first.first are)

@@ -23,7 +23,6 @@ use Rattle.printed_report.specs.Report.{report_said}
 use Rattle.ohh_reading.specs.Reading as trees
 use Rattle.phh_reading.specs.Reading as histories
 use Rattle.convert_core.specs.Conversion.{ReadAsPlays, ReadAsRefused}
-use Rattle.convert_core.specs.Spelled.{first_refusal}
 use Rattle.convert_core.specs.declared.convert_fault.ConvertFault.{ConvertFault}
 use Rattle.convert_core.specs.declared.convert_fault.ConvertFault.TheVariants as convert_faults
 use Rattle.convert_core.specs.declared.fault.Refusal.{Refusal}
@@ -43,6 +42,7 @@ use Rattle.poker_cli.specs.declared.task.Reader.{Reader}
 use Rattle.poker_cli.specs.declared.task.Task.{Task}
 use Rattle.poker_cli.specs.declared.task.Task.TheVariants as tasks
 use Rattle.poker_cli.specs.declared.task.Way.{Way}
+use Rattle.hand_records.specs.Refusals.{first_refusal}
 
 -- the most bytes of an input
 abbrev pub most_input : ℕ

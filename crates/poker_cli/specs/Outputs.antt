@@ -6,7 +6,6 @@ use Rattle.acpc_line.specs.Spelled as log_facts
 use Rattle.convert_core.specs.Histories as histories
 use Rattle.convert_core.specs.Logs as logs
 use Rattle.convert_core.specs.ReadBack.{ReadBack}
-use Rattle.convert_core.specs.Spelled.{first_refusal}
 use Rattle.convert_core.specs.Trees as trees
 use Rattle.hand_records.specs.declared.notes.Notes.{Notes}
 use Rattle.hand_records.specs.declared.trace.Play.{Play}
@@ -20,6 +19,7 @@ use Rattle.phh_table.specs.Spelled as history_facts
 use Rattle.poker_cli.specs.Inputs.{HaveFault, SayRecords}
 use Rattle.poker_cli.specs.declared.task.Reader.{Reader}
 use Rattle.poker_cli.specs.declared.task.Reader.TheVariants as readers
+use Rattle.hand_records.specs.Refusals.{first_refusal}
 
 -- bytes spell plays in a notation
 abbrev pub SpellPlays : Reader → List Play → List ℕ → Type 0

@@ -1,7 +1,7 @@
 -- A move more: what its seat has put after it, and where the trace has it.
-use Rattle.std.proofs.Common.{◌≡◌, ℕ, ◌+◌, ◌-◌, ◌≤◌, ◌<◌, List, [], ◌∷◌, ◌++◌, length, Option, Some, refl, sym, subst, ap, ◌∙◌, append_assoc, arith, inl, inr, slice_get}
+use Rattle.std.proofs.Common.{◌≡◌, ℕ, ◌+◌, ◌-◌, ◌≤◌, List, [], ◌∷◌, ◌++◌, length, Some, refl, sym, subst, ap, ◌∙◌, append_assoc, arith, inl, inr, slice_get}
 use Rattle.std.proofs.lemmas.Bool.{cases_eq, eq-eqb, ne_eqb}
-use Rattle.std.proofs.lemmas.List.{append-nil, length-append}
+use Rattle.std.proofs.lemmas.List.{append-nil}
 use Rattle.chip_ledger.specs.SeatRow.{amount_of}
 use Rattle.chip_ledger.specs.declared.rows.SeatRow.{SeatRow}
 use Rattle.canonical_play.specs.CanonScript.{plain_move}
@@ -13,6 +13,7 @@ use Rattle.play_event.specs.declared.played.Move as rows
 use Rattle.play_event.specs.declared.setup.Setup.{Setup}
 use Rattle.printed_hands.specs.Steps.{HasPut}
 use Rattle.list_laws.proofs.Entries.{at_length}
+use Rattle.play_event.proofs.TracedMoves.{as_many}
 
 -- the chips of the seat that moves, and those of another
 pub own_more : (setup : Setup) (moves : List Move) (move : Move) (seat : ℕ) → move.seat ≡ seat → chips_put setup (move ∷ moves) seat ≡ chips_put setup moves seat + (move.to - move.from)
@@ -64,10 +65,6 @@ behind setup (move ∷ front) base =
       is = ap (λ (list : List TracedMove). list ++ traced_move setup move (front ++ base) ∷ []) before.is
           ∙ append_assoc (traced_moves setup base) before.rest (traced_move setup move (front ++ base) ∷ []);
     }
-
-as_many : (setup : Setup) (moves : List Move) → length (traced_moves setup moves) ≡ length moves
-as_many setup [] = refl
-as_many setup (move ∷ before) = length-append (traced_moves setup before) (traced_move setup move before ∷ []) ∙ omega (arith, as_many setup before)
 
 -- so the trace has a move behind as many as were made before it
 pub traced_here : (setup : Setup) (front : List Move) (move : Move) (base : List Move)

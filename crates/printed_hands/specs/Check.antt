@@ -2,8 +2,8 @@
 use Rattle.std.specs.Prelude.{ℕ, ◌+◌, List, [], ◌∷◌, ◌++◌, length, codes}
 use Rattle.std.specs.Fmt.{decimal}
 use Rattle.hand_records.specs.declared.trace.Play.{Play}
-use Rattle.printed_hands.specs.Amounts.{amounts_text}
 use Rattle.chip_ledger.specs.SeatRow.{amounts_in}
+use Rattle.chip_ledger.specs.AmountTexts.{spaced}
 
 -- the lines of hands, the first of which has this number
 unfoldable pub each_hand : (ℕ → Play → List ℕ) → ℕ → List Play → List ℕ
@@ -12,7 +12,7 @@ each_hand lines number (play ∷ others) = lines number play ++ each_hand lines 
 
 -- the line of a hand: what each seat ends with
 abbrev pub check_line : ℕ → Play → List ℕ
-check_line number play = codes "hand " ++ (decimal number ++ (codes ":" ++ (amounts_text (amounts_in play.trace.finish) ++ codes "\n")))
+check_line number play = codes "hand " ++ (decimal number ++ (codes ":" ++ (spaced (amounts_in play.trace.finish) ++ codes "\n")))
 
 -- the last line: how many hands there are
 abbrev pub check_end : ℕ → List ℕ

@@ -5,8 +5,8 @@ use Rattle.chip_ledger.specs.declared.pots.Pot.{Pot}
 use Rattle.chip_ledger.specs.declared.rows.SeatRow.{SeatRow}
 use Rattle.chip_ledger.specs.PotRow.{pots_in, shares_in}
 use Rattle.hand_records.specs.declared.trace.Trace.{Trace}
-use Rattle.printed_hands.specs.Amounts.{amounts_text}
 use Rattle.chip_ledger.specs.SeatRow.{amounts_in}
+use Rattle.chip_ledger.specs.AmountTexts.{spaced}
 
 -- a seat, as p3
 abbrev pub seat_text : ℕ → List ℕ
@@ -66,4 +66,4 @@ abbrev pub ending_lines : Trace → List ℕ
 ending_lines trace =
     return_lines 1 (amounts_in trace.pots.returned)
     ++ (pot_lines 1 (pots_in trace.pots) (shares_in trace.shares) trace.setup.rakes.rakes
-    ++ (codes "finish" ++ (amounts_text (amounts_in trace.finish) ++ codes "\n")))
+    ++ (codes "finish" ++ (spaced (amounts_in trace.finish) ++ codes "\n")))

@@ -1,5 +1,4 @@
 -- The text of legal hands.
-pub mod Amounts
 pub mod Check
 pub mod Ending
 pub mod Steps

@@ -18,8 +18,8 @@ use Rattle.play_event.specs.Scripts.{past_at_end}
 use Rattle.play_event.specs.Seats.{all_seats}
 use Rattle.play_event.specs.declared.played.Move as rows
 use Rattle.play_event.specs.declared.setup.Setup.{Setup}
-use Rattle.printed_hands.specs.Amounts.{amounts_text}
 use Rattle.printed_hands.specs.Ending.{ending_lines}
+use Rattle.chip_ledger.specs.AmountTexts.{spaced}
 
 -- an event as it took place: a move with its actor named and its target spelled, and cards as the script has them
 abbrev pub event_named : Resolved → Said
@@ -33,8 +33,8 @@ event_named (past.Mucked street seat) = Muck seat
 -- the chips after these moves, the newest first: what each seat has left, and what each has put
 abbrev pub chips_text : Setup → List Move → List ℕ
 chips_text setup moves =
-    codes " | stacks" ++ (amounts_text (map (chips_left setup moves) (all_seats setup))
-    ++ (codes " | in" ++ (amounts_text (map (chips_put setup moves) (all_seats setup)) ++ codes "\n")))
+    codes " | stacks" ++ (spaced (map (chips_left setup moves) (all_seats setup))
+    ++ (codes " | in" ++ (spaced (map (chips_put setup moves) (all_seats setup)) ++ codes "\n")))
 
 -- a row has what each seat has put after these moves
 pub record HasPut (setup : Setup) (moves : List Move) (put : SeatRow) : Type 0 where

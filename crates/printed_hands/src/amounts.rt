@@ -1,7 +1,7 @@
 //! Amounts are printed behind one another, each behind a space.
 ghost use Rattle.std.specs.Prelude.{◌≡◌, ◌++◌, OnOk, string_bytes};
-ghost use Rattle.printed_hands.specs.Amounts.{amounts_text};
 ghost use Rattle.chip_ledger.specs.SeatRow.{amounts_in};
+ghost use Rattle.chip_ledger.specs.AmountTexts.{spaced};
 
 use card_set::Memory;
 use chip_ledger::SeatRow;
@@ -9,7 +9,7 @@ use chip_ledger::SeatRow;
 /// Puts the amounts of a row at the end of a text, from p1 upward.
 pub fn push_row(text: &mut String, row: &SeatRow) -> Result<(), Memory>
     ensures { OnOk result (string_bytes text.new
-        ≡ string_bytes text.old ++ amounts_text (amounts_in row.now)) }
+        ≡ string_bytes text.old ++ spaced (amounts_in row.now)) }
 {
     push_amounts(text, &row.amounts[..row.seats as usize])
 }
@@ -17,7 +17,7 @@ pub fn push_row(text: &mut String, row: &SeatRow) -> Result<(), Memory>
 /// Puts the amounts at the end of a text, each behind a space.
 pub fn push_amounts(text: &mut String, amounts: &[u64]) -> Result<(), Memory>
     ensures { OnOk result (string_bytes text.new
-        ≡ string_bytes text.old ++ amounts_text amounts.now) }
+        ≡ string_bytes text.old ++ spaced amounts.now) }
 {
     match amounts {
         [] => Ok(()),

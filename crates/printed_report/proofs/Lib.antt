@@ -3,5 +3,4 @@ pub mod Named
 pub mod Counted
 pub mod Within
 pub mod Entries
-pub mod DefaultNames
 pub mod Worked

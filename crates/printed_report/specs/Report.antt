@@ -5,11 +5,11 @@ use Rattle.std.specs.List.{list_any}
 use Rattle.std.specs.Option.{unwrap_or}
 use Rattle.chip_ledger.specs.SeatRow.{amount_of}
 use Rattle.hand_canon.specs.Agreement.{pot_total_of}
-use Rattle.hand_records.specs.AllowedNotes.{default_name}
 use Rattle.hand_records.specs.declared.trace.Play.{Play}
 use Rattle.play_event.specs.Code.{code_text}
 use Rattle.play_event.specs.Seats.{all_seats}
 use Rattle.play_event.specs.declared.code.Code.TheVariants as games
+use Rattle.chip_ledger.specs.SeatsSaid.{default_name}
 
 -- a seat of a hand: the name of its player, and the chips that it started and finished with
 pub record Seated : Type 0 where

@@ -1,6 +1,6 @@
 //! A tally adds up the seats of a name.
 ghost use Rattle.std.specs.Prelude.{◌≡◌, ◌==◌, ◌+◌, if◌then◌else◌};
-ghost use Rattle.hand_records.specs.AllowedNotes.{default_name as default_said};
+ghost use Rattle.chip_ledger.specs.SeatsSaid.{default_name as default_said};
 ghost use Rattle.printed_report.specs.Report.{name_in, seated_in};
 ghost use Rattle.printed_report.specs.Tallies.{IsWithin, MOST_SEATS, no_tally as empty, with_seat as with_seat_said};
 
@@ -69,7 +69,7 @@ pub fn name_of<'a>(play: &'a Play, seat: Seat) -> &'a str
 }
 
 // The name of a seat where none is noted.
-#[tactic(auto, using(hand_records::proofs::DefaultNames::short_name, crate::proofs::DefaultNames::long_name))]
+#[tactic(auto, using(chip_ledger::proofs::DefaultNames::short_name, chip_ledger::proofs::DefaultNames::long_name))]
 fn default_name(seat: Seat) -> &'static str
     ensures { result.now ≡ default_said seat.number }
 {

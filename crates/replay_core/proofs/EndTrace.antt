@@ -1,6 +1,6 @@
 -- Rows that say what the past says, field by field, are its trace.
-use Rattle.std.proofs.Common.{◌≡◌, ℕ, suc, ◌+◌, ◌≤◌, List, [], ◌∷◌, All, length, map, reverse, sum_by, sym, ap, ◌∙◌, arith}
-use Rattle.std.proofs.lemmas.List.{length-map, take_all}
+use Rattle.std.proofs.Common.{◌≡◌, ℕ, suc, ◌+◌, ◌≤◌, List, [], ◌∷◌, All, length, map, sum_by, sym, ap, ◌∙◌, arith}
+use Rattle.std.proofs.lemmas.List.{length-map}
 use Rattle.chip_ledger.specs.declared.pots.Pot.{Pot}
 use Rattle.chip_ledger.specs.declared.rakes.RakeRow.{RakeRow}
 use Rattle.chip_ledger.specs.declared.rows.SeatRow.{SeatRow}
@@ -17,8 +17,7 @@ use Rattle.play_event.specs.declared.event.Event.{Event}
 use Rattle.play_event.specs.declared.setup.Setup.{Setup}
 use Rattle.play_event.specs.Chips.{chips_left}
 use Rattle.play_event.specs.Past.{Past, Move, moves_of}
-use Rattle.play_event.specs.Said.{Said, said_of}
-use Rattle.play_event.specs.Scripts.{past_after, past_at_end, past_of}
+use Rattle.play_event.specs.Said.{said_of}
 use Rattle.play_event.specs.Stakes.{finishing_stack, returned_after}
 use Rattle.play_event.specs.Trace.{TracedMove, TracedPlace}
 use Rattle.showdown_split.proofs.Flagged.{flagged_inside}
@@ -56,10 +55,6 @@ finish_is setup past rows left returned finish seat left_is returned_is is =
     is
     ∙ omega (arith, left_is, returned_is, sum_by-map (λ (share : ℕ → ℕ). share seat) amount_of rows)
     ∙ ap (λ (moves : List Move). finishing_stack setup moves (map amount_of rows) seat) (sym (plain_again setup (moves_of past)))
-
--- after all events a script is at its end
-pub at_end : (setup : Setup) (script : List Said) → past_after setup script (length script) ≡ past_at_end setup script
-at_end setup script = ap (λ events. past_of setup (reverse events)) (take_all (length script) script (omega arith))
 
 pub few_events : (script : List Event) → IsWithinLimits (said_by script) → length script ≤ 4352
 few_events script within = omega (arith, count_both is_move (said_by script), length-map script said_of, within.moves, within.others)

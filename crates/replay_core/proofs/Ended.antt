@@ -34,8 +34,8 @@ use Rattle.play_event.specs.Trace.{has_unknown_card}
 use Rattle.street_laws.specs.Seats.{IsSeat}
 use Rattle.replay_core.specs.AtEnd.{StandAtEnd}
 use Rattle.replay_core.specs.EndRows.{is_shown_by}
-use Rattle.replay_core.proofs.EndTrace.{at_end}
 use Rattle.replay_core.proofs.ShownHands.{IsEnd}
+use Rattle.play_event.proofs.ScriptLaws.{at_end}
 
 -- after all events of a script, where it may end there, the machines stand at its end
 pub ended : (setup : Setup) (rules : Rules) (script : List Said) (first b : Table) (t : CardState) (due : Due) → first.setup ≡ setup → first.rules ≡ rules → b.setup ≡ first.setup

@@ -3,7 +3,7 @@ use Rattle.std.proofs.Common.{◌≡◌, ◌≢◌, ℕ, ◌-◌, ◌<◌, true,
 use Rattle.std.specs.Option.{option_map}
 use Rattle.std.proofs.lemmas.Bool.{cases_lt, true≢false}
 use Rattle.std.proofs.lemmas.List.{length-map}
-use Rattle.std.proofs.lemmas.Option.{slice_get_within}
+use Rattle.std.proofs.lemmas.Option.{slice_get_within, same_Some}
 use Rattle.hand_canon.specs.LegalHand.{IsLegalHand}
 use Rattle.play_event.specs.declared.event.Event.{Event}
 use Rattle.play_event.specs.declared.reason.Illegal.{Illegal}
@@ -17,21 +17,11 @@ use Rattle.replay_core.specs.declared.fault.ReplayFault.{ReplayFault}
 use Rattle.replay_core.specs.declared.fault.ReplayFault.TheVariants as faults
 use Rattle.replay_core.specs.Events.{IsIllegalAt, said_by}
 use Rattle.replay_core.specs.Faults.{IsFaultOf}
-
-value_of : {A : Type 0} → A → Option A → A
-value_of other None = other
-value_of other (Some value) = value
-
-some_same : {A : Type 0} (x y : A) → Some x ≡ Some y → x ≡ y
-unfolding value_of
-some_same x y is = ap (value_of x) is
-
-not_none : {A : Type 0} (x : A) → Some x ≡ None → ⊥
-not_none x is = cc
+use Rattle.list_laws.proofs.Options.{some_is_none}
 
 -- where an event is there, its index is within the script
 is_there : (script : List Event) (index at : ℕ) (found : Option Event) → slice_get script index ≡ found → option_map (λ (e : Event). e.at) found ≡ Some at → index < length script
-is_there script index at None is action = absurd (not_none at (sym action))
+is_there script index at None is action = absurd (some_is_none (sym action))
 is_there script index at (Some event) is action = slice_get_within script index event is
 
 -- events that are legal one by one have no illegal one
@@ -39,14 +29,14 @@ none_illegal : (setup : Setup) (rules : Rules) (script : List Event) (event at :
 none_illegal setup rules script event at reason legal is =
     let there : event - 1 < length script = is_there script (event - 1) at (slice_get script (event - 1)) refl is.action in
     let within : event - 1 < length (said_by script) = omega (arith, there, length-map script said_of) in
-    not_none reason (sym is.first.illegal ∙ (legal_script setup rules (said_by script)).1 legal (event - 1) within)
+    some_is_none (sym is.first.illegal ∙ (legal_script setup rules (said_by script)).1 legal (event - 1) within)
 
 -- there is one first illegal event
 same_event : (setup : Setup) (rules : Rules) (script : List Event) (event other at also : ℕ) (reason why : Illegal) → IsIllegalAt setup rules script event at reason → IsIllegalAt setup rules script other also why → event ≡ other
 same_event setup rules script event other at also reason why is it = elim (cases_lt (event - 1) (other - 1)) [
-  | inl earlier ↦ absurd (not_none reason (sym is.first.illegal ∙ it.first.legal_before (event - 1) earlier))
+  | inl earlier ↦ absurd (some_is_none (sym is.first.illegal ∙ it.first.legal_before (event - 1) earlier))
   | inr not_earlier ↦ elim (cases_lt (other - 1) (event - 1)) [
-    | inl later ↦ absurd (not_none why (sym it.first.illegal ∙ is.first.legal_before (other - 1) later))
+    | inl later ↦ absurd (some_is_none (sym it.first.illegal ∙ is.first.legal_before (other - 1) later))
     | inr not_later ↦ omega (arith, not_earlier, not_later, is.counted, it.counted)
   ]
 ]
@@ -57,8 +47,8 @@ same_illegal setup rules script event other at also reason why is it =
     let actions : Some at ≡ Some also = sym is.action ∙ ap (λ n. option_map (λ (e : Event). e.at) (slice_get script (n - 1))) same ∙ it.action in
     let reasons : Some reason ≡ Some why = sym is.first.illegal ∙ ap (λ n. why_at setup rules (said_by script) (n - 1)) same ∙ it.first.illegal in
     ap (λ n. faults.Illegal n at reason) same
-    ∙ ap (λ n. faults.Illegal other n reason) (some_same at also actions)
-    ∙ ap (faults.Illegal other also) (some_same reason why reasons)
+    ∙ ap (λ n. faults.Illegal other n reason) (same_Some at also actions)
+    ∙ ap (faults.Illegal other also) (same_Some reason why reasons)
 
 pub one_fault : (setup : Setup) (rules : Rules) (script : List Event) (fault other : ReplayFault) → fault ≢ faults.Memory → other ≢ faults.Memory → IsFaultOf setup rules script fault → IsFaultOf setup rules script other → fault ≡ other
 one_fault setup rules script (faults.Illegal event at reason) (faults.Illegal other also why) told too is it = same_illegal setup rules script event other at also reason why is it
@@ -73,19 +63,19 @@ one_fault setup rules script (faults.EndsEarly events) (faults.NoShownHand pot) 
 one_fault setup rules script (faults.EndsEarly events) faults.Memory told too is it = absurd (too refl)
 one_fault setup rules script (faults.RakeTooBig pot) (faults.Illegal event at reason) told too is it = absurd (none_illegal setup rules script event at reason is.played.legal it)
 one_fault setup rules script (faults.RakeTooBig pot) (faults.EndsEarly events) told too is it = absurd (true≢false (sym it.early ∙ is.played.complete))
-one_fault setup rules script (faults.RakeTooBig pot) (faults.RakeTooBig other) told too is it = ap faults.RakeTooBig (some_same pot other (sym is.above ∙ it.above))
-one_fault setup rules script (faults.RakeTooBig pot) (faults.NoShownHand other) told too is it = absurd (not_none pot (sym is.above ∙ it.no_rake_above))
+one_fault setup rules script (faults.RakeTooBig pot) (faults.RakeTooBig other) told too is it = ap faults.RakeTooBig (same_Some pot other (sym is.above ∙ it.above))
+one_fault setup rules script (faults.RakeTooBig pot) (faults.NoShownHand other) told too is it = absurd (some_is_none (sym is.above ∙ it.no_rake_above))
 one_fault setup rules script (faults.RakeTooBig pot) faults.Memory told too is it = absurd (too refl)
 one_fault setup rules script (faults.NoShownHand pot) (faults.Illegal event at reason) told too is it = absurd (none_illegal setup rules script event at reason is.played.legal it)
 one_fault setup rules script (faults.NoShownHand pot) (faults.EndsEarly events) told too is it = absurd (true≢false (sym it.early ∙ is.played.complete))
-one_fault setup rules script (faults.NoShownHand pot) (faults.RakeTooBig other) told too is it = absurd (not_none other (sym it.above ∙ is.no_rake_above))
-one_fault setup rules script (faults.NoShownHand pot) (faults.NoShownHand other) told too is it = ap faults.NoShownHand (some_same pot other (sym is.unshown ∙ it.unshown))
+one_fault setup rules script (faults.NoShownHand pot) (faults.RakeTooBig other) told too is it = absurd (some_is_none (sym it.above ∙ is.no_rake_above))
+one_fault setup rules script (faults.NoShownHand pot) (faults.NoShownHand other) told too is it = ap faults.NoShownHand (same_Some pot other (sym is.unshown ∙ it.unshown))
 one_fault setup rules script (faults.NoShownHand pot) faults.Memory told too is it = absurd (too refl)
 one_fault setup rules script faults.Memory other told too is it = absurd (told refl)
 
 pub no_fault : (setup : Setup) (rules : Rules) (script : List Event) (fault : ReplayFault) → fault ≢ faults.Memory → IsLegalHand setup rules (said_by script) → IsFaultOf setup rules script fault → ⊥
 no_fault setup rules script (faults.Illegal event at reason) told legal is = none_illegal setup rules script event at reason legal.played.legal is
 no_fault setup rules script (faults.EndsEarly events) told legal is = true≢false (sym is.early ∙ legal.played.complete)
-no_fault setup rules script (faults.RakeTooBig pot) told legal is = not_none pot (sym is.above ∙ legal.shareable.no_rake_above)
-no_fault setup rules script (faults.NoShownHand pot) told legal is = not_none pot (sym is.unshown ∙ legal.shareable.no_unshown)
+no_fault setup rules script (faults.RakeTooBig pot) told legal is = some_is_none (sym is.above ∙ legal.shareable.no_rake_above)
+no_fault setup rules script (faults.NoShownHand pot) told legal is = some_is_none (sym is.unshown ∙ legal.shareable.no_unshown)
 no_fault setup rules script faults.Memory told legal is = told refl

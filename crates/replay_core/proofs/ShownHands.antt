@@ -29,7 +29,7 @@ use Rattle.play_event.specs.Due.{is_unfinished, turn}
 use Rattle.play_event.specs.Games.{game_of, street_count}
 use Rattle.play_event.specs.Laws.{AreLegal}
 use Rattle.play_event.specs.Past.{Past, moves_of}
-use Rattle.play_event.specs.Places.{Place}
+use Rattle.play_event.specs.Places.{Place, group_of}
 use Rattle.play_event.specs.Said.{Said}
 use Rattle.play_event.specs.Scripts.{past_of}
 use Rattle.play_event.specs.SeatSlots.{slots_of_hand}
@@ -38,7 +38,6 @@ use Rattle.play_event.specs.Showing.{has_mucked}
 use Rattle.play_event.specs.Table.{places_of}
 use Rattle.play_event.specs.Trace.{has_unknown_card, is_contested, is_mucked, is_shown, streets_of, traced_places}
 use Rattle.play_laws.proofs.LegalPlaces.{legal_past}
-use Rattle.play_laws.proofs.PlaceGroups.{group_of}
 use Rattle.list_laws.proofs.NumbersOfRange.{filter_range, flat_same}
 use Rattle.play_laws.proofs.UnknownOrder.{legal_sorted}
 use Rattle.showdown_laws.specs.ContestedEnd.{EndContested}

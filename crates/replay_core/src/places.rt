@@ -1,12 +1,14 @@
 //! The places of the trace.
 ghost use Rattle.std.specs.Prelude.{◌≡◌, ◌+◌, ◌++◌, ◌≤◌, [], ◌∷◌, IfOk, OnOk, map};
-ghost use Rattle.card_places.specs.Ordered.{group, on_seats, on_street, on_streets};
-ghost use Rattle.card_places.specs.Plain.{place_of, seat_of};
+ghost use Rattle.card_places.specs.Ordered.{on_seats, on_street, on_streets};
+ghost use Rattle.card_places.specs.Plain.{place_of};
 ghost use Rattle.deal_core.specs.Standing.{StandsFor};
 ghost use Rattle.hand_records.specs.TraceRows.{place_said};
 ghost use Rattle.play_event.specs.Past.{Past};
 ghost use Rattle.play_event.specs.Trace.{traced_place, traced_places};
 ghost use Rattle.play_event.specs.declared.setup.Setup.{Setup};
+ghost use Rattle.chip_ledger.specs.SeatsSaid.{seat_said};
+ghost use Rattle.play_event.specs.Places.{group_of};
 
 use card_places::DealtCard;
 use card_set::Memory;
@@ -93,7 +95,7 @@ fn push_group(
     street: u8,
 ) -> Result<(), Memory>
     ensures { OnOk result (map place_said places.new ≡ map place_said places.old
-        ++ map traced_place (group (map place_of dealt.now) street (seat_of owner))) }
+        ++ map traced_place (group_of (map place_of dealt.now) street (seat_said owner))) }
 {
     match dealt {
         [] => Ok(()),
@@ -112,7 +114,7 @@ fn push_if(
     street: u8,
 ) -> Result<(), Memory>
     ensures { OnOk result (map place_said places.new ≡ map place_said places.old
-        ++ map traced_place (group (place_of card.now ∷ []) street (seat_of owner))) }
+        ++ map traced_place (group_of (place_of card.now ∷ []) street (seat_said owner))) }
 {
     if card.in_group(owner, street) {
         places.push(traced(card))

@@ -19,6 +19,7 @@ use Rattle.street_laws.proofs.Showdown.{nothing_by}
 use Rattle.street_laws.proofs.TurnAfter.{due_by}
 use Rattle.showdown_laws.specs.ContestedEnd.{EndContested}
 use Rattle.play_event.proofs.DueStreets.{none_found}
+use Rattle.play_laws.proofs.PlayedStreets.{IsDone}
 
 -- what is due on a street may not stay undone at the end
 unfinished_by : (street : ℕ) (deal draw bring_in move : Bool) (due : Due) → due_by street deal draw bring_in move ≡ Some due → is_unfinished due ≡ false → ⊥
@@ -57,12 +58,7 @@ quiet setup past street several finished low high =
     (sym (ap (λ b. is_unfinished (if b then (newest_street past, dues.Over) else unwrap_or (first_due (due_on setup past) (street_count setup.code + 1 - newest_street past) (newest_street past)) (street_count setup.code, showdown setup past)).1) several) ∙ finished)
     low high
 
--- the cards of a street are all there
-pub record IsAllDealt (setup : Setup) (past : Past) (street : ℕ) : Type 0 where
-  pub no_deal : is_deal_due setup past street ≡ false
-  pub no_draw : is_draw_due setup past street ≡ false
-
-pub all_dealt : (setup : Setup) (rules : Rules) (events : List Said) → EndContested setup rules events → (street : ℕ) → 1 ≤ street → street ≤ street_count setup.code → IsAllDealt setup (past_of setup events) street
+pub all_dealt : (setup : Setup) (rules : Rules) (events : List Said) → EndContested setup rules events → (street : ℕ) → 1 ≤ street → street ≤ street_count setup.code → IsDone setup (past_of setup events) street
 all_dealt setup rules events ends street some most =
     let past : Past = past_of setup events in
     elim (cases_lt street (newest_street past)) [

@@ -3,9 +3,8 @@ use Rattle.std.proofs.Common.{◌≡◌, ℕ, zero, suc, ◌+◌, ◌≤◌, Boo
 use Rattle.std.specs.List.{flat_map, range_with_len}
 use Rattle.std.proofs.lemmas.Bool.{and_right, and_left, cases_lt, eq-eqb, ne_eqb, le-ltb, lt-ltb}
 use Rattle.play_event.specs.Laws.{IsAmong}
-use Rattle.play_event.specs.Places.{Place, is_in_group, is_same_owner}
+use Rattle.play_event.specs.Places.{Place, is_in_group, is_same_owner, group_of}
 use Rattle.play_laws.proofs.FittingMoves.{none_pass}
-use Rattle.play_laws.proofs.PlaceGroups.{group_of}
 use Rattle.play_laws.proofs.UnknownOrder.{AreSorted}
 use Rattle.list_laws.proofs.NumbersOfRange.{flat_more}
 

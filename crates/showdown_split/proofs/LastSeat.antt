@@ -14,9 +14,7 @@ use Rattle.play_event.specs.Past.{Move}
 use Rattle.play_event.specs.Seats.{all_seats, live_count}
 use Rattle.play_event.specs.Stakes.{dead_antes_of, nets_after, shares_by_folds, stake_after, stakes_after}
 use Rattle.variant_table.specs.Shares.{AllShared, Showdown}
-
-one_if : Bool → ℕ
-one_if b = cond b 1 0
+use Rattle.list_laws.proofs.Tests.{one_if}
 
 live_anyway : (live : Bool) (n : ℕ) → (live && nat_le 0 n) ≡ live
 live_anyway true n = le-leb 0 n (omega arith)
@@ -24,7 +22,7 @@ live_anyway false n = refl
 
 -- as many seats may win the one pot as are live
 winners_of_one_pot : (stakes : List Stake) → length (reaching (after_return stakes) 0) ≡ live_stakes stakes
-unfolding after_return one_if
+unfolding after_return
 winners_of_one_pot stakes =
     let left = map (kept stakes) stakes in
     let reaches : Stake → Bool = λ s. s.live && nat_le 0 s.chips in

@@ -10,3 +10,4 @@ pub mod TraceStacks
 pub mod TraceWinners
 pub mod NoChipsMade
 pub mod SameShares
+pub mod Tidied

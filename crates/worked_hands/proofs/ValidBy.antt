@@ -10,15 +10,8 @@ use Rattle.play_event.specs.Games.{game_of}
 use Rattle.play_event.specs.Streets.{limit_of, is_stud}
 use Rattle.chip_ledger.specs.declared.numbers.TheConstants.{MOST_CHIPS}
 use Rattle.play_event.specs.ValidSetup.{IsValid, IsSize, IsSizeWhere, is_fixed, has_antes}
-
--- an amount is a stack or a bet size
-abbrev is_size : ℕ → Bool
-is_size chips = nat_le 1 chips && nat_le chips MOST_CHIPS
-
-size_by : (chips : ℕ) → is_size chips ≡ true → IsSize chips
-size_by chips passes =
-    let both = and_parts (nat_le 1 chips) (nat_le chips MOST_CHIPS) passes in
-    (leb-true 1 chips both.0, leb-true chips MOST_CHIPS both.1)
+use Rattle.chip_ledger.specs.Sizes.{is_size}
+use Rattle.play_event.proofs.Sizes.{size_is}
 
 -- a bet size that is used, or 0
 abbrev is_size_where : Bool → ℕ → Bool
@@ -26,7 +19,7 @@ is_size_where true chips = is_size chips
 is_size_where false chips = chips == 0
 
 size_where : (used : Bool) (chips : ℕ) → is_size_where used chips ≡ true → IsSizeWhere used chips
-size_where true chips passes = size_by chips passes
+size_where true chips passes = size_is chips passes
 size_where false chips passes = eqb-true chips 0 passes
 
 -- the first so many amounts are sizes
@@ -38,7 +31,7 @@ are_sizes (suc n) (amount ∷ rest) = is_size amount && are_sizes n rest
 sizes_by : (n : ℕ) (amounts : List ℕ) (k : ℕ) → are_sizes n amounts ≡ true → k < n → IsSize (slice_index amounts k)
 sizes_by zero amounts k passes inside = absurd (omega (arith, inside))
 sizes_by (suc n) [] k passes inside = false_true passes
-sizes_by (suc n) (amount ∷ rest) zero passes inside = size_by amount (and_parts (is_size amount) (are_sizes n rest) passes).0
+sizes_by (suc n) (amount ∷ rest) zero passes inside = size_is amount (and_parts (is_size amount) (are_sizes n rest) passes).0
 sizes_by (suc n) (amount ∷ rest) (suc k) passes inside = sizes_by n rest k (and_parts (is_size amount) (are_sizes n rest) passes).1 (omega (arith, inside))
 
 -- each amount is at most that of the other row

@@ -1,6 +1,6 @@
 use Rattle.std.proofs.Common.{◌≡◌, ◌++◌, take}
-use Rattle.acpc_game.specs.GameText.{spaced}
 use Rattle.acpc_game.proofs.writing.push_numbers.Given as goal
+use Rattle.chip_ledger.specs.AmountTexts.{spaced}
 
 -- the numbers so far are written
 abbrev pub invariant-loop-number : goal.invariant-loop-number

@@ -1,7 +1,6 @@
 use Rattle.std.proofs.Common.{arith}
-use Rattle.acpc_reading.proofs.SeatLaws.{long_name}
 use Rattle.acpc_reading.proofs.names.is_default.Goals as goal
-use Rattle.hand_records.proofs.DefaultNames.{short_name}
+use Rattle.chip_ledger.proofs.DefaultNames.{long_name, short_name}
 
 pub returns-then-seat-lt10 : goal.returns-then-seat-lt10
 returns-then-seat-lt10 c = let name = short_name c.args.seat c.if-seat-lt10.true in rw name (grind arith)

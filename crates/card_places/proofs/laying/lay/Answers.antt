@@ -2,25 +2,25 @@
 use Rattle.std.proofs.Common.{ℕ, List, length, count_by, sym, subst, arith}
 use Rattle.play_event.specs.Places.{Place, is_in_group}
 use Rattle.card_places.specs.Placed.{placed}
-use Rattle.card_places.specs.Plain.{seat_of}
 use Rattle.card_places.specs.Room.{IsWithin, AreHeldWithin}
 use Rattle.card_places.proofs.Fits.{owed_room}
 use Rattle.card_places.proofs.HeldWithin.{at_most_ten, held_deal}
 use Rattle.card_places.proofs.Putting.{placed_length}
 use Rattle.card_places.proofs.Rooms.{room, within_deal}
 use Rattle.card_places.proofs.laying.lay.Goals as goal
+use Rattle.chip_ledger.specs.SeatsSaid.{seat_said}
 
 pub put-requires : goal.put-requires
 put-requires c =
     let t = c.args.state.now in
-    let fits = owed_room t.table.code t.seats t.draws (placed t.places) (seat_of c.args.owner) c.args.on (length c.args.cards.now) (at_most_ten t.table.code t.seats t.few) t.named c.requires in
-    omega (arith, placed_length t.places, room t.table.code t.seats (placed t.places) (seat_of c.args.owner) c.args.on c.args.cards.now t.few t.within fits)
+    let fits = owed_room t.table.code t.seats t.draws (placed t.places) (seat_said c.args.owner) c.args.on (length c.args.cards.now) (at_most_ten t.table.code t.seats t.few) t.named c.requires in
+    omega (arith, placed_length t.places, room t.table.code t.seats (placed t.places) (seat_said c.args.owner) c.args.on c.args.cards.now t.few t.within fits)
 
 pub invariant_of-state : goal.invariant_of-state
 invariant_of-state c =
     let t = c.args.state.now in
     let before : List Place = placed t.places in
-    let owner = seat_of c.args.owner in
+    let owner = seat_said c.args.owner in
     let cards = c.args.cards.now in
     let group : ℕ = count_by (is_in_group owner c.args.on) before in
     let fits = owed_room t.table.code t.seats t.draws before owner c.args.on (length cards) (at_most_ten t.table.code t.seats t.few) t.named c.requires in

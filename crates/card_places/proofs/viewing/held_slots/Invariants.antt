@@ -1,10 +1,11 @@
 use Rattle.std.proofs.Common.{◌≡◌, map, take, filter, count_by}
 use Rattle.card_set.specs.Row.{slots_of}
 use Rattle.play_event.specs.Held.{is_held}
-use Rattle.card_places.specs.Plain.{place_of, seat_of}
+use Rattle.card_places.specs.Plain.{place_of}
 use Rattle.card_places.proofs.viewing.held_slots.Given as goal
+use Rattle.chip_ledger.specs.SeatsSaid.{seat_said}
 
 abbrev pub invariant-loop-card : goal.invariant-loop-card
 invariant-loop-card l =
-    (slots_of l.slots ≡ map (λ place. place.slot) (filter (is_held (seat_of l.owner)) (map place_of (take l.card-index l.card-items))))
-    × (l.slots.len ≡ count_by (is_held (seat_of l.owner)) (map place_of (take l.card-index l.card-items)))
+    (slots_of l.slots ≡ map (λ place. place.slot) (filter (is_held (seat_said l.owner)) (map place_of (take l.card-index l.card-items))))
+    × (l.slots.len ≡ count_by (is_held (seat_said l.owner)) (map place_of (take l.card-index l.card-items)))

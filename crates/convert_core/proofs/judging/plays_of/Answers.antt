@@ -7,8 +7,9 @@ use Rattle.hand_records.specs.declared.record.Record.{Record}
 use Rattle.hand_records.specs.declared.trace.Play.{Play}
 use Rattle.hand_records.specs.SoundRecord.{IsSoundRecord}
 use Rattle.hand_canon.specs.Judged.{IsJudged}
-use Rattle.convert_core.proofs.JudgedPlays.{counted_more, first_refused, front_sound, hands_of, one_more}
+use Rattle.convert_core.proofs.JudgedPlays.{counted_more, first_refused, front_sound, one_more}
 use Rattle.convert_core.proofs.judging.plays_of.Goals as goal
+use Rattle.hand_records.specs.Plays.{hands_of}
 
 pub returns-in_err-play-clause-refused : goal.returns-in_err-play-clause-refused
 returns-in_err-play-clause-refused c =

@@ -1,20 +1,21 @@
 -- The logs of the game spell the play, or they do not.
 use Rattle.std.proofs.Common.{◌≡◌, ◌⊎◌, List, [], ◌∷◌, length, Some, sym, ap, subst, ◌∙◌}
 use Rattle.acpc_line.specs.Line.{log_text}
-use Rattle.acpc_line.specs.Spelled.{first_refusal, unspelled}
+use Rattle.acpc_line.specs.Spelled.{unspelled}
 use Rattle.hand_records.specs.declared.trace.Play.{Play}
 use Rattle.hand_records.specs.declared.writing.Keep.TheVariants as keeps
 use Rattle.hand_records.specs.declared.writing.WriteRefusal.TheVariants as refusals
 use Rattle.hand_gen.specs.Load.{fits}
 use Rattle.hand_gen.proofs.CountLaws.{refused_is, written_is}
 use Rattle.hand_gen.proofs.counting.in_logs_of.Goals as goal
+use Rattle.hand_records.specs.Refusals.{first_refusal}
 
 pub returns-in-Ok : goal.returns-in-Ok
 returns-in-Ok c = λ play one game_is.
     let game = c.args.game.now in
     fits game game_is
     (written_is (unspelled game keeps.All play) (length (log_text game.no_limit (play ∷ []))) c.spelled_in.result
-    (sym (ap (first_refusal game keeps.All) one) ∙ c.in-Ok.ensures.spelled)
+    (sym (ap (first_refusal (unspelled game keeps.All)) one) ∙ c.in-Ok.ensures.spelled)
     c.spelled_in.ensures.hands
     (c.spelled_in.ensures.bytes ∙ c.len.ensures ∙ c.in-Ok.bytes.ok.0 ∙ ap length (c.in-Ok.ensures.written ∙ ap (log_text game.no_limit) one)))
 
@@ -25,5 +26,5 @@ returns-in-Err-Unspelled c = λ play one game_is.
     fits game game_is
     (refused_is (unspelled game keeps.All play) (length (log_text game.no_limit (play ∷ []))) c.not_spelled.result
     refusal c.in-Err-Unspelled.field-0-0 c.in-Err-Unspelled.field-0-1 c.in-Err-Unspelled.field-0-is
-    (subst (λ (file : List Play). (refusal ≡ refusals.Memory) ⊎ (first_refusal game keeps.All file ≡ Some refusal)) one c.in-Err-Unspelled.ensures.refused)
+    (subst (λ (file : List Play). (refusal ≡ refusals.Memory) ⊎ (first_refusal (unspelled game keeps.All) file ≡ Some refusal)) one c.in-Err-Unspelled.ensures.refused)
     c.not_spelled.ensures.hands c.not_spelled.ensures.bytes)

@@ -2,9 +2,9 @@
 use Rattle.std.proofs.Common.{sym, ap, ◌∙◌}
 use Rattle.play_event.specs.declared.code.Code.{Code}
 use Rattle.play_event.specs.Streets.{opener_of}
-use Rattle.betting_numbers.specs.SeatsSaid.{seat_said}
 use Rattle.betting_numbers.proofs.InTurn.{turn_blinds}
 use Rattle.hand_gen.proofs.moving.in_turn.Goals as goal
+use Rattle.chip_ledger.specs.SeatsSaid.{seat_said}
 
 pub returns-in-Blinds-clause-turn : goal.returns-in-Blinds-clause-turn
 returns-in-Blinds-clause-turn g c =

@@ -3,9 +3,10 @@ use Rattle.std.proofs.Common.{◌≡◌, ℕ, ◌+◌, if◌then◌else◌, refl
 use Rattle.play_event.specs.Streets.{is_stud}
 use Rattle.hand_gen.specs.Draws.{drawn, number_after}
 use Rattle.hand_gen.specs.Setups.{blind_of, seats_drawn}
-use Rattle.hand_gen.proofs.SetupLaws.{behind_one, no_rake}
+use Rattle.hand_gen.proofs.SetupLaws.{behind_one}
 use Rattle.hand_gen.proofs.setups.setup_at.Goals as goal
 use Rattle.list_laws.proofs.Tests.{if_not_none}
+use Rattle.chip_ledger.proofs.RowLists.{no_rake}
 
 pub returns : goal.returns
 returns c =

@@ -6,8 +6,8 @@ use Rattle.serde_json.specs.View.{view}
 use Rattle.serde_json.specs.Written.{compact_text, has_float}
 use Rattle.ohh_line.specs.Tree.{hand_tree}
 use Rattle.ohh_line.proofs.Plain.{hand_plain}
-use Rattle.ohh_line.proofs.Tidied.{sound_tidy}
 use Rattle.ohh_line.proofs.document.make_text.Goals as goal
+use Rattle.trace_laws.proofs.Tidied.{sound_tidy}
 
 pub hand_value-requires : goal.hand_value-requires
 hand_value-requires c = sound_tidy c.args.play.now c.requires

@@ -4,12 +4,13 @@ use Rattle.std.proofs.lemmas.Result.{err_from_is_err_and}
 use Rattle.toml.specs.View.{view}
 use Rattle.first_fault.specs.Reading.{each_from}
 use Rattle.first_fault.proofs.EachItem.{with_front, goes_on, ends, is_done}
-use Rattle.hand_records.specs.AllowedNotes.{IsName, default_name}
+use Rattle.hand_records.specs.AllowedNotes.{IsName}
 use Rattle.phh_fields.specs.declared.fault.Key.TheVariants as keys
 use Rattle.phh_fields.specs.Fields.{at_item}
 use Rattle.phh_fields.specs.NoteFields.{names_from, text_note_said}
 use Rattle.phh_fields.proofs.seating.fill_names.Goals as goal
 use Rattle.list_laws.proofs.Entries.{set_each}
+use Rattle.chip_ledger.specs.SeatsSaid.{default_name}
 
 pub returns-in_err-names-clause-said : goal.returns-in_err-names-clause-said
 returns-in_err-names-clause-said c =

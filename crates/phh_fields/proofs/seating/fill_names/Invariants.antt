@@ -2,11 +2,12 @@ use Rattle.std.proofs.Common.{◌≡◌, ℕ, ◌+◌, ◌<◌, ◌≤◌, None,
 use Rattle.toml.specs.View.{view}
 use Rattle.first_fault.specs.Reading.{each_from}
 use Rattle.first_fault.proofs.EachItem.{with_front}
-use Rattle.hand_records.specs.AllowedNotes.{IsName, default_name}
+use Rattle.hand_records.specs.AllowedNotes.{IsName}
 use Rattle.phh_fields.specs.declared.fault.Key.TheVariants as keys
 use Rattle.phh_fields.specs.Fields.{at_item}
 use Rattle.phh_fields.specs.NoteFields.{names_from, text_note_said}
 use Rattle.phh_fields.proofs.seating.fill_names.Given as goal
+use Rattle.chip_ledger.specs.SeatsSaid.{default_name}
 
 -- the names so far and those of the values that are left are all of them, and behind those so far stand none
 abbrev pub invariant-loop-index : goal.invariant-loop-index

@@ -1,6 +1,6 @@
 use Rattle.std.proofs.Common.{arith}
-use Rattle.phh_words.proofs.SeatLaws.{short_name, long_name}
 use Rattle.phh_words.proofs.parts.names_seat.Goals as goal
+use Rattle.chip_ledger.proofs.DefaultNames.{short_name, long_name}
 
 pub returns-then-seat-lt10 : goal.returns-then-seat-lt10
 returns-then-seat-lt10 c = let name = short_name c.args.seat c.if-seat-lt10.true in rw name (grind arith)

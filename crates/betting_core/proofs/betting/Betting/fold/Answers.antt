@@ -1,7 +1,7 @@
 -- Another thing is due.
-use Rattle.betting_numbers.specs.SeatsSaid.{seat_said}
 use Rattle.betting_numbers.proofs.InTurn.{fold_now}
 use Rattle.betting_core.proofs.betting.Betting.fold.Goals as goal
+use Rattle.chip_ledger.specs.SeatsSaid.{seat_said}
 
 pub returns-in-Some-clause-refused : goal.returns-in-Some-clause-refused
 returns-in-Some-clause-refused g c =

@@ -4,13 +4,14 @@ use Rattle.play_event.specs.declared.reason.Due.{Due}
 use Rattle.play_event.specs.Past.{moves_of}
 use Rattle.play_event.specs.Openers.{InTurn, TheSeat}
 use Rattle.betting_numbers.specs.declared.targeting.Targets.{Targets}
-use Rattle.betting_numbers.specs.SeatsSaid.{seat_said, turn_of}
+use Rattle.betting_numbers.specs.SeatsSaid.{turn_of}
 use Rattle.betting_numbers.specs.LegalMoves.{IsTurn}
 use Rattle.play_event.specs.Mover.{mover}
 use Rattle.play_event.specs.Table.{up_cards}
 use Rattle.play_event.specs.TurnTargets.{AreTargets, has_targets_at, may_raise_now}
 use Rattle.betting_core.proofs.betting.Betting.targets.Goals as goal
 use Rattle.list_laws.proofs.Options.{some_more}
+use Rattle.chip_ledger.specs.SeatsSaid.{seat_said}
 
 pub returns-then-betting_due-clause-some : goal.returns-then-betting_due-clause-some
 returns-then-betting_due-clause-some g c =

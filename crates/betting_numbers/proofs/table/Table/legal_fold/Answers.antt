@@ -3,10 +3,11 @@ use Rattle.std.proofs.Common.{◌≤◌, ℕ, Option, IfSome, Some, sym, ap, sub
 use Rattle.chip_ledger.specs.declared.numbers.Seat.{Seat}
 use Rattle.play_event.specs.Said as said
 use Rattle.play_event.specs.Past.{Folded}
-use Rattle.betting_numbers.specs.SeatsSaid.{seat_said, turn_of}
+use Rattle.betting_numbers.specs.SeatsSaid.{turn_of}
 use Rattle.betting_numbers.specs.LegalMoves.{IsLegalMove, IsTurn}
 use Rattle.betting_numbers.proofs.InTurn.{fold_moves, fold_is_legal, fold_unknown, move_fits}
 use Rattle.betting_numbers.proofs.table.Table.legal_fold.Goals as goal
+use Rattle.chip_ledger.specs.SeatsSaid.{seat_said}
 
 pub returns-in-None-clause-refused : goal.returns-in-None-clause-refused
 returns-in-None-clause-refused c =

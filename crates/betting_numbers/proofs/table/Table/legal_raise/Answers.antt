@@ -3,11 +3,12 @@ use Rattle.std.proofs.Common.{◌≤◌, ◌-◌, ℕ, Option, IfSome, Some, ari
 use Rattle.chip_ledger.specs.declared.numbers.Seat.{Seat}
 use Rattle.play_event.specs.Said as said
 use Rattle.play_event.specs.Past.{Raised}
-use Rattle.betting_numbers.specs.SeatsSaid.{seat_said, turn_of}
+use Rattle.betting_numbers.specs.SeatsSaid.{turn_of}
 use Rattle.betting_numbers.specs.LegalMoves.{IsLegalMove, IsTurn}
 use Rattle.betting_numbers.specs.Why.{raise_why, floor_by}
 use Rattle.betting_numbers.proofs.InTurn.{raise_moves, raise_is_legal, raise_unknown, raise_reach}
 use Rattle.betting_numbers.proofs.table.Table.legal_raise.Goals as goal
+use Rattle.chip_ledger.specs.SeatsSaid.{seat_said}
 
 pub returns-in-None-clause-refused : goal.returns-in-None-clause-refused
 returns-in-None-clause-refused c =

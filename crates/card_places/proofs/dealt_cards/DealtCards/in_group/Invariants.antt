@@ -1,7 +1,8 @@
 use Rattle.std.proofs.Common.{◌≡◌, ◌≤◌, map, take, count_by}
 use Rattle.play_event.specs.Places.{is_in_group}
-use Rattle.card_places.specs.Plain.{place_of, seat_of}
+use Rattle.card_places.specs.Plain.{place_of}
 use Rattle.card_places.proofs.dealt_cards.DealtCards.in_group.Given as goal
+use Rattle.chip_ledger.specs.SeatsSaid.{seat_said}
 
 abbrev pub invariant-loop-card : goal.invariant-loop-card
-invariant-loop-card l = (l.count ≡ count_by (is_in_group (seat_of l.owner) l.street) (map place_of (take l.card-index l.card-items))) × (l.count ≤ l.card-index)
+invariant-loop-card l = (l.count ≡ count_by (is_in_group (seat_said l.owner) l.street) (map place_of (take l.card-index l.card-items))) × (l.count ≤ l.card-index)

@@ -8,9 +8,9 @@ use Rattle.ohh_posts.specs.Conditions.{has_all_antes}
 use Rattle.ohh_posts.specs.Posts.{PlainPost, plain_post}
 use Rattle.ohh_posts.specs.Stakes.{PlainStakes, held_ante, named_blind, stakes_said}
 use Rattle.ohh_posts.specs.Table.{PlainTable, plain_table, seat_count}
-use Rattle.ohh_posts.proofs.SeatBySeat.{row_listed}
 use Rattle.ohh_posts.proofs.Stacks.{seats_in}
 use Rattle.ohh_posts.proofs.stakes.Stakes.of.Goals as goal
+use Rattle.chip_ledger.proofs.RowLists.{row_listed}
 
 same_stakes : (a b : List ℕ) (dead other : Bool) (x y : List ℕ) → a ≡ b → dead ≡ other → x ≡ y → ◌≡◌ {A = PlainStakes} (record { antes = a; dead_antes = dead; blinds = x }) (record { antes = b; dead_antes = other; blinds = y })
 same_stakes a b dead other x y antes is blinds =

@@ -1,2 +1,0 @@
--- What an event of a canonical script may say.
-pub mod Ranges

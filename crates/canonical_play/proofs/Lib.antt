@@ -1,0 +1,2 @@
+-- What holds of the events of a canonical script.
+pub mod Deals

@@ -1,0 +1,7 @@
+-- Amounts as text.
+use Rattle.std.specs.Prelude.{ℕ, List, ◌∷◌, flat_map}
+use Rattle.std.specs.Fmt.{decimal}
+
+-- numbers, with a space in front of each
+abbrev pub spaced : List ℕ → List ℕ
+spaced numbers = flat_map (λ number. 32 ∷ decimal number) numbers

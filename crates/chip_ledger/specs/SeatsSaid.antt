@@ -1,0 +1,13 @@
+-- Seats as numbers, and the name that a seat has by its number.
+use Rattle.std.specs.Prelude.{ℕ, List, ◌++◌, codes, Option}
+use Rattle.std.specs.Fmt.{decimal}
+use Rattle.std.specs.Option.{option_map}
+use Rattle.chip_ledger.specs.declared.numbers.Seat.{Seat}
+
+-- the number of a seat, if there is one
+abbrev pub seat_said : Option Seat → Option ℕ
+seat_said seat = option_map (λ (s : Seat). s.number) seat
+
+-- the name of a seat where no other is said: p and the seat's number
+abbrev pub default_name : ℕ → List ℕ
+default_name seat = codes "p" ++ decimal seat

@@ -1,0 +1,7 @@
+-- Which amounts may be a stack or the size of a bet.
+use Rattle.std.specs.Prelude.{ℕ, Bool, nat_le, ◌&&◌}
+use Rattle.chip_ledger.specs.declared.numbers.TheConstants.{MOST_CHIPS}
+
+-- an amount is a stack or the size of a bet
+abbrev pub is_size : ℕ → Bool
+is_size chips = nat_le 1 chips && nat_le chips MOST_CHIPS

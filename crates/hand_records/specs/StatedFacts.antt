@@ -1,0 +1,9 @@
+-- Stated facts, put together of their parts.
+use Rattle.std.specs.Prelude.{ℕ, Option}
+use Rattle.chip_ledger.specs.declared.rows.SeatRow.{SeatRow}
+use Rattle.hand_records.specs.declared.record.NetRow.{NetRow}
+use Rattle.hand_records.specs.declared.record.Stated.{Stated}
+
+-- stated facts, put together
+unfoldable pub stated_from : Option SeatRow → Option SeatRow → Option ℕ → Option NetRow → Stated
+stated_from finish wins pot_total values = record { finish = finish; wins = wins; pot_total = pot_total; values = values }
