@@ -1,5 +1,5 @@
 -- Whose turn it is where up-cards open.
-use Rattle.std.proofs.Common.{◌≡◌, ℕ, ◌≤◌, Bool, true, false, ◌&&◌, ◌||◌, ◌==◌, not, nat_lt, nat_le, cond, if◌then◌else◌, List, [], ◌∷◌, Option, Some, None, is_some, find, filter, refl, sym, ap, subst, ◌∙◌, arith}
+use Rattle.std.proofs.Common.{◌≡◌, ℕ, ◌≤◌, Bool, true, false, ◌&&◌, ◌||◌, ◌==◌, not, nat_lt, nat_le, cond, if◌then◌else◌, List, [], ◌∷◌, Option, Some, None, is_some, find, refl, sym, ap, subst, ◌∙◌, arith}
 use Rattle.std.specs.List.{list_any}
 use Rattle.std.proofs.lemmas.Bool.{true≢false, and_parts, leb-true}
 use Rattle.chip_ledger.specs.declared.numbers.Seat.{Seat}
@@ -40,16 +40,12 @@ use Rattle.list_laws.proofs.Any.{list_any-filter, list_any-weaker}
 use Rattle.list_laws.proofs.Finding.{find-filter}
 use Rattle.chip_ledger.specs.SeatsSaid.{seat_said}
 
--- a walk over the seats that pass is a walk over all seats
-filtered_any : (p q : ℕ → Bool) (xs : List ℕ) → list_any q (filter p xs) ≡ list_any (λ x. p x && q x) xs
-filtered_any p q xs = list_any-filter q p xs
-
 module _ (b : Table) (past : Past) (stands : StandsFor b past) (up : UpRow) (holds : HoldsUps b.setup up past) where
   unknown_is : has_unknown_up_card_seen b up ≡ has_unknown_up_card b.setup (up_cards b.setup.code past) (moves_of past)
   unknown_is =
       any_seats (has_unknown_seen b up) (λ seat. is_able b.setup (moves_of past) seat && list_any is_unknown (up_cards b.setup.code past seat)) b.setup.stacks.seats
       (λ k low high. ap (λ a. a && list_any is_unknown (ups_of up k)) (able_is b (moves_of past) stands.standing k (record { first = low; last = high })) ∙ ap (λ slots. is_able b.setup (moves_of past) k && list_any is_unknown slots) (holds k low high))
-      ∙ sym (filtered_any (is_able b.setup (moves_of past)) (λ seat. list_any is_unknown (up_cards b.setup.code past seat)) (all_seats b.setup))
+      ∙ sym (list_any-filter (λ seat. list_any is_unknown (up_cards b.setup.code past seat)) (is_able b.setup (moves_of past)) (all_seats b.setup))
 
   -- the other opens before this one, by the rules
   abbrev opens_earlier : Opener → (seat other : ℕ) → Bool
@@ -66,7 +62,7 @@ module _ (b : Table) (past : Past) (stands : StandsFor b past) (up : UpRow) (hol
       ap (λ a. a && not (list_any (is_before_seen opener b up k) (all_seats b.setup))) (able_is b (moves_of past) stands.standing k in_k)
       ∙ ap (λ o. is_able b.setup (moves_of past) k && not o) (
       any_seats (is_before_seen opener b up k) (λ other. is_able b.setup (moves_of past) other && opens_earlier opener k other) b.setup.stacks.seats (λ other low high. before_is opener k other in_k (record { first = low; last = high }))
-      ∙ sym (filtered_any (is_able b.setup (moves_of past)) (opens_earlier opener k) (all_seats b.setup))
+      ∙ sym (list_any-filter (opens_earlier opener k) (is_able b.setup (moves_of past)) (all_seats b.setup))
       )
 
   -- the seat by the numbers is the seat by the rules
@@ -101,7 +97,7 @@ module _ (b : Table) (past : Past) (stands : StandsFor b past) (up : UpRow) (hol
   one_opens opener some =
       ap is_some (up_opener_is opener)
       ∙ one_opens_by opener (able_seats b.setup (moves_of past)) (
-      filtered_any (is_able b.setup (moves_of past)) (λ x. true) (all_seats b.setup)
+      list_any-filter (λ x. true) (is_able b.setup (moves_of past)) (all_seats b.setup)
       ∙ any_seats (λ x. is_able b.setup (moves_of past) x && true) (is_able_seen b) b.setup.stacks.seats (λ k low high. and_true (is_able b.setup (moves_of past) k) ∙ sym (able_is b (moves_of past) stands.standing k (record { first = low; last = high })))
       ∙ some_able some
       )

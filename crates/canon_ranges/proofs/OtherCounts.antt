@@ -2,7 +2,7 @@
 use Rattle.std.proofs.Common.{◌≡◌, ℕ, ◌+◌, ◌*◌, ◌≤◌, Bool, true, false, ◌&&◌, ◌==◌, not, nat_le, if◌then◌else◌, List, [], ◌∷◌, ◌++◌, length, map, filter, flat_map, reverse, count_by, cond, Some, None, refl, ap, arith, length-append}
 use Rattle.std.proofs.lemmas.List.{length-map}
 use Rattle.std.proofs.lemmas.List.FromFn.{length-range_with_len}
-use Rattle.std.proofs.lemmas.List.Sums.{count_by-le-length, length-filter}
+use Rattle.std.proofs.lemmas.List.Sums.{count_by-le-length}
 use Rattle.list_laws.proofs.Counting.{count_by-cons}
 use Rattle.play_event.specs.declared.setup.Setup.{Setup}
 use Rattle.play_event.specs.Games.{street_count}
@@ -16,6 +16,8 @@ use Rattle.canonical_play.specs.PlayedScript.{is_move}
 use Rattle.canonical_play.specs.TraceCore.{TraceCore}
 use Rattle.play_event.proofs.StreetLaws.{few_streets}
 use Rattle.canonical_play.proofs.Deals.{one_board, one_deal}
+use Rattle.list_laws.proofs.Lists.{kept_few}
+use Rattle.list_laws.proofs.FlatMaps.{flat_few}
 
 -- how many of some events are no moves
 abbrev others : List Said → ℕ
@@ -30,13 +32,6 @@ both (x ∷ xs) ys =
 -- no more than there are events
 few : (events : List Said) (most : ℕ) → length events ≤ most → others events ≤ most
 few events most short = omega (arith, short, count_by-le-length (λ event. not (is_move event)) events)
-
-kept_few : (p : ℕ → Bool) (seats : List ℕ) → length (filter p seats) ≤ length seats
-kept_few p seats = omega (arith, length-filter p seats, count_by-le-length p seats)
-
-flat_few : (said : ℕ → List Said) (seats : List ℕ) → ((seat : ℕ) → length (said seat) ≤ 1) → length (flat_map said seats) ≤ length seats
-flat_few said [] each = omega arith
-flat_few said (seat ∷ seats) each = omega (arith, each seat, length-append (said seat) (flat_map said seats), flat_few said seats each)
 
 ten_seats : (setup : Setup) → length (all_seats setup) ≤ 10
 ten_seats setup = omega (arith, length-range_with_len 1 setup.stacks.seats, setup.stacks.greatest)
@@ -67,7 +62,7 @@ module _ (setup : Setup) (placed : List TracedPlace) (moves : List Move) where
       (omega (
         arith,
         length-append holes board,
-        flat_few (λ seat. deal_said seat (dealt_slots placed (Some seat) street)) (all_seats setup) (λ seat. one_deal seat (dealt_slots placed (Some seat) street)),
+        flat_few (λ seat. deal_said seat (dealt_slots placed (Some seat) street)) 1 (all_seats setup) (λ seat. one_deal seat (dealt_slots placed (Some seat) street)),
         one_board (dealt_slots placed None street),
         ten_seats setup,
       ))

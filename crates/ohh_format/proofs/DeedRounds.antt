@@ -7,23 +7,22 @@ use Rattle.hand_records.specs.TraceRows.{core_said}
 use Rattle.hand_records.specs.declared.trace.Trace.{Trace}
 use Rattle.ohh_members.specs.declared.dialect.Dialect.{Dialect}
 use Rattle.ohh_members.specs.declared.fault.Fault.{Fault}
-use Rattle.ohh_line.specs.declared.action.Street as written_streets
-use Rattle.ohh_line.specs.declared.action.Street.TheVariants as written
 use Rattle.ohh_line.specs.Actions.{PlainAction, showings}
 use Rattle.ohh_line.specs.Rounds.{PlainRound, board_round, board_round_on, first_actions, hand_rounds, moves_on, round, showdown_round}
 use Rattle.ohh_line.specs.Tree.{round_trees}
-use Rattle.ohh_rounds.specs.declared.street.Street.{Street}
 use Rattle.ohh_rounds.specs.Rounds.{SoFar, added_from, round_said}
 use Rattle.ohh_rounds.specs.Setting.{PlainSetting}
 use Rattle.ohh_rounds.specs.Steps.{PlainStep}
 use Rattle.ohh_format.proofs.Deeds.{Deed, action_of, deal_deeds, deals_are, move_deeds, moves_are, post_deeds, posts_are, showing_deeds, showings_are}
-use Rattle.ohh_format.proofs.RoundsAgain.{FitsRound, round_read, street_of, with_board}
+use Rattle.ohh_format.proofs.RoundsAgain.{FitsRound, round_read, with_board}
 use Rattle.ohh_format.proofs.StepsAgain.{steps_of}
 use Rattle.play_event.specs.Seats.{all_seats}
+use Rattle.ohh_members.specs.declared.street.Street.{Street}
+use Rattle.ohh_members.specs.declared.street.Street.TheVariants as streets
 
 -- a round: its street, the cards that it deals to the board, and what is done
 pub record DeedRound : Type 0 where
-  pub street : written_streets.Street
+  pub street : Street
   pub cards : List Slot
   pub deeds : List Deed
 
@@ -31,7 +30,7 @@ pub record DeedRound : Type 0 where
 abbrev pub round_of : DeedRound → PlainRound
 round_of one = round one.street one.cards (map action_of one.deeds)
 
-abbrev pub deed_round : written_streets.Street → List Slot → List Deed → DeedRound
+abbrev pub deed_round : Street → List Slot → List Deed → DeedRound
 deed_round street cards deeds = record { street = street; cards = cards; deeds = deeds }
 
 -- ---- what is read of rounds
@@ -45,7 +44,7 @@ steps_after dialect earlier n index (one ∷ rest) =
 -- the last street of rounds
 abbrev pub last_street : Option Street → List DeedRound → Option Street
 last_street last [] = last
-last_street last (one ∷ rest) = last_street (Some (street_of one.street)) rest
+last_street last (one ∷ rest) = last_street (Some one.street) rest
 
 module _ (setting : PlainSetting) where
   -- each round fits, after those before it
@@ -53,7 +52,7 @@ module _ (setting : PlainSetting) where
   FitRounds last earlier n index [] = Unit {0}
   FitRounds last earlier n index (one ∷ rest) =
       FitsRound setting last earlier n index one.street one.cards one.deeds
-      × FitRounds (Some (street_of one.street)) (with_board earlier one.cards ++ steps_of setting.dialect n index 0 one.deeds) (n + length one.deeds) (index + 1) rest
+      × FitRounds (Some one.street) (with_board earlier one.cards ++ steps_of setting.dialect n index 0 one.deeds) (n + length one.deeds) (index + 1) rest
 
   so_far : Option Street → List PlainStep → Result SoFar Fault
   so_far last steps = Ok (last, steps)
@@ -64,7 +63,7 @@ module _ (setting : PlainSetting) where
   rounds_read last earlier n m index [] fit = refl
   rounds_read last earlier n m index (one ∷ rest) fit =
       rw (round_read setting last earlier n m index one.street one.cards one.deeds fit.0)
-      (rounds_read (Some (street_of one.street)) (with_board earlier one.cards ++ steps_of setting.dialect n index 0 one.deeds) (n + length one.deeds) (m + length (map action_of one.deeds)) (index + 1) rest fit.1)
+      (rounds_read (Some one.street) (with_board earlier one.cards ++ steps_of setting.dialect n index 0 one.deeds) (n + length one.deeds) (m + length (map action_of one.deeds)) (index + 1) rest fit.1)
 
 -- ---- the rounds of a hand
 
@@ -77,28 +76,28 @@ abbrev pub first_deeds : Dialect → Trace → List Deed
 first_deeds dialect trace = post_deeds trace.setup ++ (deal_deeds (core_said trace).places (all_seats trace.setup) ++ deeds_on dialect trace 1)
 
 -- the round of a street whose cards were dealt to the board
-abbrev pub board_deeds : written_streets.Street → List Slot → List Deed → List DeedRound
+abbrev pub board_deeds : Street → List Slot → List Deed → List DeedRound
 board_deeds street [] deeds = []
 board_deeds street (slot ∷ rest) deeds = deed_round street (slot ∷ rest) deeds ∷ []
 
 abbrev pub showdown_deeds : List Deed → List DeedRound
 showdown_deeds [] = []
-showdown_deeds (deed ∷ rest) = deed_round written.Showdown [] (deed ∷ rest) ∷ []
+showdown_deeds (deed ∷ rest) = deed_round streets.Showdown [] (deed ∷ rest) ∷ []
 
-abbrev pub board_deeds_on : Dialect → Trace → written_streets.Street → ℕ → List DeedRound
+abbrev pub board_deeds_on : Dialect → Trace → Street → ℕ → List DeedRound
 board_deeds_on dialect trace street number = board_deeds street (dealt_slots (core_said trace).places None number) (deeds_on dialect trace number)
 
 abbrev pub later_rounds : Dialect → Trace → List DeedRound
 later_rounds dialect trace =
-    board_deeds_on dialect trace written.Flop 2
-    ++ (board_deeds_on dialect trace written.Turn 3
-    ++ (board_deeds_on dialect trace written.River 4
+    board_deeds_on dialect trace streets.Flop 2
+    ++ (board_deeds_on dialect trace streets.Turn 3
+    ++ (board_deeds_on dialect trace streets.River 4
     ++ showdown_deeds (showing_deeds trace)))
 
 abbrev pub rounds_of : Dialect → Trace → List DeedRound
-rounds_of dialect trace = deed_round written.Preflop [] (first_deeds dialect trace) ∷ later_rounds dialect trace
+rounds_of dialect trace = deed_round streets.Preflop [] (first_deeds dialect trace) ∷ later_rounds dialect trace
 
-board_is : (street : written_streets.Street) (cards : List Slot) (actions : List PlainAction) (deeds : List Deed) → actions ≡ map action_of deeds → board_round street cards actions ≡ map round_of (board_deeds street cards deeds)
+board_is : (street : Street) (cards : List Slot) (actions : List PlainAction) (deeds : List Deed) → actions ≡ map action_of deeds → board_round street cards actions ≡ map round_of (board_deeds street cards deeds)
 board_is street [] actions deeds is = refl
 board_is street (slot ∷ rest) actions deeds is = ap (λ (l : List PlainAction). round street (slot ∷ rest) l ∷ []) is
 
@@ -124,18 +123,18 @@ module _ (dialect : Dialect) (trace : Trace) where
       (ap₂ (λ (a b : List PlainAction). a ++ b) (deals_are trace.setup placed) (moves_here 1) ∙ sym (map-append action_of holes (deeds_on dialect trace 1)))
       ∙ sym (map-append action_of (post_deeds trace.setup) (holes ++ deeds_on dialect trace 1))
 
-  board_here : (street : written_streets.Street) (number : ℕ) → board_round_on dialect trace street number ≡ map round_of (board_deeds_on dialect trace street number)
+  board_here : (street : Street) (number : ℕ) → board_round_on dialect trace street number ≡ map round_of (board_deeds_on dialect trace street number)
   board_here street number = board_is street (dealt_slots (core_said trace).places None number) (moves_on dialect trace number) (deeds_on dialect trace number) (moves_here number)
 
   pub rounds_are : hand_rounds dialect trace ≡ map round_of (rounds_of dialect trace)
   unfolding hand_rounds
   rounds_are =
       let showdown : List DeedRound = showdown_deeds (showing_deeds trace) in
-      let river : List DeedRound = board_deeds_on dialect trace written.River 4 in
-      let turn : List DeedRound = board_deeds_on dialect trace written.Turn 3 in
-      let flop : List DeedRound = board_deeds_on dialect trace written.Flop 2 in
+      let river : List DeedRound = board_deeds_on dialect trace streets.River 4 in
+      let turn : List DeedRound = board_deeds_on dialect trace streets.Turn 3 in
+      let flop : List DeedRound = board_deeds_on dialect trace streets.Flop 2 in
       let last = showdown_is (showings trace) (showing_deeds trace) (showings_are trace) in
-      let fourth = both_rounds (board_round_on dialect trace written.River 4) (showdown_round (showings trace)) river showdown (board_here written.River 4) last in
-      let third = both_rounds (board_round_on dialect trace written.Turn 3) (board_round_on dialect trace written.River 4 ++ showdown_round (showings trace)) turn (river ++ showdown) (board_here written.Turn 3) fourth in
-      let second = both_rounds (board_round_on dialect trace written.Flop 2) (board_round_on dialect trace written.Turn 3 ++ (board_round_on dialect trace written.River 4 ++ showdown_round (showings trace))) flop (turn ++ (river ++ showdown)) (board_here written.Flop 2) third in
-      ap₂ (λ (actions : List PlainAction) (rest : List PlainRound). round written.Preflop [] actions ∷ rest) first_is second
+      let fourth = both_rounds (board_round_on dialect trace streets.River 4) (showdown_round (showings trace)) river showdown (board_here streets.River 4) last in
+      let third = both_rounds (board_round_on dialect trace streets.Turn 3) (board_round_on dialect trace streets.River 4 ++ showdown_round (showings trace)) turn (river ++ showdown) (board_here streets.Turn 3) fourth in
+      let second = both_rounds (board_round_on dialect trace streets.Flop 2) (board_round_on dialect trace streets.Turn 3 ++ (board_round_on dialect trace streets.River 4 ++ showdown_round (showings trace))) flop (turn ++ (river ++ showdown)) (board_here streets.Flop 2) third in
+      ap₂ (λ (actions : List PlainAction) (rest : List PlainRound). round streets.Preflop [] actions ∷ rest) first_is second

@@ -16,22 +16,20 @@ use Rattle.play_event.specs.Trace.{TracedMove, TracedPlace}
 use Rattle.ohh_members.specs.Values.{seat_of}
 use Rattle.ohh_members.specs.declared.dialect.Dialect.{Dialect}
 use Rattle.ohh_line.specs.Actions.{has_known}
-use Rattle.ohh_line.specs.Tree.{street_text}
-use Rattle.ohh_line.specs.declared.action.Street as written_streets
-use Rattle.ohh_line.specs.declared.action.Street.TheVariants as written
 use Rattle.ohh_posts.specs.Table.{seat_count}
 use Rattle.ohh_rounds.specs.Setting.{PlainSetting}
 use Rattle.ohh_rounds.specs.Steps.{PlainStep, has_folded, is_action, is_fold_of, is_move_deed, is_other_deed, moves_in, others_in}
 use Rattle.ohh_rounds.specs.Streets.{has_board_cards, street_after}
-use Rattle.ohh_rounds.specs.declared.street.Street.{Street}
-use Rattle.ohh_rounds.specs.declared.street.Street.TheVariants as streets
 use Rattle.ohh_format.proofs.DeedRounds.{DeedRound, FitRounds, board_deeds, deeds_on, first_deeds, last_street, later_rounds, rounds_of, showdown_deeds, steps_after}
 use Rattle.ohh_format.proofs.Deeds.{Deed, Bets, Calls, Checks, Deals, Folds, Mucks, Posts, Raises, Shows, deal_deeds, post_deeds, showing_deeds, showing_deed}
 use Rattle.ohh_format.proofs.EventsAgain.{IsNoDeal, IsNoFold, IsPost, NoDeal, deeds_in, folded_both, no_deals, no_folds}
 use Rattle.ohh_format.proofs.MovesAgain.{CanBeWritten, HasNotFolded, IsElsewhere, moves_few, moves_good, moves_no_folds}
-use Rattle.ohh_format.proofs.RoundsAgain.{board_step, street_of, with_board}
+use Rattle.ohh_format.proofs.RoundsAgain.{board_step, with_board}
 use Rattle.ohh_format.proofs.StepsAgain.{AllTold, steps_of}
 use Rattle.ohh_format.proofs.ToldDeeds.{IsGoodMove, IsGoodPost, IsGoodShow, actions_of_steps, counts_both, deals_told, moves_among, moves_of_steps, moves_told, others_among, others_of_steps, posts_told, shows_told, told_both}
+use Rattle.ohh_members.specs.Streets.{street_name}
+use Rattle.ohh_members.specs.declared.street.Street.{Street}
+use Rattle.ohh_members.specs.declared.street.Street.TheVariants as streets
 
 -- the play of a hand can be written and read
 pub record CanBePlayed (setting : PlainSetting) (trace : Trace) : Type 0 where
@@ -69,11 +67,11 @@ module _ (setting : PlainSetting) where
   fit_both last earlier n index (x ∷ xs) ys one other =
       let steps : List PlainStep = with_board earlier x.cards ++ steps_of setting.dialect n index 0 x.deeds in
       let after : List PlainStep = steps_after setting.dialect steps (n + length x.deeds) (index + 1) xs in
-      let last_one : Option Street = last_street (Some (street_of x.street)) xs in
+      let last_one : Option Street = last_street (Some x.street) xs in
       let same_n : n + (length x.deeds + deeds_in xs) ≡ n + length x.deeds + deeds_in xs = omega arith in
       let same_index : index + length (x ∷ xs) ≡ index + 1 + length xs = omega arith in (
         one.0,
-        fit_both (Some (street_of x.street)) steps (n + length x.deeds) (index + 1) xs ys one.1
+        fit_both (Some x.street) steps (n + length x.deeds) (index + 1) xs ys one.1
             (subst (λ (k : ℕ). FitRounds setting last_one after k (index + 1 + length xs) ys) same_n
             (subst (λ (i : ℕ). FitRounds setting last_one after (n + (length x.deeds + deeds_in xs)) i ys) same_index other)),
       )
@@ -168,7 +166,7 @@ IsOpen (Some streets.Turn) = Unit {0}
 IsOpen (Some streets.River) = Unit {0}
 IsOpen (Some streets.Showdown) = ⊥
 
-showdown_follows : (last : Option Street) → IsOpen last → street_after last (street_text written.Showdown) ≡ Some streets.Showdown
+showdown_follows : (last : Option Street) → IsOpen last → street_after last (street_name streets.Showdown) ≡ Some streets.Showdown
 unfolding street_after
 showdown_follows None is = absurd is
 showdown_follows (Some streets.Preflop) is = refl
@@ -177,19 +175,19 @@ showdown_follows (Some streets.Turn) is = refl
 showdown_follows (Some streets.River) is = refl
 showdown_follows (Some streets.Showdown) is = absurd is
 
-preflop_follows : street_after None (street_text written.Preflop) ≡ Some streets.Preflop
+preflop_follows : street_after None (street_name streets.Preflop) ≡ Some streets.Preflop
 unfolding street_after
 preflop_follows = refl
 
-flop_follows : street_after (Some streets.Preflop) (street_text written.Flop) ≡ Some streets.Flop
+flop_follows : street_after (Some streets.Preflop) (street_name streets.Flop) ≡ Some streets.Flop
 unfolding street_after
 flop_follows = refl
 
-turn_follows : street_after (Some streets.Flop) (street_text written.Turn) ≡ Some streets.Turn
+turn_follows : street_after (Some streets.Flop) (street_name streets.Turn) ≡ Some streets.Turn
 unfolding street_after
 turn_follows = refl
 
-river_follows : street_after (Some streets.Turn) (street_text written.River) ≡ Some streets.River
+river_follows : street_after (Some streets.Turn) (street_name streets.River) ≡ Some streets.River
 unfolding street_after
 river_follows = refl
 
@@ -238,7 +236,7 @@ module _ (setting : PlainSetting) (trace : Trace) (is : CanBePlayed setting trac
 
   -- ---- a round of a board street
 
-  module _ (street : written_streets.Street) (number : ℕ) (deals : has_board_cards (street_of street) ≡ true) where
+  module _ (street : Street) (number : ℕ) (deals : has_board_cards street ≡ true) where
     abbrev cards : List Slot
     cards = dealt_slots placed None number
 
@@ -249,7 +247,7 @@ module _ (setting : PlainSetting) (trace : Trace) (is : CanBePlayed setting trac
     good round = moves_good setting trace.setup round number [] moves is.moves
 
     board_fits : (last : Option Street) (earlier : List PlainStep) (n index done boards : ℕ) (c : List Slot) → length c ≤ 7 → list_any is_unknown c ≡ false
-        → State earlier n done boards → boards ≤ 3 → done + length deeds ≤ length moves → (1 ≤ length c → street_after last (street_text street) ≡ Some (street_of street))
+        → State earlier n done boards → boards ≤ 3 → done + length deeds ≤ length moves → (1 ≤ length c → street_after last (street_name street) ≡ Some street)
         → FitRounds setting last earlier n index (board_deeds street c deeds)
     board_fits last earlier n index done boards [] few known state three room follows = tt
     board_fits last earlier n index done boards (slot ∷ rest) few known state three room follows =
@@ -277,7 +275,7 @@ module _ (setting : PlainSetting) (trace : Trace) (is : CanBePlayed setting trac
         (λ seat folded. moves_no_folds setting trace.setup seat number [] moves folded) in
         record { numbered = omega (arith, next.numbered); moves_done = next.moves_done; others_done = next.others_done; live = next.live }
 
-    board_open : (last : Option Street) (c : List Slot) → IsOpen last → IsOpen (Some (street_of street)) → IsOpen (last_street last (board_deeds street c deeds))
+    board_open : (last : Option Street) (c : List Slot) → IsOpen last → IsOpen (Some street) → IsOpen (last_street last (board_deeds street c deeds))
     board_open last [] open_last open_next = open_last
     board_open last (slot ∷ rest) open_last open_next = open_next
 
@@ -394,13 +392,13 @@ module _ (setting : PlainSetting) (trace : Trace) (is : CanBePlayed setting trac
   board number = dealt_slots placed None number
 
   abbrev flop : List DeedRound
-  flop = board_deeds written.Flop (board 2) (deeds_on dialect trace 2)
+  flop = board_deeds streets.Flop (board 2) (deeds_on dialect trace 2)
 
   abbrev turn : List DeedRound
-  turn = board_deeds written.Turn (board 3) (deeds_on dialect trace 3)
+  turn = board_deeds streets.Turn (board 3) (deeds_on dialect trace 3)
 
   abbrev river : List DeedRound
-  river = board_deeds written.River (board 4) (deeds_on dialect trace 4)
+  river = board_deeds streets.River (board 4) (deeds_on dialect trace 4)
 
   abbrev showdown : List DeedRound
   showdown = showdown_deeds (showing_deeds trace)
@@ -408,11 +406,11 @@ module _ (setting : PlainSetting) (trace : Trace) (is : CanBePlayed setting trac
   no_slots : (cards : List Slot) → 1 ≤ length cards → cards ≡ [] → ⊥
   no_slots cards some none = omega (arith, some, ap length none)
 
-  last_flop : (cards : List Slot) (done : List Deed) → (cards ≡ [] → ⊥) → last_street (Some streets.Preflop) (board_deeds written.Flop cards done) ≡ Some streets.Flop
+  last_flop : (cards : List Slot) (done : List Deed) → (cards ≡ [] → ⊥) → last_street (Some streets.Preflop) (board_deeds streets.Flop cards done) ≡ Some streets.Flop
   last_flop [] done some = absurd (some refl)
   last_flop (slot ∷ rest) done some = refl
 
-  last_turn : (last : Option Street) (cards : List Slot) (done : List Deed) → (cards ≡ [] → ⊥) → last_street last (board_deeds written.Turn cards done) ≡ Some streets.Turn
+  last_turn : (last : Option Street) (cards : List Slot) (done : List Deed) → (cards ≡ [] → ⊥) → last_street last (board_deeds streets.Turn cards done) ≡ Some streets.Turn
   last_turn last [] done some = absurd (some refl)
   last_turn last (slot ∷ rest) done some = refl
 
@@ -463,40 +461,40 @@ module _ (setting : PlainSetting) (trace : Trace) (is : CanBePlayed setting trac
   index_river = index_turn + length river
 
   state_flop : State steps_flop number_flop (length opening + length (deeds_on dialect trace 2)) (0 + 1)
-  state_flop = board_state written.Flop 2 refl steps_first number_first (0 + 1) (length opening) 0 (board 2) first_state
+  state_flop = board_state streets.Flop 2 refl steps_first number_first (0 + 1) (length opening) 0 (board 2) first_state
 
   state_turn : State steps_turn number_turn (length opening + length (deeds_on dialect trace 2) + length (deeds_on dialect trace 3)) (0 + 1 + 1)
-  state_turn = board_state written.Turn 3 refl steps_flop number_flop index_flop (length opening + length (deeds_on dialect trace 2)) (0 + 1) (board 3) state_flop
+  state_turn = board_state streets.Turn 3 refl steps_flop number_flop index_flop (length opening + length (deeds_on dialect trace 2)) (0 + 1) (board 3) state_flop
 
   state_river : State steps_river number_river (length opening + length (deeds_on dialect trace 2) + length (deeds_on dialect trace 3) + length (deeds_on dialect trace 4)) (0 + 1 + 1 + 1)
-  state_river = board_state written.River 4 refl steps_turn number_turn index_turn (length opening + length (deeds_on dialect trace 2) + length (deeds_on dialect trace 3)) (0 + 1 + 1) (board 4) state_turn
+  state_river = board_state streets.River 4 refl steps_turn number_turn index_turn (length opening + length (deeds_on dialect trace 2) + length (deeds_on dialect trace 3)) (0 + 1 + 1) (board 4) state_turn
 
   showdown_here : FitRounds setting street_river steps_river number_river index_river showdown
   showdown_here =
-      let open_flop : IsOpen street_flop = board_open written.Flop 2 refl (Some streets.Preflop) (board 2) tt tt in
-      let open_turn : IsOpen street_turn = board_open written.Turn 3 refl street_flop (board 3) open_flop tt in
-      let open_river : IsOpen street_river = board_open written.River 4 refl street_turn (board 4) open_turn tt in
+      let open_flop : IsOpen street_flop = board_open streets.Flop 2 refl (Some streets.Preflop) (board 2) tt tt in
+      let open_turn : IsOpen street_turn = board_open streets.Turn 3 refl street_flop (board 3) open_flop tt in
+      let open_river : IsOpen street_river = board_open streets.River 4 refl street_turn (board 4) open_turn tt in
       showdown_fits street_river steps_river number_river index_river (length opening + length (deeds_on dialect trace 2) + length (deeds_on dialect trace 3) + length (deeds_on dialect trace 4)) (showing_deeds trace) open_river state_river (shows_few 1 seats)
       (shows_good index_river steps_river state_river.live 1 seats (omega arith) (omega arith))
 
   river_here : FitRounds setting street_turn steps_turn number_turn index_turn (river ++ showdown)
   river_here =
       fit_both setting street_turn steps_turn number_turn index_turn river showdown
-      (board_fits written.River 4 refl street_turn steps_turn number_turn index_turn (length opening + length (deeds_on dialect trace 2) + length (deeds_on dialect trace 3)) (0 + 1 + 1) (board 4) (is.boards_few 4) (is.known 4) state_turn (omega arith) (omega (arith, few_on))
-      (λ some. ap (λ (last : Option Street). street_after last (street_text written.River)) (last_turn street_flop (board 3) (deeds_on dialect trace 3) (λ none. no_slots (board 4) some (is.river_follows none))) ∙ river_follows))
+      (board_fits streets.River 4 refl street_turn steps_turn number_turn index_turn (length opening + length (deeds_on dialect trace 2) + length (deeds_on dialect trace 3)) (0 + 1 + 1) (board 4) (is.boards_few 4) (is.known 4) state_turn (omega arith) (omega (arith, few_on))
+      (λ some. ap (λ (last : Option Street). street_after last (street_name streets.River)) (last_turn street_flop (board 3) (deeds_on dialect trace 3) (λ none. no_slots (board 4) some (is.river_follows none))) ∙ river_follows))
       showdown_here
 
   turn_here : FitRounds setting street_flop steps_flop number_flop index_flop (turn ++ (river ++ showdown))
   turn_here =
       fit_both setting street_flop steps_flop number_flop index_flop turn (river ++ showdown)
-      (board_fits written.Turn 3 refl street_flop steps_flop number_flop index_flop (length opening + length (deeds_on dialect trace 2)) (0 + 1) (board 3) (is.boards_few 3) (is.known 3) state_flop (omega arith) (omega (arith, few_on))
-      (λ some. ap (λ (last : Option Street). street_after last (street_text written.Turn)) (last_flop (board 2) (deeds_on dialect trace 2) (λ none. no_slots (board 3) some (is.turn_follows none))) ∙ turn_follows))
+      (board_fits streets.Turn 3 refl street_flop steps_flop number_flop index_flop (length opening + length (deeds_on dialect trace 2)) (0 + 1) (board 3) (is.boards_few 3) (is.known 3) state_flop (omega arith) (omega (arith, few_on))
+      (λ some. ap (λ (last : Option Street). street_after last (street_name streets.Turn)) (last_flop (board 2) (deeds_on dialect trace 2) (λ none. no_slots (board 3) some (is.turn_follows none))) ∙ turn_follows))
       river_here
 
   later_here : FitRounds setting (Some streets.Preflop) steps_first number_first (0 + 1) (later_rounds dialect trace)
   later_here =
       fit_both setting (Some streets.Preflop) steps_first number_first (0 + 1) flop (turn ++ (river ++ showdown))
-      (board_fits written.Flop 2 refl (Some streets.Preflop) steps_first number_first (0 + 1) (length opening) 0 (board 2) (is.boards_few 2) (is.known 2) first_state (omega arith) (omega (arith, few_on)) (λ some. flop_follows))
+      (board_fits streets.Flop 2 refl (Some streets.Preflop) steps_first number_first (0 + 1) (length opening) 0 (board 2) (is.boards_few 2) (is.known 2) first_state (omega arith) (omega (arith, few_on)) (λ some. flop_follows))
       turn_here
 
   -- the rounds of the hand fit

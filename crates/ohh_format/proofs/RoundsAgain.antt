@@ -10,13 +10,9 @@ use Rattle.canonical_play.specs.declared.limits.TheConstants.{MOST_OTHER_EVENTS}
 use Rattle.play_event.specs.Said as said
 use Rattle.ohh_members.specs.declared.fault.RoundMember.TheVariants as members
 use Rattle.ohh_members.specs.Values.{list_said, needed, object_said, text_said}
-use Rattle.ohh_line.specs.declared.action.Street as written_streets
-use Rattle.ohh_line.specs.declared.action.Street.TheVariants as written
 use Rattle.ohh_line.specs.Rounds.{round}
-use Rattle.ohh_line.specs.Tree.{action_trees, round_tree, street_text}
+use Rattle.ohh_line.specs.Tree.{action_trees, round_tree}
 use Rattle.ohh_posts.specs.Table.{seat_count}
-use Rattle.ohh_rounds.specs.declared.street.Street.{Street}
-use Rattle.ohh_rounds.specs.declared.street.Street.TheVariants as streets
 use Rattle.ohh_rounds.specs.Actions.{event_counted}
 use Rattle.ohh_rounds.specs.Rounds.{at_round, board_dealt, board_said, no_cards, opening_said, round_said, street_said}
 use Rattle.ohh_rounds.specs.Setting.{PlainSetting}
@@ -25,14 +21,8 @@ use Rattle.ohh_rounds.specs.Streets.{has_board_cards, street_after}
 use Rattle.ohh_format.proofs.CardLists.{cards_again, listed_again}
 use Rattle.ohh_format.proofs.Deeds.{Deed, action_of}
 use Rattle.ohh_format.proofs.StepsAgain.{AllTold, actions_read, steps_of}
-
--- a street as it is read
-abbrev pub street_of : written_streets.Street → Street
-street_of written.Preflop = streets.Preflop
-street_of written.Flop = streets.Flop
-street_of written.Turn = streets.Turn
-street_of written.River = streets.River
-street_of written.Showdown = streets.Showdown
+use Rattle.ohh_members.specs.Streets.{street_name}
+use Rattle.ohh_members.specs.declared.street.Street.{Street}
 
 -- the step of a board that was dealt
 abbrev pub board_step : List Slot → PlainStep
@@ -45,7 +35,7 @@ with_board earlier (slot ∷ rest) = earlier ++ board_step (slot ∷ rest) ∷ [
 
 module _ (setting : PlainSetting) where
   -- the cards of a round
-  board_again : (street : Street) (index n : ℕ) (cards : List Slot) (word : written_streets.Street) (deeds : List Deed) → length cards ≤ 7 → list_any is_unknown cards ≡ false → (deals : Bool) → has_board_cards street ≡ deals → (deals ≡ false → cards ≡ [])
+  board_again : (street : Street) (index n : ℕ) (cards : List Slot) (word : Street) (deeds : List Deed) → length cards ≤ 7 → list_any is_unknown cards ≡ false → (deals : Bool) → has_board_cards street ≡ deals → (deals ≡ false → cards ≡ [])
       → board_said street index (round_tree n (round word cards (map action_of deeds))) ≡ Ok (known_cards cards)
   unfolding board_said no_cards list_said
   board_again street index n cards word deeds few known true is none = rw (is, cards_again (at_round index members.Cards) cards few known) refl
@@ -63,23 +53,23 @@ module _ (setting : PlainSetting) where
   board_counts earlier (slot ∷ rest) = omega (arith, count_by-push is_action earlier (board_step (slot ∷ rest)))
 
   -- what a round has to have after these steps
-  pub record FitsRound (last : Option Street) (earlier : List PlainStep) (n index : ℕ) (street : written_streets.Street) (cards : List Slot) (deeds : List Deed) : Type 0 where
-    pub follows : street_after last (street_text street) ≡ Some (street_of street)
+  pub record FitsRound (last : Option Street) (earlier : List PlainStep) (n index : ℕ) (street : Street) (cards : List Slot) (deeds : List Deed) : Type 0 where
+    pub follows : street_after last (street_name street) ≡ Some street
     pub few : length cards ≤ 7
     pub known : list_any is_unknown cards ≡ false
-    pub deals : has_board_cards (street_of street) ≡ false → cards ≡ []
+    pub deals : has_board_cards street ≡ false → cards ≡ []
     pub room : seat_count setting.table + others_in earlier < MOST_OTHER_EVENTS
     pub numbered : count_by is_action earlier + 1 ≡ n
     pub told : AllTold setting index n 0 (with_board earlier cards) deeds
 
-  pub round_read : (last : Option Street) (earlier : List PlainStep) (n m index : ℕ) (street : written_streets.Street) (cards : List Slot) (deeds : List Deed)
+  pub round_read : (last : Option Street) (earlier : List PlainStep) (n m index : ℕ) (street : Street) (cards : List Slot) (deeds : List Deed)
       → FitsRound last earlier n index street cards deeds
-      → round_said setting (last, earlier) index (round_tree m (round street cards (map action_of deeds))) ≡ Ok (Some (street_of street), with_board earlier cards ++ steps_of setting.dialect n index 0 deeds)
+      → round_said setting (last, earlier) index (round_tree m (round street cards (map action_of deeds))) ≡ Ok (Some street, with_board earlier cards ++ steps_of setting.dialect n index 0 deeds)
   unfolding round_said opening_said street_said object_said needed text_said list_said
   round_read last earlier n m index street cards deeds fits =
       rw (
         fits.follows,
-        board_again (street_of street) index m cards street deeds fits.few fits.known (has_board_cards (street_of street)) refl fits.deals,
+        board_again street index m cards street deeds fits.few fits.known (has_board_cards street) refl fits.deals,
         dealt_again earlier index cards fits.known fits.room,
         listed_again (action_trees m (map action_of deeds)),
         actions_read setting index (with_board earlier cards) n 0 m deeds (omega (arith, board_counts earlier cards, fits.numbered)) fits.told,

@@ -20,8 +20,6 @@ use Rattle.play_event.specs.Trace.{TracedMove, TracedPlace}
 use Rattle.play_event.specs.declared.setup.Setup.{Setup}
 use Rattle.ohh_members.specs.declared.dialect.Dialect.{Dialect}
 use Rattle.ohh_line.specs.Actions.{big_blind_seat, has_known, posts, small_blind_seat}
-use Rattle.ohh_line.specs.declared.action.Street as written_streets
-use Rattle.ohh_line.specs.declared.action.Street.TheVariants as written
 use Rattle.ohh_posts.specs.Posts.{PlainPost}
 use Rattle.ohh_posts.specs.declared.post.PostKind.TheVariants as kinds
 use Rattle.ohh_rounds.specs.Play.{events_in, hole_deal, posts_in, script_said}
@@ -36,6 +34,8 @@ use Rattle.ohh_format.proofs.PlayAgain.{CanBePlayed, all_posts, all_weaker, post
 use Rattle.ohh_format.proofs.PostsAgain.{antes_put, posts_ante, posts_straddle, puts, straddles_put}
 use Rattle.ohh_format.proofs.PutsAgain.{Put, posts_at}
 use Rattle.ohh_format.proofs.StepsAgain.{steps_both, steps_of}
+use Rattle.ohh_members.specs.declared.street.Street.{Street}
+use Rattle.ohh_members.specs.declared.street.Street.TheVariants as streets
 
 -- ---- the posts of a setup
 
@@ -86,7 +86,7 @@ rounds_both : (P : Deed → Type 0) (some more : List DeedRound) → AllRounds P
 rounds_both P [] more one other = other
 rounds_both P (x ∷ some) more one other = (one.0, rounds_both P some more one.1 other)
 
-of_board : (P : Deed → Type 0) (street : written_streets.Street) (cards : List Slot) (deeds : List Deed) → AllByRecursion P deeds → AllRounds P (board_deeds street cards deeds)
+of_board : (P : Deed → Type 0) (street : Street) (cards : List Slot) (deeds : List Deed) → AllByRecursion P deeds → AllRounds P (board_deeds street cards deeds)
 of_board P street [] deeds all = tt
 of_board P street (slot ∷ rest) deeds all = (all, tt)
 
@@ -189,7 +189,7 @@ both_said dialect xs ys some more one other n =
     ∙ ap₂ (λ (a b : List Numbered). a ++ b) (one.same n) (ap (λ (k : ℕ). numbered_from (n + k) ys) one.count ∙ other (n + deeds_in some))
     ∙ sym (round_events_both dialect n some more)
 
-board_same : (dialect : Dialect) (street : written_streets.Street) (cards : List Slot) (events : List Said) (deeds : List Deed) → ((n : ℕ) → numbered_deeds dialect n deeds ≡ numbered_from n events) → length deeds ≡ told_in events → (cards ≡ [] → events ≡ [])
+board_same : (dialect : Dialect) (street : Street) (cards : List Slot) (events : List Said) (deeds : List Deed) → ((n : ℕ) → numbered_deeds dialect n deeds ≡ numbered_from n events) → length deeds ≡ told_in events → (cards ≡ [] → events ≡ [])
     → AreSaid dialect (board_said cards ++ events) (board_deeds street cards deeds)
 board_same dialect street [] events deeds same count quiet = record { same = λ n. ap (numbered_from n) (quiet refl); count = ap told_in (quiet refl) }
 board_same dialect street (slot ∷ rest) events deeds same count quiet =
@@ -229,7 +229,7 @@ module _ (setting : PlainSetting) (trace : Trace) (is : CanBePlayed setting trac
   abbrev street_events : ℕ → List Said
   street_events number = street_again dialect trace.setup placed moves number
 
-  street_same : (street : written_streets.Street) (number : ℕ) → 2 ≤ number → number ≤ 4 → AreSaid dialect (street_events number) (board_deeds street (dealt_slots placed None number) (deeds_on dialect trace number))
+  street_same : (street : Street) (number : ℕ) → 2 ≤ number → number ≤ 4 → AreSaid dialect (street_events number) (board_deeds street (dealt_slots placed None number) (deeds_on dialect trace number))
   street_same street number low high =
       let none : flat_map (λ seat. deal_said seat (dealt_slots placed (Some seat) number)) (all_seats trace.setup) ≡ [] =
       flat_none (λ seat. deal_said seat (dealt_slots placed (Some seat) number)) 1 seats (λ seat from within. ap (deal_said seat) (is.no_more seat number from (omega (arith, within)) low high)) in
@@ -251,13 +251,13 @@ module _ (setting : PlainSetting) (trace : Trace) (is : CanBePlayed setting trac
 
   later_same : (n : ℕ) → numbered_from n later_events ≡ round_events dialect n (later_rounds dialect trace)
   later_same =
-      let river : List DeedRound = board_deeds written.River (dealt_slots placed None 4) (deeds_on dialect trace 4) in
-      let turn : List DeedRound = board_deeds written.Turn (dealt_slots placed None 3) (deeds_on dialect trace 3) in
-      let flop : List DeedRound = board_deeds written.Flop (dealt_slots placed None 2) (deeds_on dialect trace 2) in
+      let river : List DeedRound = board_deeds streets.River (dealt_slots placed None 4) (deeds_on dialect trace 4) in
+      let turn : List DeedRound = board_deeds streets.Turn (dealt_slots placed None 3) (deeds_on dialect trace 3) in
+      let flop : List DeedRound = board_deeds streets.Flop (dealt_slots placed None 2) (deeds_on dialect trace 2) in
       let last : List DeedRound = showdown_deeds (showing_deeds trace) in
-      both_said dialect (street_events 2) (street_events 3 ++ (street_events 4 ++ last_events)) flop (turn ++ (river ++ last)) (street_same written.Flop 2 (omega arith) (omega arith))
-      (both_said dialect (street_events 3) (street_events 4 ++ last_events) turn (river ++ last) (street_same written.Turn 3 (omega arith) (omega arith))
-      (both_said dialect (street_events 4) last_events river last (street_same written.River 4 (omega arith) (omega arith)) last_same))
+      both_said dialect (street_events 2) (street_events 3 ++ (street_events 4 ++ last_events)) flop (turn ++ (river ++ last)) (street_same streets.Flop 2 (omega arith) (omega arith))
+      (both_said dialect (street_events 3) (street_events 4 ++ last_events) turn (river ++ last) (street_same streets.Turn 3 (omega arith) (omega arith))
+      (both_said dialect (street_events 4) last_events river last (street_same streets.River 4 (omega arith) (omega arith)) last_same))
 
   -- ---- the first street
 
@@ -324,13 +324,13 @@ module _ (setting : PlainSetting) (trace : Trace) (is : CanBePlayed setting trac
 
   later_no : (P : Deed → Type 0) → ((number : ℕ) → AllByRecursion P (deeds_on dialect trace number)) → AllByRecursion P (showing_deeds trace) → AllRounds P (later_rounds dialect trace)
   later_no P moving showing =
-      let river : List DeedRound = board_deeds written.River (dealt_slots placed None 4) (deeds_on dialect trace 4) in
-      let turn : List DeedRound = board_deeds written.Turn (dealt_slots placed None 3) (deeds_on dialect trace 3) in
-      let flop : List DeedRound = board_deeds written.Flop (dealt_slots placed None 2) (deeds_on dialect trace 2) in
+      let river : List DeedRound = board_deeds streets.River (dealt_slots placed None 4) (deeds_on dialect trace 4) in
+      let turn : List DeedRound = board_deeds streets.Turn (dealt_slots placed None 3) (deeds_on dialect trace 3) in
+      let flop : List DeedRound = board_deeds streets.Flop (dealt_slots placed None 2) (deeds_on dialect trace 2) in
       let last : List DeedRound = showdown_deeds (showing_deeds trace) in
-      rounds_both P flop (turn ++ (river ++ last)) (of_board P written.Flop (dealt_slots placed None 2) (deeds_on dialect trace 2) (moving 2))
-      (rounds_both P turn (river ++ last) (of_board P written.Turn (dealt_slots placed None 3) (deeds_on dialect trace 3) (moving 3))
-      (rounds_both P river last (of_board P written.River (dealt_slots placed None 4) (deeds_on dialect trace 4) (moving 4)) (of_showdown P (showing_deeds trace) showing)))
+      rounds_both P flop (turn ++ (river ++ last)) (of_board P streets.Flop (dealt_slots placed None 2) (deeds_on dialect trace 2) (moving 2))
+      (rounds_both P turn (river ++ last) (of_board P streets.Turn (dealt_slots placed None 3) (deeds_on dialect trace 3) (moving 3))
+      (rounds_both P river last (of_board P streets.River (dealt_slots placed None 4) (deeds_on dialect trace 4) (moving 4)) (of_showdown P (showing_deeds trace) showing)))
 
   -- the posts that are read
   pub posts_read : posts_in hand_steps ≡ posts_at 0 (puts trace.setup)

@@ -20,8 +20,8 @@ use Rattle.hand_records.specs.TraceRows.{core_said}
 use Rattle.list_laws.proofs.FlatMaps.{flat_few}
 use Rattle.ohh_members.specs.declared.dialect.Dialect.{Dialect}
 use Rattle.ohh_line.specs.declared.action.Round.{Round}
-use Rattle.ohh_line.specs.declared.action.Street.{Street}
-use Rattle.ohh_line.specs.declared.action.Street.TheVariants as streets
+use Rattle.ohh_members.specs.declared.street.Street.{Street}
+use Rattle.ohh_members.specs.declared.street.Street.TheVariants as streets
 use Rattle.ohh_line.specs.declared.action.Word.TheVariants as words
 use Rattle.ohh_line.specs.Actions.{PlainAction, act_written, action_said, alone, ante_post, big_blind_seat, blind_post, deal_written, deals, has_known, move_written, moves_written, posts, showing, showings, small_blind_seat, straddle_post, with_cards, with_chips}
 use Rattle.ohh_line.specs.Rounds.{PlainRound, board_round, board_round_on, round, first_actions, hand_rounds, moves_on, round_said, showdown_round}

@@ -8,8 +8,8 @@ use Rattle.hand_records.specs.declared.trace.Trace.{Trace}
 use Rattle.hand_records.specs.TraceRows.{core_said}
 use Rattle.ohh_members.specs.declared.dialect.Dialect.{Dialect}
 use Rattle.ohh_line.specs.declared.action.Round.{Round}
-use Rattle.ohh_line.specs.declared.action.Street.{Street}
-use Rattle.ohh_line.specs.declared.action.Street.TheVariants as streets
+use Rattle.ohh_members.specs.declared.street.Street.{Street}
+use Rattle.ohh_members.specs.declared.street.Street.TheVariants as streets
 use Rattle.ohh_line.specs.Actions.{PlainAction, action_said, deals, moves_written, posts, showings}
 
 -- a round: its street, the cards that it deals to the board, and its actions

@@ -18,8 +18,6 @@ use Rattle.hand_records.specs.declared.notes.Notes.{Notes}
 use Rattle.hand_records.specs.declared.trace.Play.{Play}
 use Rattle.hand_records.specs.declared.trace.Trace.{Trace}
 use Rattle.ohh_members.specs.declared.dialect.Dialect.{Dialect}
-use Rattle.ohh_line.specs.declared.action.Street.{Street}
-use Rattle.ohh_line.specs.declared.action.Street.TheVariants as streets
 use Rattle.ohh_line.specs.declared.action.Word.{Word}
 use Rattle.ohh_line.specs.declared.action.Word.TheVariants as words
 use Rattle.ohh_line.specs.Actions.{PlainAction, PlainDetail, Nothing, Chips, Cards, small_blind_seat}
@@ -30,6 +28,7 @@ use Rattle.ohh_line.specs.Rounds.{PlainRound, hand_rounds}
 use Rattle.ohh_line.specs.Seating.{number_among, numbers_spelled}
 use Rattle.ohh_line.specs.Spelled.{big_blind, greatest_ante}
 use Rattle.hand_records.specs.AllowedNotes.{name_written}
+use Rattle.ohh_members.specs.Streets.{street_name}
 
 -- a whole number
 abbrev pub whole : ℕ → Data
@@ -55,14 +54,6 @@ word_text words.Bet = codes "Bet"
 word_text words.Raise = codes "Raise"
 word_text words.ShowsCards = codes "Shows Cards"
 word_text words.MucksCards = codes "Mucks Cards"
-
--- how a street is spelled
-abbrev pub street_text : Street → List ℕ
-street_text streets.Preflop = codes "Preflop"
-street_text streets.Flop = codes "Flop"
-street_text streets.Turn = codes "Turn"
-street_text streets.River = codes "River"
-street_text streets.Showdown = codes "Showdown"
 
 -- a list of cards
 abbrev pub cards_tree : List Slot → Data
@@ -95,7 +86,7 @@ abbrev pub round_tree : ℕ → PlainRound → Data
 round_tree n round =
     object (member (codes "actions") (list (action_trees n round.actions))
     (member (codes "cards") (cards_tree round.cards)
-    (member (codes "street") (string (street_text round.street)) no_members)))
+    (member (codes "street") (string (street_name round.street)) no_members)))
 
 -- rounds; the numbers of their actions run through the hand, and the first action has this number
 abbrev pub round_trees : ℕ → List PlainRound → List Data

@@ -1,5 +1,6 @@
 //! A hand is written as rounds of actions: each has a word, a player, and what it tells besides.
 use card_set::SlotRow;
+use ohh_members::street::Street;
 
 /// What an action says that its player does.
 #[derive(Clone, Copy)]
@@ -33,16 +34,6 @@ pub struct Action {
     pub word: Word,
     pub player: u8,
     pub detail: Detail,
-}
-
-/// The street of a round. The showdown is written as a street of its own.
-#[derive(Clone, Copy)]
-pub enum Street {
-    Preflop,
-    Flop,
-    Turn,
-    River,
-    Showdown,
 }
 
 /// A round, with the cards that it deals to the board.

@@ -4,9 +4,9 @@ ghost use Rattle.canonical_play.specs.Tidy.{HasTidyCards};
 ghost use Rattle.hand_records.specs.TraceRows.{core_said};
 ghost use Rattle.ohh_line.specs.Actions.{action_said, showings};
 ghost use Rattle.ohh_line.specs.Rounds.{board_round_on, first_actions, hand_rounds as hand_rounds_said, moves_on as moves_on_said, round, round_said, showdown_round};
-ghost use Rattle.ohh_line.specs.declared.action.Street.TheVariants as streets;
+ghost use Rattle.ohh_members.specs.declared.street.Street.TheVariants as streets;
 
-use crate::action::{Action, Round, Street};
+use crate::action::{Action, Round};
 use crate::cards::dealt_cards;
 use crate::moves::push_moves;
 use crate::posts::push_posts;
@@ -14,6 +14,7 @@ use crate::shows::{push_deals, push_showings};
 use card_set::{Memory, SlotRow};
 use hand_records::Trace;
 use ohh_members::Dialect;
+use ohh_members::street::Street;
 use std::alloc::Global;
 
 /// The rounds of a hand.

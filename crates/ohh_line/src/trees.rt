@@ -6,10 +6,11 @@ ghost use Rattle.card_set.specs.Spelling.{slot_spelling};
 ghost use Rattle.ohh_line.specs.Actions.{action_said};
 ghost use Rattle.ohh_line.specs.Rounds.{round_said};
 ghost use Rattle.ohh_line.specs.Actions.{Chips};
-ghost use Rattle.ohh_line.specs.Tree.{action_object, action_tree, action_trees, detail_members, cards_tree, list, round_tree, round_trees, street_text as street_said, word_text as word_said};
+ghost use Rattle.ohh_line.specs.Tree.{action_object, action_tree, action_trees, detail_members, cards_tree, list, round_tree, round_trees, word_text as word_said};
 
-use crate::action::{Action, Detail, Round, Street, Word};
+use crate::action::{Action, Detail, Round, Word};
 use card_set::{Memory, Slot, slot_text};
+use ohh_members::street::name_of;
 use serde_json::{Value, json};
 use std::alloc::Global;
 
@@ -37,7 +38,7 @@ fn round_value(alloc: Global, number: u64, round: &Round) -> Result<Value, Memor
 {
     let actions = action_values(alloc, number, round.actions.as_slice())?;
     let cards = card_values(alloc, round.cards.as_slice())?;
-    let street = street_text(round.street);
+    let street = name_of(round.street);
     Ok(json!(in alloc; {"actions": actions, "cards": cards, "street": street})?)
 }
 
@@ -169,17 +170,4 @@ fn cards_value(
     Ok(
         json!(in alloc; {"action": word, "action_number": number, "cards": cards, "player_id": player})?,
     )
-}
-
-// How a street is spelled.
-fn street_text(street: Street) -> &'static str
-    ensures { result.now ≡ street_said street }
-{
-    match street {
-        Street::Preflop => "Preflop",
-        Street::Flop => "Flop",
-        Street::Turn => "Turn",
-        Street::River => "River",
-        Street::Showdown => "Showdown",
-    }
 }

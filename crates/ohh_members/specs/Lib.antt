@@ -5,3 +5,4 @@ pub mod Game
 pub mod Players
 pub mod Blinds
 pub mod Front
+pub mod Streets

@@ -10,6 +10,7 @@ pub mod player;
 pub mod players;
 pub mod rows;
 pub mod seating;
+pub mod street;
 pub mod values;
 
 pub use dialect::Dialect;

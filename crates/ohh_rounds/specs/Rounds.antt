@@ -11,7 +11,7 @@ use Rattle.ohh_members.specs.declared.fault.Path.TheVariants as paths
 use Rattle.ohh_members.specs.declared.fault.What.TheVariants as whats
 use Rattle.ohh_members.specs.declared.fault.Fault.{Fault}
 use Rattle.ohh_members.specs.Values.{cards_said, field, list_said, needed, object_said, or_wrong, text_said, wrong}
-use Rattle.ohh_rounds.specs.declared.street.Street.{Street}
+use Rattle.ohh_members.specs.declared.street.Street.{Street}
 use Rattle.ohh_rounds.specs.Streets.{has_board_cards, street_after}
 use Rattle.ohh_rounds.specs.Steps.{PlainStep, Happened}
 use Rattle.ohh_rounds.specs.Setting.{PlainSetting}

@@ -1,16 +1,9 @@
 -- The streets of a hand, in order.
-use Rattle.std.specs.Prelude.{ℕ, Bool, true, false, bytes_eq, if◌then◌else◌, List, codes, Option, Some, None}
+use Rattle.std.specs.Prelude.{ℕ, Bool, true, false, bytes_eq, if◌then◌else◌, List, Option, Some, None}
 use Rattle.std.specs.Option.{option_or}
-use Rattle.ohh_rounds.specs.declared.street.Street.{Street}
-use Rattle.ohh_rounds.specs.declared.street.Street.TheVariants as streets
-
--- the name of a street
-abbrev pub street_name : Street → List ℕ
-street_name streets.Preflop = codes "Preflop"
-street_name streets.Flop = codes "Flop"
-street_name streets.Turn = codes "Turn"
-street_name streets.River = codes "River"
-street_name streets.Showdown = codes "Showdown"
+use Rattle.ohh_members.specs.declared.street.Street.{Street}
+use Rattle.ohh_members.specs.declared.street.Street.TheVariants as streets
+use Rattle.ohh_members.specs.Streets.{street_name}
 
 -- the street, where the text is its name
 abbrev pub if_named : Street → List ℕ → Option Street

@@ -1,16 +1,8 @@
 //! The streets come in their order.
 ghost use Rattle.std.specs.Prelude.{◌≡◌};
-ghost use Rattle.ohh_rounds.specs.Streets.{has_board_cards as has_board_cards_said, if_named, street_after as street_said, street_name};
+ghost use Rattle.ohh_rounds.specs.Streets.{has_board_cards as has_board_cards_said, if_named, street_after as street_said};
 
-/// A street, or the showdown.
-#[derive(Clone, Copy, Debug, PartialEq, Eq)]
-pub enum Street {
-    Preflop,
-    Flop,
-    Turn,
-    River,
-    Showdown,
-}
+use ohh_members::street::{Street, name_of};
 
 /// The street that a text names, if it may come after the last one.
 #[tactic(auto, unfolding(crate::specs::Streets::street_after))]
@@ -41,19 +33,6 @@ fn named(street: Street, text: &str) -> Option<Street>
         Some(street)
     } else {
         None
-    }
-}
-
-// The name of a street.
-fn name_of(street: Street) -> &'static str
-    ensures { result.now ≡ street_name street }
-{
-    match street {
-        Street::Preflop => "Preflop",
-        Street::Flop => "Flop",
-        Street::Turn => "Turn",
-        Street::River => "River",
-        Street::Showdown => "Showdown",
     }
 }
 
