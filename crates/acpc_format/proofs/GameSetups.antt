@@ -9,7 +9,7 @@ use Rattle.play_event.specs.declared.setup.Setup.{Setup}
 use Rattle.hand_records.specs.declared.writing.Unspelled.{Unspelled}
 use Rattle.hand_records.specs.declared.writing.Unspelled.TheVariants as facts
 use Rattle.acpc_game.specs.declared.game.Game.{Game}
-use Rattle.acpc_line.specs.SetupFacts.{greatest_blind, has_sizes_of, is_code_of, setup_conditions}
+use Rattle.acpc_line.specs.SetupFacts.{has_sizes_of, is_code_of, setup_conditions}
 use Rattle.acpc_reading.specs.RecordView.{IsSetupOf, code_of}
 use Rattle.list_laws.proofs.Any.{none_from_zeros, none_taken_from_zeros}
 use Rattle.list_laws.proofs.Tests.{not_true}
@@ -38,7 +38,7 @@ setup_none game setup is =
     let seats = eq-eqb setup.stacks.seats game.stacks.seats (ap (λ (row : SeatRow). row.seats) is.stacks) in
     let stacks = (bytes_eq-Decides (amounts_in setup.stacks) (amounts_in game.stacks)).1 (ap amounts_in is.stacks) in
     let blinds = (bytes_eq-Decides (amounts_in setup.blinds) (amounts_in game.blinds)).1 (ap amounts_in is.blinds) in
-    let sizes : has_sizes_of game setup ≡ true = sizes_fit game.no_limit setup.small_bet setup.big_bet setup.min_bet (greatest_blind setup) game.small_raise game.big_raise (greatest (amounts_in game.blinds)) is.small_bet is.big_bet is.min_bet
+    let sizes : has_sizes_of game setup ≡ true = sizes_fit game.no_limit setup.small_bet setup.big_bet setup.min_bet (greatest (amounts_in setup.blinds)) game.small_raise game.big_raise (greatest (amounts_in game.blinds)) is.small_bet is.big_bet is.min_bet
     (ap (λ (row : SeatRow). greatest (amounts_in row)) is.blinds) in
     let next : (index : ℕ) → (index + 1) - 1 ≡ index = λ index. omega arith in
     let antes = none_taken_from_zeros setup.antes.seats setup.antes.amounts (λ index. sym (ap (slice_index setup.antes.amounts) (next index)) ∙ is.antes (index + 1)) in

@@ -17,7 +17,7 @@ use Rattle.hand_records.specs.declared.trace.Play.{Play}
 use Rattle.hand_records.specs.declared.writing.Keep.{Keep}
 use Rattle.acpc_game.specs.declared.game.Game.{Game}
 use Rattle.acpc_game.specs.Games.{has_fitting_sizes}
-use Rattle.acpc_line.specs.SetupFacts.{greatest_blind, is_code_of}
+use Rattle.acpc_line.specs.SetupFacts.{is_code_of}
 use Rattle.acpc_line.specs.Spelled.{unspelled}
 use Rattle.acpc_reading.specs.RecordView.{IsSetupOf, code_of}
 use Rattle.acpc_format.proofs.SpelledFacts.{HasSetupOf, spelled}
@@ -90,7 +90,7 @@ setup_is game setup valid has =
     let code = code_is game.no_limit setup.code has.code in
     let blinds : setup.blinds ≡ game.blinds = rows_same setup.blinds game.blinds (valid.same_blinds ∙ has.seats ∙ sym game.one_row) has.blinds in
     let antes = none_in setup.antes has.antes in
-    let sizes = sizes_are game.no_limit setup.small_bet setup.big_bet setup.min_bet (greatest_blind setup) (greatest (amounts_in game.blinds)) game.small_raise game.big_raise
+    let sizes = sizes_are game.no_limit setup.small_bet setup.big_bet setup.min_bet (greatest (amounts_in setup.blinds)) (greatest (amounts_in game.blinds)) game.small_raise game.big_raise
     (subst (λ (c : Code). HasSizes c setup.small_bet setup.big_bet setup.min_bet) code (record { small_bet = valid.small_bet; big_bet = valid.big_bet; least_bet = valid.least_bet }))
     has.sizes (ap (λ (row : SeatRow). greatest (amounts_in row)) blinds) game.sizes in
     record {

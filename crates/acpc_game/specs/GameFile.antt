@@ -154,8 +154,8 @@ last_place number [] = 0
 last_place number (n ∷ rest) = if nat_lt 0 (last_place number rest) then last_place number rest + 1 else if n == number then 1 else 0
 
 -- the seat that opens the first round: the one after the last of the greatest blinds, and with two seats the second
-abbrev pub opener_of : List ℕ → ℕ
-opener_of blinds =
+abbrev pub first_player : List ℕ → ℕ
+first_player blinds =
     if length blinds == 2 then 2
     else if last_place (greatest blinds) blinds == length blinds then 1
     else last_place (greatest blinds) blinds + 1
@@ -181,7 +181,7 @@ abbrev pub other_chips : List EntrySaid → List (Bool × Key)
 other_chips entries =
     (has_short_stack (stacks_at entries) (numbers_at keys.Blind entries), if has_key keys.Stack entries then keys.Stack else keys.Blind)
     ∷ (is_reversed (numbers_at keys.Blind entries), keys.Blind)
-    ∷ (not (are_four (opener_of (numbers_at keys.Blind entries)) 1 1 1 (numbers_at keys.FirstPlayer entries)), keys.FirstPlayer)
+    ∷ (not (are_four (first_player (numbers_at keys.Blind entries)) 1 1 1 (numbers_at keys.FirstPlayer entries)), keys.FirstPlayer)
     ∷ (has_no_limit entries && greatest (numbers_at keys.Blind entries) == 0, keys.Blind)
     ∷ (not (has_no_limit entries) && not (are_sizes (numbers_at keys.RaiseSize entries)), keys.RaiseSize)
     ∷ (not (has_no_limit entries) && (nat_lt 0 (greatest (numbers_at keys.Blind entries)) && nat_lt (greatest (numbers_at keys.Blind entries)) (slice_index (numbers_at keys.RaiseSize entries) 0)), keys.RaiseSize)

@@ -1,6 +1,6 @@
 -- The one spelling of a game.
 use Rattle.std.specs.Prelude.{ℕ, Bool, if◌then◌else◌, List, [], ◌∷◌, ◌++◌, length, codes, Option, Some, None}
-use Rattle.acpc_game.specs.GameFile.{GameSaid, opener_of}
+use Rattle.acpc_game.specs.GameFile.{GameSaid, first_player}
 use Rattle.chip_ledger.specs.AmountTexts.{spaced}
 
 -- a line that ends with a newline
@@ -35,7 +35,7 @@ sizes_text game =
 
 -- the first seats of the rounds
 unfoldable pub first_text : List ℕ → List ℕ
-first_text blinds = key_line (codes "firstPlayer") (opener_of blinds ∷ 1 ∷ 1 ∷ 1 ∷ [])
+first_text blinds = key_line (codes "firstPlayer") (first_player blinds ∷ 1 ∷ 1 ∷ 1 ∷ [])
 
 -- the most raises of each round, if there is a most
 unfoldable pub caps_text : Option (List ℕ) → List ℕ

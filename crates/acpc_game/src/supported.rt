@@ -3,7 +3,7 @@ ghost use Rattle.std.specs.Prelude.{◌≡◌, ◌≤◌, ◌&&◌, nat_lt, leng
 ghost use Rattle.std.specs.List.{list_all};
 ghost use Rattle.chip_ledger.specs.Greatest.{greatest as greatest_said};
 ghost use Rattle.acpc_game.specs.Entries.{entry_said};
-ghost use Rattle.acpc_game.specs.GameFile.{are_four as are_four_said, are_sizes as are_sizes_said, end_line as end_line_said, first_unsupported as first_unsupported_said, has_no_limit as has_no_limit_said, has_short_stack as has_short_stack_said, is_reversed as is_reversed_said, is_whole as is_whole_said, last_place as last_place_said, needed, opener_of as opener_of_said, other_cards as other_cards_said, other_chips as other_chips_said, stacks_at, has_key as has_key_said};
+ghost use Rattle.acpc_game.specs.GameFile.{are_four as are_four_said, are_sizes as are_sizes_said, end_line as end_line_said, first_unsupported as first_unsupported_said, has_no_limit as has_no_limit_said, has_short_stack as has_short_stack_said, is_reversed as is_reversed_said, is_whole as is_whole_said, last_place as last_place_said, needed, first_player, other_cards as other_cards_said, other_chips as other_chips_said, stacks_at, has_key as has_key_said};
 ghost use Rattle.first_fault.specs.Conditions.{first_where};
 
 use crate::entry::Entry;
@@ -184,7 +184,7 @@ fn are_four(numbers: &[u64], four: [u64; 4]) -> bool
 
 /// The seat that opens the first round.
 pub fn opener_of(blinds: &[u64]) -> u64
-    ensures { result ≡ opener_of_said blinds.now }
+    ensures { result ≡ first_player blinds.now }
 {
     if blinds.len() == 2 {
         return 2;

@@ -13,7 +13,7 @@ use Rattle.play_event.specs.ValidSetup.{IsSizeWhere, IsValid, is_fixed}
 use Rattle.acpc_game.specs.GameFile.{has_short_stack, is_reversed}
 use Rattle.acpc_game.specs.Games.{are_chips, has_fitting_sizes}
 use Rattle.acpc_line.specs.GameOf.{MakesGame, is_sized_by_blind, no_limit_of}
-use Rattle.acpc_line.specs.SetupFacts.{greatest_blind}
+use Rattle.chip_ledger.specs.Greatest.{greatest}
 
 chips_of : (amounts : List ℕ) (count : ℕ) → ((k : ℕ) → k < count → slice_index amounts k ≤ MOST_CHIPS) → are_chips (take count amounts) ≡ true
 chips_of amounts zero each = refl
@@ -72,6 +72,6 @@ makes_game no_limit setup valid is stacked fits = record {
   few_blinds = chips_of setup.blinds.amounts setup.blinds.seats (λ k within. subst (λ (n : ℕ). n ≤ MOST_CHIPS) (at_index setup.blinds k) (valid.blinds (k + 1)));
   stacked = stacked;
   in_order = not_reversed setup.blinds.amounts setup.blinds.seats setup.blinds.full (λ two. valid.heads_up (sym valid.same_blinds ∙ two));
-  sizes = sizes_fit setup.code no_limit setup.small_bet setup.big_bet setup.min_bet (greatest_blind setup) is
+  sizes = sizes_fit setup.code no_limit setup.small_bet setup.big_bet setup.min_bet (greatest (amounts_in setup.blinds)) is
       (record { small_bet = valid.small_bet; big_bet = valid.big_bet; least_bet = valid.least_bet }) fits;
 }

@@ -9,8 +9,8 @@ use Rattle.hand_records.specs.declared.writing.Unspelled.{Unspelled}
 use Rattle.hand_records.specs.declared.writing.Unspelled.TheVariants as facts
 use Rattle.acpc_game.specs.GameFile.{GameSaid, has_short_stack, is_reversed}
 use Rattle.acpc_game.specs.Games.{are_chips, has_fitting_sizes}
-use Rattle.acpc_line.specs.SetupFacts.{greatest_blind}
 use Rattle.chip_ledger.specs.SeatRow.{amounts_in}
+use Rattle.chip_ledger.specs.Greatest.{greatest}
 
 -- whether hold'em with this code has no limit; other games have no logs
 abbrev pub no_limit_of : Code → Option Bool
@@ -22,8 +22,8 @@ no_limit_of _ = None
 -- where there is a blind
 abbrev pub is_sized_by_blind : Bool → Setup → Bool
 is_sized_by_blind no_limit setup =
-    if no_limit then setup.min_bet == greatest_blind setup
-    else greatest_blind setup == 0 || nat_le setup.small_bet (greatest_blind setup)
+    if no_limit then setup.min_bet == greatest (amounts_in setup.blinds)
+    else greatest (amounts_in setup.blinds) == 0 || nat_le setup.small_bet (greatest (amounts_in setup.blinds))
 
 -- the game with these stacks, blinds and sizes
 abbrev pub game_with : Bool → Setup → GameSaid
@@ -55,4 +55,4 @@ pub record MakesGame (no_limit : Bool) (setup : Setup) : Type 0 where
   pub few_blinds : are_chips (amounts_in setup.blinds) ≡ true
   pub stacked : has_short_stack (amounts_in setup.stacks) (amounts_in setup.blinds) ≡ false
   pub in_order : is_reversed (amounts_in setup.blinds) ≡ false
-  pub sizes : has_fitting_sizes no_limit (greatest_blind setup) setup.small_bet setup.big_bet ≡ true
+  pub sizes : has_fitting_sizes no_limit (greatest (amounts_in setup.blinds)) setup.small_bet setup.big_bet ≡ true

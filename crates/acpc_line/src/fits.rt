@@ -3,8 +3,10 @@ ghost use Rattle.std.specs.Prelude.{◌≡◌, ◌&&◌, ◌==◌, Ok, Err, IfEr
 ghost use Rattle.acpc_game.specs.GameView.{game_in};
 ghost use Rattle.play_event.specs.ValidSetup.{IsValid};
 ghost use Rattle.acpc_line.specs.GameOf.{MakesGame, game_of as game_of_said, game_with, is_sized_by_blind as is_sized_by_blind_said, no_limit_of};
-ghost use Rattle.acpc_line.specs.SetupFacts.{greatest_blind as greatest_blind_said, has_sizes_of, is_code_of, setup_conditions};
+ghost use Rattle.acpc_line.specs.SetupFacts.{has_sizes_of, is_code_of, setup_conditions};
 ghost use Rattle.first_fault.specs.Conditions.{first_where};
+ghost use Rattle.chip_ledger.specs.Greatest.{greatest as greatest_said};
+ghost use Rattle.chip_ledger.specs.SeatRow.{amounts_in};
 
 use crate::amounts::{amounts_of, are_same, has_some};
 use acpc_game::{Game, greatest, has_short_stack};
@@ -111,7 +113,7 @@ fn is_sized_by_blind(no_limit: bool, setup: &Setup) -> bool
 
 // The greatest blind.
 fn greatest_blind(setup: &Setup) -> u64
-    ensures { result ≡ greatest_blind_said setup.now }
+    ensures { result ≡ greatest_said (amounts_in setup.now.blinds) }
 {
     greatest(amounts_of(&setup.blinds))
 }
