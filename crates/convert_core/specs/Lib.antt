@@ -8,6 +8,7 @@ pub mod SameParts
 pub mod Conversion
 pub mod Histories
 pub mod HistoryAlike
+pub mod UnderRules
 pub mod HistoryLaws
 pub mod Trees
 pub mod TreeAlike

@@ -1,5 +1,5 @@
 -- The laws that a notation keeps, of Open Hand History in a dialect.
-use Rattle.std.proofs.Common.{◌≡◌, ℕ, true, List, [], ◌∷◌, Some, None, Ok, refl}
+use Rattle.std.proofs.Common.{◌≡◌, ℕ, true, List, Some, None, Ok, refl}
 use Rattle.std.specs.List.{AllByRecursion}
 use Rattle.hand_canon.specs.Sound.{IsSound}
 use Rattle.hand_records.specs.declared.record.Record.{Record}
@@ -18,18 +18,13 @@ use Rattle.ohh_line.specs.Spelled as facts
 use Rattle.ohh_members.specs.declared.dialect.Dialect.{Dialect}
 use Rattle.ohh_reading.specs.Reading.{reading}
 use Rattle.convert_core.specs.ReadBack.{ReadBack}
-use Rattle.convert_core.specs.Records.{AreFew, AreOfFile, IsUnder}
+use Rattle.convert_core.specs.Records.{AreFew, AreOfFile}
 use Rattle.convert_core.specs.Trees.{HaveFault, Say, Spell}
 use Rattle.convert_core.specs.declared.format_fault.FormatFault.{FormatFault}
 use Rattle.convert_core.specs.declared.format_fault.FormatFault.TheVariants as formats
 use Rattle.hand_canon.specs.Sharp.{IsOther, is_sharp}
-use Rattle.hand_records.specs.Histories.{IsHistory}
 use Rattle.hand_records.specs.Refusals.{first_refusal}
-
--- each hand that bytes say is under the rules of its notation
-each_under : (records : List Record) → AllByRecursion IsHistory records → AllByRecursion (IsUnder history_rules) records
-each_under [] each = tt
-each_under (hand ∷ hands) each = (record { sound = each.0.sound; rules_are = each.0.rules }, each_under hands each.1)
+use Rattle.convert_core.specs.UnderRules.{each_under}
 
 -- what bytes say is what a reader gives of a file
 pub reads_file : (dialect : Dialect) (bytes : List ℕ) (hands : List Record) → Say dialect bytes hands → AreOfFile history_rules hands

@@ -24,7 +24,7 @@ use Rattle.list_laws.proofs.Tests.{false_true}
 use Rattle.play_laws.specs.PastLaws.{AreReached, has_move, PastLaw}
 use Rattle.play_laws.proofs.LegalPlaces.{legal_past}
 use Rattle.play_laws.proofs.DueAtEvents.{Reaches, turn_reaches, unfinished_due}
-use Rattle.play_laws.proofs.LegalEvents.{Stepped, deals, boards, moves, discards, shows, mucks, stepped, unfinished_move, fold_kind, call_kind, raise_kind, bring_kind}
+use Rattle.play_laws.proofs.LegalEvents.{Stepped, deals, boards, moves, discards, shows, mucks, stepped, fold_kind, call_kind, raise_kind, bring_kind}
 use Rattle.play_laws.proofs.PastLawKept.{unmoved_deal, drawing}
 use Rattle.play_laws.proofs.MoverUps.{SameUps}
 use Rattle.play_event.proofs.ReasonLaws.{none_hold}
@@ -36,6 +36,7 @@ use Rattle.play_laws.proofs.FittingMoves.{is_mover, ups_now}
 use Rattle.play_laws.proofs.BettingDue.{bet_of}
 use Rattle.std.specs.Prelude.{length}
 use Rattle.play_event.specs.TurnTargets.{is_bet_due}
+use Rattle.play_event.proofs.FloorLaws.{bet_unfinished}
 
 -- where a bring-in or a move is due, some seat is in turn, or it is not known which
 abbrev pub HasMovers : Setup → Rules → Type 0
@@ -115,7 +116,7 @@ fit_move setup rules events event movers law legal_before legal is several kind 
     due : IsBetDue setup (moves_of (past_of setup events)) (turn setup (past_of setup events)).0 (turn setup (past_of setup events)).1
     due =
         let moving = move_kind setup (turn setup (past_of setup events)).1 event is kind in
-        bet_of setup (past_of setup events) (turn setup (past_of setup events)).0 (turn setup (past_of setup events)).1 (unfinished_due setup (past_of setup events) (turn setup (past_of setup events)).1 refl (unfinished_move (turn setup (past_of setup events)).1 moving)) moving
+        bet_of setup (past_of setup events) (turn setup (past_of setup events)).0 (turn setup (past_of setup events)).1 (unfinished_due setup (past_of setup events) (turn setup (past_of setup events)).1 refl (bet_unfinished (turn setup (past_of setup events)).1 moving)) moving
 
     by_turn : (t : InTurn) → mover setup (up_cards setup.code (past_of setup events)) (moves_of (past_of setup events)) (turn setup (past_of setup events)).0 ≡ t → FitsIf setup rules (places_of setup.code (past_of setup events)) (moves_of (past_of setup events)) (resolved_by setup (moves_of (past_of setup events)) (turn setup (past_of setup events)).0 (mover setup (up_cards setup.code (past_of setup events)) (moves_of (past_of setup events)) (turn setup (past_of setup events)).0) event)
     by_turn NoSeat same = absurd (movers (places_of setup.code (past_of setup events)) (moves_of (past_of setup events)) (up_cards setup.code (past_of setup events)) (turn setup (past_of setup events)).0 (turn setup (past_of setup events)).1 law due same)

@@ -13,7 +13,7 @@ use Rattle.play_event.specs.Said as said
 use Rattle.play_event.specs.Said.{Said}
 use Rattle.play_event.specs.Past.{Past, Resolved, Move, Dealt, Boarded, Moved, Discarded, Shown, Mucked}
 use Rattle.play_event.specs.Dealing.{is_deal_due, is_draw_due, cards_owed, board_cards_owed, next_to_draw}
-use Rattle.play_event.specs.Due.{turn, is_unfinished}
+use Rattle.play_event.specs.Due.{turn}
 use Rattle.play_event.specs.Naming.{after_discard, after_show, held_count}
 use Rattle.play_event.specs.Table.{places_of}
 use Rattle.play_event.specs.Taken.{has_taken_card, has_misplaced_card}
@@ -23,7 +23,7 @@ use Rattle.play_event.specs.Scripts.{resolved_on}
 use Rattle.play_event.proofs.ReasonLaws.{no_reason_holds}
 use Rattle.list_laws.proofs.Tests.{false_true, first_holds}
 use Rattle.play_laws.proofs.DueAtEvents.{IsDue, deal, draw, bring, move, unfinished_due}
-use Rattle.play_event.proofs.FloorLaws.{may_come_by}
+use Rattle.play_event.proofs.FloorLaws.{may_come_by, bet_unfinished}
 use Rattle.list_laws.proofs.Options.{next_number}
 use Rattle.play_event.specs.TurnTargets.{is_bet_due}
 
@@ -91,17 +91,8 @@ bet_by setup before _ (draw no_deal so) is = false_true is
 bet_by setup before _ (bring no_deal no_draw so) is = (no_deal, no_draw)
 bet_by setup before _ (move no_deal no_draw no_bring so) is = (no_deal, no_draw)
 
--- where a bring-in or a move is due the hand goes on
-pub unfinished_move : (due : Due) → is_bet_due due ≡ true → is_unfinished due ≡ true
-unfinished_move dues.BringIn is = refl
-unfinished_move dues.Move is = refl
-unfinished_move (dues.Deal street) is = false_true is
-unfinished_move (dues.Draw street) is = false_true is
-unfinished_move dues.Show is = false_true is
-unfinished_move dues.Over is = false_true is
-
 move_by : (setup : Setup) (before : Past) → is_bet_due (turn setup before).1 ≡ true → (is_deal_due setup before (turn setup before).0 ≡ false) × (is_draw_due setup before (turn setup before).0 ≡ false)
-move_by setup before is = bet_by setup before (turn setup before).1 (unfinished_due setup before (turn setup before).1 refl (unfinished_move (turn setup before).1 is)) is
+move_by setup before is = bet_by setup before (turn setup before).1 (unfinished_due setup before (turn setup before).1 refl (bet_unfinished (turn setup before).1 is)) is
 
 -- a fold may come only where a bring-in or a move is due
 pub fold_kind : (setup : Setup) (named : Option ℕ) (due : Due) → is_due_kind setup.code due (said.Fold named) ≡ true → is_bet_due due ≡ true
