@@ -33,7 +33,7 @@ use Rattle.canon_laws.proofs.SameCore.{plain_again, core_by, core_parts}
 use Rattle.canon_laws.proofs.ShowdownRun.{AtShow, turn_shows}
 use Rattle.canon_laws.specs.Confluence.{HasTraceOf}
 use Rattle.canon_laws.proofs.LastPast.{early_all, over_ends}
-use Rattle.play_event.proofs.ScriptLaws.{at_end}
+use Rattle.play_event.proofs.ScriptLaws as scripts
 
 -- each mucked seat has a card that is not known
 abbrev pub MucksHide : Setup → Past → Type 0
@@ -137,7 +137,7 @@ words_alone setup rules script words played hide s same =
     record {
       played = record {
         legal = run.legal;
-        complete = ap (λ (p : Past). is_unfinished (turn setup p).1) (at_end setup words ∙ run.past) ∙ ends setup rules events played.legal s (nat_le (live_count setup (moves_of (past_of setup events))) 1) refl;
+        complete = ap (λ (p : Past). is_unfinished (turn setup p).1) (scripts.at_end setup words ∙ run.past) ∙ ends setup rules events played.legal s (nat_le (live_count setup (moves_of (past_of setup events))) 1) refl;
       };
       same = ap (core_of setup) run.past ∙ same_core setup rules events played.legal hide s;
     }
@@ -146,6 +146,6 @@ words_alone setup rules script words played hide s same =
 pub without_shows : (setup : Setup) (rules : Rules) (script : List Said) → IsPlayed setup rules script → MucksHide setup (past_at_end setup script) → HasTraceOf setup rules script (streets_alone setup (core_after setup script))
 without_shows setup rules script played hide =
     let past = past_at_end setup script in
-    let complete : is_unfinished (turn setup past).1 ≡ false = sym (ap (λ (p : Past). is_unfinished (turn setup p).1) (at_end setup script)) ∙ played.complete in
+    let complete : is_unfinished (turn setup past).1 ≡ false = sym (ap (λ (p : Past). is_unfinished (turn setup p).1) (scripts.at_end setup script)) ∙ played.complete in
     words_alone setup rules script (streets_alone setup (core_after setup script)) played hide (after_streets setup rules (reverse script) played.legal complete)
     (ap (λ (l : List Move). flat_map (street_said setup (traced_places setup past) l) (streets_of setup)) (sym (plain_again setup (moves_of past))))

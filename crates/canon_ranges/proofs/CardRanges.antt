@@ -36,7 +36,7 @@ use Rattle.showdown_laws.proofs.WholeHands.{whole_hands}
 use Rattle.canon_ranges.proofs.GameSizes.{few_boards, few_drawn}
 use Rattle.chip_ledger.specs.Seat.{IsSeatOf}
 use Rattle.card_set.proofs.KnownCards.{all_known_length}
-use Rattle.canon_ranges.proofs.StreetsPlayed.{board_known}
+use Rattle.canon_ranges.proofs.StreetsPlayed as streets_played
 
 module _ (setup : Setup) (rules : Rules) (events : List Said) (legal : AreLegal setup rules events) where
   abbrev past : Past
@@ -69,7 +69,7 @@ module _ (setup : Setup) (rules : Rules) (events : List Said) (legal : AreLegal 
 
   -- and they are known
   pub board_known : (street : ℕ) → length (known_cards (dealt_slots core.places None street)) ≡ length (dealt_slots core.places None street)
-  board_known street = all_known_length (dealt_slots core.places None street) (board_known core.places street (tidy_cards setup rules events legal).board_known)
+  board_known street = all_known_length (dealt_slots core.places None street) (streets_played.board_known core.places street (tidy_cards setup rules events legal).board_known)
 
   -- what a draw takes was held when its street began
   out_few : (seat street : ℕ) → 1 ≤ street → has_draw setup.code street ≡ true → length (filter (is_out_of street seat) placed) ≤ 5

@@ -133,6 +133,7 @@ why_board t due live setup rules past cards now =
     ap (λ (d : Due). first_reason (all_reasons setup rules past ((turn setup past).0, d) (said.Board cards))) now.due_is
     ∙ board_by t due live setup rules past cards now
 
+-- where cards may be dealt, the street that is due is that of the turn
 pub hole_turn : (t : CardState) (due : Due) (live : LiveRow) (setup : Setup) (past : Past) (seat : ℕ) (cards : List Slot) → (turn setup past).1 ≡ due → hole_why t live due seat cards ≡ None → due_street due ≡ Some (turn setup past).0
 hole_turn t (dues.Deal on) live setup past seat cards due_is none = ap Some (deal_street setup past on due_is)
 hole_turn t (dues.Draw on) live setup past seat cards due_is none = ap Some (draw_street setup past on due_is)
