@@ -29,7 +29,7 @@ use Rattle.betting_numbers.proofs.NextStreet.{standing_next, zero_greatest}
 use Rattle.street_laws.proofs.Later.{early_moves, early_up, none_on}
 use Rattle.street_laws.specs.Walk.{has_no_move_later}
 use Rattle.street_laws.proofs.TurnAfter.{AreDealt, due_by, cards_come, quiet_is_showdown}
-use Rattle.betting_numbers.proofs.StandsAfter.{standing_with_due}
+use Rattle.betting_numbers.proofs.StandsAfter.{standing_with_turn}
 use Rattle.street_laws.specs.Walk.{walked}
 use Rattle.street_laws.proofs.Walk.{walk_on, due_here}
 use Rattle.street_laws.proofs.LiveSeats.{one_of_several}
@@ -133,7 +133,7 @@ module _ (b next : Table) (past : Past) (up : StandsUpTo b past) (other : b.due 
   comes = elim (cases_eq next.street b.street) [
     | inl same ↦ record {
       setup = ap (λ (t : Table). t.setup) (to.stays same);
-      standing = subst (λ (t : Table). Standing t.setup t.street t (moves_of past)) (sym (to.stays same)) (standing_with_due b.setup b.street b next.due (moves_of past) up.standing);
+      standing = subst (λ (t : Table). Standing t.setup t.street t (moves_of past)) (sym (to.stays same)) (standing_with_turn b.setup b.street b next.due next.next (moves_of past) up.standing);
       street = inl same;
     }
     | inr new ↦ record {
@@ -249,7 +249,7 @@ show_ended b past up due_is =
     ] in
     record {
       valid = up.valid;
-      standing = standing_with_due b.setup b.street b dues.Over (moves_of past) up.standing;
+      standing = standing_with_turn b.setup b.street b dues.Over b.next (moves_of past) up.standing;
       turn_is =
           quiet_is_showdown b.setup past up.more quiet (omega (arith, up.reached, come.0))
           ∙ ap (λ (s : Bool). (street_count b.setup.code, if s then dues.Show else dues.Over)) shown

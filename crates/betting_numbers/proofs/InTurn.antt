@@ -60,9 +60,9 @@ why_where b past event due stands is =
     ap (λ now. first_reason (all_reasons b.setup b.rules past now event)) stands.turn_is
     ∙ ap (λ d. first_reason (all_reasons b.setup b.rules past (b.street, d) event)) is
 
--- a seat that passes is found, from whichever seat one starts
-pub found_round : (setup : Setup) (p : ℕ → Bool) (start : ℕ) → IsSeat setup start → list_any p (all_seats setup) ≡ true → is_some (find p (seats_from setup start)) ≡ true
-found_round setup p start in_hand some =
+-- a seat is found where one passes, from whichever seat one starts
+found_some : (setup : Setup) (p : ℕ → Bool) (start : ℕ) → IsSeat setup start → is_some (find p (seats_from setup start)) ≡ list_any p (all_seats setup)
+found_some setup p start in_hand =
     let n = setup.stacks.seats in
     let low : 1 ≤ start = in_hand.first in
     let high : start ≤ n = in_hand.last in
@@ -77,7 +77,9 @@ found_round setup p start in_hand some =
     ∙ ap (λ k. list_any p (range_with_len 1 (start - 1) ++ range_with_len k (n + 1 - start))) from
     ∙ list_any-append p (range_with_len 1 (start - 1)) (range_with_len start (n + 1 - start))
     )
-    ∙ some
+
+pub found_round : (setup : Setup) (p : ℕ → Bool) (start : ℕ) → IsSeat setup start → list_any p (all_seats setup) ≡ true → is_some (find p (seats_from setup start)) ≡ true
+found_round setup p start in_hand some = found_some setup p start in_hand ∙ some
 
 none_is_nobody : (found : Option ℕ) → in_turn found ≡ NoSeat → is_some found ≡ true → ⊥
 none_is_nobody None is some = true≢false (sym some)
@@ -109,6 +111,23 @@ passed_by b opener in_hand (Some s) is = record {
 
 pub passed : (b : Table) (opener : ℕ) → IsSeat b.setup opener → Passed b opener
 passed b opener in_hand = passed_by b opener in_hand b.last refl
+
+-- a seat is in turn where some seat has a move to make
+same_found : (found other : Option ℕ) → in_turn found ≡ in_turn other → is_some found ≡ is_some other
+same_found None None same = refl
+same_found None (Some seat) same = absurd (cc)
+same_found (Some seat) None same = absurd (cc)
+same_found (Some seat) (Some other) same = refl
+
+pub turn_found : (b : Table) (opener : ℕ) → IsSeat b.setup opener → (found : Option ℕ) → in_turn found ≡ mover_seen b (TheSeat opener) → is_some found ≡ is_move_due_seen b
+turn_found b opener in_hand found is =
+    let to : Passed b opener = passed b opener in_hand in
+    same_found found (find (has_to_move_seen b) (seats_from b.setup to.seat)) (is ∙ ap (first_in_turn b.setup (has_to_move_seen b)) to.is)
+    ∙ found_some b.setup (has_to_move_seen b) to.seat to.in_hand
+
+pub seat_found : (found : Option Seat) → is_some found ≡ is_some (seat_said found)
+seat_found None = refl
+seat_found (Some seat) = refl
 
 -- what is due where an event may come
 pub move_now : (due : Due) → now_why true false due ≡ None → due ≡ dues.Move

@@ -1,6 +1,7 @@
 -- After a legal move the state stands for the past with it.
-use Rattle.std.proofs.Common.{◌≡◌, ℕ, ◌+◌, ◌≤◌, Bool, true, false, ◌&&◌, ◌||◌, ◌==◌, not, nat_lt, nat_le, if◌then◌else◌, inl, inr, List, ◌∷◌, Some, refl, sym, ap, subst, ◌∙◌, arith}
+use Rattle.std.proofs.Common.{◌≡◌, ℕ, ◌+◌, ◌≤◌, Bool, true, false, ◌&&◌, ◌||◌, ◌==◌, not, nat_lt, nat_le, if◌then◌else◌, inl, inr, List, ◌∷◌, Option, Some, refl, sym, ap, subst, ◌∙◌, arith}
 use Rattle.std.proofs.lemmas.Bool.{and_from, and_parts, and_right, le-leb, leb-true, cases_eq, false_from_ne_true, true≢false}
+use Rattle.chip_ledger.specs.declared.numbers.Seat.{Seat}
 use Rattle.play_event.specs.declared.code.Code.{Code}
 use Rattle.play_event.specs.declared.reason.Due.{Due}
 use Rattle.play_event.specs.declared.reason.Due.TheVariants as dues
@@ -24,7 +25,7 @@ use Rattle.street_laws.specs.Walk.{has_nothing_later}
 use Rattle.play_event.specs.ValidSetup.{IsValid}
 use Rattle.street_laws.specs.Dues.{is_move}
 use Rattle.play_event.specs.TurnTargets.{is_bet_due}
-use Rattle.betting_numbers.specs.Turn.{may_come_at, with_due, IsSettledTo}
+use Rattle.betting_numbers.specs.Turn.{may_come_at, with_turn, IsSettledTo}
 use Rattle.street_laws.specs.Walk.{street_cards, turn_after}
 use Rattle.betting_numbers.proofs.Bridge.{live_count_is, move_due_is}
 use Rattle.betting_numbers.proofs.AfterMove.{the_move, standing_after, on_street}
@@ -40,8 +41,8 @@ use Rattle.play_event.proofs.StillAble.{able_still, still_live}
 use Rattle.play_event.proofs.FloorLaws.{bet_unfinished}
 
 -- the numbers stand whatever is due
-pub standing_with_due : (setup : Setup) (street : ℕ) (b : Table) (due : Due) (moves : List Move) → Standing setup street b moves → Standing setup street (with_due b due) moves
-standing_with_due setup street b due moves st = record {
+pub standing_with_turn : (setup : Setup) (street : ℕ) (b : Table) (due : Due) (next : Option Seat) (moves : List Move) → Standing setup street b moves → Standing setup street (with_turn b due next) moves
+standing_with_turn setup street b due next moves st = record {
   puts = st.puts;
   bets = st.bets;
   live = st.live;
@@ -121,10 +122,10 @@ module _ (b mid next : Table) (past : Past) (seat target unit : ℕ) (act : Act)
     setup : next.setup ≡ b.setup
     standing : Standing next.setup next.street next (new_move ∷ moves_of past)
 
-  stays_by : next ≡ with_due mid next.due → Comes
+  stays_by : next ≡ with_turn mid next.due next.next → Comes
   stays_by is = record {
     setup = ap (λ (t : Table). t.setup) is ∙ mv.setup;
-    standing = subst (λ (t : Table). Standing t.setup t.street t (new_move ∷ moves_of past)) (sym is) (standing_with_due mid.setup mid.street mid next.due (new_move ∷ moves_of past) mid_stands);
+    standing = subst (λ (t : Table). Standing t.setup t.street t (new_move ∷ moves_of past)) (sym is) (standing_with_turn mid.setup mid.street mid next.due next.next (new_move ∷ moves_of past) mid_stands);
   }
 
   goes_by : IsNextStreet mid next → Comes

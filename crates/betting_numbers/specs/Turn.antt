@@ -1,10 +1,14 @@
 -- What is due after the betting of a street moved on.
-use Rattle.std.specs.Prelude.{◌≡◌, Bool, false, nat_le, ◌||◌}
+use Rattle.std.specs.Prelude.{◌≡◌, ◌≤◌, ℕ, Bool, true, false, nat_le, ◌||◌, Option, IfSome}
+use Rattle.chip_ledger.specs.declared.numbers.Seat.{Seat}
 use Rattle.play_event.specs.declared.reason.Due.{Due}
 use Rattle.play_event.specs.Due.{has_opened_betting}
+use Rattle.play_event.specs.Openers.{TheSeat, in_turn, blinds_opener}
 use Rattle.play_event.specs.Past.{Act}
+use Rattle.play_event.specs.TurnTargets.{is_bet_due}
 use Rattle.betting_numbers.specs.declared.table.Table.{Table}
-use Rattle.betting_numbers.specs.Seen.{live_count_seen, is_bring_in_due_seen, is_move_due_seen}
+use Rattle.betting_numbers.specs.SeatsSaid.{seat_said}
+use Rattle.betting_numbers.specs.Seen.{live_count_seen, is_bring_in_due_seen, is_move_due_seen, mover_seen}
 use Rattle.betting_numbers.specs.Moving.{IsNextStreet}
 use Rattle.street_laws.specs.Walk.{betting_turn, turn_after}
 use Rattle.street_laws.specs.Dues.{is_move}
@@ -13,21 +17,37 @@ use Rattle.street_laws.specs.Dues.{is_move}
 abbrev pub with_due : Table → Due → Table
 with_due b due = record b { due = due }
 
--- after a move the street's betting goes on, or the next street begins, or nothing is left to bet
-pub record IsSettledTo (mid next : Table) : Type 0 where
-  pub turn_is : (next.street, next.due) ≡ turn_after mid.setup.code mid.street (nat_le (live_count_seen mid) 1) false (is_move_due_seen mid)
-  pub stays : next.street ≡ mid.street → next ≡ with_due mid next.due
+-- the same numbers, another thing due, and another seat in turn
+abbrev pub with_turn : Table → Due → Option Seat → Table
+with_turn b due next = record b { due = due; next = next }
+
+-- where a move is due, the seat in turn that is kept is the first with a move to make, where the blinds say who opens
+abbrev pub KeepsTurn : Table → Type 0
+KeepsTurn b = is_move b.due ≡ true → in_turn (seat_said b.next) ≡ mover_seen b (TheSeat (blinds_opener b.setup b.street))
+
+-- where a bring-in or a move is due, the seat that is kept is of the hand
+abbrev pub KeepsSeat : Table → Type 0
+KeepsSeat b = is_bet_due b.due ≡ true → IfSome b.next (λ seat. seat.number ≤ b.setup.stacks.seats)
+
+-- the numbers where this is what comes: the street's betting goes on, or the next street begins, or nothing is left to bet
+pub record IsTurnedTo (now : ℕ × Due) (mid next : Table) : Type 0 where
+  pub turn_is : (next.street, next.due) ≡ now
+  pub stays : next.street ≡ mid.street → next ≡ with_turn mid next.due next.next
   pub goes : (next.street ≡ mid.street → ⊥) → IsNextStreet mid next
   pub setup : next.setup ≡ mid.setup
   pub rules : next.rules ≡ mid.rules
 
--- the deal or the draw of a street ended: the street's betting goes on, or the next street begins, or nothing is left to bet
-pub record IsDealtTo (mid next : Table) : Type 0 where
-  pub turn_is : (next.street, next.due) ≡ betting_turn mid.setup.code mid.street (is_bring_in_due_seen mid) (is_move_due_seen mid)
-  pub stays : next.street ≡ mid.street → next ≡ with_due mid next.due
-  pub goes : (next.street ≡ mid.street → ⊥) → IsNextStreet mid next
-  pub setup : next.setup ≡ mid.setup
-  pub rules : next.rules ≡ mid.rules
+-- after a move comes what is due after it
+abbrev pub IsSettledTo : Table → Table → Type 0
+IsSettledTo mid next = IsTurnedTo (turn_after mid.setup.code mid.street (nat_le (live_count_seen mid) 1) false (is_move_due_seen mid)) mid next
+
+-- after the deal or the draw of a street comes a bring-in, a move, or what comes behind it
+abbrev pub IsDealtTo : Table → Table → Type 0
+IsDealtTo mid next = IsTurnedTo (betting_turn mid.setup.code mid.street (is_bring_in_due_seen mid) (is_move_due_seen mid)) mid next
+
+-- where no bring-in is due a move comes, or what comes behind it
+abbrev pub IsPassedTo : Table → Table → Type 0
+IsPassedTo mid next = IsTurnedTo (betting_turn mid.setup.code mid.street false (is_move_due_seen mid)) mid next
 
 -- a move that brings no chips in comes only where a move is due
 abbrev pub may_come_at : Act → Due → Bool

@@ -6,7 +6,7 @@ ghost use Rattle.chip_ledger.specs.declared.rows.TheConstants.{MOST_AMOUNT};
 ghost use Rattle.play_event.specs.Past.{is_fold, is_raise, is_bring_in};
 ghost use Rattle.play_event.specs.Played.{act_said};
 ghost use Rattle.betting_numbers.specs.Moving.{IsMoved, IsNextStreet, most_raises};
-ghost use Rattle.betting_numbers.specs.Turn.{with_due};
+ghost use Rattle.betting_numbers.specs.Turn.{with_due, with_turn};
 ghost use Rattle.betting_numbers.specs.Seen.{all_in_seen};
 
 use crate::table::Table;
@@ -204,6 +204,15 @@ impl Table {
     pub fn set_due(&mut self, due: Due)
         ensures { self.new ≡ with_due self.old due }
     {
+        let next = self.next;
+        self.set_turn(due, next);
+    }
+
+    /// Something else is due, of this seat where it is a move.
+    pub fn set_turn(&mut self, due: Due, next: Option<Seat>)
+        ensures { self.new ≡ with_turn self.old due next }
+    {
         self.due = due;
+        self.next = next;
     }
 }

@@ -53,6 +53,7 @@ pub fn start(setup: &Setup, rules: &Rules, full_bet: u64) -> Table
         moved: LiveRow::new(seats),
         since_rise: LiveRow::new(seats),
         last: None,
+        next: None,
         raises: 0,
         full_raise: setup.min_bet,
         full_bet,

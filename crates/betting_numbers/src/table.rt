@@ -16,8 +16,8 @@ use play_event::{Due, Rules, Setup};
 
 /// The betting as it stands: a few rows and numbers, which each move changes, in place of the moves
 /// themselves. What would be counted over all seats again and again is kept as a number: the pot,
-/// the price, how many seats are live and able. What a seat owes, whether it is able and whose turn
-/// it is are read from the rows.
+/// the price, how many seats are live and able; and so is the seat in turn. What a seat owes and
+/// whether it is able are read from the rows.
 ///
 /// The fields are public since the contracts of the machine speak of them; the facts below them
 /// keep sums from wrapping and seats in the hand, and each number that is kept equal to what it
@@ -55,6 +55,10 @@ pub struct Table {
     pub since_rise: LiveRow,
     /// The seat that moved last on this street.
     pub last: Option<Seat>,
+    /// Where a move is due: the seat with that move, from the opener of a game with blinds on or from
+    /// behind the seat that moved last. Before the first move of a street of stud the up-cards say
+    /// whose turn it is, and not this.
+    pub next: Option<Seat>,
     /// How many raises there were on this street, as far as a u32 counts.
     pub raises: u32,
     /// How far a raise has to go above the price to be full.

@@ -1,19 +1,20 @@
 //! Whose turn it is, by the running numbers.
-ghost use Rattle.std.specs.Prelude.{◌≡◌, ◌≤◌, ◌+◌, find, IfSome};
+ghost use Rattle.std.specs.Prelude.{◌≡◌, ◌≤◌, ◌+◌, find, IfSome, is_some};
 ghost use Rattle.std.specs.List.{range_with_len};
 ghost use Rattle.play_event.specs.Openers as openers;
 ghost use Rattle.play_event.specs.Openers.{TheSeat, in_turn};
-ghost use Rattle.betting_numbers.specs.Seen.{after_last, last_seen, mover_seen, has_to_move_seen};
+ghost use Rattle.betting_numbers.specs.Seen.{after_last, last_seen, mover_seen, has_to_move_seen, is_move_due_seen};
 ghost use Rattle.chip_ledger.specs.SeatsSaid.{seat_said};
 
 use crate::table::Table;
 use chip_ledger::Seat;
 
 impl Table {
-    /// Whose turn it is, where this seat opens.
+    /// Whose turn it is, where this seat opens: nobody's where no move is due.
     pub fn mover(&self, opener: Seat) -> Option<Seat>
         requires { opener.number ≤ self.now.setup.stacks.seats }
         ensures turn { in_turn (seat_said result) ≡ mover_seen self.now (TheSeat opener.number) }
+        ensures due { is_some result ≡ is_move_due_seen self.now }
         ensures in_hand { IfSome result (λ seat. seat.number ≤ self.now.setup.stacks.seats) }
     {
         let start = self.passed_to(opener);

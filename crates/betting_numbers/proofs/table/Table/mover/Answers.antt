@@ -1,4 +1,7 @@
+use Rattle.std.proofs.Common.{◌∙◌, Some}
 use Rattle.play_event.specs.Openers.{TheSeat}
+use Rattle.betting_numbers.specs.SeatsSaid.{seat_said}
+use Rattle.betting_numbers.proofs.InTurn.{turn_found, seat_found}
 use Rattle.betting_numbers.proofs.Passing.{mover_before, mover_behind}
 use Rattle.betting_numbers.proofs.table.Table.mover.Goals as goal
 
@@ -9,3 +12,12 @@ returns-in-Some-clause-turn c =
 pub returns-in-None-clause-turn : goal.returns-in-None-clause-turn
 returns-in-None-clause-turn c =
     mover_behind c.args.self.now (TheSeat c.args.opener.number) c.passed_to-start.result.number _ c.passed_to-start.ensures.value c.in-None.ensures.found c.first_to_move-in-None.ensures.found
+
+pub returns-in-Some-clause-due : goal.returns-in-Some-clause-due
+returns-in-Some-clause-due c =
+    turn_found c.args.self.now c.args.opener.number (record { first = c.args.opener.first; last = c.requires }) (Some c.in-Some.seat.number) (returns-in-Some-clause-turn c)
+
+pub returns-in-None-clause-due : goal.returns-in-None-clause-due
+returns-in-None-clause-due c =
+    let found = c.first_to_move-in-None.result in
+    seat_found found ∙ turn_found c.args.self.now c.args.opener.number (record { first = c.args.opener.first; last = c.requires }) (seat_said found) (returns-in-None-clause-turn c)

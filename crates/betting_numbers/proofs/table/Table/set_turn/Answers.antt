@@ -1,4 +1,4 @@
--- Only what is due changes, and no fact of the table speaks of it.
+-- Only what is due and of whom changes, and no fact of the table speaks of them.
 use Rattle.std.proofs.Common.{◌≡◌, ◌≤◌, ◌-◌, ◌*◌, ℕ, ◌&&◌, nat_lt, map, count_by, Option, Some, ap}
 use Rattle.std.proofs.Props.{props}
 use Rattle.chip_ledger.specs.declared.numbers.Seat.{Seat}
@@ -16,7 +16,7 @@ use Rattle.play_event.specs.declared.setup.Rules.{Rules}
 use Rattle.play_event.specs.declared.setup.Setup.{Setup}
 use Rattle.betting_numbers.specs.declared.table.Table.{Table}
 use Rattle.betting_numbers.specs.Caps.{cap_at}
-use Rattle.betting_numbers.proofs.table.Table.set_due.Goals as goal
+use Rattle.betting_numbers.proofs.table.Table.set_turn.Goals as goal
 
 -- what a table keeps
 record Kept (setup : Setup) (rules : Rules) (first_price : ℕ) (first_opener : Seat) (puts : SeatRow) (pot : ℕ) (bets : SeatRow) (price : ℕ) (live : LiveRow) (live_count able_count : ℕ) (moved since_rise : LiveRow) (last : Option Seat) (full_raise : ℕ) : Type 0 where
@@ -50,8 +50,8 @@ Kept-prop setup rules first_price first_opener puts pot bets price live live_cou
 abbrev KeptBy : Table → Type 0
 KeptBy b = Kept b.setup b.rules b.first_price b.first_opener b.puts b.pot b.bets b.price b.live b.live_count b.able_count b.moved b.since_rise b.last b.full_raise
 
-abbrev due_by : (b : Table) → Due → KeptBy b → Table
-due_by b due kept = record {
+abbrev turn_by : (b : Table) → Due → Option Seat → KeptBy b → Table
+turn_by b due next kept = record {
   setup = b.setup;
   rules = b.rules;
   first_price = b.first_price;
@@ -68,6 +68,7 @@ due_by b due kept = record {
   moved = b.moved;
   since_rise = b.since_rise;
   last = b.last;
+  next = next;
   raises = b.raises;
   full_raise = b.full_raise;
   full_bet = b.full_bet;
@@ -101,4 +102,4 @@ due_by b due kept = record {
 pub returns : goal.returns
 returns c =
     let b = c.args.self.now in
-    ap (due_by b c.args.due) (Kept-prop b.setup b.rules b.first_price b.first_opener b.puts b.pot b.bets b.price b.live b.live_count b.able_count b.moved b.since_rise b.last b.full_raise (record { first_price_is = _; first_price_bounded = _; first_opener_is = _; first_opener_in = _; ante_seats = _; blind_seats = _; put_seats = _; bet_seats = _; live_seats = _; moved_seats = _; since_seats = _; within = _; inside = _; pot_is = _; pot_bounded = _; price_is = _; price_bounded = _; live_is = _; able_is = _; least = _; least_bet = _; caps_fit = _; last_in = _ }) (record { first_price_is = b.first_price_is; first_price_bounded = b.first_price_bounded; first_opener_is = b.first_opener_is; first_opener_in = b.first_opener_in; ante_seats = b.ante_seats; blind_seats = b.blind_seats; put_seats = b.put_seats; bet_seats = b.bet_seats; live_seats = b.live_seats; moved_seats = b.moved_seats; since_seats = b.since_seats; within = b.within; inside = b.inside; pot_is = b.pot_is; pot_bounded = b.pot_bounded; price_is = b.price_is; price_bounded = b.price_bounded; live_is = b.live_is; able_is = b.able_is; least = b.least; least_bet = b.least_bet; caps_fit = b.caps_fit; last_in = b.last_in }))
+    ap (turn_by b c.args.due c.args.next) (Kept-prop b.setup b.rules b.first_price b.first_opener b.puts b.pot b.bets b.price b.live b.live_count b.able_count b.moved b.since_rise b.last b.full_raise (record { first_price_is = _; first_price_bounded = _; first_opener_is = _; first_opener_in = _; ante_seats = _; blind_seats = _; put_seats = _; bet_seats = _; live_seats = _; moved_seats = _; since_seats = _; within = _; inside = _; pot_is = _; pot_bounded = _; price_is = _; price_bounded = _; live_is = _; able_is = _; least = _; least_bet = _; caps_fit = _; last_in = _ }) (record { first_price_is = b.first_price_is; first_price_bounded = b.first_price_bounded; first_opener_is = b.first_opener_is; first_opener_in = b.first_opener_in; ante_seats = b.ante_seats; blind_seats = b.blind_seats; put_seats = b.put_seats; bet_seats = b.bet_seats; live_seats = b.live_seats; moved_seats = b.moved_seats; since_seats = b.since_seats; within = b.within; inside = b.inside; pot_is = b.pot_is; pot_bounded = b.pot_bounded; price_is = b.price_is; price_bounded = b.price_bounded; live_is = b.live_is; able_is = b.able_is; least = b.least; least_bet = b.least_bet; caps_fit = b.caps_fit; last_in = b.last_in }))
