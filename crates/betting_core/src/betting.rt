@@ -1,5 +1,6 @@
 //! The betting of a hand of one game: it takes folds, calls, raises and bring-ins one by one.
 ghost use Rattle.std.specs.Prelude.{◌≡◌, ◌≢◌, ◌≤◌, ◌<◌, ◌∷◌, [], ℕ, true, false, Some, None, IfOk, IfSome, OnOk, OnErr, is_some};
+ghost use Rattle.std.proofs.Props.{props};
 ghost use Rattle.play_event.specs.declared.reason.Due.TheVariants as dues;
 ghost use Rattle.play_event.specs.Past.{Past, moves_of};
 ghost use Rattle.chip_ledger.specs.LiveRow.{flag_of, flagged};
@@ -23,7 +24,8 @@ ghost use Rattle.street_laws.specs.Seats.{IsSeat};
 ghost use Rattle.betting_numbers.specs.UpTo.{StandsUpTo};
 ghost use Rattle.street_laws.specs.Done.{is_done};
 ghost use Rattle.street_laws.specs.Dues.{IsDueWithin, is_of_street, is_deal_or_draw, is_cards_due, is_before_moves};
-ghost use Rattle.betting_numbers.specs.Turn.{may_come_at, IsDealtTo, IsSettledTo};
+ghost use Rattle.betting_numbers.specs.Turn.{may_come_at, IsDealtTo, IsPassedTo, IsSettledTo};
+ghost use Rattle.betting_numbers.specs.Turn.{KeepsSeat, KeepsTurn};
 ghost use Rattle.street_laws.specs.Walk.{street_cards};
 ghost use Rattle.play_event.specs.Said.{Said, said_of};
 ghost use Rattle.play_event.specs.ValidSetup.{IsValid};
@@ -52,6 +54,8 @@ pub struct Betting<V: Variant> {
     pub ghost last: { table.street ≤ V.STREETS },
     pub ghost here: { is_of_street table.street table.due ≡ true },
     pub ghost begins: { is_before_moves table.due ≡ true → table.last ≡ None },
+    pub ghost turn: { KeepsTurn table },
+    pub ghost seat: { KeepsSeat table } by { Prim.hlevel props },
 }
 
 // The game is a game of stud.
@@ -84,12 +88,34 @@ fn settle<V: Variant>(table: &mut Table)
     ensures last { table.new.street ≤ V.STREETS }
     ensures here { is_of_street table.new.street table.new.due ≡ true }
     ensures begins { is_before_moves table.new.due ≡ true → table.new.last ≡ None }
+    ensures turn { KeepsTurn table.new }
+    ensures seat { KeepsSeat table.new }
 {
-    let street = table.street;
     if table.live_count() <= 1 {
         table.set_due(Due::Over);
-    } else if table.is_move_due() {
-        table.set_due(Due::Move);
+    } else {
+        pass::<V>(table);
+    }
+}
+
+// What is due where no bring-in is: the turn is passed on, or the next street begins.
+fn pass<V: Variant>(table: &mut Table)
+    requires code { table.old.setup.code ≡ V.CODE }
+    requires first { 1 ≤ table.old.street }
+    requires last { table.old.street ≤ V.STREETS }
+    ensures passed { IsPassedTo table.old table.new }
+    ensures first { 1 ≤ table.new.street }
+    ensures last { table.new.street ≤ V.STREETS }
+    ensures here { is_of_street table.new.street table.new.due ≡ true }
+    ensures begins { is_before_moves table.new.due ≡ true → table.new.last ≡ None }
+    ensures turn { KeepsTurn table.new }
+    ensures seat { KeepsSeat table.new }
+{
+    let street = table.street;
+    let opener = table.blinds_opener();
+    let next = table.mover(opener);
+    if next.is_some() {
+        table.set_turn(Due::Move, next);
     } else if street < V::STREETS {
         table.next_street(cards::<V>(street + 1));
     } else {
@@ -368,15 +394,10 @@ impl<V: Variant> Betting<V> {
         requires { is_deal_or_draw self.old.table.due ≡ true }
         ensures { IsDealtTo self.old.table self.new.table }
     {
-        let street = self.table.street;
         if self.table.is_bring_in_due(stud::<V>()) {
-            self.table.set_due(Due::BringIn);
-        } else if self.table.is_move_due() {
-            self.table.set_due(Due::Move);
-        } else if street < V::STREETS {
-            self.table.next_street(cards::<V>(street + 1));
+            self.table.set_turn(Due::BringIn, None);
         } else {
-            self.table.set_due(Due::Show);
+            pass::<V>(&mut self.table);
         }
     }
 
@@ -473,13 +494,13 @@ impl<V: Variant> Betting<V> {
             (λ past. IsTurn self.now.table past (turn_of (seat_said result))) }
         ensures in_hand { IfSome result (λ seat. seat.number ≤ self.now.table.setup.stacks.seats) }
     {
-        match V::OPEN {
-            Opener::Blinds => {
-                let opener = self.table.blinds_opener();
-                self.table.mover(opener)
-            }
-            Opener::LowUp => self.table.turn_by_up(Opener::LowUp, up),
-            Opener::HighUp => self.table.turn_by_up(Opener::HighUp, up),
+        match self.table.last {
+            Some(_) => self.table.next,
+            None => match V::OPEN {
+                Opener::Blinds => self.table.next,
+                Opener::LowUp => self.table.turn_by_up(Opener::LowUp, up),
+                Opener::HighUp => self.table.turn_by_up(Opener::HighUp, up),
+            },
         }
     }
 

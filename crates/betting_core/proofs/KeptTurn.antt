@@ -1,0 +1,58 @@
+-- The seat in turn that is kept is the seat in turn by the rules.
+use Rattle.std.proofs.Common.{◌≡◌, ◌==◌, Bool, true, false, if◌then◌else◌, Some, None, refl, sym, ap, ◌∙◌, arith}
+use Rattle.std.proofs.lemmas.Bool.{true≢false}
+use Rattle.chip_ledger.specs.declared.numbers.Seat.{Seat}
+use Rattle.play_event.specs.declared.reason.Due.{Due}
+use Rattle.play_event.specs.declared.reason.Due.TheVariants as dues
+use Rattle.play_event.specs.declared.limit.Opener.TheVariants as openers
+use Rattle.play_event.specs.Openers.{blinds_opener}
+use Rattle.play_event.specs.Past.{Past}
+use Rattle.play_event.specs.Streets.{is_stud, is_opened_by_up_cards, opener_of}
+use Rattle.play_event.specs.TurnTargets.{is_bet_due}
+use Rattle.street_laws.specs.Dues.{is_move, is_before_moves}
+use Rattle.street_laws.specs.Seats.{IsSeat}
+use Rattle.street_laws.proofs.Unsettled.{bring_in_is_due}
+use Rattle.betting_numbers.specs.declared.table.Table.{Table}
+use Rattle.betting_numbers.specs.LegalMoves.{IsTurn}
+use Rattle.betting_numbers.specs.SeatsSaid.{seat_said, turn_of}
+use Rattle.betting_numbers.specs.Standing.{StandsFor}
+use Rattle.betting_numbers.specs.Turn.{KeepsTurn}
+use Rattle.betting_numbers.proofs.InTurn.{turn_blinds}
+use Rattle.betting_numbers.proofs.UpOpener.{bets_move, turn_later}
+
+-- who opens where the blinds say it is of the hand
+opener_by : (b : Table) (one : Bool) → IsSeat b.setup (if one then blinds_opener b.setup 1 else 1)
+opener_by b true = record { first = omega (arith, b.first_opener.first, b.first_opener_is); last = omega (arith, b.first_opener_in, b.first_opener_is) }
+opener_by b false = record { first = omega arith; last = omega (arith, b.setup.stacks.least) }
+
+opener_in : (b : Table) → IsSeat b.setup (blinds_opener b.setup b.street)
+opener_in b = opener_by b (b.street == 1)
+
+-- a bet that is no bring-in is a move
+move_of_bets : (due : Due) → is_bet_due due ≡ true → (due ≡ dues.BringIn → ⊥) → is_move due ≡ true
+move_of_bets dues.Move bets other = refl
+move_of_bets dues.BringIn bets other = absurd (other refl)
+move_of_bets (dues.Deal street) bets other = absurd (true≢false (sym bets))
+move_of_bets (dues.Draw street) bets other = absurd (true≢false (sym bets))
+move_of_bets dues.Show bets other = absurd (true≢false (sym bets))
+move_of_bets dues.Over bets other = absurd (true≢false (sym bets))
+
+some_is_none : (seat : Seat) → Some seat ≡ None → ⊥
+some_is_none seat is = cc
+
+module _ (b : Table) (past : Past) (stands : StandsFor b past) (keeps : KeepsTurn b) (bets : is_bet_due b.due ≡ true) where
+  -- where the blinds say who opens
+  pub kept_blinds : opener_of b.setup.code ≡ openers.Blinds → IsTurn b past (turn_of (seat_said b.next))
+  kept_blinds game =
+      turn_blinds b past stands (blinds_opener b.setup b.street) (opener_in b) (seat_said b.next)
+      (keeps (move_of_bets b.due bets (λ is.
+      let stud : is_stud b.setup.code ≡ true = bring_in_is_due b.setup past b.street (stands.turn_is ∙ ap (λ (d : Due). (b.street, d)) is) in
+      true≢false (sym stud ∙ ap is_opened_by_up_cards game))))
+      bets refl game
+
+  -- where some seat has moved on the street
+  pub kept_later : (is_before_moves b.due ≡ true → b.last ≡ None) → (last : Seat) → b.last ≡ Some last → IsTurn b past (turn_of (seat_said b.next))
+  kept_later begins last is =
+      let other : b.due ≡ dues.BringIn → ⊥ = λ due_is. some_is_none last (sym is ∙ begins (ap is_before_moves due_is)) in
+      turn_later b past stands last is (blinds_opener b.setup b.street) (opener_in b) (seat_said b.next) (keeps (move_of_bets b.due bets other))
+      (bets_move b past stands b.due refl bets (λ due_is. absurd (other due_is)))

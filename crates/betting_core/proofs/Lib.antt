@@ -1,0 +1,2 @@
+-- The seat in turn that is kept.
+mod KeptTurn
