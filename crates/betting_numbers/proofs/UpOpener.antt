@@ -27,7 +27,8 @@ use Rattle.street_laws.specs.Seats.{IsSeat}
 use Rattle.betting_numbers.specs.Standing.{StandsFor, newest_seat}
 use Rattle.betting_numbers.specs.LegalMoves.{IsTurn}
 use Rattle.play_event.specs.TurnTargets.{is_bet_due}
-use Rattle.betting_numbers.specs.UpSeen.{HoldsUps, has_unknown_seen, has_unknown_up_card_seen, is_before_seen, is_opener_seen, up_opener_seen}
+use Rattle.betting_numbers.specs.UpSeen.{HoldsUps, has_unknown_seen, has_unknown_up_card_seen, is_before_seen, is_opener_seen, known_opener_seen, up_opener_seen}
+use Rattle.betting_numbers.proofs.Leading.{opens_known}
 use Rattle.list_laws.proofs.Counting.{counted_some}
 use Rattle.betting_numbers.proofs.Bridge.{able_is, able_count_is, mover_is, move_due_is, StartsIn}
 use Rattle.list_laws.proofs.Earliest.{first_exists}
@@ -188,7 +189,7 @@ module _ (b : Table) (past : Past) (stands : StandsFor b past) where
     unknown_by_cards openers.Blinds cards unknown = absurd (true≢false (sym cards))
 
     -- an up-card is unknown, and nobody moved
-    pub turn_unknown : is_opened_by_up_cards opener ≡ true → b.last ≡ None → true ≡ has_unknown_up_card_seen b up → IsTurn b past Undecided
+    turn_unknown : is_opened_by_up_cards opener ≡ true → b.last ≡ None → true ≡ has_unknown_up_card_seen b up → IsTurn b past Undecided
     turn_unknown cards last unknown =
         let said : last_seen b ≡ None = ap (λ (o : Option Seat). seat_said o) last in
         let at : after_last (last_seen b) (seat_after b.setup) Undecided ≡ Undecided = ap (λ (o : Option ℕ). after_last o (seat_after b.setup) Undecided) said in
@@ -199,7 +200,7 @@ module _ (b : Table) (past : Past) (stands : StandsFor b past) where
         )
 
     -- all are known, and this seat opens
-    pub turn_known : is_opened_by_up_cards opener ≡ true → false ≡ has_unknown_up_card_seen b up → (first : ℕ) → IsSeat b.setup first → Some first ≡ up_opener_seen opener b up → (found : Option ℕ) → in_turn found ≡ mover_seen b (TheSeat first) → is_move_due_seen b ≡ true → IsTurn b past (turn_of found)
+    turn_known : is_opened_by_up_cards opener ≡ true → false ≡ has_unknown_up_card_seen b up → (first : ℕ) → IsSeat b.setup first → Some first ≡ up_opener_seen opener b up → (found : Option ℕ) → in_turn found ≡ mover_seen b (TheSeat first) → is_move_due_seen b ≡ true → IsTurn b past (turn_of found)
     turn_known cards known first in_hand opens found found_is some =
         let to : Passed b first = passed b first in_hand in
         found_turn found (mover_seen b (TheSeat first)) found_is (somebody_from first in_hand some)
@@ -210,5 +211,19 @@ module _ (b : Table) (past : Past) (stands : StandsFor b past) where
         )
 
     -- some seat opens
-    pub turn_never : {A : Type 0} → None ≡ up_opener_seen opener b up → is_move_due_seen b ≡ true → A
+    turn_never : {A : Type 0} → None ≡ up_opener_seen opener b up → is_move_due_seen b ≡ true → A
     turn_never none some = absurd (true≢false (sym (one_opens b past stands up holds opener some) ∙ ap is_some (sym none)))
+
+    -- this seat opens, where all are known
+    pub turn_opened : is_opened_by_up_cards opener ≡ true → (first : ℕ) → IsSeat b.setup first → Some first ≡ known_opener_seen opener b up → (found : Option ℕ) → in_turn found ≡ mover_seen b (TheSeat first) → is_move_due_seen b ≡ true → IsTurn b past (turn_of found)
+    turn_opened cards first in_hand opens =
+        let parts = opens_known opener b up first opens in
+        turn_known cards parts.0 first in_hand parts.1
+
+    unopened_by : (unknown : Bool) → unknown ≡ has_unknown_up_card_seen b up → is_opened_by_up_cards opener ≡ true → b.last ≡ None → None ≡ (if unknown then None else up_opener_seen opener b up) → is_move_due_seen b ≡ true → IsTurn b past Undecided
+    unopened_by true is cards last none some = turn_unknown cards last is
+    unopened_by false is cards last none some = turn_never none some
+
+    -- it is not known who opens
+    pub turn_unopened : is_opened_by_up_cards opener ≡ true → b.last ≡ None → None ≡ known_opener_seen opener b up → is_move_due_seen b ≡ true → IsTurn b past Undecided
+    turn_unopened = unopened_by (has_unknown_up_card_seen b up) refl

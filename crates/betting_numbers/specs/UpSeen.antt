@@ -1,5 +1,5 @@
 -- Who opens a street by up-cards, by the running numbers and a row of up-cards.
-use Rattle.std.specs.Prelude.{◌≡◌, ℕ, ◌≤◌, true, Bool, ◌&&◌, ◌==◌, not, find, Option}
+use Rattle.std.specs.Prelude.{◌≡◌, ℕ, ◌≤◌, Bool, ◌&&◌, ◌==◌, not, if◌then◌else◌, find, Option, None}
 use Rattle.std.specs.List.{list_any}
 use Rattle.play_event.specs.declared.card_rows.UpRow.{UpRow}
 use Rattle.play_event.specs.declared.setup.Setup.{Setup}
@@ -35,11 +35,6 @@ is_before_seen opener b up seat other =
 abbrev pub is_as_early_seen : Opener → Table → UpRow → (seat other : ℕ) → Bool
 is_as_early_seen opener b up seat other = is_as_early opener (b.street == 1) (known_cards (ups_of up seat)) (known_cards (ups_of up other))
 
--- a seat opens before each seat before which one of the first so many opens
-abbrev pub IsLeader : Opener → Table → UpRow → (count lead : ℕ) → Type 0
-IsLeader opener b up count lead =
-    (seat other : ℕ) → 1 ≤ other → other ≤ count → is_before_seen opener b up seat other ≡ true → is_before_seen opener b up seat lead ≡ true
-
 -- a seat is able, and no able seat opens before it
 abbrev pub is_opener_seen : Opener → Table → UpRow → ℕ → Bool
 is_opener_seen opener b up seat = is_able_seen b seat && not (list_any (is_before_seen opener b up seat) (all_seats b.setup))
@@ -47,3 +42,7 @@ is_opener_seen opener b up seat = is_able_seen b seat && not (list_any (is_befor
 -- the first able seat before which no other opens
 abbrev pub up_opener_seen : Opener → Table → UpRow → Option ℕ
 up_opener_seen opener b up = find (is_opener_seen opener b up) (all_seats b.setup)
+
+-- who opens, where each up-card of an able seat is known
+abbrev pub known_opener_seen : Opener → Table → UpRow → Option ℕ
+known_opener_seen opener b up = if has_unknown_up_card_seen b up then None else up_opener_seen opener b up

@@ -2,7 +2,7 @@
 ghost use Rattle.std.specs.Prelude.{◌≡◌, ◌≤◌, ◌<◌};
 ghost use Rattle.chip_ledger.specs.declared.rows.TheConstants.{MOST_AMOUNT};
 ghost use Rattle.play_event.specs.Streets.{is_stud};
-ghost use Rattle.betting_numbers.specs.Seen.{able_count_seen, is_able_seen, all_in_seen, is_bring_in_due_seen, left_seen, live_count_seen, is_move_due_seen, has_opponent_seen, owed_seen, price_seen, has_to_move_seen};
+ghost use Rattle.betting_numbers.specs.Seen.{able_count_seen, is_able_seen, all_in_seen, is_bring_in_due_seen, left_seen, live_count_seen, has_opponent_seen, owed_seen, price_seen, has_to_move_seen};
 
 use crate::table::Table;
 use chip_ledger::Seat;
@@ -31,19 +31,6 @@ impl Table {
         ensures { result ≡ live_count_seen self.now }
     {
         self.live_count
-    }
-
-    /// Some seat has a move to make.
-    #[tactic(auto, using(chip_ledger::proofs::SeatLists::any_more))]
-    pub fn is_move_due(&self) -> bool
-        ensures { result ≡ is_move_due_seen self.now }
-    {
-        let mut found = false;
-        for index in 0..self.setup.stacks.seats {
-            let seat = Seat { number: index + 1 };
-            found = found || self.to_move(seat);
-        }
-        found
     }
 
     /// The seat has a move to make.

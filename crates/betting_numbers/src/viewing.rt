@@ -46,11 +46,12 @@ impl Table {
     fn able_owes(&self) -> bool
         ensures { result ≡ has_able_seat_to_call_seen self.now }
     {
-        let mut found = false;
         for index in 0..self.setup.stacks.seats {
             let seat = Seat { number: index + 1 };
-            found = found || (self.able(seat) && 0 < self.owed(seat));
+            if self.able(seat) && 0 < self.owed(seat) {
+                return true;
+            }
         }
-        found
+        false
     }
 }
