@@ -32,7 +32,7 @@ ghost use Rattle.play_event.specs.ValidSetup.{IsValid};
 ghost use Rattle.betting_numbers.specs.Targeted.{AreEndsFor};
 ghost use Rattle.chip_ledger.specs.SeatsSaid.{seat_said};
 
-use betting_numbers::{LegalMove, Table, Targets, first_full_bet, not_now, start};
+use betting_numbers::{LegalMove, Table, Targets, not_now, start};
 use chip_ledger::{LiveRow, Seat, SeatRow};
 use play_event::{Act, Due, Event, Illegal, Kind, Move as Moved, Rules, Setup, Spelled, UpRow};
 use std::marker::PhantomData;
@@ -151,9 +151,8 @@ impl<V: Variant> Betting<V> {
             Size::Big => setup.big_bet,
             Size::Least => setup.min_bet,
         };
-        let full_bet = first_full_bet(setup, size);
         Betting {
-            table: start(setup, rules, full_bet),
+            table: start(setup, rules, size),
             game: PhantomData,
         }
     }

@@ -3,6 +3,7 @@ pub mod OneChanged
 pub mod Bridge
 pub mod Passing
 pub mod NextStreet
+pub mod Posting
 pub mod AfterMove
 pub mod StandsAfter
 pub mod Dealt

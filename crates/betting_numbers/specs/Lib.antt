@@ -7,6 +7,7 @@ pub mod Turn
 pub mod Why
 pub mod Traced
 pub mod Standing
+pub mod Posting
 pub mod LegalMoves
 pub mod UpTo
 pub mod Targeted

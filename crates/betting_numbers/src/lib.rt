@@ -16,6 +16,6 @@ mod up_opening;
 mod viewing;
 
 pub use legal_moves::{LegalMove, not_now};
-pub use starting::{first_full_bet, start};
+pub use starting::start;
 pub use table::Table;
 pub use targeting::Targets;

@@ -1,31 +1,49 @@
 //! The betting before the first card: what is posted.
-ghost use Rattle.std.specs.Prelude.{◌≡◌, ◌≤◌, ◌-◌, ℕ, [], true, nat_lt, map, count_by};
+ghost use Rattle.std.specs.Prelude.{◌≡◌, ◌≤◌, ◌<◌, ◌+◌, ℕ, [], nat_le, if◌then◌else◌, cond};
 ghost use Rattle.chip_ledger.specs.declared.rows.TheConstants.{MOST_AMOUNT};
-ghost use Rattle.chip_ledger.specs.LiveRow.{flag_of};
 ghost use Rattle.chip_ledger.specs.SeatRow.{amount_of};
-ghost use Rattle.play_event.specs.Chips.{blind_posted, posted};
-ghost use Rattle.chip_ledger.specs.Greatest.{greatest};
 ghost use Rattle.play_event.specs.Price as prices;
-ghost use Rattle.chip_ledger.specs.Seat.{seats_of};
 ghost use Rattle.play_event.specs.declared.reason.Due.TheVariants as dues;
 ghost use Rattle.play_event.specs.Streets.{unit};
 ghost use Rattle.play_event.specs.ValidSetup.{IsValid};
+ghost use Rattle.betting_numbers.specs.Posting.{HasPosted};
 ghost use Rattle.betting_numbers.specs.Standing.{StandsFor};
 
 use crate::caps::caps_fit;
 use crate::opening::first_opener;
 use crate::table::Table;
-use chip_ledger::{LiveRow, Seat, SeatRow, total};
+use chip_ledger::{LiveRow, Seat, SeatRow};
 use play_event::{Due, Rules, Setup};
 
-/// The numbers before the first card, where the last full bet of the first street is this.
-pub fn start(setup: &Setup, rules: &Rules, full_bet: u64) -> Table
+/// What the seats so far post before the first card, and what it comes to.
+#[derive(Clone, Copy)]
+pub struct Posted {
+    /// The blinds as far as the stacks go.
+    pub bets: SeatRow,
+    /// The antes and those blinds together.
+    pub puts: SeatRow,
+    /// The seats so far.
+    pub live: LiveRow,
+    /// The chips of all seats together.
+    pub pot: u64,
+    /// The greatest of the blinds as far as the stacks go.
+    pub price: u64,
+    /// How many seats have chips left.
+    pub able_count: u8,
+    /// The greatest blind that is named.
+    pub big_blind: u64,
+    /// The number of the last seat with that blind, or 0.
+    pub last_big: u8,
+}
+
+/// The numbers before the first card, where bets have this size on the first street.
+pub fn start(setup: &Setup, rules: &Rules, size: u64) -> Table
     requires valid { IsValid setup.now }
     requires antes { setup.now.antes.seats ≡ setup.now.stacks.seats }
     requires blinds { setup.now.blinds.seats ≡ setup.now.stacks.seats }
     requires least { setup.now.min_bet ≤ MOST_AMOUNT }
     requires reach { (n : ℕ) → amount_of setup.now.antes n ≤ amount_of setup.now.stacks n }
-    requires full_bet { full_bet ≡ prices.full_bet setup.now [] 1 }
+    requires size { size ≡ unit setup.now 1 }
     ensures stands { StandsFor result [] }
     ensures setup { result.setup ≡ setup.now }
     ensures rules { result.rules ≡ rules.now }
@@ -34,134 +52,105 @@ pub fn start(setup: &Setup, rules: &Rules, full_bet: u64) -> Table
 {
     caps_fit(rules);
     let seats = setup.stacks.seats;
-    let bets = blinds_posted(setup);
-    let puts = all_posted(setup, &bets);
+    let posted = post_all(setup);
     Table {
         setup: *setup,
         rules: *rules,
-        first_price: first_price(setup),
-        first_opener: first_opener(setup),
+        first_price: posted.price,
+        first_opener: first_opener(setup, posted.last_big),
         street: 1,
         due: Due::Deal(1),
-        puts,
-        pot: total(&puts),
-        bets,
-        price: greatest_posted(&bets),
-        live: all_flagged(seats),
+        puts: posted.puts,
+        pot: posted.pot,
+        bets: posted.bets,
+        price: posted.price,
+        live: posted.live,
         live_count: seats,
-        able_count: able_posted(setup, &puts),
+        able_count: posted.able_count,
         moved: LiveRow::new(seats),
         since_rise: LiveRow::new(seats),
         last: None,
         next: None,
         raises: 0,
         full_raise: setup.min_bet,
-        full_bet,
+        full_bet: full_bet(posted.price, size),
         doubled: 0,
         opened: false,
     }
 }
 
-// The antes and blinds together.
-fn all_posted(setup: &Setup, blinds: &SeatRow) -> SeatRow
-    requires seats { blinds.now.seats ≡ setup.now.stacks.seats }
+// What all seats post.
+fn post_all(setup: &Setup) -> Posted
     requires antes { setup.now.antes.seats ≡ setup.now.stacks.seats }
+    requires blinds { setup.now.blinds.seats ≡ setup.now.stacks.seats }
     requires reach { (n : ℕ) → amount_of setup.now.antes n ≤ amount_of setup.now.stacks n }
-    requires blinds { (n : ℕ) → 1 ≤ n → n ≤ setup.now.stacks.seats
-        → amount_of blinds.now n ≡ blind_posted setup.now n }
-    ensures seats { result.seats ≡ setup.now.stacks.seats }
-    ensures amounts { (n : ℕ) → 1 ≤ n → n ≤ setup.now.stacks.seats
-        → amount_of result n ≡ posted setup.now n }
-    ensures within { (n : ℕ) → 1 ≤ n → amount_of result n ≤ amount_of setup.now.stacks n }
-    ensures inside { (n : ℕ) → 1 ≤ n → amount_of blinds.now n ≤ amount_of result n }
+    ensures { HasPosted setup.now setup.now.stacks.seats result }
 {
-    let mut row = SeatRow::new(setup.stacks.seats);
+    let mut posted = Posted {
+        bets: SeatRow::new(setup.stacks.seats),
+        puts: SeatRow::new(setup.stacks.seats),
+        live: LiveRow::new(setup.stacks.seats),
+        pot: 0,
+        price: 0,
+        able_count: 0,
+        big_blind: 0,
+        last_big: 0,
+    };
     for index in 0..setup.stacks.seats {
+        posted.post(setup, index);
+    }
+    posted
+}
+
+impl Posted {
+    // One seat more posts, behind so many.
+    fn post(&mut self, setup: &Setup, index: u8)
+        requires antes { setup.now.antes.seats ≡ setup.now.stacks.seats }
+        requires blinds { setup.now.blinds.seats ≡ setup.now.stacks.seats }
+        requires reach { (n : ℕ) → amount_of setup.now.antes n ≤ amount_of setup.now.stacks n }
+        requires less { index < setup.now.stacks.seats }
+        requires posted { HasPosted setup.now index self.old }
+        ensures { HasPosted setup.now (index + 1) self.new }
+    {
         let seat = Seat { number: index + 1 };
-        row.set(seat, setup.antes.get(seat) + blinds.get(seat));
+        let stack = setup.stacks.get(seat);
+        let ante = setup.antes.get(seat);
+        let blind = setup.blinds.get(seat);
+        let bet = blind.min(stack.saturating_sub(ante));
+        let put = ante + bet;
+        self.bets.set(seat, bet);
+        self.puts.set(seat, put);
+        self.live.set(seat, true);
+        self.pot += put;
+        self.price = self.price.max(bet);
+        self.able_count = one_more(self.able_count, put < stack);
+        self.big_blind = self.big_blind.max(blind);
+        self.last_big = last_after(self.last_big, blind == self.big_blind, seat.number);
     }
-    row
 }
 
-// Every seat is flagged.
-fn all_flagged(seats: u8) -> LiveRow
-    requires least { 2 ≤ seats }
-    requires greatest { seats ≤ 10 }
-    ensures seats { result.seats ≡ seats }
-    ensures flags { (n : ℕ) → 1 ≤ n → n ≤ seats → flag_of result n ≡ true }
+// One seat more, where it counts.
+fn one_more(count: u8, counts: bool) -> u8
+    requires { count < 255 }
+    ensures value { result ≡ count + cond counts 1 0 }
+    ensures within { result ≤ count + 1 }
 {
-    let mut row = LiveRow::new(seats);
-    for index in 0..seats {
-        row.set(Seat { number: index + 1 }, true);
-    }
-    row
+    if counts { count + 1 } else { count }
 }
 
-// How many seats have chips left behind what was posted.
-#[tactic(auto, using(chip_ledger::proofs::SeatLists::count_more))]
-fn able_posted(setup: &Setup, puts: &SeatRow) -> u8
-    requires { puts.now.seats ≡ setup.now.stacks.seats }
-    ensures { result ≡ count_by
-        (λ n. nat_lt 0 (amount_of setup.now.stacks n - amount_of puts.now n))
-        (seats_of setup.now.stacks.seats) }
+// The number of the last seat with the greatest blind, after one seat more.
+fn last_after(last: u8, big: bool, number: u8) -> u8
+    requires { last ≤ number }
+    ensures value { result ≡ cond big number last }
+    ensures within { result ≤ number }
 {
-    let mut count: u8 = 0;
-    for index in 0..setup.stacks.seats {
-        let seat = Seat { number: index + 1 };
-        if puts.get(seat) < setup.stacks.get(seat) {
-            count += 1;
-        }
-    }
-    count
+    if big { number } else { last }
 }
 
-/// The full bet at which the first street starts, where bets have this size.
-pub fn first_full_bet(setup: &Setup, size: u64) -> u64
-    requires antes { setup.now.antes.seats ≡ setup.now.stacks.seats }
-    requires blinds { setup.now.blinds.seats ≡ setup.now.stacks.seats }
-    requires size { size ≡ unit setup.now 1 }
-    ensures { result ≡ prices.full_bet setup.now [] 1 }
+// The full bet at which the first street starts, where it starts at this price and bets have this
+// size.
+fn full_bet(price: u64, size: u64) -> u64
+    ensures { result ≡ (if nat_le size price then price else 0) }
 {
-    let price = first_price(setup);
     if size <= price { price } else { 0 }
-}
-
-/// The price at which the first street starts.
-pub fn first_price(setup: &Setup) -> u64
-    requires antes { setup.now.antes.seats ≡ setup.now.stacks.seats }
-    requires blinds { setup.now.blinds.seats ≡ setup.now.stacks.seats }
-    ensures value { result ≡ prices.starting_price setup.now 1 }
-    ensures bounded { result ≤ MOST_AMOUNT }
-{
-    greatest_posted(&blinds_posted(setup))
-}
-
-// The greatest of the blinds as far as the stacks go.
-#[tactic(auto, using(chip_ledger::proofs::SeatLists::greatest_more))]
-fn greatest_posted(blinds: &SeatRow) -> u64
-    ensures value { result ≡ greatest (map (amount_of blinds.now) (seats_of blinds.now.seats)) }
-    ensures bounded { result ≤ MOST_AMOUNT }
-{
-    let mut most: u64 = 0;
-    for index in 0..blinds.seats {
-        most = most.max(blinds.get(Seat { number: index + 1 }));
-    }
-    most
-}
-
-// The blinds as far as the stacks go.
-fn blinds_posted(setup: &Setup) -> SeatRow
-    requires antes { setup.now.antes.seats ≡ setup.now.stacks.seats }
-    requires blinds { setup.now.blinds.seats ≡ setup.now.stacks.seats }
-    ensures seats { result.seats ≡ setup.now.stacks.seats }
-    ensures amounts { (n : ℕ) → 1 ≤ n → n ≤ setup.now.stacks.seats
-        → amount_of result n ≡ blind_posted setup.now n }
-{
-    let mut row = SeatRow::new(setup.stacks.seats);
-    for index in 0..setup.stacks.seats {
-        let seat = Seat { number: index + 1 };
-        let rest = setup.stacks.get(seat).saturating_sub(setup.antes.get(seat));
-        row.set(seat, setup.blinds.get(seat).min(rest));
-    }
-    row
 }

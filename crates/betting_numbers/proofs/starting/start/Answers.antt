@@ -1,49 +1,84 @@
 -- Before the first card the numbers are what was posted.
-use Rattle.std.proofs.Common.{ℕ, ◌-◌, Bool, true, ◌&&◌, nat_lt, map, [], refl, sym, ap, ◌∙◌, arith}
+use Rattle.std.proofs.Common.{ℕ, ◌-◌, Bool, true, ◌&&◌, nat_lt, nat_le, if◌then◌else◌, map, sum_by, [], refl, sym, ap, ◌∙◌, arith}
 use Rattle.chip_ledger.specs.Greatest.{greatest}
 use Rattle.chip_ledger.specs.LiveRow.{flag_of}
 use Rattle.chip_ledger.specs.Seat.{seats_of}
 use Rattle.chip_ledger.specs.SeatRow.{amount_of}
 use Rattle.chip_ledger.proofs.SeatLists.{count_seats}
+use Rattle.chip_ledger.proofs.Seats.{map-seats}
 use Rattle.list_laws.proofs.Counting.{count_all}
+use Rattle.play_event.specs.Chips.{blind_posted, posted}
+use Rattle.play_event.specs.Streets.{unit}
 use Rattle.street_laws.proofs.AtStart.{all_live, first_deal}
+use Rattle.betting_numbers.proofs.Posting.{bet_inside, price_at_start, put_within, sum_seats}
 use Rattle.betting_numbers.proofs.starting.start.Goals as goal
 use Rattle.street_laws.proofs.LiveSeats.{one_of_several}
 
+pub invariant_of-result-clause-first_price_is : goal.invariant_of-result-clause-first_price_is
+invariant_of-result-clause-first_price_is c =
+    price_at_start c.args.setup.now c.post_all-posted.result c.post_all-posted.ensures
+
 pub returns-clause-stands : goal.returns-clause-stands
-returns-clause-stands c = record {
-  valid = c.requires.valid;
-  standing = record {
-    puts = λ seat i. omega (arith, c.all_posted-puts.ensures.amounts seat i.first i.last);
-    bets = λ seat i. omega (arith, c.blinds_posted-bets.ensures.amounts seat i.first i.last);
-    live = λ seat i. c.all_flagged.ensures.flags seat i.first i.last;
-    moved = λ seat i. c.new.ensures.all_false seat;
-    since_rise = λ seat i. c.new-2.ensures.all_false seat;
-    last = refl;
-    raises = refl;
-    full_raise = refl;
-    full_bet = c.requires.full_bet;
-    doubled = refl;
-    opened = refl;
-  };
-  turn_is = first_deal c.args.setup.now;
-  someone = one_of_several c.args.setup.now [] (all_live c.args.setup.now);
-  early = refl;
-  unshown = λ other unended seat live. refl;
-}
+returns-clause-stands c =
+    let posts = c.post_all-posted.ensures in
+    let setup = c.args.setup.now in
+    record {
+      valid = c.requires.valid;
+      standing = record {
+        puts = λ seat i. omega (arith, posts.puts seat i.first i.last);
+        bets = λ seat i. omega (arith, posts.bets seat i.first i.last);
+        live = λ seat i. posts.live seat i.first i.last;
+        moved = λ seat i. c.new.ensures.all_false seat;
+        since_rise = λ seat i. c.new-2.ensures.all_false seat;
+        last = refl;
+        raises = refl;
+        full_raise = refl;
+        full_bet =
+            c.full_bet.ensures
+            ∙ ap (λ (size : ℕ). if nat_le size c.post_all-posted.result.price then c.post_all-posted.result.price else 0) c.requires.size
+            ∙ ap (λ (price : ℕ). if nat_le (unit setup 1) price then price else 0) (price_at_start setup c.post_all-posted.result posts);
+        doubled = refl;
+        opened = refl;
+      };
+      turn_is = first_deal c.args.setup.now;
+      someone = one_of_several c.args.setup.now [] (all_live c.args.setup.now);
+      early = refl;
+      unshown = λ other unended seat live. refl;
+    }
+
+pub invariant_of-result-clause-within : goal.invariant_of-result-clause-within
+invariant_of-result-clause-within c = put_within c.args.setup.now c.post_all-posted.result c.post_all-posted.ensures c.requires.reach
+
+pub invariant_of-result-clause-inside : goal.invariant_of-result-clause-inside
+invariant_of-result-clause-inside c = bet_inside c.args.setup.now c.post_all-posted.result c.post_all-posted.ensures
+
+pub invariant_of-result-clause-pot_is : goal.invariant_of-result-clause-pot_is
+invariant_of-result-clause-pot_is c =
+    let posts = c.post_all-posted.ensures in
+    let setup = c.args.setup.now in
+    let puts = c.post_all-posted.result.puts in
+    posts.pot
+    ∙ sym (sum_seats (amount_of puts) (posted setup) setup.stacks.seats posts.puts)
+    ∙ sym (ap (λ (n : ℕ). sum_by (amount_of puts) (seats_of n)) posts.put_seats)
 
 pub invariant_of-result-clause-price_is : goal.invariant_of-result-clause-price_is
 invariant_of-result-clause-price_is c =
-    c.greatest_posted.ensures.value ∙ ap (λ (n : ℕ). greatest (map (amount_of c.blinds_posted-bets.result) (seats_of n))) c.blinds_posted-bets.ensures.seats
+    let posts = c.post_all-posted.ensures in
+    let setup = c.args.setup.now in
+    posts.price ∙ sym (ap greatest (map-seats (amount_of c.post_all-posted.result.bets) (blind_posted setup) setup.stacks.seats posts.bets))
 
 pub invariant_of-result-clause-live_is : goal.invariant_of-result-clause-live_is
 invariant_of-result-clause-live_is c =
     let n = c.args.setup.now.stacks.seats in
-    sym (count_seats (flag_of c.all_flagged.result) (λ k. true) n c.all_flagged.ensures.flags ∙ count_all (λ k. true) 1 n (λ k. refl))
+    sym (count_seats (flag_of c.post_all-posted.result.live) (λ k. true) n c.post_all-posted.ensures.live ∙ count_all (λ k. true) 1 n (λ k. refl))
 
 pub invariant_of-result-clause-able_is : goal.invariant_of-result-clause-able_is
 invariant_of-result-clause-able_is c =
+    let posts = c.post_all-posted.ensures in
+    let p = c.post_all-posted.result in
     let setup = c.args.setup.now in
-    let left : ℕ → Bool = λ k. nat_lt 0 (amount_of setup.stacks k - amount_of c.all_posted-puts.result k) in
-    c.able_posted.ensures
-    ∙ sym (count_seats (λ k. flag_of c.all_flagged.result k && left k) left setup.stacks.seats (λ k low high. ap (λ (live : Bool). live && left k) (c.all_flagged.ensures.flags k low high)))
+    let left : ℕ → Bool = λ k. nat_lt 0 (amount_of setup.stacks k - posted setup k) in
+    posts.able
+    ∙ sym (count_seats (λ k. flag_of p.live k && nat_lt 0 (amount_of setup.stacks k - amount_of p.puts k)) left setup.stacks.seats (λ k low high.
+    ap (λ (live : Bool). live && nat_lt 0 (amount_of setup.stacks k - amount_of p.puts k)) (posts.live k low high)
+    ∙ ap (λ (put : ℕ). nat_lt 0 (amount_of setup.stacks k - put)) (posts.puts k low high)))

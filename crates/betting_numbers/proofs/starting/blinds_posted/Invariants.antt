@@ -1,7 +1,0 @@
-use Rattle.std.proofs.Common.{◌≡◌, ◌≤◌, ℕ}
-use Rattle.chip_ledger.specs.SeatRow.{amount_of}
-use Rattle.play_event.specs.Chips.{blind_posted}
-use Rattle.betting_numbers.proofs.starting.blinds_posted.Given as goal
-
-abbrev pub invariant-loop-index : goal.invariant-loop-index
-invariant-loop-index l = (l.row.seats ≡ l.setup.stacks.seats) × ((n : ℕ) → 1 ≤ n → n ≤ l.index → amount_of l.row n ≡ blind_posted l.setup n)

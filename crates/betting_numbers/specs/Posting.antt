@@ -1,0 +1,44 @@
+-- What the seats post before the first card, and what it comes to.
+use Rattle.std.specs.Prelude.{◌≡◌, ℕ, ◌-◌, ◌*◌, ◌≤◌, ◌==◌, true, nat_lt, map, count_by, sum_by, find, reverse, unwrap_or}
+use Rattle.chip_ledger.specs.Greatest.{greatest}
+use Rattle.chip_ledger.specs.LiveRow.{flag_of}
+use Rattle.chip_ledger.specs.Seat.{seats_of}
+use Rattle.chip_ledger.specs.SeatRow.{amount_of}
+use Rattle.chip_ledger.specs.declared.rows.TheConstants.{MOST_AMOUNT}
+use Rattle.play_event.specs.Chips.{blind_posted, posted}
+use Rattle.play_event.specs.declared.setup.Setup.{Setup}
+use Rattle.betting_numbers.specs.declared.starting.Posted.{Posted}
+
+-- the greatest blind that is named, of so many seats
+abbrev pub big_of : (ℕ → ℕ) → ℕ → ℕ
+big_of blinds count = greatest (map blinds (seats_of count))
+
+-- the number of the last of them with that blind, or 0
+abbrev pub last_of : (ℕ → ℕ) → ℕ → ℕ
+last_of blinds count = unwrap_or (find (λ seat. blinds seat == big_of blinds count) (reverse (seats_of count))) 0
+
+-- the first so many seats have posted
+pub record HasPosted (setup : Setup) (count : ℕ) (p : Posted) : Type 0 where
+  pub bet_seats : p.bets.seats ≡ setup.stacks.seats
+  pub put_seats : p.puts.seats ≡ setup.stacks.seats
+  pub live_seats : p.live.seats ≡ setup.stacks.seats
+  -- the blinds as far as the stacks go
+  pub bets : (seat : ℕ) → 1 ≤ seat → seat ≤ count → amount_of p.bets seat ≡ blind_posted setup seat
+  -- the antes and those blinds
+  pub puts : (seat : ℕ) → 1 ≤ seat → seat ≤ count → amount_of p.puts seat ≡ posted setup seat
+  -- the seats so far
+  pub live : (seat : ℕ) → 1 ≤ seat → seat ≤ count → flag_of p.live seat ≡ true
+  -- their chips together
+  pub pot : p.pot ≡ sum_by (posted setup) (seats_of count)
+  pub pot_bounded : p.pot ≤ count * MOST_AMOUNT
+  -- the greatest of those blinds
+  pub price : p.price ≡ greatest (map (blind_posted setup) (seats_of count))
+  pub price_bounded : p.price ≤ MOST_AMOUNT
+  -- the seats with chips left
+  pub able : p.able_count ≡ count_by (λ seat. nat_lt 0 (amount_of setup.stacks seat - posted setup seat)) (seats_of count)
+  pub able_within : p.able_count ≤ count
+  -- the greatest blind that is named
+  pub big : p.big_blind ≡ big_of (amount_of setup.blinds) count
+  -- the last seat with it
+  pub last : p.last_big ≡ last_of (amount_of setup.blinds) count
+  pub last_within : p.last_big ≤ count
