@@ -1,7 +1,7 @@
 -- The seats are walked from the last to the first: of those so far one leads, and the first before which none opens is kept.
 use Rattle.std.proofs.Common.{◌≡◌, ℕ, ◌+◌, ◌-◌, ◌<◌, ◌≤◌, Bool, true, false, ◌&&◌, ◌||◌, ◌==◌, not, if◌then◌else◌, cond, List, Option, Some, None, find, suc, zero, inl, inr, refl, sym, ap, subst, ◌∙◌, arith}
 use Rattle.std.specs.List.{list_any, range_with_len}
-use Rattle.std.proofs.lemmas.Bool.{true≢false, and_parts, and_from, and_left, or_from, or_left, or_right, cases_lt, false_from_ne_true, true_from_ne_false, not-false}
+use Rattle.std.proofs.lemmas.Bool.{true≢false, and_parts, and_from, or_from, or_left, or_right, cases_lt, false_from_ne_true, true_from_ne_false, not-false}
 use Rattle.card_set.specs.declared.card.Card.{Card}
 use Rattle.card_set.specs.Known.{known_cards}
 use Rattle.list_laws.proofs.Finding.{any_agree, find_agree}
@@ -16,7 +16,7 @@ use Rattle.chip_ledger.proofs.SeatLists.{none_at}
 use Rattle.up_card_order.proofs.Earlier.{early_opens, late_opens}
 use Rattle.betting_numbers.specs.declared.table.Table.{Table}
 use Rattle.betting_numbers.specs.Seen.{is_able_seen}
-use Rattle.betting_numbers.specs.UpSeen.{has_unknown_seen, has_unknown_up_card_seen, is_as_early_seen, is_before_seen, is_opener_seen, known_opener_seen, up_opener_seen}
+use Rattle.betting_numbers.specs.UpSeen.{has_unknown_seen, has_unknown_up_card_seen, is_as_early_seen, is_before_seen, known_opener_seen, up_opener_seen}
 
 -- a number that passes is among those of a range
 pub some_at : (p : ℕ → Bool) (first n k : ℕ) → first ≤ k → k < first + n → p k ≡ true → list_any p (range_with_len first n) ≡ true

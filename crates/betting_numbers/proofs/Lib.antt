@@ -13,6 +13,7 @@ pub mod WhyMove
 pub mod WhyRaise
 pub mod InTurn
 pub mod Leading
+pub mod FirstMoves
 pub mod UpOpener
 pub mod TargetEnds
 pub mod TraceLaws

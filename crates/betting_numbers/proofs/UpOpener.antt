@@ -1,5 +1,5 @@
 -- Whose turn it is where up-cards open.
-use Rattle.std.proofs.Common.{◌≡◌, ℕ, ◌≤◌, Bool, true, false, ◌&&◌, ◌||◌, ◌==◌, not, nat_lt, nat_le, cond, if◌then◌else◌, List, [], ◌∷◌, Option, Some, None, is_some, find, refl, sym, ap, subst, ◌∙◌, arith}
+use Rattle.std.proofs.Common.{◌≡◌, ℕ, ◌≤◌, Bool, true, false, ◌&&◌, ◌||◌, ◌==◌, not, nat_lt, nat_le, cond, if◌then◌else◌, List, [], ◌∷◌, Option, Some, None, is_some, find, refl, sym, ap, subst, ◌∙◌, arith, IfSome, filter}
 use Rattle.std.specs.List.{list_any}
 use Rattle.std.proofs.lemmas.Bool.{true≢false, and_parts, leb-true}
 use Rattle.chip_ledger.specs.declared.numbers.Seat.{Seat}
@@ -7,15 +7,13 @@ use Rattle.chip_ledger.specs.LiveRow.{flag_of}
 use Rattle.play_event.specs.declared.card_rows.UpRow.{UpRow}
 use Rattle.play_event.specs.declared.reason.Due.{Due}
 use Rattle.play_event.specs.declared.reason.Due.TheVariants as dues
-use Rattle.play_event.specs.declared.setup.Setup.{Setup}
 use Rattle.play_event.specs.declared.limit.Opener.{Opener}
 use Rattle.play_event.specs.declared.limit.Opener.TheVariants as openers
 use Rattle.play_event.specs.Streets.{opener_of, is_stud, is_opened_by_up_cards}
 use Rattle.play_event.specs.Past.{Past, Move, moves_of, moves_on}
 use Rattle.play_event.specs.Seats.{is_able, all_seats, able_count}
 use Rattle.play_event.specs.SeatSlots.{ups_of}
-use Rattle.play_event.specs.Price.{price}
-use Rattle.play_event.specs.Due.{is_move_due, is_bring_in_due, has_moved_since_rise, has_opened_betting}
+use Rattle.play_event.specs.Due.{is_move_due, is_bring_in_due, has_opened_betting}
 use Rattle.play_event.specs.Openers.{InTurn, NoSeat, TheSeat, Undecided, in_turn, is_opener_before, seat_after, able_seats, up_cards_opener, has_unknown_up_card, opener_by}
 use Rattle.card_set.specs.Known.{is_unknown, known_cards}
 use Rattle.play_event.specs.Mover.{mover, mover_after, first_in_turn}
@@ -24,7 +22,7 @@ use Rattle.betting_numbers.specs.declared.table.Table.{Table}
 use Rattle.betting_numbers.specs.SeatsSaid.{turn_of}
 use Rattle.betting_numbers.specs.Seen.{is_able_seen, owed_seen, able_count_seen, has_to_move_seen, is_move_due_seen, after_last, last_seen, mover_seen}
 use Rattle.street_laws.specs.Seats.{IsSeat}
-use Rattle.betting_numbers.specs.Standing.{StandsFor, newest_seat}
+use Rattle.betting_numbers.specs.Standing.{StandsFor}
 use Rattle.betting_numbers.specs.LegalMoves.{IsTurn}
 use Rattle.play_event.specs.TurnTargets.{is_bet_due}
 use Rattle.betting_numbers.specs.UpSeen.{HoldsUps, has_unknown_seen, has_unknown_up_card_seen, is_before_seen, is_opener_seen, known_opener_seen, up_opener_seen}
@@ -38,7 +36,8 @@ use Rattle.chip_ledger.proofs.SeatLists.{any_seats}
 use Rattle.list_laws.proofs.Finding.{find_agree}
 use Rattle.street_laws.proofs.Unsettled.{move_is_due, due_after_cards, bring_in_by}
 use Rattle.list_laws.proofs.Any.{list_any-filter, list_any-weaker}
-use Rattle.list_laws.proofs.Finding.{find-filter}
+use Rattle.list_laws.proofs.Finding.{find-filter, found_passes}
+use Rattle.betting_numbers.proofs.FirstMoves.{all_true, no_moves, none_since_start, opener_turn}
 use Rattle.chip_ledger.specs.SeatsSaid.{seat_said}
 
 module _ (b : Table) (past : Past) (stands : StandsFor b past) (up : UpRow) (holds : HoldsUps b.setup up past) where
@@ -102,25 +101,6 @@ module _ (b : Table) (past : Past) (stands : StandsFor b past) (up : UpRow) (hol
       ∙ any_seats (λ x. is_able b.setup (moves_of past) x && true) (is_able_seen b) b.setup.stacks.seats (λ k low high. and_true (is_able b.setup (moves_of past) k) ∙ sym (able_is b (moves_of past) stands.standing k (record { first = low; last = high })))
       ∙ some_able some
       )
-
--- nobody has moved on the street where nobody moved last
-no_moves : (moves : List Move) → newest_seat moves ≡ None → moves ≡ []
-no_moves [] is = refl
-no_moves (move ∷ before) is = absurd cc
-
-none_since_by : (setup : Setup) (move : Move) (before : List Move) (street seat : ℕ) (here : Bool) → (moves_on street before ≡ [] → has_moved_since_rise setup before street seat ≡ false) → cond here (move ∷ moves_on street before) (moves_on street before) ≡ [] → (if here then ((move.seat == seat) || (nat_le move.to (price setup before street) && has_moved_since_rise setup before street seat)) else has_moved_since_rise setup before street seat) ≡ false
-none_since_by setup move before street seat true later is = absurd cc
-none_since_by setup move before street seat false later is = later is
-
-none_since_start : (setup : Setup) (moves : List Move) (street seat : ℕ) → moves_on street moves ≡ [] → has_moved_since_rise setup moves street seat ≡ false
-none_since_start setup [] street seat none = refl
-none_since_start setup (move ∷ before) street seat none =
-    none_since_by setup move before street seat (move.street == street) (none_since_start setup before street seat) none
-
-all_true : (a x : Bool) → (a && (x || true)) ≡ a
-all_true true true = refl
-all_true true false = refl
-all_true false x = refl
 
 module _ (b : Table) (past : Past) (stands : StandsFor b past) where
   -- where a bring-in is due and nobody moved, each able seat has to move
@@ -215,15 +195,21 @@ module _ (b : Table) (past : Past) (stands : StandsFor b past) where
     turn_never none some = absurd (true≢false (sym (one_opens b past stands up holds opener some) ∙ ap is_some (sym none)))
 
     -- this seat opens, where all are known
-    pub turn_opened : is_opened_by_up_cards opener ≡ true → (first : ℕ) → IsSeat b.setup first → Some first ≡ known_opener_seen opener b up → (found : Option ℕ) → in_turn found ≡ mover_seen b (TheSeat first) → is_move_due_seen b ≡ true → IsTurn b past (turn_of found)
-    turn_opened cards first in_hand opens =
+    turn_opened : is_opened_by_up_cards opener ≡ true → b.last ≡ None → (first : ℕ) → IsSeat b.setup first → Some first ≡ known_opener_seen opener b up → is_move_due_seen b ≡ true → IsTurn b past (TheSeat first)
+    turn_opened cards last first in_hand opens some =
         let parts = opens_known opener b up first opens in
-        turn_known cards parts.0 first in_hand parts.1
+        let able : is_able_seen b first ≡ true = (and_parts (is_able_seen b first) (not (list_any (is_before_seen opener b up first) (all_seats b.setup))) (found_passes (is_opener_seen opener b up) (all_seats b.setup) first (sym parts.1))).0 in
+        turn_known cards parts.0 first in_hand parts.1 (Some first) (opener_turn b past stands last first in_hand able some) some
 
     unopened_by : (unknown : Bool) → unknown ≡ has_unknown_up_card_seen b up → is_opened_by_up_cards opener ≡ true → b.last ≡ None → None ≡ (if unknown then None else up_opener_seen opener b up) → is_move_due_seen b ≡ true → IsTurn b past Undecided
     unopened_by true is cards last none some = turn_unknown cards last is
     unopened_by false is cards last none some = turn_never none some
 
     -- it is not known who opens
-    pub turn_unopened : is_opened_by_up_cards opener ≡ true → b.last ≡ None → None ≡ known_opener_seen opener b up → is_move_due_seen b ≡ true → IsTurn b past Undecided
+    turn_unopened : is_opened_by_up_cards opener ≡ true → b.last ≡ None → None ≡ known_opener_seen opener b up → is_move_due_seen b ≡ true → IsTurn b past Undecided
     turn_unopened = unopened_by (has_unknown_up_card_seen b up) refl
+
+    -- before the first move of the street
+    pub turn_first : is_opened_by_up_cards opener ≡ true → b.last ≡ None → is_move_due_seen b ≡ true → (found : Option Seat) → IfSome found (λ seat. seat.number ≤ b.setup.stacks.seats) → seat_said found ≡ known_opener_seen opener b up → IsTurn b past (turn_of (seat_said found))
+    turn_first cards last some None in_hand is = turn_unopened cards last is some
+    turn_first cards last some (Some seat) in_hand is = turn_opened cards last seat.number (record { first = seat.first; last = in_hand }) is some

@@ -2,7 +2,6 @@
 ghost use Rattle.std.specs.Prelude.{◌≡◌, ◌≤◌, ◌<◌, ◌+◌, ℕ, [], nat_le, if◌then◌else◌, cond};
 ghost use Rattle.chip_ledger.specs.declared.rows.TheConstants.{MOST_AMOUNT};
 ghost use Rattle.chip_ledger.specs.SeatRow.{amount_of};
-ghost use Rattle.play_event.specs.Price as prices;
 ghost use Rattle.play_event.specs.declared.reason.Due.TheVariants as dues;
 ghost use Rattle.play_event.specs.Streets.{unit};
 ghost use Rattle.play_event.specs.ValidSetup.{IsValid};

@@ -30,17 +30,14 @@ impl Table {
     {
         match self.last {
             Some(_) => self.mover(Seat { number: 1 }),
-            None => match self.up_opener(opener, up) {
-                Some(seat) => self.mover(seat),
-                None => None,
-            },
+            None => self.up_opener(opener, up),
         }
     }
 
     /// Who opens, where each up-card of an able seat is known: the first able seat before which no
-    /// other opens. The walk goes from the last seat to the first, and keeps the seat that leads
-    /// those so far and the first of them before which none opens: a seat that comes to them opens
-    /// before that one only where it opens itself.
+    /// other opens. The walk goes from the last seat to the first, and keeps of the seats so far the
+    /// leader, which opens before all that any of them opens before, and the first before which none
+    /// of them opens. Going this way a new seat takes the place of that one, or leaves it as it is.
     pub fn up_opener(&self, opener: Opener, up: &UpRow) -> Option<Seat>
         requires row { up.now.seats ≡ self.now.setup.stacks.seats }
         ensures found { seat_said result ≡ known_opener_seen opener self.now up.now }

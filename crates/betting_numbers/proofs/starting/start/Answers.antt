@@ -1,5 +1,5 @@
 -- Before the first card the numbers are what was posted.
-use Rattle.std.proofs.Common.{ℕ, ◌-◌, Bool, true, ◌&&◌, nat_lt, nat_le, if◌then◌else◌, map, sum_by, [], refl, sym, ap, ◌∙◌, arith}
+use Rattle.std.proofs.Common.{ℕ, ◌-◌, Bool, true, ◌&&◌, nat_lt, nat_le, if◌then◌else◌, sum_by, [], refl, sym, ap, ◌∙◌, arith}
 use Rattle.chip_ledger.specs.Greatest.{greatest}
 use Rattle.chip_ledger.specs.LiveRow.{flag_of}
 use Rattle.chip_ledger.specs.Seat.{seats_of}

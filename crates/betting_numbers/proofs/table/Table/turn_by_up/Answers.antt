@@ -2,6 +2,7 @@
 use Rattle.std.proofs.Common.{◌∙◌, refl, sym, arith}
 use Rattle.betting_numbers.proofs.UpOpener.{bets_move, turn_later, turn_unknown, turn_known, turn_never, turn_opened, turn_unopened}
 use Rattle.betting_numbers.specs.SeatsSaid.{seat_said}
+use Rattle.betting_numbers.proofs.UpOpener.{bets_move, turn_first, turn_later}
 use Rattle.betting_numbers.proofs.table.Table.turn_by_up.Goals as goal
 use Rattle.chip_ledger.specs.SeatsSaid.{seat_said}
 
@@ -10,13 +11,7 @@ returns-in-Some-clause-turn c =
     let b = c.args.self.now in
     λ past stands holds. turn_later b past stands c.in-Some.field-0 c.in-Some.is 1 (record { first = omega arith; last = omega (arith, b.setup.stacks.least) }) (seat_said c.mover.result) c.mover.ensures.turn (bets_move b past stands b.due refl c.requires.bets c.requires.begins)
 
-pub returns-in-Some-up_opener-clause-turn : goal.returns-in-Some-up_opener-clause-turn
-returns-in-Some-up_opener-clause-turn c =
+pub returns-in-None-clause-turn : goal.returns-in-None-clause-turn
+returns-in-None-clause-turn c =
     let b = c.args.self.now in
-    let m = c.in-Some-up_opener.seat in
-    λ past stands holds. turn_opened b past stands c.args.up.now holds c.args.opener c.requires.game c.requires.cards m.number (record { first = m.first; last = c.in-Some-up_opener.ensures.in_hand }) c.in-Some-up_opener.ensures.found (seat_said c.mover-in-Some-up_opener.result) c.mover-in-Some-up_opener.ensures.turn (bets_move b past stands b.due refl c.requires.bets c.requires.begins)
-
-pub returns-in-None-up_opener-clause-turn : goal.returns-in-None-up_opener-clause-turn
-returns-in-None-up_opener-clause-turn c =
-    let b = c.args.self.now in
-    λ past stands holds. turn_unopened b past stands c.args.up.now holds c.args.opener c.requires.game c.requires.cards c.in-None.is c.in-None-up_opener.ensures.found (bets_move b past stands b.due refl c.requires.bets c.requires.begins)
+    λ past stands holds. turn_first b past stands c.args.up.now holds c.args.opener c.requires.game c.requires.cards c.in-None.is (bets_move b past stands b.due refl c.requires.bets c.requires.begins) c.up_opener.result c.up_opener.ensures.in_hand c.up_opener.ensures.found

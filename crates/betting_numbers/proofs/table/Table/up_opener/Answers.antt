@@ -1,8 +1,8 @@
 -- One seat more is walked, and at the end all are.
-use Rattle.std.proofs.Common.{◌≡◌, ◌≤◌, ◌+◌, ◌-◌, ℕ, Bool, true, false, if◌then◌else◌, Option, Some, IfSome, refl, sym, subst, ◌∙◌, arith}
+use Rattle.std.proofs.Common.{◌≡◌, ◌≤◌, ◌+◌, ◌-◌, Bool, true, false, if◌then◌else◌, Option, Some, IfSome, refl, sym, subst, ◌∙◌, arith}
 use Rattle.chip_ledger.specs.declared.numbers.Seat.{Seat}
 use Rattle.betting_numbers.specs.SeatsSaid.{seat_said}
-use Rattle.betting_numbers.proofs.Leading.{IsWalked, walked_all, walked_more, walked_unknown}
+use Rattle.betting_numbers.proofs.Leading.{IsWalked, walked_more, walked_unknown}
 use Rattle.betting_numbers.proofs.table.Table.up_opener.Goals.{then-opens, else-opens}
 use Rattle.betting_numbers.proofs.table.Table.up_opener.Goals as goal
 
@@ -28,13 +28,13 @@ loop-index-preserved c =
         low,
         next.result.first,
         next.ensures.in_hand,
-        subst (λ (f : Option Seat). IfSome f (λ seat. seat.number ≤ n)) (sym w.first-is) (omega arith)
+        subst (λ (f : Option Seat). IfSome f (λ seat. seat.number ≤ n)) (sym w.first-is) (omega arith),
       )
       | else-opens w ↦ (
         subst (λ (f : Option Seat). IsWalked c.args.opener b c.args.up.now (n + 1 - (index + 1)) (index + 1) next.result.number (seat_said f)) (sym w.first-is) (more false w.if-opens.false),
         low,
         next.result.first,
         next.ensures.in_hand,
-        subst (λ (f : Option Seat). IfSome f (λ seat. seat.number ≤ n)) (sym w.first-is) c.loop-index.invariant.4
+        subst (λ (f : Option Seat). IfSome f (λ seat. seat.number ≤ n)) (sym w.first-is) c.loop-index.invariant.4,
       )
     ]
