@@ -4,6 +4,7 @@ pub mod Putting
 pub mod Findings
 pub mod Newly
 pub mod Running
+pub mod InPlace
 pub mod Sums
 pub mod Rooms
 pub mod HeldCards

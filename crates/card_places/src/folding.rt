@@ -14,20 +14,15 @@ use chip_ledger::Seat;
 pub fn fold(state: &mut CardState, seat: Seat)
     ensures { IsFolded state.old state.new seat.number }
 {
-    state.places = after_fold(&state.places, seat);
+    take_away(&mut state.places, seat);
 }
 
-// The places after the seat folded.
-fn after_fold(places: &DealtCards, seat: Seat) -> DealtCards
-    ensures { placed result ≡ plain.after_fold seat.number (placed places.now) }
+// The seat folded: what it held is gone after as many cards as were dealt.
+fn take_away(places: &mut DealtCards, seat: Seat)
+    ensures { placed places.new ≡ plain.after_fold seat.number (placed places.old) }
 {
-    let mut rows = places.rows;
     for index in 0..places.count as usize {
-        rows[index] = folded(places.rows[index], seat, places.count);
-    }
-    DealtCards {
-        count: places.count,
-        rows,
+        places.rows[index] = folded(places.rows[index], seat, places.count);
     }
 }
 

@@ -6,7 +6,7 @@ use Rattle.card_places.proofs.folding.fold.Goals as goal
 pub invariant_of-state : goal.invariant_of-state
 invariant_of-state c =
     let t = c.args.state.now in
-    let bounded = bounded_fold t.table.code t.seats t.draws (placed t.places) (placed c.after_fold-state.result) c.args.seat.number c.after_fold-state.ensures (record { within = t.within; named = t.named; held = t.held }) in
+    let bounded = bounded_fold t.table.code t.seats t.draws (placed t.places) _ c.args.seat.number c.take_away.ensures (record { within = t.within; named = t.named; held = t.held }) in
     record {
       shown_seats = t.shown_seats;
       mucked_seats = t.mucked_seats;
