@@ -16,5 +16,6 @@ pub mod StateKept
 pub mod Legal
 pub mod InOrder
 pub mod RoomLeft
+pub mod Tallies
 pub mod NamesLeast
 pub mod MarksLeast

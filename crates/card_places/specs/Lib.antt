@@ -6,6 +6,7 @@ pub mod Marks
 pub mod Searches
 pub mod Drawn
 pub mod Room
+pub mod Counted
 pub mod DueStreet
 pub mod CardEvents
 pub mod Refusals

@@ -1,11 +1,15 @@
 //! A deal, a draw or a show is complete exactly where nobody lacks anything of it.
-ghost use Rattle.std.specs.Prelude.{◌≡◌, ◌≤◌};
+ghost use Rattle.std.specs.Prelude.{◌≡◌, ◌≤◌, count_by, Some, None};
 ghost use Rattle.std.specs.List.{list_any};
 ghost use Rattle.chip_ledger.specs.Seat.{seats_of};
+ghost use Rattle.play_event.specs.Places.{is_in_group};
+ghost use Rattle.card_places.specs.Counted.{AreCounts};
+ghost use Rattle.card_places.specs.Placed.{placed};
 ghost use Rattle.card_places.specs.Refusals as why;
 ghost use Rattle.street_laws.specs.Dues.{IsDueWithin};
 
 use crate::card_state::CardState;
+use crate::counting::Counts;
 use crate::discarding::first_to_draw;
 use chip_ledger::{LiveRow, Seat};
 use play_event::Due;
@@ -19,7 +23,10 @@ pub fn done(state: &CardState, live: &LiveRow, due: Due) -> bool
     ensures { result ≡ why.is_done_in state.now live.now due }
 {
     match due {
-        Due::Deal(on) => !(some_lacks(state, live, on) || board_lacks(state, on)),
+        Due::Deal(on) => {
+            let dealt = Counts::on(&state.places, on);
+            !(some_lacks(state, live, on, &dealt) || board_lacks(state, on, dealt.of(None)))
+        }
         Due::Draw(on) => {
             !(state.table.street(on).draws
                 && (first_to_draw(state, live, on, 1, state.seats).is_some()
@@ -32,35 +39,40 @@ pub fn done(state: &CardState, live: &LiveRow, due: Due) -> bool
 
 // Some seat lacks cards of the street's deal.
 #[tactic(auto, using(chip_ledger::proofs::SeatLists::any_more))]
-fn some_lacks(state: &CardState, live: &LiveRow, on: u8) -> bool
+fn some_lacks(state: &CardState, live: &LiveRow, on: u8, dealt: &Counts) -> bool
     requires live { live.now.seats ≡ state.now.seats }
     requires ten { state.now.seats ≤ 10 }
+    requires dealt { AreCounts dealt.now.numbers on (placed state.now.places) }
     ensures { result
         ≡ list_any (why.is_owed_deal_in state.now live.now on) (seats_of state.now.seats) }
 {
     let mut any = false;
     for index in 0..state.seats {
-        let this = lacks(state, live, on, Seat { number: index + 1 });
+        let seat = Seat { number: index + 1 };
+        let this = lacks(state, live, on, seat, dealt.of(Some(seat)));
         any = any || this;
     }
     any
 }
 
-// The seat lacks cards of the street's deal.
-fn lacks(state: &CardState, live: &LiveRow, on: u8, seat: Seat) -> bool
+// The seat, which was dealt so many cards of the street, lacks cards of its deal.
+fn lacks(state: &CardState, live: &LiveRow, on: u8, seat: Seat, dealt: u8) -> bool
     requires live { live.now.seats ≡ state.now.seats }
     requires seat { seat.number ≤ state.now.seats }
+    requires dealt { dealt
+        ≡ count_by (is_in_group (Some seat.number) on) (placed state.now.places) }
     ensures { result ≡ why.is_owed_deal_in state.now live.now on seat.number }
 {
     let street = state.table.street(on);
-    live.get(seat) && state.places.in_group(Some(seat), on) < street.down + street.up
+    live.get(seat) && dealt < street.down + street.up
 }
 
-// The board lacks cards of the street.
-fn board_lacks(state: &CardState, on: u8) -> bool
+// The board, which was dealt so many cards of the street, lacks cards of it.
+fn board_lacks(state: &CardState, on: u8, dealt: u8) -> bool
+    requires { dealt ≡ count_by (is_in_group None on) (placed state.now.places) }
     ensures { result ≡ why.is_board_owed_in state.now on }
 {
-    state.places.in_group(None, on) < state.table.street(on).board
+    dealt < state.table.street(on).board
 }
 
 // Some seat is owed cards for its discards.
@@ -70,13 +82,24 @@ fn some_owed(state: &CardState, on: u8) -> bool
     requires ten { state.now.seats ≤ 10 }
     ensures { result ≡ list_any (why.is_owed_draw_in state.now on) (seats_of state.now.seats) }
 {
+    let dealt = Counts::on(&state.places, on);
     let mut any = false;
     for index in 0..state.seats {
         let seat = Seat { number: index + 1 };
-        let this = state.places.in_group(Some(seat), on) < state.draws.named(on, seat);
+        let this = is_owed(state, on, seat, dealt.of(Some(seat)));
         any = any || this;
     }
     any
+}
+
+// The seat, which was dealt so many cards in the draw of the street, is owed cards for its discards.
+fn is_owed(state: &CardState, on: u8, seat: Seat, dealt: u8) -> bool
+    requires street { on ≤ 5 }
+    requires dealt { dealt
+        ≡ count_by (is_in_group (Some seat.number) on) (placed state.now.places) }
+    ensures { result ≡ why.is_owed_draw_in state.now on seat.number }
+{
+    dealt < state.draws.named(on, seat)
 }
 
 // Some seat has still to show or muck.

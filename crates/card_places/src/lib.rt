@@ -3,6 +3,7 @@
 
 mod card_state;
 mod completing;
+mod counting;
 mod deal_table;
 mod dealing;
 mod dealt_card;

@@ -1,0 +1,49 @@
+//! One walk over the places counts the cards of a street for each owner.
+ghost use Rattle.std.specs.Prelude.{◌≡◌, ◌≤◌, length};
+ghost use Rattle.card_places.specs.Counted as counted;
+ghost use Rattle.card_places.specs.Counted.{AreCounts, count_of};
+ghost use Rattle.card_places.specs.Placed.{placed};
+ghost use Rattle.card_places.specs.Plain.{seat_of};
+
+use crate::dealt_cards::DealtCards;
+use chip_ledger::Seat;
+
+/// How many cards of one street each owner was dealt: first the board's count, then each seat's.
+#[derive(Clone, Copy)]
+pub struct Counts {
+    pub numbers: [u8; 11],
+    pub ghost full: { length numbers ≡ 11 },
+}
+
+impl Counts {
+    /// Counts the cards of a street.
+    pub fn on(places: &DealtCards, street: u8) -> Self
+        ensures { AreCounts result.numbers street (placed places.now) }
+    {
+        let mut numbers = [0; 11];
+        for card in places.as_slice() {
+            if card.street == street {
+                numbers[owner_index(card.owner)] += 1;
+            }
+        }
+        Counts { numbers }
+    }
+
+    /// How many cards the owner was dealt.
+    pub fn of(&self, owner: Option<Seat>) -> u8
+        ensures { result ≡ count_of self.now.numbers (seat_of owner) }
+    {
+        self.numbers[owner_index(owner)]
+    }
+}
+
+// The index of the owner's count.
+fn owner_index(owner: Option<Seat>) -> usize
+    ensures index { result ≡ counted.owner_index (seat_of owner) }
+    ensures most { result ≤ 10 }
+{
+    match owner {
+        Some(seat) => seat.number as usize,
+        None => 0,
+    }
+}
