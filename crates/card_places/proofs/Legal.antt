@@ -1,17 +1,15 @@
 -- What holds where a discard has no reason against it.
-use Rattle.std.proofs.Common.{◌≡◌, ℕ, ◌+◌, ◌≤◌, Bool, true, false, not, nat_le, filter, if◌then◌else◌, Some, None, List, length, count_by, refl, sym, subst, arith}
+use Rattle.std.proofs.Common.{◌≡◌, ℕ, ◌+◌, ◌≤◌, Bool, true, false, not, nat_le, filter, if◌then◌else◌, Some, None, List, length, count_by, refl, arith}
 use Rattle.std.proofs.lemmas.Bool.{and_from, and_parts, le-leb, not-true}
 use Rattle.card_set.specs.declared.card.Slot.{Slot}
 use Rattle.chip_ledger.specs.declared.rows.LiveRow.{LiveRow}
 use Rattle.chip_ledger.specs.LiveRow.{flag_of}
 use Rattle.play_event.specs.declared.reason.Illegal.TheVariants as reasons
 use Rattle.card_set.specs.Known.{known_cards}
-use Rattle.play_event.specs.Places.{Place, is_held_by}
-use Rattle.play_event.specs.Naming.{blanks_in}
+use Rattle.play_event.specs.Places.{is_held_by}
+use Rattle.play_event.specs.Naming.{after_discard, blanks_in}
 use Rattle.play_event.specs.CardReasons.{has_no_place}
 use Rattle.card_places.specs.declared.card_state.CardState.{CardState}
-use Rattle.card_places.specs.declared.dealt_cards.DealtCards.{DealtCards}
-use Rattle.card_places.specs.Discarded.{IsRightDiscard}
 use Rattle.card_places.specs.Drawn.{has_drawn_at}
 use Rattle.card_places.specs.Placed.{placed}
 use Rattle.card_places.specs.Refusals.{has_to_draw, next_to_draw_in, is_next_in, discard_why_on}
@@ -45,12 +43,10 @@ drawer_is t live on seat cards is =
       found = parts.1;
     }
 
-pub right_takes : (t : CardState) (live : LiveRow) (on seat : ℕ) (cards : List Slot) (after : DealtCards) → IsRightDiscard t live on seat cards after → count_by (is_held_by seat) (placed after) + length cards ≤ count_by (is_held_by seat) (placed t.places)
-right_takes t live on seat cards after right =
-    subst (λ (ps : List Place). count_by (is_held_by seat) ps + length cards ≤ count_by (is_held_by seat) (placed t.places)) (sym right.places)
-    (discard_takes on seat cards (placed t.places) (drawer_is t live on seat cards right.legal).found)
+pub legal_takes : (t : CardState) (live : LiveRow) (on seat : ℕ) (cards : List Slot) → discard_why_on t live on seat cards ≡ None → count_by (is_held_by seat) (after_discard on seat cards (placed t.places)) + length cards ≤ count_by (is_held_by seat) (placed t.places)
+legal_takes t live on seat cards legal = discard_takes on seat cards (placed t.places) (drawer_is t live on seat cards legal).found
 
-pub right_in_hand : (t : CardState) (live : LiveRow) (on seat : ℕ) (cards : List Slot) (after : DealtCards) → IsRightDiscard t live on seat cards after → is_seat_of t.seats seat ≡ true
-right_in_hand t live on seat cards after right =
-    let drawer = drawer_is t live on seat cards right.legal in
+pub legal_in_hand : (t : CardState) (live : LiveRow) (on seat : ℕ) (cards : List Slot) → discard_why_on t live on seat cards ≡ None → is_seat_of t.seats seat ≡ true
+legal_in_hand t live on seat cards legal =
+    let drawer = drawer_is t live on seat cards legal in
     and_from (nat_le 1 seat) (nat_le seat t.seats) (le-leb 1 seat drawer.first) (le-leb seat t.seats drawer.last)

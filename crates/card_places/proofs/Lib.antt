@@ -2,8 +2,6 @@
 pub mod DealTables
 pub mod Putting
 pub mod Findings
-pub mod Newly
-pub mod Running
 pub mod InPlace
 pub mod Sums
 pub mod Rooms
@@ -11,6 +9,7 @@ pub mod HeldCards
 pub mod HeldWithin
 pub mod Fits
 pub mod Covered
+pub mod AllCovered
 pub mod StillWithin
 pub mod StateKept
 pub mod Legal

@@ -1,18 +1,21 @@
 -- What changes in the state where a seat discards.
-use Rattle.std.specs.Prelude.{◌≡◌, ◌≢◌, ◌⊎◌, ℕ, ◌≤◌, true, List, length, None}
+use Rattle.std.specs.Prelude.{◌≡◌, ◌≢◌, ◌⊎◌, ℕ, ◌≤◌, true, List, filter, length}
 use Rattle.card_set.specs.declared.card.Slot.{Slot}
-use Rattle.chip_ledger.specs.declared.rows.LiveRow.{LiveRow}
-use Rattle.play_event.specs.Naming.{after_discard}
+use Rattle.card_set.specs.Known.{known_cards}
+use Rattle.play_event.specs.declared.code.Code.{Code}
+use Rattle.play_event.specs.CardReasons.{has_no_place}
+use Rattle.play_event.specs.Naming.{after_discard, blanks_in}
+use Rattle.play_event.specs.Places.{Place, is_held_by}
 use Rattle.card_places.specs.declared.card_state.CardState.{CardState}
-use Rattle.card_places.specs.declared.dealt_cards.DealtCards.{DealtCards}
+use Rattle.card_places.specs.declared.search.Search.{Search}
 use Rattle.card_places.specs.Drawn.{has_drawn_at, named_at}
 use Rattle.card_places.specs.Placed.{placed}
-use Rattle.card_places.specs.Refusals.{discard_why_on}
+use Rattle.card_places.specs.Searches.{lacks_place, searched}
 
--- a discard has no reason against it, and these are the places after it
-pub record IsRightDiscard (t : CardState) (live : LiveRow) (on seat : ℕ) (cards : List Slot) (after : DealtCards) : Type 0 where
-  pub legal : discard_why_on t live on seat cards ≡ None
-  pub places : placed after ≡ after_discard on seat cards (placed t.places)
+-- a search is that of a discard: what it makes of the places, and whether it lacks some
+pub record IsDiscardSearch (code : Code) (s : Search) (placed : List Place) (on seat : ℕ) (cards : List Slot) : Type 0 where
+  pub after : searched code s placed ≡ after_discard on seat cards placed
+  pub lacking : lacks_place code s placed ≡ has_no_place (filter (is_held_by seat) placed) (known_cards cards) (blanks_in cards)
 
 -- a seat drew and discarded these cards, and nothing else changed
 pub record IsDiscarded (old new : CardState) (on seat : ℕ) (cards : List Slot) : Type 0 where

@@ -1,13 +1,29 @@
 -- What the names make of the places.
-use Rattle.std.specs.Prelude.{ℕ, List, drop}
+use Rattle.std.specs.Prelude.{ℕ, ◌+◌, Bool, nat_lt, List, length, count_by, drop}
+use Rattle.std.specs.List.{list_any}
+use Rattle.card_set.specs.Known.{is_unknown}
 use Rattle.card_set.specs.Row.{cards_of}
 use Rattle.play_event.specs.declared.code.Code.{Code}
+use Rattle.play_event.specs.CardReasons.{is_left_out}
 use Rattle.play_event.specs.Places.{Place}
 use Rattle.play_event.specs.Naming.{after_names, is_covered}
 use Rattle.card_places.specs.declared.search.Search.{Search}
+use Rattle.card_places.specs.Covered.{covered}
 use Rattle.card_places.specs.Marks.{mark_by}
 
 -- the places after the names found theirs, where so many of the other names are taken and so many blanks left
 abbrev pub search_from : Code → Search → ℕ → ℕ → List Place → List Place
 search_from code s taken blanks places =
     after_names (is_covered code s.seat.number s.all) (mark_by s.street s.count) (cards_of s.names) (drop taken (cards_of s.others)) blanks places
+
+-- the places after all names found theirs
+abbrev pub searched : Code → Search → List Place → List Place
+searched code s places = search_from code s 0 s.blanks places
+
+-- more names and blanks look for an unknown place than there are covered ones
+abbrev pub lacks_place : Code → Search → List Place → Bool
+lacks_place code s places = nat_lt (count_by (λ place. is_unknown place.slot) (covered code s.seat.number s.all places)) (length (cards_of s.others) + s.blanks)
+
+-- a known card of the covered places is not among the names
+abbrev pub leaves_out : Code → Search → List Place → Bool
+leaves_out code s places = list_any (λ place. is_left_out (cards_of s.names) place.slot) (covered code s.seat.number s.all places)

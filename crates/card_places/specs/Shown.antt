@@ -1,18 +1,21 @@
 -- What changes in the state where a seat shows or mucks.
-use Rattle.std.specs.Prelude.{◌≡◌, ◌≢◌, ℕ, ◌≤◌, true, List, None}
+use Rattle.std.specs.Prelude.{◌≡◌, ◌≢◌, ℕ, ◌≤◌, ◌||◌, true, List}
 use Rattle.card_set.specs.declared.card.Card.{Card}
-use Rattle.chip_ledger.specs.declared.rows.LiveRow.{LiveRow}
 use Rattle.chip_ledger.specs.LiveRow.{flag_of}
-use Rattle.play_event.specs.Naming.{after_show}
+use Rattle.play_event.specs.declared.code.Code.{Code}
+use Rattle.play_event.specs.CardReasons.{is_show_of_others}
+use Rattle.play_event.specs.Naming.{after_show, is_show_of_all}
+use Rattle.play_event.specs.Places.{Place}
+use Rattle.card_places.specs.Covered.{covered}
 use Rattle.card_places.specs.declared.card_state.CardState.{CardState}
-use Rattle.card_places.specs.declared.dealt_cards.DealtCards.{DealtCards}
+use Rattle.card_places.specs.declared.search.Search.{Search}
 use Rattle.card_places.specs.Placed.{placed}
-use Rattle.card_places.specs.Refusals.{show_why_on}
+use Rattle.card_places.specs.Searches.{lacks_place, leaves_out, searched}
 
--- a show has no reason against it, and these are the places after it
-pub record IsRightShow (t : CardState) (live : LiveRow) (seat : ℕ) (cards : List Card) (after : DealtCards) : Type 0 where
-  pub legal : show_why_on t live seat cards ≡ None
-  pub places : placed after ≡ after_show t.table.code seat cards (placed t.places)
+-- a search is that of a show: what it makes of the places, and whether it names others than they have
+pub record IsShowSearch (code : Code) (s : Search) (placed : List Place) (seat : ℕ) (cards : List Card) : Type 0 where
+  pub after : searched code s placed ≡ after_show code seat cards placed
+  pub others : (lacks_place code s placed || leaves_out code s placed) ≡ is_show_of_others (covered code seat (is_show_of_all placed seat cards) placed) cards
 
 -- a seat showed these cards, and nothing else changed
 pub record IsShown (old new : CardState) (seat : ℕ) (cards : List Card) : Type 0 where

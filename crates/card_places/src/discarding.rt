@@ -1,61 +1,82 @@
 //! A discard is refused exactly by the rules, and else takes the cards that its names find.
-ghost use Rattle.std.specs.Prelude.{◌≡◌, ◌≤◌, ◌+◌, true, filter, find, length, count_by, None, Some, IfOk, IfErr};
+ghost use Rattle.std.specs.Prelude.{◌≡◌, ◌≤◌, ◌+◌, true, find, length, count_by, None, Some, IfErr, OnErr, OnOk};
 ghost use Rattle.std.specs.List.{range_with_len};
 ghost use Rattle.card_set.specs.Row.{slots_of};
-ghost use Rattle.play_event.specs.CardReasons as reasons;
-ghost use Rattle.play_event.specs.Naming as naming;
 ghost use Rattle.play_event.specs.Naming.{after_discard};
-ghost use Rattle.card_set.specs.Known.{known_cards};
 ghost use Rattle.play_event.specs.Places.{is_held_by};
 ghost use Rattle.card_places.specs.Placed.{placed};
 ghost use Rattle.card_places.specs.Refusals as why;
 ghost use Rattle.card_places.specs.Room.{is_seat_of};
-ghost use Rattle.card_places.specs.Discarded.{IsDiscarded, IsRightDiscard};
+ghost use Rattle.card_places.specs.Discarded.{IsDiscarded, IsRightDiscard, IsDiscardSearch};
 ghost use Rattle.chip_ledger.specs.SeatsSaid.{seat_said};
 
 use crate::card_state::CardState;
 use crate::deal_table::DealTable;
 use crate::dealt_cards::DealtCards;
+use crate::misplacing::is_misplacing;
 use crate::names::{blanks, known};
-use crate::naming::{Outcome, tried};
-use crate::taken::has_misplaced_card;
+use crate::naming::lacks_place;
+use crate::search::{Search, run, search_of};
 use card_set::SlotRow;
 use chip_ledger::{LiveRow, Seat};
-use play_event::{Due, Illegal};
+use play_event::Illegal;
 
-/// The places after a discard of the seat on the street, or why it is illegal.
+/// The seat discards the cards on the street, where it may; else the state is as it was.
 pub fn discard_on(
+    state: &mut CardState,
+    live: &LiveRow,
+    on: u8,
+    seat: Seat,
+    cards: &SlotRow,
+) -> Result<(), Illegal>
+    requires street { on ≤ 5 }
+    requires live { live.now.seats ≡ state.old.seats }
+    ensures right { OnOk result (why.discard_why_on state.old live.now on seat.number
+        (slots_of cards.now) ≡ None) }
+    ensures wrong { IfErr result (λ reason. why.discard_why_on state.old live.now on seat.number
+        (slots_of cards.now) ≡ Some reason) }
+    ensures discarded { OnOk result
+        (IsDiscarded state.old state.new on seat.number (slots_of cards.now)) }
+    ensures unchanged { OnErr result (state.new ≡ state.old) }
+    ensures table { state.new.table ≡ state.old.table }
+    ensures seats { state.new.seats ≡ state.old.seats }
+{
+    let search = discard_search(&state.table, &state.places, on, seat, cards);
+    match discard_why_on(state, live, on, seat, cards, &search) {
+        Some(reason) => Err(reason),
+        None => {
+            set_discard(state, on, seat, cards, &search);
+            Ok(())
+        }
+    }
+}
+
+// Why the seat may not discard the cards on the street.
+fn discard_why_on(
     state: &CardState,
     live: &LiveRow,
     on: u8,
     seat: Seat,
     cards: &SlotRow,
-) -> Result<DealtCards, Illegal>
+    search: &Search,
+) -> Option<Illegal>
     requires street { on ≤ 5 }
     requires live { live.now.seats ≡ state.now.seats }
-    ensures right { IfOk result (λ after. IsRightDiscard state.now live.now on seat.number
-        (slots_of cards.now) after) }
-    ensures wrong { IfErr result (λ reason. why.discard_why_on state.now live.now on seat.number
-        (slots_of cards.now) ≡ Some reason) }
+    requires search { IsDiscardSearch state.now.table.code search.now (placed state.now.places) on
+        seat.number (slots_of cards.now) }
+    ensures { result ≡ why.discard_why_on state.now live.now on seat.number (slots_of cards.now) }
 {
+    let rows = state.places.as_slice();
     if !is_next_to_draw(state, live, on, seat) {
-        return Err(Illegal::WrongSeat);
-    }
-    if state.places.held(Some(seat)) < cards.len {
-        return Err(Illegal::WrongCount);
-    }
-    let outcome = discarded(&state.table, &state.places, on, seat, cards);
-    if has_misplaced_card(
-        &state.table,
-        outcome.after.as_slice(),
-        state.places.as_slice(),
-        outcome.after.as_slice(),
-    ) {
-        Err(Illegal::CardTaken)
-    } else if outcome.lacking {
-        Err(Illegal::NotHeld)
+        Some(Illegal::WrongSeat)
+    } else if state.places.held(Some(seat)) < cards.len {
+        Some(Illegal::WrongCount)
+    } else if is_misplacing(&state.table, rows, search) {
+        Some(Illegal::CardTaken)
+    } else if lacks_place(&state.table, rows, search) {
+        Some(Illegal::NotHeld)
     } else {
-        Ok(outcome.after)
+        None
     }
 }
 
@@ -99,29 +120,34 @@ pub fn first_to_draw(
     }
 }
 
-// The places after a discard.
-fn discarded(table: &DealTable, places: &DealtCards, on: u8, seat: Seat, cards: &SlotRow) -> Outcome
-    ensures after { placed result.after ≡ naming.after_discard on seat.number (slots_of cards.now)
-        (placed places.now) }
-    ensures lacking { result.lacking ≡ reasons.has_no_place
-        (filter (is_held_by seat.number) (placed places.now)) (known_cards (slots_of cards.now))
-        (naming.blanks_in (slots_of cards.now)) }
+// What a discard looks for.
+fn discard_search(
+    table: &DealTable,
+    places: &DealtCards,
+    on: u8,
+    seat: Seat,
+    cards: &SlotRow,
+) -> Search
+    ensures { IsDiscardSearch table.now.code result (placed places.now) on seat.number
+        (slots_of cards.now) }
 {
     let names = known(cards);
     let blanks = blanks(cards.as_slice()) as u8;
-    tried(table, places, seat, true, Some(on), &names, blanks)
+    search_of(table, places, seat, true, Some(on), &names, blanks)
 }
 
-/// The seat drew on the street, and these are the places after it.
-pub fn set_discard(state: &mut CardState, on: u8, seat: Seat, cards: &SlotRow, after: DealtCards)
+// The seat draws on the street, and what it discards is gone.
+fn set_discard(state: &mut CardState, on: u8, seat: Seat, cards: &SlotRow, search: &Search)
     requires street { on ≤ 5 }
-    requires places { placed after
-        ≡ after_discard on seat.number (slots_of cards.now) (placed state.old.places) }
-    requires takes { count_by (is_held_by seat.number) (placed after) + length (slots_of cards.now)
+    requires search { IsDiscardSearch state.old.table.code search.now (placed state.old.places) on
+        seat.number (slots_of cards.now) }
+    requires takes { count_by (is_held_by seat.number)
+        (after_discard on seat.number (slots_of cards.now) (placed state.old.places))
+        + length (slots_of cards.now)
         ≤ count_by (is_held_by seat.number) (placed state.old.places) }
     requires in_hand { is_seat_of state.old.seats seat.number ≡ true }
     ensures { IsDiscarded state.old state.new on seat.number (slots_of cards.now) }
 {
-    state.places = after;
+    run(&state.table, &mut state.places, search);
     state.draws.set(on, seat, cards.len);
 }

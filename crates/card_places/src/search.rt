@@ -1,11 +1,15 @@
 //! The names of a discard or a show find the places that it covers in the order of dealing.
-ghost use Rattle.std.specs.Prelude.{◌≡◌, ◌∷◌, List, map};
+ghost use Rattle.std.specs.Prelude.{◌≡◌, ◌∷◌, List, length, map};
+ghost use Rattle.std.specs.List.{list_any};
 ghost use Rattle.card_set.specs.Row.{cards_of};
+ghost use Rattle.play_event.specs.CardReasons as reasons;
 ghost use Rattle.play_event.specs.Places.{Place};
 ghost use Rattle.play_event.specs.Naming as naming;
-ghost use Rattle.card_places.specs.Covered.{covered};
+ghost use Rattle.card_places.specs.Covered.{after_named, covered};
+ghost use Rattle.card_places.specs.Marks.{mark_by};
 ghost use Rattle.card_places.specs.Placed.{placed};
 ghost use Rattle.card_places.specs.Plain.{place_of};
+ghost use Rattle.card_places.specs.Searches as searches;
 ghost use Rattle.card_places.specs.Searches.{search_from};
 
 use crate::deal_table::DealTable;
@@ -16,8 +20,9 @@ use crate::names::without;
 use card_set::CardRow;
 use chip_ledger::Seat;
 
-/// What is looked for: cards of a seat, all of them or those face down; where they are discarded on a street, after so
-/// many deals; the names, and those of them that no known card bears.
+/// What is looked for: cards of a seat, all of them or those face down; where they are discarded
+/// on a street, after so many deals; the names, those of them that no known card bears, and how many
+/// blanks come with them.
 #[derive(Clone, Copy)]
 pub struct Search {
     pub seat: Seat,
@@ -26,10 +31,44 @@ pub struct Search {
     pub count: u8,
     pub names: CardRow,
     pub others: CardRow,
+    pub blanks: u8,
 }
 
-/// The names that no known card of the covered places bears: unknown places may take them.
-pub fn other_names(
+/// Looks for the names and so many blanks among the covered places. With a street, the cards that
+/// are found are discarded on it; without one they stay.
+pub fn search_of(
+    table: &DealTable,
+    places: &DealtCards,
+    seat: Seat,
+    all: bool,
+    street: Option<u8>,
+    names: &CardRow,
+    blanks: u8,
+) -> Search
+    ensures after { searches.searched table.now.code result (placed places.now)
+        ≡ after_named table.now.code seat.number all
+        (mark_by street (length (placed places.now))) (cards_of names.now) blanks
+        (placed places.now) }
+    ensures lacking { searches.lacks_place table.now.code result (placed places.now)
+        ≡ reasons.has_no_place (covered table.now.code seat.number all (placed places.now))
+        (cards_of names.now) blanks }
+    ensures left_out { searches.leaves_out table.now.code result (placed places.now)
+        ≡ list_any (λ place. reasons.is_left_out (cards_of names.now) place.slot)
+        (covered table.now.code seat.number all (placed places.now)) }
+{
+    Search {
+        seat,
+        all,
+        street,
+        count: places.count,
+        names: *names,
+        others: other_names(table, places.as_slice(), seat, all, names),
+        blanks,
+    }
+}
+
+// The names that no known card of the covered places bears: unknown places may take them.
+fn other_names(
     table: &DealTable,
     rows: &[DealtCard],
     seat: Seat,
@@ -48,29 +87,24 @@ pub fn other_names(
     others
 }
 
-/// The places after the names found theirs, with so many blanks, in the order of dealing.
-pub fn run(table: &DealTable, places: &DealtCards, search: &Search, blanks: u8) -> DealtCards
-    ensures places { placed result ≡ search_from table.now.code search.now 0 blanks
-        (placed places.now) }
-    ensures count { result.count ≡ places.now.count }
+/// The names find their places, in the order of dealing.
+pub fn run(table: &DealTable, places: &mut DealtCards, search: &Search)
+    ensures { placed places.new
+        ≡ searches.searched table.now.code search.now (placed places.old) }
 {
-    let mut rows = places.rows;
     let mut taken = 0;
-    let mut left = blanks;
+    let mut blanks = search.blanks;
     for index in 0..places.count as usize {
-        let found = look(table, search, places.rows[index], taken, left);
-        rows[index] = found.card;
+        let found = look(table, search, places.rows[index], taken, blanks);
+        places.rows[index] = found.card;
         taken = found.taken;
-        left = found.blanks;
-    }
-    DealtCards {
-        count: places.count,
-        rows,
+        blanks = found.blanks;
     }
 }
 
-// What the names make of the next place.
-fn look(table: &DealTable, search: &Search, card: DealtCard, taken: u8, blanks: u8) -> Found
+/// What the names make of the next place, so many of the other names being taken and so many
+/// blanks left.
+pub fn look(table: &DealTable, search: &Search, card: DealtCard, taken: u8, blanks: u8) -> Found
     ensures { (rest : List Place) → search_from table.now.code search.now taken blanks
         (place_of card ∷ rest)
         ≡ place_of result.card

@@ -1,62 +1,80 @@
 //! A show or a muck is refused exactly by the rules, and a show makes its cards known.
-ghost use Rattle.std.specs.Prelude.{◌≡◌, ◌≤◌, ◌&&◌, map, length, count_by, Some, IfOk, IfErr, OnOk, IsTrue, List, IfNone, IfSome, None};
+ghost use Rattle.std.specs.Prelude.{◌≡◌, ◌≤◌, ◌&&◌, map, length, count_by, Some, IfErr, OnErr, OnOk, IsTrue, List, IfNone, IfSome, None};
 ghost use Rattle.card_set.specs.declared.card.Card.{Card};
 ghost use Rattle.std.specs.List.{list_any};
 ghost use Rattle.card_set.specs.Row.{cards_of};
-ghost use Rattle.play_event.specs.CardReasons as reasons;
 ghost use Rattle.play_event.specs.Naming as naming;
-ghost use Rattle.play_event.specs.Naming.{after_show};
 ghost use Rattle.card_set.specs.Known as known;
 ghost use Rattle.play_event.specs.Places as plain;
-ghost use Rattle.card_places.specs.Covered.{after_named, covered};
 ghost use Rattle.card_places.specs.Placed.{placed};
 ghost use Rattle.card_places.specs.Plain.{place_of};
-ghost use Rattle.card_places.specs.Shown.{IsMucked, IsRightShow, IsShown};
+ghost use Rattle.card_places.specs.Shown.{IsMucked, IsShowSearch, IsShown};
 ghost use Rattle.card_places.specs.Refusals as why;
 
 use crate::card_state::CardState;
 use crate::deal_table::DealTable;
 use crate::dealt_card::DealtCard;
 use crate::dealt_cards::DealtCards;
+use crate::misplacing::is_misplacing;
 use crate::names::is_unknown;
-use crate::naming::{Outcome, leaves_out, tried};
-use crate::taken::has_misplaced_card;
+use crate::naming::{lacks_place, leaves_out};
+use crate::search::{Search, run, search_of};
 use card_set::CardRow;
 use chip_ledger::{LiveRow, Seat};
 use play_event::{Due, Illegal};
 
-/// The places after a show of the seat, or why it is illegal.
+/// The seat shows the cards, where it may; else the state is as it was.
 pub fn show_on(
+    state: &mut CardState,
+    live: &LiveRow,
+    seat: Seat,
+    cards: &CardRow,
+) -> Result<(), Illegal>
+    requires live { live.now.seats ≡ state.old.seats }
+    ensures right { OnOk result (why.show_why_on state.old live.now seat.number
+        (cards_of cards.now) ≡ None) }
+    ensures wrong { IfErr result (λ reason. why.show_why_on state.old live.now seat.number
+        (cards_of cards.now) ≡ Some reason) }
+    ensures shown { OnOk result (IsShown state.old state.new seat.number (cards_of cards.now)) }
+    ensures unchanged { OnErr result (state.new ≡ state.old) }
+    ensures table { state.new.table ≡ state.old.table }
+    ensures seats { state.new.seats ≡ state.old.seats }
+{
+    let search = show_search(&state.table, &state.places, seat, cards);
+    match show_why_on(state, live, seat, cards, &search) {
+        Some(reason) => Err(reason),
+        None => {
+            set_show(state, seat, cards, &search);
+            Ok(())
+        }
+    }
+}
+
+// Why the seat may not show the cards.
+fn show_why_on(
     state: &CardState,
     live: &LiveRow,
     seat: Seat,
     cards: &CardRow,
-) -> Result<DealtCards, Illegal>
+    search: &Search,
+) -> Option<Illegal>
     requires live { live.now.seats ≡ state.now.seats }
-    ensures right { IfOk result (λ after. IsRightShow state.now live.now seat.number
-        (cards_of cards.now) after) }
-    ensures wrong { IfErr result (λ reason. why.show_why_on state.now live.now seat.number
-        (cards_of cards.now) ≡ Some reason) }
-    ensures in_hand { OnOk result (seat.number ≤ state.now.seats) }
+    requires search { IsShowSearch state.now.table.code search.now (placed state.now.places)
+        seat.number (cards_of cards.now) }
+    ensures value { result ≡ why.show_why_on state.now live.now seat.number (cards_of cards.now) }
+    ensures in_hand { IfNone result (seat.number ≤ state.now.seats) }
 {
+    let rows = state.places.as_slice();
     if !may_show(state, live, seat) {
-        return Err(Illegal::WrongSeat);
-    }
-    if !may_show_many(state, seat, cards.len) {
-        return Err(Illegal::WrongCount);
-    }
-    let outcome = shown(&state.table, &state.places, seat, cards);
-    if has_misplaced_card(
-        &state.table,
-        outcome.after.as_slice(),
-        state.places.as_slice(),
-        outcome.after.as_slice(),
-    ) {
-        Err(Illegal::CardTaken)
-    } else if outcome.lacking {
-        Err(Illegal::NotHeld)
+        Some(Illegal::WrongSeat)
+    } else if !may_show_many(state, seat, cards.len) {
+        Some(Illegal::WrongCount)
+    } else if is_misplacing(&state.table, rows, search) {
+        Some(Illegal::CardTaken)
+    } else if lacks_place(&state.table, rows, search) || leaves_out(&state.table, rows, search) {
+        Some(Illegal::NotHeld)
     } else {
-        Ok(outcome.after)
+        None
     }
 }
 
@@ -106,16 +124,13 @@ fn hides_up(table: &DealTable, rows: &[DealtCard], seat: Seat) -> bool
     false
 }
 
-// The places after a show, and whether it names other cards.
-fn shown(table: &DealTable, places: &DealtCards, seat: Seat, cards: &CardRow) -> Outcome
-    ensures after { placed result.after ≡ naming.after_show table.now.code seat.number
-        (cards_of cards.now) (placed places.now) }
-    ensures lacking { result.lacking ≡ reasons.is_show_of_others
-        (covered table.now.code seat.number (naming.is_show_of_all (placed places.now) seat.number
-        (cards_of cards.now)) (placed places.now)) (cards_of cards.now) }
+// What a show looks for: all cards of the seat, or those face down.
+fn show_search(table: &DealTable, places: &DealtCards, seat: Seat, cards: &CardRow) -> Search
+    ensures { IsShowSearch table.now.code result (placed places.now) seat.number
+        (cards_of cards.now) }
 {
     let all = is_show_of_all(places, seat, cards);
-    shown_of(table, places, seat, all, cards)
+    search_of(table, places, seat, all, None, cards, 0)
 }
 
 // The show names all cards that the seat holds.
@@ -125,26 +140,15 @@ fn is_show_of_all(places: &DealtCards, seat: Seat, cards: &CardRow) -> bool
     cards.len == places.held(Some(seat))
 }
 
-// The places after a show of the cards that are covered, and whether it names other cards.
-fn shown_of(
-    table: &DealTable,
-    places: &DealtCards,
-    seat: Seat,
-    all: bool,
-    cards: &CardRow,
-) -> Outcome
-    ensures after { placed result.after ≡ after_named table.now.code seat.number all
-        (λ place. place) (cards_of cards.now) 0 (placed places.now) }
-    ensures lacking { result.lacking ≡ reasons.is_show_of_others
-        (covered table.now.code seat.number all (placed places.now)) (cards_of cards.now) }
+// The seat showed the cards, and they are known.
+fn set_show(state: &mut CardState, seat: Seat, cards: &CardRow, search: &Search)
+    requires in_hand { seat.number ≤ state.old.seats }
+    requires search { IsShowSearch state.old.table.code search.now (placed state.old.places)
+        seat.number (cards_of cards.now) }
+    ensures { IsShown state.old state.new seat.number (cards_of cards.now) }
 {
-    let outcome = tried(table, places, seat, all, None, cards, 0);
-    let lacking = outcome.lacking
-        || leaves_out(table, places.as_slice(), seat, all, cards.as_slice());
-    Outcome {
-        after: outcome.after,
-        lacking,
-    }
+    run(&state.table, &mut state.places, search);
+    state.shown.set(seat, true);
 }
 
 /// Why no show may come now, if none may.
@@ -215,18 +219,6 @@ fn may_show(state: &CardState, live: &LiveRow, seat: Seat) -> bool
     seat.number <= state.seats
         && live.get(seat)
         && !(state.shown.get(seat) || state.mucked.get(seat))
-}
-
-/// The seat showed, and these are the places after it.
-pub fn set_show(state: &mut CardState, seat: Seat, cards: &CardRow, after: DealtCards)
-    requires in_hand { seat.number ≤ state.old.seats }
-    requires places { placed after
-        ≡ after_show state.old.table.code seat.number (cards_of cards.now)
-        (placed state.old.places) }
-    ensures { IsShown state.old state.new seat.number (cards_of cards.now) }
-{
-    state.places = after;
-    state.shown.set(seat, true);
 }
 
 /// The seat mucked.

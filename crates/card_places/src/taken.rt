@@ -1,14 +1,13 @@
 //! A card is taken exactly where the deck lacks it, or where it clashes with another.
 ghost use Rattle.std.specs.Prelude.{◌≡◌, ◌≤◌, ◌&&◌, ◌==◌, length, map, not, count_by, nat_lt, is_some};
 ghost use Rattle.std.specs.List.{list_any};
-ghost use Rattle.card_set.specs.Known as known;
 ghost use Rattle.play_event.specs.Places as places;
 ghost use Rattle.play_event.specs.Taken as taken;
 ghost use Rattle.card_places.specs.Plain.{place_of};
 
 use crate::deal_table::DealTable;
 use crate::dealt_card::DealtCard;
-use crate::names::{has_repeat, is_borne_by, is_one_card, is_unknown};
+use crate::names::{has_repeat, is_borne_by, is_one_card};
 use card_set::{Card, Slot};
 
 /// Whether one of the slots may not be dealt on this street: the deck lacks its card, a place has
@@ -95,68 +94,13 @@ fn count_discarded(rows: &[DealtCard], street: u8) -> usize
     count
 }
 
-/// Whether a card of the new rows that was unknown in the old ones may not lie there, among all
-/// these rows.
-pub fn has_misplaced_card(
-    table: &DealTable,
-    all: &[DealtCard],
-    olds: &[DealtCard],
-    news: &[DealtCard],
-) -> bool
-    ensures { result ≡ list_any (taken.is_misplaced table.now.code (map place_of all.now))
-        (taken.newly_known (map place_of olds.now) (map place_of news.now)) }
-{
-    match olds {
-        [] => false,
-        [old, later_olds @ ..] => match news {
-            [] => false,
-            [new, later_news @ ..] => {
-                is_newly_misplaced(table, all, old, new)
-                    || has_misplaced_card(table, all, later_olds, later_news)
-            }
-        },
-    }
-}
-
-// A card became known that may not lie there.
-fn is_newly_misplaced(
-    table: &DealTable,
-    all: &[DealtCard],
-    old: &DealtCard,
-    new: &DealtCard,
-) -> bool
-    ensures { result ≡ ((known.is_unknown old.now.slot && not (known.is_unknown new.now.slot))
-        && taken.is_misplaced table.now.code (map place_of all.now) (place_of new.now)) }
-{
-    is_unknown(old.slot) && !is_unknown(new.slot) && is_misplaced(table, all, new)
-}
-
-// A place may not bear its card among these.
-fn is_misplaced(table: &DealTable, rows: &[DealtCard], card: &DealtCard) -> bool
-    ensures { result ≡ taken.is_misplaced table.now.code (map place_of rows.now)
-        (place_of card.now) }
-{
-    is_foreign(table, card.slot) || clashes(card, rows)
-}
-
-// The deck lacks the card of a slot.
-fn is_foreign(table: &DealTable, slot: Slot) -> bool
+/// Whether the deck lacks the card of a slot.
+pub fn is_foreign(table: &DealTable, slot: Slot) -> bool
     ensures { result ≡ taken.is_foreign table.now.code slot }
 {
     match slot {
         Slot::Known(card) => !table.in_deck(card),
         Slot::Unknown => false,
-    }
-}
-
-// The place clashes with another of these.
-fn clashes(card: &DealtCard, rows: &[DealtCard]) -> bool
-    ensures { result ≡ list_any (λ other. not (other.number == card.now.number)
-        && taken.is_clash (place_of card.now) other) (map place_of rows.now) }
-{
-    match rows {
-        [] => false,
-        [row, rest @ ..] => row.number != card.number && is_clash(card, row) || clashes(card, rest),
     }
 }
 

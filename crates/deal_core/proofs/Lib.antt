@@ -11,3 +11,4 @@ pub mod DiscardTurn
 pub mod IsDone
 pub mod Boards
 pub mod Games
+pub mod Kept

@@ -31,7 +31,7 @@ ghost use Rattle.deal_core.specs.Standing.{IsNow, IsSeatOf, StandsFor};
 
 use card_places::{
     CardState, board, board_why, discard_on, done, empty, fold, hands, hole_why, lay, muck_why,
-    place, set_discard, set_muck, set_show, show_on, shut, slots, street_due, unknown, up,
+    place, set_muck, show_on, shut, slots, street_due, unknown, up,
 };
 use card_set::{CardRow, Slot, SlotRow};
 use chip_ledger::{LiveRow, Seat};
@@ -189,13 +189,7 @@ impl<V: Variant> Cards<V> {
     {
         match due {
             Due::Over => Err(Illegal::HandOver),
-            Due::Draw(on) => match discard_on(&self.state, live, on, seat, cards) {
-                Ok(after) => {
-                    set_discard(&mut self.state, on, seat, cards, after);
-                    Ok(())
-                }
-                Err(reason) => Err(reason),
-            },
+            Due::Draw(on) => discard_on(&mut self.state, live, on, seat, cards),
             Due::Deal(_) | Due::BringIn | Due::Move | Due::Show => Err(Illegal::WrongKind),
         }
     }
@@ -255,13 +249,7 @@ impl<V: Variant> Cards<V> {
     {
         match shut(&self.state, live, due, settled, seat) {
             Some(reason) => Err(reason),
-            None => match show_on(&self.state, live, seat, cards) {
-                Ok(after) => {
-                    set_show(&mut self.state, seat, cards, after);
-                    Ok(())
-                }
-                Err(reason) => Err(reason),
-            },
+            None => show_on(&mut self.state, live, seat, cards),
         }
     }
 

@@ -1,7 +1,8 @@
 -- After a discard the seat has fewer cards, and may get as many as it named.
-use Rattle.std.proofs.Common.{◌≡◌, ◌∙◌, length, sym, arith}
+use Rattle.std.proofs.Common.{◌≡◌, ◌+◌, ◌≤◌, ◌∙◌, List, length, count_by, sym, subst, arith}
 use Rattle.std.proofs.lemmas.List.{length-take}
 use Rattle.card_set.specs.Row.{slots_of}
+use Rattle.play_event.specs.Places.{Place, is_held_by}
 use Rattle.card_places.specs.Placed.{placed}
 use Rattle.card_places.proofs.HeldWithin.{at_most_ten}
 use Rattle.card_places.proofs.StateKept.{bounded_discard, IsDrawnBy}
@@ -13,7 +14,9 @@ invariant_of-state c =
     let row = c.args.cards.now in
     let long : length (slots_of row) ≡ row.len = omega (arith, length-take row.len row.slots, row.fits, row.entries) in
     let drawn : IsDrawnBy t.draws c.set.new.self c.args.on c.args.seat.number (length (slots_of row)) = record { named = c.set.ensures.named ∙ sym long; others = c.set.ensures.others_named } in
-    let bounded = bounded_discard t.table.code t.seats t.draws c.set.new.self (placed t.places) (placed c.args.after) c.args.on c.args.seat.number (slots_of row) (at_most_ten t.table.code t.seats t.few) c.requires.in_hand drawn c.requires.places c.requires.takes (record { within = t.within; named = t.named; held = t.held }) in
+    let is = c.run.ensures ∙ c.requires.search.after in
+    let takes = subst (λ (ps : List Place). count_by (is_held_by c.args.seat.number) ps + length (slots_of row) ≤ count_by (is_held_by c.args.seat.number) (placed t.places)) (sym is) c.requires.takes in
+    let bounded = bounded_discard t.table.code t.seats t.draws c.set.new.self (placed t.places) _ c.args.on c.args.seat.number (slots_of row) (at_most_ten t.table.code t.seats t.few) c.requires.in_hand drawn is takes (record { within = t.within; named = t.named; held = t.held }) in
     record {
       shown_seats = t.shown_seats;
       mucked_seats = t.mucked_seats;

@@ -8,7 +8,7 @@ use Rattle.card_places.proofs.showing.set_show.Goals as goal
 pub invariant_of-state : goal.invariant_of-state
 invariant_of-state c =
     let t = c.args.state.now in
-    let bounded = bounded_show t.table.code t.seats t.draws (placed t.places) (placed c.args.after) c.args.seat.number (cards_of c.args.cards.now) c.requires.places (record { within = t.within; named = t.named; held = t.held }) in
+    let bounded = bounded_show t.table.code t.seats t.draws (placed t.places) _ c.args.seat.number (cards_of c.args.cards.now) (c.run.ensures ∙ c.requires.search.after) (record { within = t.within; named = t.named; held = t.held }) in
     record {
       shown_seats = c.set.ensures.seats ∙ t.shown_seats;
       mucked_seats = t.mucked_seats;

@@ -1,10 +1,12 @@
--- A discard that is right takes as many cards as it names.
-use Rattle.card_set.specs.Row.{slots_of}
-use Rattle.card_places.proofs.Legal.{right_takes, right_in_hand}
+-- Where the discard is refused, the state is as it was.
+use Rattle.std.proofs.Common.{◌≡◌, sym, subst, ap}
+use Rattle.card_places.specs.declared.card_state.CardState.{CardState}
+use Rattle.deal_core.proofs.Kept.{on_err_too, one_code}
 use Rattle.deal_core.proofs.cards.Cards.discard_of.Goals as goal
 
-pub set_discard-requires-clause-takes : goal.set_discard-requires-clause-takes
-set_discard-requires-clause-takes g c = right_takes c.args.self.now.state c.args.live.now c.in-Draw.on c.args.seat.number (slots_of c.args.cards.now) c.in-Ok.after c.in-Ok.ensures.right
-
-pub set_discard-requires-clause-in_hand : goal.set_discard-requires-clause-in_hand
-set_discard-requires-clause-in_hand g c = right_in_hand c.args.self.now.state c.args.live.now c.in-Draw.on c.args.seat.number (slots_of c.args.cards.now) c.in-Ok.after c.in-Ok.ensures.right
+pub returns-in-Draw-clause-unchanged : goal.returns-in-Draw-clause-unchanged
+returns-in-Draw-clause-unchanged g c =
+    on_err_too c.discard_on.result
+    (λ is.
+    subst (λ (t : CardState). (h : t.table.code ≡ g.V.Variant.CODE) → record { state = t; game = c.args.self.now.game; code = h } ≡ c.args.self.now) (sym is)
+    (λ h. ap (λ h. record { state = c.args.self.now.state; game = c.args.self.now.game; code = h }) (one_code _ _ h c.args.self.now.code)) _) c.discard_on.ensures.unchanged

@@ -1,5 +1,0 @@
-use Rattle.std.proofs.Common.{length}
-use Rattle.card_places.proofs.taken.+clashes.Given as goal
-
-abbrev pub decreases-clashes : goal.decreases-clashes
-decreases-clashes l = length l.rows.now

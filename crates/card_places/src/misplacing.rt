@@ -1,0 +1,74 @@
+//! Names are judged by the places as they are: what the names would make of them is looked at place
+//! by place, and written nowhere.
+ghost use Rattle.std.specs.Prelude.{◌≡◌, ◌&&◌, ◌==◌, not, map};
+ghost use Rattle.std.specs.List.{list_any};
+ghost use Rattle.card_set.specs.Known as known;
+ghost use Rattle.play_event.specs.Taken as taken;
+ghost use Rattle.card_places.specs.Plain.{place_of};
+ghost use Rattle.card_places.specs.Searches.{searched};
+
+use crate::deal_table::DealTable;
+use crate::dealt_card::DealtCard;
+use crate::names::is_unknown;
+use crate::search::{Search, look};
+use crate::taken::{is_clash, is_foreign};
+
+/// Whether a card that the names make known may not lie among the places after them.
+pub fn is_misplacing(table: &DealTable, rows: &[DealtCard], search: &Search) -> bool
+    ensures { result ≡ taken.has_misplaced_card table.now.code (map place_of rows.now)
+        (searched table.now.code search.now (map place_of rows.now)) }
+{
+    let mut taken = 0;
+    let mut blanks = search.blanks;
+    for row in rows {
+        let found = look(table, search, *row, taken, blanks);
+        if is_newly_misplaced(table, rows, search, row, &found.card) {
+            return true;
+        }
+        taken = found.taken;
+        blanks = found.blanks;
+    }
+    false
+}
+
+// The names make the old place this new one, and a card known that may not lie there.
+fn is_newly_misplaced(
+    table: &DealTable,
+    rows: &[DealtCard],
+    search: &Search,
+    old: &DealtCard,
+    new: &DealtCard,
+) -> bool
+    ensures { result ≡ ((known.is_unknown old.now.slot && not (known.is_unknown new.now.slot))
+        && taken.is_misplaced table.now.code
+        (searched table.now.code search.now (map place_of rows.now)) (place_of new.now)) }
+{
+    is_unknown(old.slot) && !is_unknown(new.slot) && is_misplaced(table, rows, search, new)
+}
+
+// A place may not bear its card among those after the names.
+fn is_misplaced(table: &DealTable, rows: &[DealtCard], search: &Search, card: &DealtCard) -> bool
+    ensures { result ≡ taken.is_misplaced table.now.code
+        (searched table.now.code search.now (map place_of rows.now)) (place_of card.now) }
+{
+    is_foreign(table, card.slot) || clashes(table, rows, search, card)
+}
+
+// The place clashes with another of those after the names.
+fn clashes(table: &DealTable, rows: &[DealtCard], search: &Search, card: &DealtCard) -> bool
+    ensures { result ≡ list_any (λ other. not (other.number == card.now.number)
+        && taken.is_clash (place_of card.now) other)
+        (searched table.now.code search.now (map place_of rows.now)) }
+{
+    let mut taken = 0;
+    let mut blanks = search.blanks;
+    for row in rows {
+        let found = look(table, search, *row, taken, blanks);
+        if found.card.number != card.number && is_clash(card, &found.card) {
+            return true;
+        }
+        taken = found.taken;
+        blanks = found.blanks;
+    }
+    false
+}
