@@ -1,5 +1,5 @@
 //! A script is the list of a hand's events, in the order in which they happened, kept packed.
-ghost use Rattle.std.specs.Prelude.{◌≡◌, length};
+ghost use Rattle.std.specs.Prelude.{◌≡◌, ◌++◌, length, OnOk, OnErr};
 ghost use Rattle.play_event.specs.PackedScript.{PackedScript};
 ghost use Rattle.play_event.specs.PackedOnce.{one_script};
 
@@ -9,6 +9,9 @@ use crate::packing::pack;
 use card_set::Memory;
 use std::alloc::Global;
 use std::marker::Model;
+
+// So many bytes are enough for the events of most hands.
+const USUAL_BYTES: usize = 64;
 
 /// The events of a hand, in order. They take six to fifteen bytes each.
 #[derive(Debug, Drop)]
@@ -38,7 +41,7 @@ impl Script {
         ensures unchanged { OnErr result (self.new ≡ self.old) }
     {
         let packed = pack(event);
-        self.bytes.extend_from_slice(packed.as_slice())?;
+        append(&mut self.bytes, packed.as_slice())?;
         self.count += 1;
         Ok(())
     }
@@ -86,4 +89,16 @@ impl Script {
     {
         self.bytes.as_slice()
     }
+}
+
+// Puts an event behind others. Before the first one there is made room for the events of most hands.
+fn append(bytes: &mut Vec<u8>, packed: &[u8]) -> Result<(), Memory>
+    ensures appended { OnOk result (bytes.new.items ≡ bytes.old.items ++ packed.now) }
+    ensures unchanged { OnErr result (bytes.new.items ≡ bytes.old.items) }
+{
+    if bytes.is_empty() {
+        bytes.try_reserve(USUAL_BYTES)?;
+    }
+    bytes.extend_from_slice(packed)?;
+    Ok(())
 }

@@ -9,20 +9,20 @@ overflow_add-self c =
 
 pub invariant_of-self-inside : goal.invariant_of-self-inside
 invariant_of-self-inside c =
-    (kept c.self.inside.bytes.items c.self.inside.script _ c.in_err-extend_from_slice.ensures.items, (c.self.inside.counted, tt))
+    (kept c.self.inside.bytes.items c.self.inside.script _ c.in_err-append.ensures.unchanged, (c.self.inside.counted, tt))
 
-pub returns-in_err-extend_from_slice-clause-unchanged : goal.returns-in_err-extend_from_slice-clause-unchanged
-returns-in_err-extend_from_slice-clause-unchanged c =
-    search (on_err, unchanged_events c.self.inside.bytes.items c.self.inside.script c.args.self.now c.self.view_is c.extend_from_slice.new.self.items c.in_err-extend_from_slice.ensures.items)
+pub returns-in_err-append-clause-unchanged : goal.returns-in_err-append-clause-unchanged
+returns-in_err-append-clause-unchanged c =
+    search (on_err, unchanged_events c.self.inside.bytes.items c.self.inside.script c.args.self.now c.self.view_is c.append.new.bytes.items c.in_err-append.ensures.unchanged)
 
 pub invariant_of-self-inside-2 : goal.invariant_of-self-inside-2
 invariant_of-self-inside-2 c =
-    let grown = c.in_ok-extend_from_slice.ensures.items ∙ ap (λ form. c.self.inside.bytes.items ++ form) c.as_slice.ensures in (
+    let grown = c.in_ok-append.ensures.appended ∙ ap (λ form. c.self.inside.bytes.items ++ form) c.as_slice.ensures in (
       pushed c.self.inside.bytes.items c.self.inside.script c.args.event c.pack-packed.result _ c.pack-packed.ensures.event c.pack-packed.ensures.packed grown,
       (omega (arith, c.self.inside.counted, length-append c.self.inside.script.events (c.args.event ∷ [])), tt),
     )
 
 pub returns-clause-pushed : goal.returns-clause-pushed
 returns-clause-pushed c =
-    let grown = c.in_ok-extend_from_slice.ensures.items ∙ ap (λ form. c.self.inside.bytes.items ++ form) c.as_slice.ensures in
-    search (pushed_events c.self.inside.bytes.items c.self.inside.script c.args.self.now c.self.view_is c.args.event c.pack-packed.result c.extend_from_slice.new.self.items c.pack-packed.ensures.event c.pack-packed.ensures.packed grown)
+    let grown = c.in_ok-append.ensures.appended ∙ ap (λ form. c.self.inside.bytes.items ++ form) c.as_slice.ensures in
+    search (pushed_events c.self.inside.bytes.items c.self.inside.script c.args.self.now c.self.view_is c.args.event c.pack-packed.result c.append.new.bytes.items c.pack-packed.ensures.event c.pack-packed.ensures.packed grown)
