@@ -14,7 +14,8 @@ use Rattle.street_laws.specs.Seats.{IsSeat}
 use Rattle.street_laws.proofs.Unsettled.{bring_in_is_due}
 use Rattle.betting_numbers.specs.declared.table.Table.{Table}
 use Rattle.betting_numbers.specs.LegalMoves.{IsTurn}
-use Rattle.betting_numbers.specs.SeatsSaid.{seat_said, turn_of}
+use Rattle.chip_ledger.specs.SeatsSaid.{seat_said}
+use Rattle.betting_numbers.specs.SeatsSaid.{turn_of}
 use Rattle.betting_numbers.specs.Standing.{StandsFor}
 use Rattle.betting_numbers.specs.Turn.{KeepsTurn}
 use Rattle.betting_numbers.proofs.InTurn.{turn_blinds}

@@ -19,7 +19,7 @@ use Rattle.play_event.specs.Openers.{TheSeat, in_turn, seat_after}
 use Rattle.play_event.specs.Mover.{first_in_turn}
 use Rattle.street_laws.specs.Seats.{IsSeat}
 use Rattle.betting_numbers.specs.declared.table.Table.{Table}
-use Rattle.betting_numbers.specs.SeatsSaid.{seat_said}
+use Rattle.chip_ledger.specs.SeatsSaid.{seat_said}
 use Rattle.betting_numbers.specs.Seen.{is_able_seen, owed_seen, able_count_seen, has_to_move_seen, is_move_due_seen, after_last, last_seen, mover_seen}
 use Rattle.betting_numbers.specs.Standing.{StandsFor, newest_seat}
 use Rattle.betting_numbers.proofs.OneChanged.{another_passes}

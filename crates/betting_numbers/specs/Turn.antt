@@ -7,7 +7,7 @@ use Rattle.play_event.specs.Openers.{TheSeat, in_turn, blinds_opener}
 use Rattle.play_event.specs.Past.{Act}
 use Rattle.play_event.specs.TurnTargets.{is_bet_due}
 use Rattle.betting_numbers.specs.declared.table.Table.{Table}
-use Rattle.betting_numbers.specs.SeatsSaid.{seat_said}
+use Rattle.chip_ledger.specs.SeatsSaid.{seat_said}
 use Rattle.betting_numbers.specs.Seen.{live_count_seen, is_bring_in_due_seen, is_move_due_seen, mover_seen}
 use Rattle.betting_numbers.specs.Moving.{IsNextStreet}
 use Rattle.street_laws.specs.Walk.{betting_turn, turn_after}

@@ -6,9 +6,9 @@ ghost use Rattle.play_event.specs.Streets.{opener_of, is_opened_by_up_cards};
 ghost use Rattle.betting_numbers.specs.Standing.{StandsFor};
 ghost use Rattle.betting_numbers.specs.LegalMoves.{IsTurn};
 ghost use Rattle.play_event.specs.TurnTargets.{is_bet_due};
-ghost use Rattle.betting_numbers.specs.SeatsSaid.{turn_of, seat_said};
-ghost use Rattle.betting_numbers.specs.UpSeen.{HoldsUps, IsLeader, is_as_early_seen, is_before_seen, is_opener_seen, has_unknown_up_card_seen, has_unknown_seen, up_opener_seen, known_opener_seen};
 ghost use Rattle.chip_ledger.specs.SeatsSaid.{seat_said};
+ghost use Rattle.betting_numbers.specs.SeatsSaid.{turn_of};
+ghost use Rattle.betting_numbers.specs.UpSeen.{HoldsUps, is_as_early_seen, is_before_seen, has_unknown_seen, known_opener_seen};
 ghost use Rattle.betting_numbers.specs.Seen.{is_able_seen};
 
 use crate::table::Table;

@@ -3,7 +3,7 @@ ghost use Rattle.std.specs.Prelude.{◌≡◌, ◌≤◌, length};
 ghost use Rattle.card_places.specs.Counted as counted;
 ghost use Rattle.card_places.specs.Counted.{AreCounts, count_of};
 ghost use Rattle.card_places.specs.Placed.{placed};
-ghost use Rattle.card_places.specs.Plain.{seat_of};
+ghost use Rattle.chip_ledger.specs.SeatsSaid.{seat_said};
 
 use crate::dealt_cards::DealtCards;
 use chip_ledger::Seat;
@@ -31,7 +31,7 @@ impl Counts {
 
     /// How many cards the owner was dealt.
     pub fn of(&self, owner: Option<Seat>) -> u8
-        ensures { result ≡ count_of self.now.numbers (seat_of owner) }
+        ensures { result ≡ count_of self.now.numbers (seat_said owner) }
     {
         self.numbers[owner_index(owner)]
     }
@@ -39,7 +39,7 @@ impl Counts {
 
 // The index of the owner's count.
 fn owner_index(owner: Option<Seat>) -> usize
-    ensures index { result ≡ counted.owner_index (seat_of owner) }
+    ensures index { result ≡ counted.owner_index (seat_said owner) }
     ensures most { result ≤ 10 }
 {
     match owner {

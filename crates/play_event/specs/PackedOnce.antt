@@ -16,9 +16,8 @@ use Rattle.card_set.specs.declared.card.Slot.{Slot}
 use Rattle.card_set.specs.declared.card.Slot.TheVariants as slots
 use Rattle.card_set.specs.declared.row.SlotRow.{SlotRow}
 use Rattle.card_set.specs.declared.row.CardRow.{CardRow}
-use Rattle.card_set.specs.Deck.{ranks_below, suits_before, card_placed}
+use Rattle.card_set.specs.Deck.{ranks_below, suits_before, card_placed, all_ranks, all_suits}
 use Rattle.card_set.specs.Row.{slots_of, cards_of}
-use Rattle.card_set.specs.Deck.{all_ranks, all_suits, card_placed}
 use Rattle.card_set.proofs.DeckLaws.{suits_before-few}
 use Rattle.card_set.proofs.RowLaws.{slots_same, cards_same}
 use Rattle.chip_ledger.specs.declared.numbers.Seat.{Seat}

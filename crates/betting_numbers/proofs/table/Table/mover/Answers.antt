@@ -1,6 +1,6 @@
 use Rattle.std.proofs.Common.{◌∙◌, Some}
 use Rattle.play_event.specs.Openers.{TheSeat}
-use Rattle.betting_numbers.specs.SeatsSaid.{seat_said}
+use Rattle.chip_ledger.specs.SeatsSaid.{seat_said}
 use Rattle.betting_numbers.proofs.InTurn.{turn_found, seat_found}
 use Rattle.betting_numbers.proofs.Passing.{mover_before, mover_behind}
 use Rattle.betting_numbers.proofs.table.Table.mover.Goals as goal

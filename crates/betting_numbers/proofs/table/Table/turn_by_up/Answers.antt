@@ -1,10 +1,8 @@
 -- The seat in turn by the numbers and the up-cards is the seat in turn by the rules.
-use Rattle.std.proofs.Common.{◌∙◌, refl, sym, arith}
-use Rattle.betting_numbers.proofs.UpOpener.{bets_move, turn_later, turn_unknown, turn_known, turn_never, turn_opened, turn_unopened}
-use Rattle.betting_numbers.specs.SeatsSaid.{seat_said}
+use Rattle.std.proofs.Common.{arith, refl}
+use Rattle.chip_ledger.specs.SeatsSaid.{seat_said}
 use Rattle.betting_numbers.proofs.UpOpener.{bets_move, turn_first, turn_later}
 use Rattle.betting_numbers.proofs.table.Table.turn_by_up.Goals as goal
-use Rattle.chip_ledger.specs.SeatsSaid.{seat_said}
 
 pub returns-in-Some-clause-turn : goal.returns-in-Some-clause-turn
 returns-in-Some-clause-turn c =

@@ -1,7 +1,7 @@
 -- One seat more is walked, and at the end all are.
 use Rattle.std.proofs.Common.{◌≡◌, ◌≤◌, ◌+◌, ◌-◌, Bool, true, false, if◌then◌else◌, Option, Some, IfSome, refl, sym, subst, ◌∙◌, arith}
 use Rattle.chip_ledger.specs.declared.numbers.Seat.{Seat}
-use Rattle.betting_numbers.specs.SeatsSaid.{seat_said}
+use Rattle.chip_ledger.specs.SeatsSaid.{seat_said}
 use Rattle.betting_numbers.proofs.Leading.{IsWalked, walked_more, walked_unknown}
 use Rattle.betting_numbers.proofs.table.Table.up_opener.Goals.{then-opens, else-opens}
 use Rattle.betting_numbers.proofs.table.Table.up_opener.Goals as goal

@@ -1,5 +1,5 @@
 use Rattle.std.proofs.Common.{◌≤◌, ◌+◌, ◌-◌, IfSome}
-use Rattle.betting_numbers.specs.SeatsSaid.{seat_said}
+use Rattle.chip_ledger.specs.SeatsSaid.{seat_said}
 use Rattle.betting_numbers.proofs.Leading.{IsWalked}
 use Rattle.betting_numbers.proofs.table.Table.up_opener.Given as goal
 
