@@ -19,6 +19,7 @@ last_of blinds count = unwrap_or (find (λ seat. blinds seat == big_of blinds co
 
 -- the first so many seats have posted
 pub record HasPosted (setup : Setup) (count : ℕ) (p : Posted) : Type 0 where
+  -- each row has the seats of the hand
   pub bet_seats : p.bets.seats ≡ setup.stacks.seats
   pub put_seats : p.puts.seats ≡ setup.stacks.seats
   pub live_seats : p.live.seats ≡ setup.stacks.seats
@@ -28,17 +29,17 @@ pub record HasPosted (setup : Setup) (count : ℕ) (p : Posted) : Type 0 where
   pub puts : (seat : ℕ) → 1 ≤ seat → seat ≤ count → amount_of p.puts seat ≡ posted setup seat
   -- the seats so far
   pub live : (seat : ℕ) → 1 ≤ seat → seat ≤ count → flag_of p.live seat ≡ true
-  -- their chips together
+  -- the chips of the seats so far together, which a sum can hold
   pub pot : p.pot ≡ sum_by (posted setup) (seats_of count)
   pub pot_bounded : p.pot ≤ count * MOST_AMOUNT
-  -- the greatest of those blinds
+  -- the greatest of those blinds, which is no more than a stack
   pub price : p.price ≡ greatest (map (blind_posted setup) (seats_of count))
   pub price_bounded : p.price ≤ MOST_AMOUNT
-  -- the seats with chips left
+  -- how many of the seats so far have chips left
   pub able : p.able_count ≡ count_by (λ seat. nat_lt 0 (amount_of setup.stacks seat - posted setup seat)) (seats_of count)
   pub able_within : p.able_count ≤ count
   -- the greatest blind that is named
   pub big : p.big_blind ≡ big_of (amount_of setup.blinds) count
-  -- the last seat with it
+  -- the number of the last of the seats so far with it
   pub last : p.last_big ≡ last_of (amount_of setup.blinds) count
   pub last_within : p.last_big ≤ count
