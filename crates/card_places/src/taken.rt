@@ -1,5 +1,5 @@
 //! A card is taken exactly where the deck lacks it, or where it clashes with another.
-ghost use Rattle.std.specs.Prelude.{◌≡◌, ◌≤◌, ◌&&◌, ◌==◌, length, map, not, count_by, nat_lt, is_some};
+ghost use Rattle.std.specs.Prelude.{◌≡◌, ◌≤◌, ◌+◌, ◌&&◌, ◌==◌, length, map, not, count_by, nat_lt, is_some};
 ghost use Rattle.std.specs.List.{list_any};
 ghost use Rattle.play_event.specs.Places as places;
 ghost use Rattle.play_event.specs.Taken as taken;
@@ -62,31 +62,20 @@ pub fn is_past_deck(table: &DealTable, rows: &[DealtCard], street: u8) -> bool
     requires { length rows.now ≤ 120 }
     ensures { result ≡ places.is_past_deck table.now.code (map place_of rows.now) street }
 {
-    table.street(street).draws
-        && (table.deck() as usize) < count_before(rows, street) + count_discarded(rows, street)
+    table.street(street).draws && (table.deck() as usize) < count_drawn(rows, street)
 }
 
-// How many cards were dealt before the street, and how many were discarded on it.
-fn count_before(rows: &[DealtCard], street: u8) -> usize
-    ensures value { result ≡ count_by (λ place. nat_lt place.street street)
-        (map place_of rows.now) }
-    ensures most { result ≤ length rows.now }
+// How many cards were dealt before the street, and how many were discarded on it, both together.
+fn count_drawn(rows: &[DealtCard], street: u8) -> usize
+    requires { length rows.now ≤ 120 }
+    ensures { result ≡ count_by (λ place. nat_lt place.street street) (map place_of rows.now)
+        + count_by (λ place. place.discarded == street) (map place_of rows.now) }
 {
     let mut count = 0;
     for row in rows {
         if row.street < street {
             count += 1;
         }
-    }
-    count
-}
-
-fn count_discarded(rows: &[DealtCard], street: u8) -> usize
-    ensures value { result ≡ count_by (λ place. place.discarded == street) (map place_of rows.now) }
-    ensures most { result ≤ length rows.now }
-{
-    let mut count = 0;
-    for row in rows {
         if row.discarded == street {
             count += 1;
         }
