@@ -92,7 +92,7 @@ fn some_owed(state: &CardState, on: u8) -> bool
     any
 }
 
-// The seat, which was dealt so many cards in the draw of the street, is owed cards for its discards.
+// The seat, which was dealt so many cards in the draw of the street, is owed more for its discards.
 fn is_owed(state: &CardState, on: u8, seat: Seat, dealt: u8) -> bool
     requires street { on ≤ 5 }
     requires dealt { dealt
