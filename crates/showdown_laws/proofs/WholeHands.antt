@@ -94,7 +94,7 @@ held_so_far setup rules events seat (suc count) ends in_hand few =
         → length (filter (is_held_at seat (suc count + 1)) (places_of setup.code (past_of setup events))) ≡ length (filter (is_held_at seat ((count + 1) + 1)) (places_of setup.code (past_of setup events)))
         → hole_cards_on setup.code (count + 1) ≡ option_map_or (λ s. s.down + s.up) (slice_get (game_of setup.code).streets count) 0
         → Rattle.play_laws.proofs.LegalPlaces.LegalPast setup (past_of setup events)
-        → Rattle.showdown_laws.proofs.AllDone.IsAllDealt setup (past_of setup events) (count + 1)
+        → Rattle.play_laws.proofs.PlayedStreets.IsDone setup (past_of setup events) (count + 1)
         → length (filter (is_held_at seat (suc count + 1)) (places_of setup.code (past_of setup events))) ≡ first_holes (game_of setup.code).streets (suc count)
     by_draw true draws before all dealt out step same nth law done =
         omega (arith, before, all, dealt, out, step, same, nth, (draw_tables setup (count + 1) draws).no_hole, law.past.drawn_count (count + 1) seat draws, replaced setup (past_of setup events) (count + 1) seat draws done.no_draw in_hand.least in_hand.most)
