@@ -1,5 +1,5 @@
 -- Members that are put one after the other stand in the order of their names.
-use Rattle.std.proofs.Common.{◌≡◌, ℕ, codes, Option, Some, None, decimal, unwrap_or, refl}
+use Rattle.std.proofs.Common.{◌≡◌, ℕ, List, codes, Option, Some, None, decimal, unwrap_or, refl}
 use Rattle.serde_json.specs.Data.{Data, Members, member, no_members, put, string}
 use Rattle.chip_ledger.specs.SeatRow.{amount_of}
 use Rattle.play_event.specs.declared.setup.Setup.{Setup}
@@ -7,13 +7,21 @@ use Rattle.hand_records.specs.declared.notes.Notes.{Notes}
 use Rattle.hand_records.specs.declared.trace.Trace.{Trace}
 use Rattle.ohh_members.specs.declared.dialect.Dialect.{Dialect}
 use Rattle.ohh_line.specs.declared.moment.Moment.{Moment}
-use Rattle.ohh_line.specs.Actions.{small_blind_seat}
+use Rattle.ohh_line.specs.Actions.{PlainDetail, Nothing, Chips, Cards, small_blind_seat}
 use Rattle.ohh_line.specs.Games.{game_word}
 use Rattle.ohh_line.specs.Moment.{moment_of}
 use Rattle.ohh_line.specs.Rounds.{hand_rounds}
 use Rattle.ohh_line.specs.Seating.{number_among}
 use Rattle.ohh_line.specs.Spelled.{big_blind, greatest_ante}
-use Rattle.ohh_line.specs.Tree.{date_member, hand_members, limit_tree, list, numbers_written, players, pots, round_trees, table_size, text_or_empty, whole, with_date}
+use Rattle.ohh_line.specs.Tree.{date_member, detail_members, hand_members, limit_tree, list, numbers_written, players, pots, round_trees, table_size, text_or_empty, whole, with_date, with_detail}
+
+-- the members of an action, whatever it tells
+pub action_sorted : (n : ℕ) (word : List ℕ) (player : ℕ) (detail : PlainDetail)
+    → put (codes "player_id") (whole player) (with_detail detail (member (codes "action") (string word) (member (codes "action_number") (whole n) no_members)))
+    ≡ member (codes "action") (string word) (member (codes "action_number") (whole n) (detail_members detail (member (codes "player_id") (whole player) no_members)))
+action_sorted n word player Nothing = refl
+action_sorted n word player (Chips amount all_in) = refl
+action_sorted n word player (Cards cards) = refl
 
 -- the members of a hand, whatever their values
 pub members_sorted : (said : Option Moment) (ante bet big currency dealer number game version players pots rounds site small spec name size : Data)

@@ -65,6 +65,12 @@ detail_members Nothing rest = rest
 detail_members (Chips amount all_in) rest = member (codes "amount") (whole amount) (member (codes "is_allin") (boolean all_in) rest)
 detail_members (Cards cards) rest = member (codes "cards") (cards_tree cards) rest
 
+-- members, with what an action tells besides
+abbrev pub with_detail : PlainDetail → Members → Members
+with_detail Nothing members = members
+with_detail (Chips amount all_in) members = put (codes "is_allin") (boolean all_in) (put (codes "amount") (whole amount) members)
+with_detail (Cards cards) members = put (codes "cards") (cards_tree cards) members
+
 -- an action with its number, where what it tells besides stands before its player
 abbrev pub action_object : ℕ → List ℕ → ℕ → (Members → Members) → Data
 action_object n word player detail =

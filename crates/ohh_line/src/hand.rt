@@ -1,5 +1,5 @@
 //! The tree of a hand: what is written of its setup, its notes and its play.
-ghost use Rattle.std.specs.Prelude.{◌≡◌, codes, unwrap_or, IfOk, OnOk};
+ghost use Rattle.std.specs.Prelude.{◌≡◌, [], codes, unwrap_or, IfOk, OnOk};
 ghost use Rattle.std.specs.Fmt.{decimal};
 ghost use Rattle.serde_json.specs.Data.{object, string, put as put_said};
 ghost use Rattle.serde_json.specs.View.{view, members_view};
@@ -15,6 +15,7 @@ ghost use Rattle.ohh_line.specs.Spelled.{big_blind as big_blind_said, greatest_a
 ghost use Rattle.ohh_line.specs.Tree.{hand_members, hand_tree, limit_tree, list, numbers_written, players, pots, round_trees, table_size, text_or_empty, whole, with_date};
 
 use crate::games::{bet_word, game_word};
+use crate::members::{put_number, put_text, put_value, text_value};
 use crate::moment::{moment_of, moment_text};
 use crate::players::player_values;
 use crate::posts::{amount_at, small_blind_seat};
@@ -28,7 +29,7 @@ use first_fault::Text;
 use hand_records::{Notes, Play, Trace};
 use ohh_members::Dialect;
 use play_event::Setup;
-use serde_json::{Map, Value, json, put};
+use serde_json::{Map, Value};
 use std::alloc::Global;
 
 /// The tree of the hand at a place of its file, from 0.
@@ -43,7 +44,9 @@ pub fn hand_value(
     ensures { IfOk result (λ value. view value ≡ hand_tree dialect place play.now) }
 {
     let ohh = make_members(alloc, dialect, place, play)?;
-    Ok(json!(in alloc; {"ohh": ohh})?)
+    let mut members = Map::new(alloc);
+    put_value(alloc, &mut members, "ohh", ohh)?;
+    Ok(Value::Object(members))
 }
 
 // The members of the hand at a place of its file, as an object.
@@ -73,22 +76,12 @@ fn put_setup(alloc: Global, ohh: &mut Map<String, Value>, setup: &Setup) -> Resu
         (put_said (codes "game_type") (string (game_said setup.now.code))
         (members_view ohh.old.entries)))))) }
 {
-    put(
-        ohh,
-        alloc,
-        "game_type",
-        text_value(alloc, game_word(setup.code))?,
-    )?;
-    put(ohh, alloc, "bet_limit", limit_value(alloc, setup)?)?;
-    put(ohh, alloc, "ante_amount", Value::from(greatest_ante(setup)))?;
-    put(
-        ohh,
-        alloc,
-        "big_blind_amount",
-        Value::from(big_blind(setup)),
-    )?;
     let small_blind = amount_at(&setup.blinds, small_blind_seat(setup));
-    put(ohh, alloc, "small_blind_amount", Value::from(small_blind))?;
+    put_text(alloc, ohh, "game_type", game_word(setup.code))?;
+    put_value(alloc, ohh, "bet_limit", limit_value(alloc, setup)?)?;
+    put_number(alloc, ohh, "ante_amount", greatest_ante(setup))?;
+    put_number(alloc, ohh, "big_blind_amount", big_blind(setup))?;
+    put_number(alloc, ohh, "small_blind_amount", small_blind)?;
     Ok(())
 }
 
@@ -96,8 +89,9 @@ fn put_setup(alloc: Global, ohh: &mut Map<String, Value>, setup: &Setup) -> Resu
 fn limit_value(alloc: Global, setup: &Setup) -> Result<Value, Memory>
     ensures { IfOk result (λ value. view value ≡ limit_tree setup.now) }
 {
-    let bet_type = bet_word(setup.code);
-    Ok(json!(in alloc; {"bet_type": bet_type})?)
+    let mut members = Map::new(alloc);
+    put_text(alloc, &mut members, "bet_type", bet_word(setup.code))?;
+    Ok(Value::Object(members))
 }
 
 // Puts the players, the button and the number of the table's seats under their names.
@@ -117,20 +111,16 @@ fn put_seating(
 {
     let count = setup.stacks.seats;
     let numbers = numbers_spelled(count, notes.seats);
-    put(
-        ohh,
+    let size = notes.seat_count.unwrap_or(count);
+    put_number(
         alloc,
+        ohh,
         "dealer_seat",
-        Value::from(number_among(numbers, count)),
+        number_among(numbers, count) as u64,
     )?;
     let players = player_values(alloc, &setup.stacks, notes, numbers)?;
-    put(ohh, alloc, "players", players)?;
-    put(
-        ohh,
-        alloc,
-        "table_size",
-        Value::from(notes.seat_count.unwrap_or(count)),
-    )?;
+    put_value(alloc, ohh, "players", players)?;
+    put_number(alloc, ohh, "table_size", size as u64)?;
     Ok(())
 }
 
@@ -148,25 +138,25 @@ fn put_names(
         (put_said (codes "currency") (text_or_empty notes.now.currency)
         (members_view ohh.old.entries))))) }
 {
-    put(ohh, alloc, "currency", note_value(alloc, &notes.currency)?)?;
-    put(
-        ohh,
+    put_text(alloc, ohh, "currency", text_of(&notes.currency))?;
+    put_value(
         alloc,
+        ohh,
         "game_number",
         hand_name(alloc, place, &notes.hand)?,
     )?;
-    put(ohh, alloc, "site_name", note_value(alloc, &notes.venue)?)?;
-    put(ohh, alloc, "table_name", note_value(alloc, &notes.table)?)?;
+    put_text(alloc, ohh, "site_name", text_of(&notes.venue))?;
+    put_text(alloc, ohh, "table_name", text_of(&notes.table))?;
     Ok(())
 }
 
 // A text that is said, or the empty one.
-fn note_value(alloc: Global, note: &Option<Text>) -> Result<Value, Memory>
-    ensures { IfOk result (λ value. view value ≡ text_or_empty note.now) }
+fn text_of(note: &Option<Text>) -> &str
+    ensures { result.now ≡ unwrap_or note.now [] }
 {
     match note {
-        Some(text) => text_value(alloc, text.as_str()),
-        None => text_value(alloc, ""),
+        Some(text) => text.as_str(),
+        None => "",
     }
 }
 
@@ -192,10 +182,10 @@ fn put_play(
         ≡ put_said (codes "rounds") (list (round_trees 1 (hand_rounds_said dialect trace.now)))
         (put_said (codes "pots") (pots trace.now) (members_view ohh.old.entries))) }
 {
-    put(ohh, alloc, "pots", pot_values(alloc, trace)?)?;
+    put_value(alloc, ohh, "pots", pot_values(alloc, trace)?)?;
     let rounds = hand_rounds(alloc, dialect, trace)?;
     let rounds = Value::Array(round_values(alloc, rounds.as_slice())?);
-    put(ohh, alloc, "rounds", rounds)?;
+    put_value(alloc, ohh, "rounds", rounds)?;
     Ok(())
 }
 
@@ -205,16 +195,9 @@ fn put_versions(alloc: Global, ohh: &mut Map<String, Value>) -> Result<(), Memor
         ≡ put_said (codes "spec_version") (string (codes "1.4.6"))
         (put_said (codes "internal_version") (string (codes "1")) (members_view ohh.old.entries))) }
 {
-    put(ohh, alloc, "internal_version", text_value(alloc, "1")?)?;
-    put(ohh, alloc, "spec_version", text_value(alloc, "1.4.6")?)?;
+    put_text(alloc, ohh, "internal_version", "1")?;
+    put_text(alloc, ohh, "spec_version", "1.4.6")?;
     Ok(())
-}
-
-// A copy of a text as a value.
-fn text_value(alloc: Global, text: &str) -> Result<Value, Memory>
-    ensures { IfOk result (λ value. view value ≡ string text.now) }
-{
-    Ok(Value::String(String::from_str(alloc, text)?))
 }
 
 // Puts the moment under its name, where the notes say a whole one.
@@ -224,7 +207,7 @@ fn put_date(alloc: Global, ohh: &mut Map<String, Value>, notes: &Notes) -> Resul
 {
     if let Some(moment) = moment_of(notes) {
         let text = moment_text(alloc, moment)?;
-        put(ohh, alloc, "start_date_utc", Value::String(text))?;
+        put_value(alloc, ohh, "start_date_utc", Value::String(text))?;
     }
     Ok(())
 }

@@ -7,6 +7,7 @@ mod document;
 mod games;
 mod hand;
 mod laws;
+mod members;
 mod moment;
 mod moves;
 mod players;

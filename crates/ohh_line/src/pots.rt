@@ -1,13 +1,15 @@
 //! The pots of a hand, with their rakes and with what is won of them.
-ghost use Rattle.std.specs.Prelude.{◌≡◌, ◌≤◌, ◌<◌, ◌++◌, ◌+◌, map, IfOk, OnOk};
-ghost use Rattle.serde_json.specs.View.{view};
+ghost use Rattle.std.specs.Prelude.{◌≡◌, ◌≤◌, ◌<◌, ◌++◌, ◌+◌, codes, map, IfOk, OnOk};
+ghost use Rattle.serde_json.specs.Data.{put as put_said};
+ghost use Rattle.serde_json.specs.View.{view, members_view};
 ghost use Rattle.ohh_line.specs.Tree.{pot_tree, pots as pots_said, share_at as share_said, win_object, win_tree, wins_of};
 
+use crate::members::{put_number, put_value};
 use crate::posts::amount_at;
 use card_set::Memory;
 use chip_ledger::{Pot, SeatRow};
 use hand_records::Trace;
-use serde_json::{Value, json};
+use serde_json::{Map, Value};
 use std::alloc::Global;
 
 /// The trees of the pots, the lowest first.
@@ -26,10 +28,39 @@ fn pot_value(alloc: Global, trace: &Trace, place: u8, pot: &Pot) -> Result<Value
     requires { place < 11 }
     ensures { IfOk result (λ value. view value ≡ pot_tree trace.now place pot.now) }
 {
-    let amount = pot.chips;
     let rake = trace.setup.rakes.rakes[place as usize];
-    let wins = win_values(alloc, share_at(trace, place), trace.setup.stacks.seats)?;
-    Ok(json!(in alloc; {"amount": amount, "number": place, "player_wins": wins, "rake": rake})?)
+    let mut members = Map::new(alloc);
+    put_number(alloc, &mut members, "amount", pot.chips)?;
+    put_number(alloc, &mut members, "number", place as u64)?;
+    put_wins(
+        alloc,
+        &mut members,
+        share_at(trace, place),
+        trace.setup.stacks.seats,
+    )?;
+    put_number(alloc, &mut members, "rake", rake)?;
+    Ok(Value::Object(members))
+}
+
+// Puts what so many seats win of a pot under its name.
+fn put_wins(
+    alloc: Global,
+    members: &mut Map<String, Value>,
+    share: &SeatRow,
+    seats: u8,
+) -> Result<(), Memory>
+    requires { seats ≤ 10 }
+    ensures { OnOk result (members_view members.new.entries
+        ≡ put_said (codes "player_wins") (wins_of share.now seats)
+        (members_view members.old.entries)) }
+{
+    put_value(
+        alloc,
+        members,
+        "player_wins",
+        win_values(alloc, share, seats)?,
+    )?;
+    Ok(())
 }
 
 // The trees of what so many seats win of a pot.
@@ -63,7 +94,10 @@ fn push_win(alloc: Global, values: &mut Vec<Value>, share: &SeatRow, seat: u8) -
 fn win_value(alloc: Global, seat: u8, amount: u64) -> Result<Value, Memory>
     ensures { IfOk result (λ value. view value ≡ win_object seat amount) }
 {
-    Ok(json!(in alloc; {"player_id": seat, "win_amount": amount})?)
+    let mut members = Map::new(alloc);
+    put_number(alloc, &mut members, "player_id", seat as u64)?;
+    put_number(alloc, &mut members, "win_amount", amount)?;
+    Ok(Value::Object(members))
 }
 
 // The shares of the pot at a place.

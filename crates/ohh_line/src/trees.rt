@@ -1,17 +1,18 @@
 //! Rounds, actions and cards as trees of JSON.
-ghost use Rattle.std.specs.Prelude.{◌≡◌, ◌≤◌, ◌<◌, ◌+◌, ◌^◌, codes, length, map, sum_by, slice_index, IfOk};
-ghost use Rattle.serde_json.specs.Data.{member, string};
-ghost use Rattle.serde_json.specs.View.{view};
+ghost use Rattle.std.specs.Prelude.{◌≡◌, ◌≤◌, ◌<◌, ◌+◌, ◌^◌, codes, length, map, sum_by, slice_index, IfOk, OnOk};
+ghost use Rattle.serde_json.specs.Data.{boolean, put as put_said, string};
+ghost use Rattle.serde_json.specs.View.{view, members_view};
 ghost use Rattle.card_set.specs.Spelling.{slot_spelling};
-ghost use Rattle.ohh_line.specs.Actions.{action_said};
+ghost use Rattle.ohh_line.specs.Actions.{action_said, detail_said};
 ghost use Rattle.ohh_line.specs.Rounds.{round_said};
 ghost use Rattle.ohh_line.specs.Actions.{Chips};
-ghost use Rattle.ohh_line.specs.Tree.{action_object, action_tree, action_trees, detail_members, cards_tree, list, round_tree, round_trees, word_text as word_said};
+ghost use Rattle.ohh_line.specs.Tree.{action_object, action_tree, action_trees, detail_members, cards_tree, list, round_tree, round_trees, word_text as word_said, whole, with_detail};
 
 use crate::action::{Action, Detail, Round, Word};
+use crate::members::{put_number, put_text, put_value};
 use card_set::{Memory, Slot, slot_text};
 use ohh_members::street::name_of;
-use serde_json::{Value, json};
+use serde_json::{Map, Value};
 use std::alloc::Global;
 
 /// The trees of rounds. The numbers of their actions run through the hand.
@@ -36,10 +37,32 @@ fn round_value(alloc: Global, number: u64, round: &Round) -> Result<Value, Memor
     requires few { number + length round.now.actions.items ≤ 2 ^ 63 }
     ensures { IfOk result (λ value. view value ≡ round_tree number (round_said round.now)) }
 {
-    let actions = action_values(alloc, number, round.actions.as_slice())?;
-    let cards = card_values(alloc, round.cards.as_slice())?;
-    let street = name_of(round.street);
-    Ok(json!(in alloc; {"actions": actions, "cards": cards, "street": street})?)
+    let mut members = Map::new(alloc);
+    put_actions(alloc, &mut members, number, round.actions.as_slice())?;
+    put_cards(alloc, &mut members, round.cards.as_slice())?;
+    put_text(alloc, &mut members, "street", name_of(round.street))?;
+    Ok(Value::Object(members))
+}
+
+// Puts actions, of which the first has this number, under their name.
+fn put_actions(
+    alloc: Global,
+    members: &mut Map<String, Value>,
+    first: u64,
+    actions: &[Action],
+) -> Result<(), Memory>
+    requires few { first + length actions.now ≤ 2 ^ 63 }
+    ensures { OnOk result (members_view members.new.entries
+        ≡ put_said (codes "actions") (list (action_trees first (map action_said actions.now)))
+        (members_view members.old.entries)) }
+{
+    put_value(
+        alloc,
+        members,
+        "actions",
+        action_values(alloc, first, actions)?,
+    )?;
+    Ok(())
 }
 
 // The trees of actions, of which the first has this number.
@@ -60,21 +83,16 @@ fn action_values(alloc: Global, first: u64, actions: &[Action]) -> Result<Value,
 }
 
 // The tree of an action with its number.
+#[tactic(auto, using(crate::proofs::Sorted::action_sorted))]
 fn action_value(alloc: Global, number: u64, action: Action) -> Result<Value, Memory>
     ensures { IfOk result (λ value. view value ≡ action_tree number (action_said action)) }
 {
-    let word = word_text(action.word);
-    let player = action.player;
-    match action.detail {
-        Detail::Nothing => alone_value(alloc, number, word, player),
-        Detail::Chips { amount, all_in } => {
-            chips_value(alloc, number, word, player, amount, all_in)
-        }
-        Detail::Cards(cards) => {
-            let cards = card_values(alloc, cards.as_slice())?;
-            cards_value(alloc, number, word, player, cards)
-        }
-    }
+    let mut members = Map::new(alloc);
+    put_text(alloc, &mut members, "action", word_text(action.word))?;
+    put_number(alloc, &mut members, "action_number", number)?;
+    put_detail(alloc, &mut members, action.detail)?;
+    put_number(alloc, &mut members, "player_id", action.player as u64)?;
+    Ok(Value::Object(members))
 }
 
 // How the word of an action is spelled.
@@ -97,29 +115,41 @@ fn word_text(word: Word) -> &'static str
     }
 }
 
-// The tree of an action that tells its player alone.
-fn alone_value(alloc: Global, number: u64, word: &str, player: u8) -> Result<Value, Memory>
-    ensures { IfOk result (λ value.
-        view value ≡ action_object number word.now player (λ rest. rest)) }
+// Puts what an action tells beside its word and its player.
+fn put_detail(alloc: Global, members: &mut Map<String, Value>, detail: Detail) -> Result<(), Memory>
+    ensures { OnOk result (members_view members.new.entries
+        ≡ with_detail (detail_said detail) (members_view members.old.entries)) }
 {
-    Ok(json!(in alloc; {"action": word, "action_number": number, "player_id": player})?)
+    match detail {
+        Detail::Nothing => Ok(()),
+        Detail::Chips { amount, all_in } => put_chips(alloc, members, amount, all_in),
+        Detail::Cards(cards) => put_cards(alloc, members, cards.as_slice()),
+    }
 }
 
-// The tree of an action that puts chips.
-fn chips_value(
+// Puts chips, and whether the player has none left, under their names.
+fn put_chips(
     alloc: Global,
-    number: u64,
-    word: &str,
-    player: u8,
+    members: &mut Map<String, Value>,
     amount: u64,
     all_in: bool,
-) -> Result<Value, Memory>
-    ensures { IfOk result (λ value. view value
-        ≡ action_object number word.now player (detail_members (Chips amount all_in))) }
+) -> Result<(), Memory>
+    ensures { OnOk result (members_view members.new.entries
+        ≡ put_said (codes "is_allin") (boolean all_in)
+        (put_said (codes "amount") (whole amount) (members_view members.old.entries))) }
 {
-    Ok(
-        json!(in alloc; {"action": word, "action_number": number, "amount": amount, "is_allin": all_in, "player_id": player})?,
-    )
+    put_number(alloc, members, "amount", amount)?;
+    put_value(alloc, members, "is_allin", Value::from(all_in))?;
+    Ok(())
+}
+
+// Puts cards under their name.
+fn put_cards(alloc: Global, members: &mut Map<String, Value>, cards: &[Slot]) -> Result<(), Memory>
+    ensures { OnOk result (members_view members.new.entries
+        ≡ put_said (codes "cards") (cards_tree cards.now) (members_view members.old.entries)) }
+{
+    put_value(alloc, members, "cards", card_values(alloc, cards)?)?;
+    Ok(())
 }
 
 // The trees of cards.
@@ -156,18 +186,4 @@ fn letters_of(card: Slot) -> [u8; 2]
     slot_text(card)
 }
 
-// The tree of an action that tells cards.
-fn cards_value(
-    alloc: Global,
-    number: u64,
-    word: &str,
-    player: u8,
-    cards: Value,
-) -> Result<Value, Memory>
-    ensures { IfOk result (λ value. view value
-        ≡ action_object number word.now player (member (codes "cards") (view cards))) }
-{
-    Ok(
-        json!(in alloc; {"action": word, "action_number": number, "cards": cards, "player_id": player})?,
-    )
 }
