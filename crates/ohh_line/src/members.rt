@@ -1,5 +1,5 @@
-//! The members of an object of JSON, put one after the other. Each call makes the value that it puts, so that its callers own
-//! nothing but the members where memory is wanting.
+//! The members of an object of JSON, put one after the other. Each call makes the value that it
+//! puts, so that its callers own nothing but the members where memory is wanting.
 ghost use Rattle.std.specs.Prelude.{◌≡◌, IfOk, OnOk};
 ghost use Rattle.serde_json.specs.Data.{put as put_said, string};
 ghost use Rattle.serde_json.specs.View.{view, members_view};
