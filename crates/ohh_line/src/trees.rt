@@ -5,8 +5,7 @@ ghost use Rattle.serde_json.specs.View.{view, members_view};
 ghost use Rattle.card_set.specs.Spelling.{slot_spelling};
 ghost use Rattle.ohh_line.specs.Actions.{action_said, detail_said};
 ghost use Rattle.ohh_line.specs.Rounds.{round_said};
-ghost use Rattle.ohh_line.specs.Actions.{Chips};
-ghost use Rattle.ohh_line.specs.Tree.{action_object, action_tree, action_trees, detail_members, cards_tree, list, round_tree, round_trees, word_text as word_said, whole, with_detail};
+ghost use Rattle.ohh_line.specs.Tree.{action_tree, action_trees, cards_tree, list, round_tree, round_trees, whole, with_detail, word_text as word_said};
 
 use crate::action::{Action, Detail, Round, Word};
 use crate::members::{put_number, put_text, put_value};
