@@ -8,6 +8,7 @@ use Rattle.play_event.specs.ValidSetup.{is_fixed}
 use Rattle.first_fault.specs.Reading.{◌>>=◌, read_if}
 use Rattle.ohh_members.specs.declared.blinds.Blinds.{Blinds}
 use Rattle.ohh_members.specs.declared.fault.What.TheVariants as whats
+use Rattle.ohh_members.specs.declared.fault.Path.{Path}
 use Rattle.ohh_members.specs.declared.fault.Path.TheVariants as paths
 use Rattle.ohh_members.specs.declared.fault.Fault.{Fault}
 use Rattle.ohh_members.specs.Values.{wrong, field, needed, number_said}
@@ -23,10 +24,14 @@ fitting code small big =
     else if is_fixed_game code && nat_lt MOST_CHIPS (2 * big) then wrong whats.AmountLimit paths.BigBlindAmount
     else Ok (record { small = small; big = big })
 
+-- a blind of at least 1
+abbrev pub blind_said : Path → Data → Result ℕ Fault
+blind_said path ohh = needed path ohh >>= number_said 1 MOST_CHIPS path
+
 -- the blinds; the ante is examined for its form alone
 unfoldable pub blinds_said : Code → Data → Result Blinds Fault
 blinds_said code ohh = do
   ante ← read_if (number_said 0 MOST_CHIPS paths.AnteAmount) (field paths.AnteAmount ohh)
-  small ← needed paths.SmallBlindAmount ohh >>= number_said 1 MOST_CHIPS paths.SmallBlindAmount
-  big ← needed paths.BigBlindAmount ohh >>= number_said 1 MOST_CHIPS paths.BigBlindAmount
+  small ← blind_said paths.SmallBlindAmount ohh
+  big ← blind_said paths.BigBlindAmount ohh
   fitting code small big

@@ -7,6 +7,7 @@ use Rattle.play_event.specs.Games.{game_of}
 use Rattle.play_event.specs.Streets.{is_stud}
 use Rattle.first_fault.specs.Reading.{◌>>=◌}
 use Rattle.ohh_members.specs.declared.fault.What.TheVariants as whats
+use Rattle.ohh_members.specs.declared.fault.Path.{Path}
 use Rattle.ohh_members.specs.declared.fault.Path.TheVariants as paths
 use Rattle.ohh_members.specs.declared.fault.Fault.{Fault}
 use Rattle.ohh_members.specs.Values.{or_wrong, needed, text_said, object_said}
@@ -25,10 +26,19 @@ pub record IsReadGame (code : Code) : Type 0 where
   pub seats : (game_of code).seats ≡ 10
   pub blinds : is_stud code ≡ false
 
+-- the text of a member that is needed
+abbrev pub word_said : Path → Data → Result (List ℕ) Fault
+word_said path value = needed path value >>= text_said path
+
+-- the limit of the game
+unfoldable pub limit_said : Data → Result (List ℕ) Fault
+limit_said ohh = do
+  limits ← needed paths.BetLimit ohh >>= object_said paths.BetLimit
+  word_said paths.BetType limits
+
 -- the game
 unfoldable pub game_said : Data → Result Code Fault
 game_said ohh = do
-  game ← needed paths.GameType ohh >>= text_said paths.GameType
-  limits ← needed paths.BetLimit ohh >>= object_said paths.BetLimit
-  limit ← needed paths.BetType limits >>= text_said paths.BetType
+  game ← word_said paths.GameType ohh
+  limit ← limit_said ohh
   or_wrong whats.UnsupportedGame paths.GameType (game_named game limit)

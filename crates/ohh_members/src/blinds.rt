@@ -4,7 +4,7 @@ ghost use Rattle.serde_json.specs.View.{view};
 ghost use Rattle.chip_ledger.specs.declared.numbers.TheConstants.{MOST_CHIPS};
 ghost use Rattle.first_fault.specs.Reading.{Gives, read_if};
 ghost use Rattle.ohh_members.specs.declared.fault.Path.TheVariants as paths;
-ghost use Rattle.ohh_members.specs.Blinds.{blinds_said, fitting, is_fixed_game as is_fixed_game_said};
+ghost use Rattle.ohh_members.specs.Blinds.{blind_said, blinds_said, fitting, is_fixed_game as is_fixed_game_said};
 ghost use Rattle.ohh_members.specs.Values.{field as field_said, number_said};
 
 use crate::fault::{Fault, Path, What};
@@ -32,10 +32,8 @@ pub fn read_blinds(ohh: &Value, code: Code) -> Result<Blinds, Stop<Fault>>
         → 2 * blinds.big ≤ MOST_CHIPS) }
 {
     let _ante = read_ante(ohh)?;
-    let small = needed(ohh, Path::SmallBlindAmount)?;
-    let small = read_number(small, 1, MOST_CHIPS, Path::SmallBlindAmount)?;
-    let big = needed(ohh, Path::BigBlindAmount)?;
-    let big = read_number(big, 1, MOST_CHIPS, Path::BigBlindAmount)?;
+    let small = read_blind(ohh, Path::SmallBlindAmount)?;
+    let big = read_blind(ohh, Path::BigBlindAmount)?;
     fit(code, small, big)
 }
 
@@ -49,6 +47,14 @@ fn read_ante(ohh: &Value) -> Result<Option<u64>, Stop<Fault>>
         Some(value) => Ok(Some(read_number(value, 0, MOST_CHIPS, Path::AnteAmount)?)),
         None => Ok(None),
     }
+}
+
+// A blind, of at least 1.
+fn read_blind(ohh: &Value, path: Path) -> Result<u64, Stop<Fault>>
+    ensures said { Gives (λ blind. blind) result (blind_said path (view ohh.now)) }
+    ensures within { IfOk result (λ blind. (1 ≤ blind) × (blind ≤ MOST_CHIPS)) }
+{
+    read_number(needed(ohh, path)?, 1, MOST_CHIPS, path)
 }
 
 // The blinds, where the small one is at most the big one, and twice the big one is a bet that may be made.

@@ -1,5 +1,6 @@
 //! What is wrong with a hand, and at which member: the first fault in the order in which its members are examined.
-ghost use Rattle.std.specs.Prelude.{◌≡◌, IfOk, string_bytes};
+ghost use Rattle.std.specs.Prelude.{◌≡◌, ◌++◌, IfOk, codes, string_bytes};
+ghost use Rattle.std.specs.Fmt.{decimal};
 ghost use Rattle.ohh_members.specs.Paths.{action_name, action_text, card_path, member_name, path_text, player_name, pot_name, pot_text, round_name, round_text, win_name, with_point};
 
 use card_set::Memory;
@@ -170,8 +171,7 @@ impl RoundMember {
         match self {
             RoundMember::Card { index } => format!(in alloc; ".cards[{index}]"),
             RoundMember::Action { index, member } => {
-                let text = member.text(alloc)?;
-                format!(in alloc; ".actions[{index}]{text}")
+                item_text(alloc, ".actions[", index, member.text(alloc)?)
             }
             _ => behind_point(alloc, self.name()),
         }
@@ -213,7 +213,7 @@ impl PotMember {
         match self {
             PotMember::Win { index, member } => {
                 let text = behind_point(alloc, member.name())?;
-                format!(in alloc; ".player_wins[{index}]{text}")
+                item_text(alloc, ".player_wins[", index, text)
             }
             _ => behind_point(alloc, self.name()),
         }
@@ -311,15 +311,13 @@ impl Path {
             Path::BetType => String::from_str(alloc, "ohh.bet_limit.bet_type"),
             Path::Player { index, member } => {
                 let text = behind_point(alloc, member.name())?;
-                format!(in alloc; "ohh.players[{index}]{text}")
+                item_text(alloc, "ohh.players[", index, text)
             }
             Path::Round { index, member } => {
-                let text = member.text(alloc)?;
-                format!(in alloc; "ohh.rounds[{index}]{text}")
+                item_text(alloc, "ohh.rounds[", index, member.text(alloc)?)
             }
             Path::Pot { index, member } => {
-                let text = member.text(alloc)?;
-                format!(in alloc; "ohh.pots[{index}]{text}")
+                item_text(alloc, "ohh.pots[", index, member.text(alloc)?)
             }
             _ => {
                 let name = self.name();
@@ -335,4 +333,12 @@ impl Path {
         let text = self.string(alloc)?;
         Text::new(alloc, text.as_str())
     }
+}
+
+// A text behind an item of a list: it owns the text, so that no caller has one to drop.
+fn item_text(alloc: Global, list: &str, index: u64, text: String) -> Result<String, AllocError>
+    ensures { IfOk result (λ item. string_bytes item
+        ≡ list.now ++ (decimal index ++ (codes "]" ++ string_bytes text))) }
+{
+    format!(in alloc; "{list}{index}]{text}")
 }

@@ -1,8 +1,8 @@
 //! The game of a hand is read from its type and its limit.
-ghost use Rattle.std.specs.Prelude.{◌≡◌, IfOk, IfSome};
+ghost use Rattle.std.specs.Prelude.{◌≡◌, ◌&&◌, bytes_eq, IfOk, IfSome};
 ghost use Rattle.serde_json.specs.View.{view};
 ghost use Rattle.first_fault.specs.Reading.{Gives};
-ghost use Rattle.ohh_members.specs.Game.{IsReadGame, game_named as game_named_said, game_said};
+ghost use Rattle.ohh_members.specs.Game.{IsReadGame, game_named as game_named_said, game_said, limit_said, word_said};
 
 use crate::fault::{Fault, Path, What};
 use crate::values::{needed, read_object, read_text, wrong};
@@ -16,13 +16,28 @@ pub fn read_game(ohh: &Value) -> Result<Code, Stop<Fault>>
     ensures said { Gives (λ code. code) result (game_said (view ohh.now)) }
     ensures read { IfOk result IsReadGame }
 {
-    let game = read_text(needed(ohh, Path::GameType)?, Path::GameType)?;
-    let limits = read_object(needed(ohh, Path::BetLimit)?, Path::BetLimit)?;
-    let limit = read_text(needed(limits, Path::BetType)?, Path::BetType)?;
+    let game = read_word(ohh, Path::GameType)?;
+    let limit = read_limit(ohh)?;
     match game_named(game, limit) {
         Some(code) => Ok(code),
         None => Err(wrong(What::UnsupportedGame, Path::GameType)),
     }
+}
+
+// The limit of the game.
+#[tactic(auto, unfolding(crate::specs::Game::limit_said))]
+fn read_limit(ohh: &Value) -> Result<&str, Stop<Fault>>
+    ensures { Gives (λ text. text.now) result (limit_said (view ohh.now)) }
+{
+    let limits = read_object(needed(ohh, Path::BetLimit)?, Path::BetLimit)?;
+    read_word(limits, Path::BetType)
+}
+
+// The text of a member that is needed.
+fn read_word(value: &Value, path: Path) -> Result<&str, Stop<Fault>>
+    ensures { Gives (λ text. text.now) result (word_said path (view value.now)) }
+{
+    read_text(needed(value, path)?, path)
 }
 
 // The game of a type and a limit.
@@ -30,15 +45,22 @@ fn game_named(game: &str, limit: &str) -> Option<Code>
     ensures said { result ≡ game_named_said game.now limit.now }
     ensures read { IfSome result IsReadGame }
 {
-    if game == "Holdem" && limit == "FL" {
+    if are_words(game, "Holdem", limit, "FL") {
         Some(Code::FT)
-    } else if game == "Holdem" && limit == "NL" {
+    } else if are_words(game, "Holdem", limit, "NL") {
         Some(Code::NT)
-    } else if game == "Omaha" && limit == "PL" {
+    } else if are_words(game, "Omaha", limit, "PL") {
         Some(Code::PO)
-    } else if game == "OmahaHiLo" && limit == "FL" {
+    } else if are_words(game, "OmahaHiLo", limit, "FL") {
         Some(Code::FO8)
     } else {
         None
     }
+}
+
+// Whether the game and the limit are spelled so.
+fn are_words(game: &str, game_word: &str, limit: &str, limit_word: &str) -> bool
+    ensures { result ≡ (bytes_eq game.now game_word.now && bytes_eq limit.now limit_word.now) }
+{
+    game == game_word && limit == limit_word
 }
