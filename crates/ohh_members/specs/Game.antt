@@ -30,15 +30,14 @@ pub record IsReadGame (code : Code) : Type 0 where
 abbrev pub word_said : Path → Data → Result (List ℕ) Fault
 word_said path value = needed path value >>= text_said path
 
--- the limit of the game
-unfoldable pub limit_said : Data → Result (List ℕ) Fault
-limit_said ohh = do
-  limits ← needed paths.BetLimit ohh >>= object_said paths.BetLimit
-  word_said paths.BetType limits
+-- the object that says the limit
+abbrev pub limits_said : Data → Result Data Fault
+limits_said ohh = needed paths.BetLimit ohh >>= object_said paths.BetLimit
 
 -- the game
 unfoldable pub game_said : Data → Result Code Fault
 game_said ohh = do
   game ← word_said paths.GameType ohh
-  limit ← limit_said ohh
+  limits ← limits_said ohh
+  limit ← word_said paths.BetType limits
   or_wrong whats.UnsupportedGame paths.GameType (game_named game limit)

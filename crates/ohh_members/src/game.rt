@@ -2,7 +2,7 @@
 ghost use Rattle.std.specs.Prelude.{◌≡◌, ◌&&◌, bytes_eq, IfOk, IfSome};
 ghost use Rattle.serde_json.specs.View.{view};
 ghost use Rattle.first_fault.specs.Reading.{Gives};
-ghost use Rattle.ohh_members.specs.Game.{IsReadGame, game_named as game_named_said, game_said, limit_said, word_said};
+ghost use Rattle.ohh_members.specs.Game.{IsReadGame, game_named as game_named_said, game_said, limits_said, word_said};
 
 use crate::fault::{Fault, Path, What};
 use crate::values::{needed, read_object, read_text, wrong};
@@ -17,20 +17,19 @@ pub fn read_game(ohh: &Value) -> Result<Code, Stop<Fault>>
     ensures read { IfOk result IsReadGame }
 {
     let game = read_word(ohh, Path::GameType)?;
-    let limit = read_limit(ohh)?;
+    let limits = read_limits(ohh)?;
+    let limit = read_word(limits, Path::BetType)?;
     match game_named(game, limit) {
         Some(code) => Ok(code),
         None => Err(wrong(What::UnsupportedGame, Path::GameType)),
     }
 }
 
-// The limit of the game.
-#[tactic(auto, unfolding(crate::specs::Game::limit_said))]
-fn read_limit(ohh: &Value) -> Result<&str, Stop<Fault>>
-    ensures { Gives (λ text. text.now) result (limit_said (view ohh.now)) }
+// The object that says the limit.
+fn read_limits(ohh: &Value) -> Result<&Value, Stop<Fault>>
+    ensures { Gives (λ found. view found.now) result (limits_said (view ohh.now)) }
 {
-    let limits = read_object(needed(ohh, Path::BetLimit)?, Path::BetLimit)?;
-    read_word(limits, Path::BetType)
+    read_object(needed(ohh, Path::BetLimit)?, Path::BetLimit)
 }
 
 // The text of a member that is needed.
