@@ -136,10 +136,16 @@ members_said setting earlier place action = do
   seat ← seat_said setting place action
   deed_said setting earlier place seat action word
 
+-- the members of an action that passes no limit
+abbrev pub counted_said : PlainSetting → List PlainStep → ActionPlace → Data → Result PlainDeed Fault
+counted_said setting earlier place action = do
+  deed ← members_said setting earlier place action
+  counted ← deed_counted setting earlier (at_action place members.Itself) deed
+  Ok deed
+
 -- an action after these steps
 unfoldable pub step_said : PlainSetting → List PlainStep → ActionPlace → Data → Result PlainStep Fault
 step_said setting earlier place value = do
   action ← object_said (at_action place members.Itself) value
-  deed ← members_said setting earlier place action
-  counted ← deed_counted setting earlier (at_action place members.Itself) deed
+  deed ← counted_said setting earlier place action
   Ok (record { number = next_number earlier; deed = deed })

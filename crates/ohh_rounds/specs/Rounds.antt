@@ -59,6 +59,12 @@ action_added setting round earlier index value = step_said setting earlier (reco
 abbrev pub actions_added : PlainSetting → ℕ → List PlainStep → List Data → Result (List PlainStep) Fault
 actions_added setting round earlier items = added_from (action_added setting round) earlier 0 items
 
+-- the steps with the actions that a round lists
+abbrev pub actions_said : PlainSetting → ℕ → List PlainStep → Data → Result (List PlainStep) Fault
+actions_said setting index earlier round = do
+  items ← needed (at_round index members.Actions) round >>= list_said (at_round index members.Actions)
+  actions_added setting index earlier items
+
 -- the last street, and the steps so far
 abbrev pub SoFar : Type 0
 SoFar = Option Street × List PlainStep
@@ -76,8 +82,7 @@ unfoldable pub round_said : PlainSetting → SoFar → ℕ → Data → Result S
 round_said setting before index value = do
   round ← object_said (at_round index members.Itself) value
   opening ← opening_said setting before index round
-  items ← needed (at_round index members.Actions) round >>= list_said (at_round index members.Actions)
-  steps ← actions_added setting index opening.1 items
+  steps ← actions_said setting index opening.1 round
   Ok (Some opening.0, steps)
 
 -- the rounds, one at least

@@ -1,12 +1,12 @@
 //! An action of a round is read: its word, its player, and then its amount or its cards.
-ghost use Rattle.std.specs.Prelude.{◌≡◌, ◌≤◌, [], IfOk, length, map};
+ghost use Rattle.std.specs.Prelude.{◌≡◌, ◌≤◌, List, [], IfOk, length, map};
 ghost use Rattle.serde_json.specs.View.{view};
 ghost use Rattle.play_event.specs.Said.{kind_said};
 ghost use Rattle.canonical_play.specs.PlayedScript.{is_move as is_move_said};
 ghost use Rattle.first_fault.specs.Reading.{Gives};
-ghost use Rattle.ohh_rounds.specs.Actions.{at_action, called, chips_said, dealt_cards, deed_counted, deed_said, event_counted, listed_cards, members_said, mucked, posted, raise_by, raised, seat_said, shown, step_said, word_said};
+ghost use Rattle.ohh_rounds.specs.Actions.{at_action, called, chips_said, counted_said, dealt_cards, deed_counted, deed_said, event_counted, listed_cards, members_said, mucked, posted, raise_by, raised, seat_said, shown, step_said, word_said};
 ghost use Rattle.ohh_rounds.specs.Setting.{plain_setting};
-ghost use Rattle.ohh_rounds.specs.Steps.{Dealt, Happened, HasRoom, IsWithin, LeavesFew, plain_deed, plain_step};
+ghost use Rattle.ohh_rounds.specs.Steps.{Dealt, HasRoom, IsWithin, LeavesFew, PlainStep, plain_deed, plain_step};
 
 use crate::step::{Deed, Step, is_move};
 use crate::told::Told;
@@ -42,12 +42,30 @@ pub fn read_step(
         told.now.setting.file_moves (map plain_step told.now.steps.items)
         (plain_deed step.deed)) }
 {
-    let path = path_of(place, ActionMember::Itself);
-    let action = read_object(value, path)?;
-    let deed = read_members(ids, told, place, action)?;
-    count_deed(ids, told, path, deed)?;
+    let action = read_object(value, path_of(place, ActionMember::Itself))?;
+    let deed = read_counted(ids, told, place, action)?;
     let number = told.next;
     Ok(Step { number, deed })
+}
+
+// The members of an action that passes no limit.
+fn read_counted(
+    ids: &[i128],
+    told: &Told,
+    place: ActionPlace,
+    action: &Value,
+) -> Result<Deed, Stop<Fault>>
+    requires { length ids.now ≤ 10 }
+    ensures said { Gives plain_deed result (counted_said (plain_setting ids.now told.now.setting)
+        (map plain_step told.now.steps.items) place (view action.now)) }
+    ensures few { IfOk result (λ deed. LeavesFew (map plain_step told.now.steps.items)
+        (plain_deed deed)) }
+    ensures within { IfOk result (λ deed. IsWithin told.now.setting.table.stacks.seats
+        told.now.setting.file_moves (map plain_step told.now.steps.items) (plain_deed deed)) }
+{
+    let deed = read_members(ids, told, place, action)?;
+    count_deed(ids, told, path_of(place, ActionMember::Itself), deed)?;
+    Ok(deed)
 }
 
 // The members of an action.
@@ -128,10 +146,10 @@ fn read_deed(
             actor,
             stated: Some(0),
         })),
-        Word::Call => Ok(Deed::Happened(read_call(place, seat, action)?)),
-        Word::Bet => Ok(Deed::Happened(read_raise(Dialect::Added, place, seat, action)?)),
-        Word::Raise => Ok(Deed::Happened(read_raise(told.setting.dialect, place, seat, action)?)),
-        Word::ShowsCards => Ok(Deed::Happened(read_show(place, seat, action)?)),
+        Word::Call => read_call(place, seat, action),
+        Word::Bet => read_raise(Dialect::Added, place, seat, action),
+        Word::Raise => read_raise(told.setting.dialect, place, seat, action),
+        Word::ShowsCards => read_show(place, seat, action),
         Word::MucksCards => Ok(muck(told, seat)),
         Word::SitsDown | Word::StandsUp => Ok(Deed::Passed),
     }
@@ -210,15 +228,16 @@ fn no_cards(told: &Told, seat: Seat) -> Deed
 
 // A call that states the chips that it adds.
 #[tactic(auto, unfolding(crate::specs::Actions::called))]
-fn read_call(place: ActionPlace, seat: Seat, action: &Value) -> Result<Kind, Stop<Fault>>
-    ensures { Gives (λ kind. Happened (kind_said kind)) result
-        (called place seat.number (view action.now)) }
+fn read_call(place: ActionPlace, seat: Seat, action: &Value) -> Result<Deed, Stop<Fault>>
+    ensures said { Gives plain_deed result (called place seat.number (view action.now)) }
+    ensures few { (earlier : List PlainStep)
+        → IfOk result (λ deed. LeavesFew earlier (plain_deed deed)) }
 {
     let amount = read_chips(place, action)?;
-    Ok(Kind::Call {
+    Ok(Deed::Happened(Kind::Call {
         actor: Some(seat),
         stated: Some(amount.number),
-    })
+    }))
 }
 
 // A bet or a raise.
@@ -228,15 +247,16 @@ fn read_raise(
     place: ActionPlace,
     seat: Seat,
     action: &Value,
-) -> Result<Kind, Stop<Fault>>
-    ensures { Gives (λ kind. Happened (kind_said kind)) result
-        (raised dialect place seat.number (view action.now)) }
+) -> Result<Deed, Stop<Fault>>
+    ensures said { Gives plain_deed result (raised dialect place seat.number (view action.now)) }
+    ensures few { (earlier : List PlainStep)
+        → IfOk result (λ deed. LeavesFew earlier (plain_deed deed)) }
 {
     let amount = read_chips(place, action)?;
-    Ok(Kind::Raise {
+    Ok(Deed::Happened(Kind::Raise {
         actor: Some(seat),
         amount: raise_of(dialect, amount),
-    })
+    }))
 }
 
 // The amount of an action.
@@ -261,13 +281,14 @@ fn raise_of(dialect: Dialect, amount: Chips) -> Spelled
 
 // A show of cards.
 #[tactic(auto, unfolding(crate::specs::Actions::shown))]
-fn read_show(place: ActionPlace, seat: Seat, action: &Value) -> Result<Kind, Stop<Fault>>
-    ensures { Gives (λ kind. Happened (kind_said kind)) result
-        (shown place seat.number (view action.now)) }
+fn read_show(place: ActionPlace, seat: Seat, action: &Value) -> Result<Deed, Stop<Fault>>
+    ensures said { Gives plain_deed result (shown place seat.number (view action.now)) }
+    ensures few { (earlier : List PlainStep)
+        → IfOk result (λ deed. LeavesFew earlier (plain_deed deed)) }
 {
     let path = path_of(place, ActionMember::Cards);
     let cards = read_cards(needed(action, path)?, path)?;
-    Ok(Kind::Show { seat, cards })
+    Ok(Deed::Happened(Kind::Show { seat, cards }))
 }
 
 /// The path of a member of an action.

@@ -9,7 +9,7 @@ ghost use Rattle.play_event.specs.Said.{numbered, said_of};
 ghost use Rattle.first_fault.specs.Reading.{Gives};
 ghost use Rattle.ohh_posts.specs.Conditions.{posts_checked};
 ghost use Rattle.ohh_posts.specs.Posts.{plain_post};
-ghost use Rattle.ohh_posts.specs.Stakes.{AreStakesFor};
+ghost use Rattle.ohh_posts.specs.Stakes.{AreStakesFor, plain_stakes, stakes_said};
 ghost use Rattle.ohh_posts.specs.Table.{plain_table};
 ghost use Rattle.ohh_rounds.specs.Play.{at_posts, event_in, events_in, hole_cards as hole_cards_said, hole_deal as hole_deal_said, plain_play, post_in, posts_in, rounds_said, script_said};
 ghost use Rattle.ohh_rounds.specs.Setting.{plain_setting};
@@ -60,15 +60,26 @@ pub fn read_rounds(
     ensures few { IfOk result (λ play. play.file_moves ≤ MOST_FILE_MOVES) }
 {
     let told = read_told(alloc, ids, setting, ohh)?;
-    let posts = posts_of(alloc, told.steps.as_slice())?;
-    check(&setting.table, posts.as_slice())?;
-    let stakes = Stakes::of(&setting.table, posts.as_slice());
+    let stakes = read_stakes(alloc, &setting.table, told.steps.as_slice())?;
     let script = script_of(alloc, &told)?;
     Ok(RoundsPlay {
         stakes,
         script,
         file_moves: setting.file_moves + told.moves,
     })
+}
+
+// The stakes of the posts, which meet their conditions.
+fn read_stakes(alloc: Global, table: &Table, steps: &[Step]) -> Result<Stakes, Stop<Fault>>
+    ensures checked { Gives (λ stakes. tt) result
+        (at_posts (posts_checked (plain_table table.now) (posts_in (map plain_step steps.now)))) }
+    ensures said { IfOk result (λ stakes. plain_stakes stakes
+        ≡ stakes_said (plain_table table.now) (posts_in (map plain_step steps.now))) }
+    ensures stakes { IfOk result (λ stakes. AreStakesFor table.now.stacks stakes) }
+{
+    let posts = posts_of(alloc, steps)?;
+    check(table, posts.as_slice())?;
+    Ok(Stakes::of(table, posts.as_slice()))
 }
 
 // The posts, in order.

@@ -3,7 +3,7 @@ ghost use Rattle.std.specs.Prelude.{◌≡◌, ◌≤◌, Some, None, IfOk, leng
 ghost use Rattle.serde_json.specs.View.{view};
 ghost use Rattle.card_set.specs.Row.{cards_of};
 ghost use Rattle.first_fault.specs.Reading.{Gives};
-ghost use Rattle.ohh_rounds.specs.Rounds.{actions_added, at_round, board_dealt, board_said, each_told, no_cards, opening_said, round_said, rounds_listed, steps_said, street_said};
+ghost use Rattle.ohh_rounds.specs.Rounds.{actions_added, actions_said, at_round, board_dealt, board_said, each_told, no_cards, opening_said, round_said, rounds_listed, steps_said, street_said};
 ghost use Rattle.ohh_rounds.specs.Setting.{plain_setting};
 ghost use Rattle.ohh_rounds.specs.Steps.{plain_step};
 
@@ -89,9 +89,7 @@ fn read_round(
 {
     let round = read_object(value, path_of(index, RoundMember::Itself))?;
     let street = read_opening(ids, told, last, index, round)?;
-    let path = path_of(index, RoundMember::Actions);
-    let values = read_list(needed(round, path)?, path)?;
-    read_actions(ids, told, index, values)?;
+    read_listed_actions(ids, told, index, round)?;
     Ok(street)
 }
 
@@ -174,6 +172,24 @@ fn deal_board(ids: &[i128], told: &mut Told, index: u64, cards: CardRow) -> Resu
         deed: Deed::Happened(kind),
     })?;
     Ok(())
+}
+
+// The actions that a round lists are told.
+fn read_listed_actions(
+    ids: &[i128],
+    told: &mut Told,
+    index: u64,
+    round: &Value,
+) -> Result<(), Stop<Fault>>
+    requires { length ids.now ≤ 10 }
+    ensures said { Gives (λ x. map plain_step told.new.steps.items) result
+        (actions_said (plain_setting ids.now told.old.setting) index
+        (map plain_step told.old.steps.items) (view round.now)) }
+    ensures setting { told.new.setting ≡ told.old.setting }
+{
+    let path = path_of(index, RoundMember::Actions);
+    let values = read_list(needed(round, path)?, path)?;
+    read_actions(ids, told, index, values)
 }
 
 // The path of a member of a round.
