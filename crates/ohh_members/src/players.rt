@@ -41,7 +41,7 @@ fn add_players<'a>(alloc: Global, values: &'a [Value]) -> Result<Vec<Player<'a>>
 {
     let mut players = Vec::new(alloc);
     for (index, value) in values.iter().enumerate() {
-        players = add_player(players, index as u64, value)?;
+        add_player(&mut players, index as u64, value)?;
     }
     Ok(players)
 }
@@ -49,17 +49,17 @@ fn add_players<'a>(alloc: Global, values: &'a [Value]) -> Result<Vec<Player<'a>>
 // The players with one more.
 #[tactic(auto, unfolding(crate::specs::Players::player_added))]
 fn add_player<'a>(
-    mut players: Vec<Player<'a>>,
+    players: &mut Vec<Player<'a>>,
     index: u64,
     value: &'a Value,
-) -> Result<Vec<Player<'a>>, Stop<Fault>>
-    ensures said { Gives (λ found. map plain_player found.items) result
-        (player_added (map plain_player players.entry.items) index (view value.now)) }
-    ensures count { IfOk result (λ found. length found.items ≡ length players.entry.items + 1) }
+) -> Result<(), Stop<Fault>>
+    ensures said { Gives (λ x. map plain_player players.new.items) result
+        (player_added (map plain_player players.old.items) index (view value.now)) }
+    ensures count { IfOk result (λ x. length players.new.items ≡ length players.old.items + 1) }
 {
-    let player = read_player(&players, index, value)?;
+    let player = read_player(players.as_slice(), index, value)?;
     players.push(player)?;
-    Ok(players)
+    Ok(())
 }
 
 // A player, after those before it.
