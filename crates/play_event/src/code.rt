@@ -36,18 +36,18 @@ impl Code {
         ensures read { IfSome result (λ code. code_text code ≡ text.now) }
         ensures none { IfNone result ((code : Code) → code_text code ≡ text.now → ⊥) }
     {
-        match text.as_bytes() {
-            b"FT" => Some(Code::FT),
-            b"NT" => Some(Code::NT),
-            b"NS" => Some(Code::NS),
-            b"PO" => Some(Code::PO),
-            b"FO/8" => Some(Code::FO8),
-            b"F7S" => Some(Code::F7S),
-            b"F7S/8" => Some(Code::F7S8),
-            b"FR" => Some(Code::FR),
-            b"N2L1D" => Some(Code::N2L1D),
-            b"F2L3D" => Some(Code::F2L3D),
-            b"FB" => Some(Code::FB),
+        match text {
+            "FT" => Some(Code::FT),
+            "NT" => Some(Code::NT),
+            "NS" => Some(Code::NS),
+            "PO" => Some(Code::PO),
+            "FO/8" => Some(Code::FO8),
+            "F7S" => Some(Code::F7S),
+            "F7S/8" => Some(Code::F7S8),
+            "FR" => Some(Code::FR),
+            "N2L1D" => Some(Code::N2L1D),
+            "F2L3D" => Some(Code::F2L3D),
+            "FB" => Some(Code::FB),
             _ => None,
         }
     }
