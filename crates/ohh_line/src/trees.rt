@@ -184,5 +184,3 @@ fn letters_of(card: Slot) -> [u8; 2]
 {
     slot_text(card)
 }
-
-}
