@@ -1,9 +1,11 @@
--- The seat in turn that is kept is the seat in turn by the rules.
-use Rattle.std.proofs.Common.{◌≡◌, ◌==◌, Bool, true, false, if◌then◌else◌, Some, None, refl, sym, ap, ◌∙◌, arith}
+-- The seat in turn that is kept, or that opens by up-cards, is the seat in turn by the rules.
+use Rattle.std.proofs.Common.{◌≡◌, ◌==◌, ◌≤◌, Bool, true, false, if◌then◌else◌, Option, Some, None, IfSome, refl, sym, ap, ◌∙◌, arith}
 use Rattle.std.proofs.lemmas.Bool.{true≢false}
 use Rattle.chip_ledger.specs.declared.numbers.Seat.{Seat}
+use Rattle.play_event.specs.declared.card_rows.UpRow.{UpRow}
 use Rattle.play_event.specs.declared.reason.Due.{Due}
 use Rattle.play_event.specs.declared.reason.Due.TheVariants as dues
+use Rattle.play_event.specs.declared.limit.Opener.{Opener}
 use Rattle.play_event.specs.declared.limit.Opener.TheVariants as openers
 use Rattle.play_event.specs.Openers.{blinds_opener}
 use Rattle.play_event.specs.Past.{Past}
@@ -18,8 +20,9 @@ use Rattle.chip_ledger.specs.SeatsSaid.{seat_said}
 use Rattle.betting_numbers.specs.SeatsSaid.{turn_of}
 use Rattle.betting_numbers.specs.Standing.{StandsFor}
 use Rattle.betting_numbers.specs.Turn.{KeepsTurn}
+use Rattle.betting_numbers.specs.UpSeen.{HoldsUps, known_opener_seen}
 use Rattle.betting_numbers.proofs.InTurn.{turn_blinds}
-use Rattle.betting_numbers.proofs.UpOpener.{bets_move, turn_later}
+use Rattle.betting_numbers.proofs.UpOpener.{bets_move, turn_first, turn_later}
 
 -- who opens where the blinds say it is of the hand
 opener_by : (b : Table) (one : Bool) → IsSeat b.setup (if one then blinds_opener b.setup 1 else 1)
@@ -40,6 +43,13 @@ move_of_bets dues.Over bets other = absurd (true≢false (sym bets))
 
 some_is_none : (seat : Seat) → Some seat ≡ None → ⊥
 some_is_none seat is = cc
+
+-- where up-cards open, and no seat has moved on the street
+pub by_cards : (b : Table) (past : Past) → StandsFor b past → is_bet_due b.due ≡ true → (up : UpRow) → b.last ≡ None → HoldsUps b.setup up past
+    → (opener : Opener) → opener_of b.setup.code ≡ opener → is_opened_by_up_cards opener ≡ true
+    → (found : Option Seat) → IfSome found (λ seat. seat.number ≤ b.setup.stacks.seats) → seat_said found ≡ known_opener_seen opener b up → IsTurn b past (turn_of (seat_said found))
+by_cards b past stands bets up none holds opener game cards =
+    turn_first b past stands up holds opener game cards none (bets_move b past stands b.due refl bets (λ due_is. none))
 
 module _ (b : Table) (past : Past) (stands : StandsFor b past) (keeps : KeepsTurn b) (bets : is_bet_due b.due ≡ true) where
   -- where the blinds say who opens

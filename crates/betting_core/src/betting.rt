@@ -161,8 +161,8 @@ impl<V: Variant> Betting<V> {
     /// the trace keeps it. Else it gives the first reason that holds against the event, and nothing
     /// changes.
     ///
-    /// `up` has the up-cards of each seat. They are read in stud, where they decide who opens a
-    /// street.
+    /// `up` has the up-cards of each seat. They are read in stud, where no seat has moved on the
+    /// street yet: there they decide who opens it.
     pub fn step(&mut self, up: &UpRow, event: &Event) -> Result<Moved, Illegal>
         requires row { up.now.seats ≡ self.old.table.setup.stacks.seats }
         requires kind { is_card_said (said_of event.now) ≡ false }
@@ -485,8 +485,9 @@ impl<V: Variant> Betting<V> {
         }
     }
 
-    // Whose turn it is, if it is known.
-    fn turn_now(&self, up: &UpRow) -> Option<Seat>
+    /// Whose turn it is, if it is known, where a bring-in or a move is due. The row is read in
+    /// stud, where no seat has moved on the street yet.
+    pub fn turn_now(&self, up: &UpRow) -> Option<Seat>
         requires row { up.now.seats ≡ self.now.table.setup.stacks.seats }
         requires bets { is_bet_due self.now.table.due ≡ true }
         ensures turn { WhereUps self.now.table up.now
@@ -497,8 +498,8 @@ impl<V: Variant> Betting<V> {
             Some(_) => self.table.next,
             None => match V::OPEN {
                 Opener::Blinds => self.table.next,
-                Opener::LowUp => self.table.turn_by_up(Opener::LowUp, up),
-                Opener::HighUp => self.table.turn_by_up(Opener::HighUp, up),
+                Opener::LowUp => self.table.up_opener(Opener::LowUp, up),
+                Opener::HighUp => self.table.up_opener(Opener::HighUp, up),
             },
         }
     }

@@ -18,7 +18,7 @@ use Rattle.betting_numbers.specs.SeatsSaid.{turn_of}
 use Rattle.betting_numbers.specs.Seen.{all_in_seen}
 use Rattle.betting_numbers.specs.Standing.{StandsFor}
 use Rattle.betting_numbers.specs.Turn.{may_come_at}
-use Rattle.betting_numbers.specs.UpSeen.{HoldsUps}
+use Rattle.betting_numbers.specs.UpSeen.{HoldsOpeningUps}
 use Rattle.chip_ledger.specs.SeatsSaid.{seat_said}
 
 -- a move of a seat to a target, after these moves
@@ -42,9 +42,9 @@ IsTurn b past in_turn = in_turn ≡ mover b.setup (up_cards b.setup.code past) (
 abbrev pub WhereTurn : Table → Option Seat → (Past → Type 0) → Type 0
 WhereTurn b turn P = (past : Past) → StandsFor b past → IsTurn b past (turn_of (seat_said turn)) → P past
 
--- after each past for which the state stands, where the row holds its up-cards
+-- after each past for which the state stands, where the row holds what is read of its up-cards
 abbrev pub WhereUps : Table → UpRow → (Past → Type 0) → Type 0
-WhereUps b up P = (past : Past) → StandsFor b past → HoldsUps b.setup up past → P past
+WhereUps b up P = (past : Past) → StandsFor b past → HoldsOpeningUps b up past → P past
 
 -- why an event is refused after a past, under the state's setup and rules
 abbrev pub reason_after : Table → Past → Said → Option Illegal

@@ -18,6 +18,11 @@ use Rattle.betting_numbers.specs.Seen.{is_able_seen}
 abbrev pub HoldsUps : Setup → UpRow → Past → Type 0
 HoldsUps setup up past = (seat : ℕ) → 1 ≤ seat → seat ≤ setup.stacks.seats → ups_of up seat ≡ up_cards setup.code past seat
 
+-- a row holds what is read of the up-cards of a past: who opens a street is asked only until a seat has moved on it
+pub record HoldsOpeningUps (b : Table) (up : UpRow) (past : Past) : Type 0 where
+  -- the row holds the up-cards of the past, where no seat has moved on the street yet
+  pub held : b.last ≡ None → HoldsUps b.setup up past
+
 -- an up-card of an able seat is unknown
 abbrev pub has_unknown_seen : Table → UpRow → ℕ → Bool
 has_unknown_seen b up seat = is_able_seen b seat && list_any is_unknown (ups_of up seat)

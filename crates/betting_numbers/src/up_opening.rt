@@ -1,14 +1,7 @@
 //! Who opens a street by up-cards.
 ghost use Rattle.std.specs.Prelude.{◌≡◌, ◌≤◌, ℕ, true, ◌&&◌, not, IfSome, None};
-ghost use Rattle.play_event.specs.declared.reason.Due.TheVariants as dues;
-ghost use Rattle.play_event.specs.Past.{Past};
-ghost use Rattle.play_event.specs.Streets.{opener_of, is_opened_by_up_cards};
-ghost use Rattle.betting_numbers.specs.Standing.{StandsFor};
-ghost use Rattle.betting_numbers.specs.LegalMoves.{IsTurn};
-ghost use Rattle.play_event.specs.TurnTargets.{is_bet_due};
 ghost use Rattle.chip_ledger.specs.SeatsSaid.{seat_said};
-ghost use Rattle.betting_numbers.specs.SeatsSaid.{turn_of};
-ghost use Rattle.betting_numbers.specs.UpSeen.{HoldsUps, is_as_early_seen, is_before_seen, has_unknown_seen, known_opener_seen};
+ghost use Rattle.betting_numbers.specs.UpSeen.{is_as_early_seen, is_before_seen, has_unknown_seen, known_opener_seen};
 ghost use Rattle.betting_numbers.specs.Seen.{is_able_seen};
 
 use crate::table::Table;
@@ -17,23 +10,6 @@ use play_event::{Opener, UpRow};
 use up_card_order::{has_unknown, is_as_early, is_opener_before, known};
 
 impl Table {
-    /// Whose turn it is where up-cards open, if it is known.
-    pub fn turn_by_up(&self, opener: Opener, up: &UpRow) -> Option<Seat>
-        requires row { up.now.seats ≡ self.now.setup.stacks.seats }
-        requires game { opener_of self.now.setup.code ≡ opener }
-        requires cards { is_opened_by_up_cards opener ≡ true }
-        requires bets { is_bet_due self.now.due ≡ true }
-        requires begins { self.now.due ≡ dues.BringIn → self.now.last ≡ None }
-        ensures turn { (past : Past) → StandsFor self.now past → HoldsUps self.now.setup up.now past
-            → IsTurn self.now past (turn_of (seat_said result)) }
-        ensures in_hand { IfSome result (λ seat. seat.number ≤ self.now.setup.stacks.seats) }
-    {
-        match self.last {
-            Some(_) => self.mover(Seat { number: 1 }),
-            None => self.up_opener(opener, up),
-        }
-    }
-
     /// Who opens, where each up-card of an able seat is known: the first able seat before which no
     /// other opens. The walk goes from the last seat to the first, and keeps of the seats so far the
     /// leader, which opens before all that any of them opens before, and the first before which none

@@ -8,7 +8,7 @@ ghost use Rattle.hand_gen.specs.Stock as stocks;
 ghost use Rattle.play_event.specs.Past.{moves_of};
 
 use crate::dealing::{deal, draw};
-use crate::moving::{in_turn, make_move};
+use crate::moving::make_move;
 use crate::stock::Stock;
 use play_event::{Due, Kind};
 use replay_core::HandInPlay;
@@ -48,8 +48,8 @@ fn bring_in<V: Variant>(hand: &HandInPlay<V>) -> Option<Kind>
         ≡ (bring_in_comes stock (in_turn_on hand.now.betting.table.setup past
         hand.now.betting.table.street)).left) }
 {
-    let up = hand.cards.up();
-    match in_turn(&hand.betting, &up) {
+    let up = hand.opening_up_cards();
+    match hand.betting.turn_now(&up) {
         Some(seat) => Some(Kind::BringIn { actor: Some(seat) }),
         None => None,
     }
@@ -70,8 +70,8 @@ fn acted<V: Variant>(hand: &HandInPlay<V>, stock: &mut Stock) -> Option<Kind>
         hand.now.betting.table.street stock.old
         (in_turn_on hand.now.betting.table.setup past hand.now.betting.table.street)).left) }
 {
-    let up = hand.cards.up();
-    match in_turn(&hand.betting, &up) {
+    let up = hand.opening_up_cards();
+    match hand.betting.turn_now(&up) {
         Some(seat) => Some(make_move(&hand.betting, &up, seat, stock)),
         None => None,
     }

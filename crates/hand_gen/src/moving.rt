@@ -1,8 +1,7 @@
-//! Whose turn it is, and what that seat does.
-ghost use Rattle.std.specs.Prelude.{◌≡◌, ◌≤◌, ℕ, true, None, IfSome};
+//! What the seat in turn does.
+ghost use Rattle.std.specs.Prelude.{◌≡◌, ◌≤◌, ℕ, true, None};
 ghost use Rattle.std.specs.Option.{option_map};
 ghost use Rattle.betting_numbers.specs.LegalMoves.{IsTurn, WhereUps};
-ghost use Rattle.betting_numbers.specs.SeatsSaid.{turn_of};
 ghost use Rattle.play_event.specs.Openers.{TheSeat};
 ghost use Rattle.play_event.specs.Past.{moves_of};
 ghost use Rattle.play_event.specs.Said.{kind_said};
@@ -10,31 +9,12 @@ ghost use Rattle.play_event.specs.TurnTargets.{is_bet_due};
 ghost use Rattle.hand_gen.specs.Coming.{move_by, move_of, raise_of};
 ghost use Rattle.hand_gen.specs.Seen.{ends_said};
 ghost use Rattle.hand_gen.specs.Stock.{after_draw, draw_of};
-ghost use Rattle.chip_ledger.specs.SeatsSaid.{seat_said};
 
 use crate::stock::Stock;
 use betting_core::{Betting, Targets};
 use chip_ledger::Seat;
 use play_event::{Kind, Spelled, UpRow};
-use variant_table::{Opener, Variant};
-
-/// Whose turn it is, if it is known.
-pub fn in_turn<V: Variant>(betting: &Betting<V>, up: &UpRow) -> Option<Seat>
-    requires row { up.now.seats ≡ betting.now.table.setup.stacks.seats }
-    requires bets { is_bet_due betting.now.table.due ≡ true }
-    ensures turn { WhereUps betting.now.table up.now
-        (λ past. IsTurn betting.now.table past (turn_of (seat_said result))) }
-    ensures in_hand { IfSome result (λ seat. seat.number ≤ betting.now.table.setup.stacks.seats) }
-{
-    match V::OPEN {
-        Opener::Blinds => {
-            let opener = betting.table.blinds_opener();
-            betting.table.mover(opener)
-        }
-        Opener::LowUp => betting.table.turn_by_up(Opener::LowUp, up),
-        Opener::HighUp => betting.table.turn_by_up(Opener::HighUp, up),
-    }
-}
+use variant_table::Variant;
 
 /// The move of the seat in turn.
 pub fn make_move<V: Variant>(

@@ -15,17 +15,18 @@ use Rattle.betting_numbers.specs.declared.table.Table.{Table}
 use Rattle.betting_numbers.specs.UpSeen.{HoldsUps}
 use Rattle.play_event.specs.declared.card_rows.UpRow.{UpRow}
 use Rattle.play_event.specs.declared.code.Code.{Code}
+use Rattle.play_event.specs.SeatSlots.{ups_of}
 use Rattle.play_event.specs.Table.{up_cards}
 use Rattle.betting_numbers.specs.Standing.{StandsFor}
 use Rattle.betting_numbers.specs.UpTo.{StandsUpTo}
 use Rattle.betting_numbers.proofs.LegalCards.{card_kept, card_ended}
 use Rattle.card_places.specs.declared.card_state.CardState.{CardState}
-use Rattle.deal_core.specs.Standing.{IsNow}
+use Rattle.deal_core.specs.Standing.{IsNow, IsSeatOf}
 use Rattle.deal_core.specs.Standing as cards
 use Rattle.street_laws.specs.CardEvents.{is_card_said}
 use Rattle.street_laws.specs.Done.{is_done}
 use Rattle.street_laws.specs.Seats.{IsSeat}
-use Rattle.replay_core.specs.Together.{IsUpRowOf, StandTogether, StandUpToDue}
+use Rattle.replay_core.specs.Together.{StandTogether, StandUpToDue}
 
 -- what the cards ask of a past, by the views of the betting
 pub now_of : (b : Table) (t : CardState) (live : LiveRow) (past : Past) → StandTogether b t past → ((seat : ℕ) → IsSeat b.setup seat → flag_of live seat ≡ is_live (moves_of past) seat) → IsNow t b.due live b.setup past
@@ -38,9 +39,10 @@ now_of b t live past both lives = record {
 }
 
 -- the row of up-cards is that of the past
-pub ups_of_past : (code : Code) (b : Table) (t : CardState) (up : UpRow) (past : Past) → b.setup.code ≡ code → StandTogether b t past → IsUpRowOf code t up → HoldsUps b.setup up past
+pub ups_of_past : (code : Code) (b : Table) (t : CardState) (up : UpRow) (past : Past) → b.setup.code ≡ code → StandTogether b t past
+    → ((seat : ℕ) → IsSeatOf t.seats seat → ups_of up seat ≡ up_cards code past seat) → HoldsUps b.setup up past
 ups_of_past code b t up past code_is both row = λ seat low high.
-    row.ups past seat both.cards (record { first = low; last = subst (λ (n : ℕ). seat ≤ n) both.seats high })
+    row seat (record { first = low; last = subst (λ (n : ℕ). seat ≤ n) both.seats high })
     ∙ ap (λ game. up_cards game past seat) (sym code_is)
 
 -- the same, where this is the due that the betting tells

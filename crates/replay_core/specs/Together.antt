@@ -1,16 +1,11 @@
 -- The betting and the cards of a hand stand for one past.
-use Rattle.std.specs.Prelude.{◌≡◌, ℕ, true, false}
+use Rattle.std.specs.Prelude.{◌≡◌, true, false}
 use Rattle.betting_numbers.specs.declared.table.Table.{Table}
 use Rattle.betting_numbers.specs.Standing as betting
 use Rattle.betting_numbers.specs.UpTo.{StandsUpTo}
 use Rattle.card_places.specs.declared.card_state.CardState.{CardState}
 use Rattle.deal_core.specs.Standing as cards
-use Rattle.deal_core.specs.Standing.{IsSeatOf}
-use Rattle.play_event.specs.declared.card_rows.UpRow.{UpRow}
-use Rattle.play_event.specs.declared.code.Code.{Code}
 use Rattle.play_event.specs.Past.{Past}
-use Rattle.play_event.specs.SeatSlots.{ups_of}
-use Rattle.play_event.specs.Table.{up_cards}
 use Rattle.street_laws.specs.Done.{is_done}
 
 -- Both stand for the past, in one game and with the same seats.
@@ -36,10 +31,3 @@ pub record StandUpToDue (b : Table) (t : CardState) (past : Past) : Type 0 where
   pub kept : is_done b.setup past b.due ≡ false → betting.StandsFor b past
   -- where it is, the betting stands up to it
   pub ended : is_done b.setup past b.due ≡ true → StandsUpTo b past
-
--- A row has the up-cards that lie in the cards of a game.
-pub record IsUpRowOf (code : Code) (t : CardState) (up : UpRow) : Type 0 where
-  -- it is of their seats
-  pub seats : up.seats ≡ t.seats
-  -- and of each seat has the up-cards after each past for which the cards stand
-  pub ups : (past : Past) (seat : ℕ) → cards.StandsFor t past → IsSeatOf t.seats seat → ups_of up seat ≡ up_cards code past seat

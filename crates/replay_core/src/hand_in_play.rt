@@ -1,6 +1,7 @@
 //! The betting and the cards of a hand, and one event more of it.
 ghost use Rattle.std.specs.Prelude.{◌≡◌, [], ℕ, true, false, None, Some, IfErr, IfOk, OnErr, OnOk};
 ghost use Rattle.betting_numbers.specs.LegalMoves.{past_with, reason_after};
+ghost use Rattle.betting_numbers.specs.UpSeen.{HoldsOpeningUps};
 ghost use Rattle.chip_ledger.specs.LiveRow.{flag_of};
 ghost use Rattle.chip_ledger.specs.SeatRow.{amount_of};
 ghost use Rattle.deal_core.specs.Standing.{IsNow};
@@ -21,7 +22,7 @@ ghost use Rattle.street_laws.specs.CardEvents.{is_card_said};
 ghost use Rattle.street_laws.specs.Done.{is_done};
 ghost use Rattle.street_laws.specs.Dues.{IsDueWithin};
 ghost use Rattle.street_laws.specs.Seats.{IsSeat};
-ghost use Rattle.replay_core.specs.Together.{IsUpRowOf, StandTogether, StandUpToDue};
+ghost use Rattle.replay_core.specs.Together.{StandTogether, StandUpToDue};
 ghost use Rattle.replay_core.specs.Told.{IsToldOf, WhereTogether};
 
 use betting_core::Betting;
@@ -46,16 +47,6 @@ fn folds(act: Act) -> bool
     match act {
         Act::Fold => true,
         Act::Call | Act::Raise | Act::BringIn => false,
-    }
-}
-
-// The up-cards of each seat, which decide who opens. Where blinds decide that, no card is dealt face up.
-fn up_row<V: Variant>(cards: &Cards<V>) -> UpRow
-    ensures { IsUpRowOf V.CODE cards.now.state result }
-{
-    match V::OPEN {
-        Opener::Blinds => UpRow::new(cards.state.seats),
-        Opener::LowUp | Opener::HighUp => cards.up(),
     }
 }
 
@@ -199,7 +190,7 @@ impl<V: Variant> HandInPlay<V> {
         ensures setup { self.new.betting.table.setup ≡ self.old.betting.table.setup }
         ensures rules { self.new.betting.table.rules ≡ self.old.betting.table.rules }
     {
-        let up = up_row(&self.cards);
+        let up = self.opening_up_cards();
         let moved = match self.betting.step(&up, event) {
             Ok(moved) => moved,
             Err(reason) => return Err(reason),
@@ -208,6 +199,22 @@ impl<V: Variant> HandInPlay<V> {
             self.cards.folded(moved.seat);
         }
         Ok(Some(moved))
+    }
+
+    /// The up-cards of each seat, where no seat has moved on the street yet: there they decide in stud who opens it. After
+    /// that nobody reads them, and the row is empty. Where blinds decide who opens, no card is dealt face up.
+    pub fn opening_up_cards(&self) -> UpRow
+        ensures seats { result.seats ≡ self.now.cards.state.seats }
+        ensures ups { WhereTogether self.now.betting.table self.now.cards.state
+            (HoldsOpeningUps self.now.betting.table result) }
+    {
+        match self.betting.table.last {
+            Some(_) => UpRow::new(self.cards.state.seats),
+            None => match V::OPEN {
+                Opener::Blinds => UpRow::new(self.cards.state.seats),
+                Opener::LowUp | Opener::HighUp => self.cards.up(),
+            },
+        }
     }
 
     // An event of cards, and the end of what it completes.

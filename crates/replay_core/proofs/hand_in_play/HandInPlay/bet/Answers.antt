@@ -2,7 +2,6 @@
 use Rattle.std.proofs.Common.{sym, ap, ◌∙◌}
 use Rattle.play_event.specs.declared.setup.Setup.{Setup}
 use Rattle.play_event.specs.Said.{said_of}
-use Rattle.replay_core.proofs.Joined.{ups_of_past}
 use Rattle.replay_core.proofs.Moves.{folded_stands, moved_stands, move_told}
 use Rattle.replay_core.proofs.hand_in_play.HandInPlay.bet.Goals as goal
 
@@ -11,7 +10,7 @@ returns-then-folds-clause-stands g c =
     let t = c.args.self.now.cards.state in
     let b = c.args.self.now.betting.table in
     λ past both.
-    let ups = ups_of_past g.V.Variant.CODE b t c.up_row-up.result past c.args.self.now.betting.code both c.up_row-up.ensures in
+    let ups = c.opening_up_cards-up.ensures.ups past both in
     record {
       code_is = ap (λ (s : Setup). s.code) c.step.ensures.setup ∙ both.code_is ∙ c.args.self.now.cards.code ∙ sym c.folded.new.self.code;
       seats = ap (λ (s : Setup). s.stacks.seats) c.step.ensures.setup ∙ both.seats ∙ sym c.folded.ensures.seats;
@@ -25,7 +24,7 @@ returns-else-folds-clause-stands g c =
     let t = c.args.self.now.cards.state in
     let b = c.args.self.now.betting.table in
     λ past both.
-    let ups = ups_of_past g.V.Variant.CODE b t c.up_row-up.result past c.args.self.now.betting.code both c.up_row-up.ensures in
+    let ups = c.opening_up_cards-up.ensures.ups past both in
     record {
       code_is = ap (λ (s : Setup). s.code) c.step.ensures.setup ∙ both.code_is;
       seats = ap (λ (s : Setup). s.stacks.seats) c.step.ensures.setup ∙ both.seats;
@@ -36,8 +35,8 @@ returns-else-folds-clause-stands g c =
 
 pub returns-then-folds-clause-told : goal.returns-then-folds-clause-told
 returns-then-folds-clause-told g c = λ past both.
-    move_told c.args.self.now.betting.table past (said_of c.args.event.now) c.in-Ok.moved c.requires.kind (c.in-Ok.ensures.moved past both.betting (ups_of_past g.V.Variant.CODE c.args.self.now.betting.table c.args.self.now.cards.state c.up_row-up.result past c.args.self.now.betting.code both c.up_row-up.ensures))
+    move_told c.args.self.now.betting.table past (said_of c.args.event.now) c.in-Ok.moved c.requires.kind (c.in-Ok.ensures.moved past both.betting (c.opening_up_cards-up.ensures.ups past both))
 
 pub returns-else-folds-clause-told : goal.returns-else-folds-clause-told
 returns-else-folds-clause-told g c = λ past both.
-    move_told c.args.self.now.betting.table past (said_of c.args.event.now) c.in-Ok.moved c.requires.kind (c.in-Ok.ensures.moved past both.betting (ups_of_past g.V.Variant.CODE c.args.self.now.betting.table c.args.self.now.cards.state c.up_row-up.result past c.args.self.now.betting.code both c.up_row-up.ensures))
+    move_told c.args.self.now.betting.table past (said_of c.args.event.now) c.in-Ok.moved c.requires.kind (c.in-Ok.ensures.moved past both.betting (c.opening_up_cards-up.ensures.ups past both))
