@@ -14,7 +14,6 @@ ghost use Rattle.card_places.specs.Room.{is_owner};
 ghost use Rattle.chip_ledger.specs.SeatsSaid.{seat_said};
 
 use crate::card_state::CardState;
-use crate::dealt_card::DealtCard;
 use crate::names::{is_unknown, known};
 use card_set::{CardRow, SlotRow};
 use chip_ledger::{LiveRow, Seat};
@@ -28,11 +27,27 @@ pub fn hands(state: &CardState) -> HandRow
         → slots_of_hand result seat ≡ held.held_slots (Some seat) (placed state.now.places) }
 {
     let mut row = HandRow::new(state.seats);
-    for index in 0..state.seats {
-        let seat = Seat { number: index + 1 };
-        row.set(seat, held_slots(state, Some(seat)));
+    for card in state.places.as_slice() {
+        if let Some(seat) = card.holder() {
+            put_held(&mut row, seat, card.slot);
+        }
     }
     row
+}
+
+// Puts a slot behind the others of the seat's hand.
+fn put_held(row: &mut HandRow, seat: Seat, slot: Slot)
+    requires seat { seat.number ≤ row.old.seats }
+    requires room { length (slots_of_hand row.old seat.number) < 7 }
+    ensures seats { row.new.seats ≡ row.old.seats }
+    ensures slot { slots_of_hand row.new seat.number
+        ≡ slots_of_hand row.old seat.number ++ slot ∷ [] }
+    ensures others { (n : ℕ)
+        → 1 ≤ n → n ≢ seat.number → slots_of_hand row.new n ≡ slots_of_hand row.old n }
+{
+    let mut cards = row.get(seat);
+    cards.push(slot);
+    row.set(seat, cards);
 }
 
 /// The up-cards of each seat, in the order of dealing.
@@ -97,23 +112,12 @@ pub fn unknown(state: &CardState) -> LiveRow
         (placed state.now.places) }
 {
     let mut row = LiveRow::new(state.seats);
-    for index in 0..state.seats {
-        let seat = Seat { number: index + 1 };
-        row.set(seat, has_unknown(state.places.as_slice(), seat));
-    }
-    row
-}
-
-// The seat has a card that is unknown.
-fn has_unknown(rows: &[DealtCard], seat: Seat) -> bool
-    ensures { result ≡ list_any
-        (λ place. is_held_by seat.number place && known.is_unknown place.slot)
-        (map place_of rows.now) }
-{
-    for card in rows {
-        if card.held_by(Some(seat)) && is_unknown(card.slot) {
-            return true;
+    for card in state.places.as_slice() {
+        if let Some(seat) = card.holder() {
+            if is_unknown(card.slot) {
+                row.set(seat, true);
+            }
         }
     }
-    false
+    row
 }
