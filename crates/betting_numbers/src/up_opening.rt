@@ -1,5 +1,5 @@
 //! Who opens a street by up-cards.
-ghost use Rattle.std.specs.Prelude.{◌≡◌, ◌≤◌, ℕ, true, ◌&&◌, not, IfSome, None};
+ghost use Rattle.std.specs.Prelude.{◌≡◌, ◌≤◌, ℕ, true, ◌&&◌, not, IfSome};
 ghost use Rattle.chip_ledger.specs.SeatsSaid.{seat_said};
 ghost use Rattle.betting_numbers.specs.UpSeen.{is_as_early_seen, is_before_seen, has_unknown_seen, known_opener_seen};
 ghost use Rattle.betting_numbers.specs.Seen.{is_able_seen};

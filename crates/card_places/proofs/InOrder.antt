@@ -8,7 +8,7 @@ use Rattle.play_event.specs.Games.{street_count}
 use Rattle.play_event.specs.Places.{Place, is_in_group, group_of}
 use Rattle.card_places.specs.Ordered.{on_seats, on_street, on_streets, ordered}
 use Rattle.card_places.specs.Room.{IsWithin, sum_from}
-use Rattle.card_places.proofs.Rooms.{all_counted, total}
+use Rattle.card_places.proofs.Rooms.{all_counted}
 use Rattle.card_places.proofs.Rooms as rooms
 
 -- an element of the first of two lists

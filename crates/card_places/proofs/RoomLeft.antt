@@ -1,7 +1,6 @@
 -- There is room for the next card that passes.
-use Rattle.std.proofs.Common.{◌≡◌, ℕ, zero, suc, ◌+◌, ◌<◌, ◌≤◌, Bool, true, ◌&&◌, cond, List, [], ◌∷◌, map, take, length, count_by, get_or, ap, arith}
-use Rattle.list_laws.proofs.Counting.{count_by-cons, counts_fewer}
-use Rattle.list_laws.proofs.Tests.{first_of_both}
+use Rattle.std.proofs.Common.{◌≡◌, ℕ, zero, suc, ◌+◌, ◌<◌, ◌≤◌, Bool, true, cond, List, [], ◌∷◌, map, take, length, count_by, get_or, ap, arith}
+use Rattle.list_laws.proofs.Counting.{count_by-cons}
 use Rattle.play_event.specs.Places.{Place}
 use Rattle.card_places.specs.declared.dealt_card.DealtCard.{DealtCard}
 use Rattle.card_places.specs.Plain.{place_of}
@@ -13,7 +12,3 @@ count_room p (row ∷ rows) zero d within is =
     omega (arith, count_by-cons p (place_of row) (map place_of rows), one)
 count_room p (row ∷ rows) (suc i) d within is =
     omega (arith, count_by-cons p (place_of row) (map place_of (take i rows)), count_by-cons p (place_of row) (map place_of rows), count_room p rows i d (omega (arith, within)) is)
-
--- fewer pass two tests than one
-pub count_both : (p q : Place → Bool) (placed : List Place) → count_by (λ place. p place && q place) placed ≤ count_by p placed
-count_both p q placed = counts_fewer (λ place. p place && q place) p (λ place. first_of_both (p place) (q place)) placed

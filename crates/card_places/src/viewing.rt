@@ -1,5 +1,5 @@
 //! Hands, up-cards and the board are read from the places.
-ghost use Rattle.std.specs.Prelude.{◌≡◌, ℕ, ◌≤◌, ◌&&◌, true, None, Some, map};
+ghost use Rattle.std.specs.Prelude.{◌≡◌, ℕ, ◌≤◌, ◌&&◌, true, None, Some, map, ◌≢◌, ◌<◌, [], ◌∷◌, ◌++◌, length};
 ghost use Rattle.std.specs.List.{list_any};
 ghost use Rattle.card_set.specs.Known as known;
 ghost use Rattle.card_set.specs.Row.{cards_of, slots_of};
@@ -85,17 +85,16 @@ pub fn board(state: &CardState) -> CardRow
     ensures { cards_of result
         ≡ known.known_cards (held.held_slots None (placed state.now.places)) }
 {
-    known(&held_slots(state, None))
+    known(&board_slots(state))
 }
 
-// What an owner has on the table, in the order of dealing.
-fn held_slots(state: &CardState, owner: Option<Seat>) -> SlotRow
-    requires { is_owner state.now.seats (seat_said owner) ≡ true }
-    ensures { slots_of result ≡ held.held_slots (seat_said owner) (placed state.now.places) }
+// What lies on the board, in the order of dealing.
+fn board_slots(state: &CardState) -> SlotRow
+    ensures { slots_of result ≡ held.held_slots None (placed state.now.places) }
 {
     let mut slots = SlotRow::new();
     for card in state.places.as_slice() {
-        if card.held_by(owner) {
+        if card.held_by(None) {
             slots.push(card.slot);
         }
     }

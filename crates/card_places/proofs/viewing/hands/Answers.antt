@@ -21,4 +21,4 @@ put_held-requires-clause-room c =
     let seat = c.in-Some.seat in
     let at = holder_in t rows c.loop-card.card-index c.card-item.result c.holder.result seat all c.loop-card-test.true c.card-item.is c.holder.ensures c.in-Some.is in
     row_room t rows c.loop-card.card-index c.card-item.result seat.number (is_held_by seat.number) (slots_of_hand c.loop-card.row seat.number) all c.loop-card-test.true c.card-item.is at.1 (λ place has. has) at.0
-        (c.loop-card.invariant.1 seat.number seat.first (seat_parts t.seats seat.number at.1).1)
+    (c.loop-card.invariant.1 seat.number seat.first (seat_parts t.seats seat.number at.1).1)
