@@ -15,6 +15,7 @@ pub mod StateKept
 pub mod Legal
 pub mod InOrder
 pub mod RoomLeft
+pub mod SeatRoom
 pub mod Tallies
 pub mod NamesLeast
 pub mod MarksLeast

@@ -13,7 +13,8 @@ use Rattle.play_event.specs.Places.{Place, is_same_owner, is_in_group, is_held_b
 use Rattle.card_places.specs.declared.dealt_card.DealtCard.{DealtCard}
 use Rattle.card_places.specs.declared.card_state.CardState.{CardState}
 use Rattle.card_places.specs.Placed.{placed}
-use Rattle.card_places.specs.Plain.{place_of, seat_of}
+use Rattle.card_places.specs.Plain.{place_of}
+use Rattle.chip_ledger.specs.SeatsSaid.{seat_said}
 use Rattle.card_places.specs.Room.{is_seat_of, is_street, hole_most, IsWithin}
 use Rattle.card_places.proofs.HeldWithin.{seven_held}
 use Rattle.card_places.proofs.RoomLeft.{count_room}
@@ -32,10 +33,10 @@ seat_in code seats rows i d seat within before held =
     (count_room (is_in_group (Some seat) place.street) rows i d before grouped) (within (Some seat) place.street)
 
 -- the holder of a card has it, and is a seat of the hand
-pub holder_in : (t : CardState) (rows : List DealtCard) (i : ℕ) (card : DealtCard) (holder : Option Seat) (seat : Seat) → map place_of rows ≡ placed t.places → i < length rows → card ≡ get_or rows i card → ((number : ℕ) → is_held_by number (place_of card) ≡ is_same_owner (seat_of holder) (Some number)) → holder ≡ Some seat → (is_held_by seat.number (place_of card) ≡ true) × (is_seat_of t.seats seat.number ≡ true)
+pub holder_in : (t : CardState) (rows : List DealtCard) (i : ℕ) (card : DealtCard) (holder : Option Seat) (seat : Seat) → map place_of rows ≡ placed t.places → i < length rows → card ≡ get_or rows i card → ((number : ℕ) → is_held_by number (place_of card) ≡ is_same_owner (seat_said holder) (Some number)) → holder ≡ Some seat → (is_held_by seat.number (place_of card) ≡ true) × (is_seat_of t.seats seat.number ≡ true)
 holder_in t rows i card holder seat all before here has is =
     let within : IsWithin t.table.code t.seats (map place_of rows) = subst (λ (ps : List Place). IsWithin t.table.code t.seats ps) (sym all) t.within in
-    let held : is_held_by seat.number (place_of card) ≡ true = has seat.number ∙ ap (λ (o : Option Seat). is_same_owner (seat_of o) (Some seat.number)) is ∙ is_same_owner-self (Some seat.number) in
+    let held : is_held_by seat.number (place_of card) ≡ true = has seat.number ∙ ap (λ (o : Option Seat). is_same_owner (seat_said o) (Some seat.number)) is ∙ is_same_owner-self (Some seat.number) in
     (held, seat_in t.table.code t.seats rows i card seat.number within before (ap (λ (r : DealtCard). is_held_by seat.number (place_of r)) (sym here) ∙ held))
 
 -- a row of those cards of a seat that pass, and come before this one, has room for it

@@ -1,5 +1,5 @@
 //! A dealt card says whose it is, when it was dealt, what is known of it, and whether it is gone.
-ghost use Rattle.std.specs.Prelude.{◌≡◌};
+ghost use Rattle.std.specs.Prelude.{◌≡◌, ℕ, Some};
 ghost use Rattle.play_event.specs.Places as places;
 ghost use Rattle.play_event.specs.Places.{is_in_group};
 ghost use Rattle.play_event.specs.Held.{is_held};
@@ -46,6 +46,18 @@ impl DealtCard {
         ensures { result ≡ is_held (seat_said owner) (place_of self.now) }
     {
         is_same_owner(self.owner, owner) && self.gone_after.is_none()
+    }
+
+    /// The seat that has the card. None has one of the board, or one that is gone.
+    pub fn holder(&self) -> Option<Seat>
+        ensures { (seat : ℕ) → places.is_held_by seat (place_of self.now)
+            ≡ places.is_same_owner (seat_said result) (Some seat) }
+    {
+        if self.gone_after.is_none() {
+            self.owner
+        } else {
+            None
+        }
     }
 
     /// The card is one of the street and the owner.

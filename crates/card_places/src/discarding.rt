@@ -5,10 +5,10 @@ ghost use Rattle.card_set.specs.Row.{slots_of};
 ghost use Rattle.play_event.specs.Naming.{after_discard};
 ghost use Rattle.play_event.specs.Places.{is_held_by};
 ghost use Rattle.card_places.specs.Placed.{placed};
+ghost use Rattle.chip_ledger.specs.SeatsSaid.{seat_said};
 ghost use Rattle.card_places.specs.Refusals as why;
 ghost use Rattle.card_places.specs.Room.{is_seat_of};
 ghost use Rattle.card_places.specs.Discarded.{IsDiscarded, IsDiscardSearch};
-ghost use Rattle.chip_ledger.specs.SeatsSaid.{seat_said};
 
 use crate::card_state::CardState;
 use crate::deal_table::DealTable;

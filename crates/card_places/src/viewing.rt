@@ -1,5 +1,5 @@
 //! Hands, up-cards and the board are read from the places.
-ghost use Rattle.std.specs.Prelude.{◌≡◌, ℕ, ◌≤◌, ◌&&◌, true, None, Some, map, ◌≢◌, ◌<◌, [], ◌∷◌, ◌++◌, length};
+ghost use Rattle.std.specs.Prelude.{◌≡◌, ◌≢◌, ℕ, ◌<◌, ◌≤◌, ◌&&◌, None, Some, [], ◌∷◌, ◌++◌, length};
 ghost use Rattle.std.specs.List.{list_any};
 ghost use Rattle.card_set.specs.Known as known;
 ghost use Rattle.card_set.specs.Row.{cards_of, slots_of};
@@ -9,13 +9,10 @@ ghost use Rattle.play_event.specs.Places.{is_held_by};
 ghost use Rattle.play_event.specs.SeatSlots.{slots_of_hand, ups_of};
 ghost use Rattle.play_event.specs.Held as held;
 ghost use Rattle.card_places.specs.Placed.{placed};
-ghost use Rattle.card_places.specs.Plain.{place_of};
-ghost use Rattle.card_places.specs.Room.{is_owner};
-ghost use Rattle.chip_ledger.specs.SeatsSaid.{seat_said};
 
 use crate::card_state::CardState;
 use crate::names::{is_unknown, known};
-use card_set::{CardRow, SlotRow};
+use card_set::{CardRow, Slot, SlotRow};
 use chip_ledger::{LiveRow, Seat};
 use play_event::{HandRow, UpRow};
 
@@ -58,26 +55,28 @@ pub fn up(state: &CardState) -> UpRow
         ≡ places.up_slots state.now.table.code (placed state.now.places) seat }
 {
     let mut row = UpRow::new(state.seats);
-    for index in 0..state.seats {
-        let seat = Seat { number: index + 1 };
-        row.set(seat, up_slots(state, seat));
+    for card in state.places.as_slice() {
+        if let Some(seat) = card.holder() {
+            if state.table.is_up(card) {
+                put_up(&mut row, seat, card.slot);
+            }
+        }
     }
     row
 }
 
-// The up-cards of a seat, in the order of dealing.
-fn up_slots(state: &CardState, seat: Seat) -> SlotRow
-    requires { seat.number ≤ state.now.seats }
-    ensures { slots_of result
-        ≡ places.up_slots state.now.table.code (placed state.now.places) seat.number }
+// Puts a slot behind the other up-cards of the seat.
+fn put_up(row: &mut UpRow, seat: Seat, slot: Slot)
+    requires seat { seat.number ≤ row.old.seats }
+    requires room { length (ups_of row.old seat.number) < 7 }
+    ensures seats { row.new.seats ≡ row.old.seats }
+    ensures slot { ups_of row.new seat.number ≡ ups_of row.old seat.number ++ slot ∷ [] }
+    ensures others { (n : ℕ)
+        → 1 ≤ n → n ≢ seat.number → ups_of row.new n ≡ ups_of row.old n }
 {
-    let mut slots = SlotRow::new();
-    for card in state.places.as_slice() {
-        if card.held_by(Some(seat)) && state.table.is_up(card) {
-            slots.push(card.slot);
-        }
-    }
-    slots
+    let mut cards = row.get(seat);
+    cards.push(slot);
+    row.set(seat, cards);
 }
 
 /// The known cards of the board, in the order of dealing.

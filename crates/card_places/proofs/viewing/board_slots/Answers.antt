@@ -7,8 +7,6 @@ use Rattle.card_places.specs.Plain.{place_of}
 use Rattle.card_places.specs.declared.dealt_card.DealtCard.{DealtCard}
 use Rattle.card_places.proofs.HeldWithin.{seven_held}
 use Rattle.card_places.proofs.RoomLeft.{count_room}
-use Rattle.card_places.proofs.viewing.held_slots.Goals as goal
-use Rattle.chip_ledger.specs.SeatsSaid.{seat_said}
 use Rattle.card_places.proofs.viewing.board_slots.Goals as goal
 
 pub push-requires : goal.push-requires

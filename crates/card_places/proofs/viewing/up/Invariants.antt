@@ -1,10 +1,10 @@
-use Rattle.std.proofs.Common.{◌≡◌, ◌≤◌, ℕ}
+use Rattle.std.proofs.Common.{◌≡◌, ◌≤◌, ℕ, map, take}
 use Rattle.play_event.specs.Places.{up_slots}
 use Rattle.play_event.specs.SeatSlots.{ups_of}
-use Rattle.card_places.specs.Placed.{placed}
+use Rattle.card_places.specs.Plain.{place_of}
 use Rattle.card_places.proofs.viewing.up.Given as goal
 
-abbrev pub invariant-loop-index : goal.invariant-loop-index
-invariant-loop-index l =
+abbrev pub invariant-loop-card : goal.invariant-loop-card
+invariant-loop-card l =
     (l.row.seats ≡ l.state.seats)
-    × ((n : ℕ) → 1 ≤ n → n ≤ l.index → ups_of l.row n ≡ up_slots l.state.table.code (placed l.state.places) n)
+    × ((n : ℕ) → 1 ≤ n → n ≤ l.state.seats → ups_of l.row n ≡ up_slots l.state.table.code (map place_of (take l.card-index l.card-items)) n)
