@@ -1,16 +1,14 @@
 -- Where blinds decide who opens, no card is dealt face up.
-use Rattle.std.proofs.Common.{◌≡◌, ℕ, zero, suc, ◌-◌, false, ◌&&◌, nat_lt, nat_le, List, [], ◌∷◌, map, slice_get, refl, sym, ap, ◌∙◌}
+use Rattle.std.proofs.Common.{◌≡◌, ℕ, zero, suc, ◌-◌, false, ◌&&◌, nat_lt, nat_le, List, [], ◌∷◌, map, slice_get, refl, ap}
 use Rattle.std.specs.Option.{option_map_or}
-use Rattle.card_set.specs.declared.card.Slot.{Slot}
 use Rattle.play_event.specs.declared.code.Code.{Code}
 use Rattle.play_event.specs.declared.code.Code.TheVariants as games
-use Rattle.play_event.specs.declared.limit.Opener.{Opener}
 use Rattle.play_event.specs.declared.limit.Opener.TheVariants as openers
 use Rattle.play_event.specs.declared.street.Street.{Street}
 use Rattle.play_event.specs.Games.{game_of}
 use Rattle.play_event.specs.Past.{Past}
-use Rattle.play_event.specs.Places.{Place, is_held_by, is_up, up_slots}
-use Rattle.play_event.specs.Streets.{down_cards_on, up_cards_on}
+use Rattle.play_event.specs.Places.{Place, is_held_by, is_up}
+use Rattle.play_event.specs.Streets.{down_cards_on}
 use Rattle.play_event.specs.Table.{places_of, up_cards}
 use Rattle.list_laws.proofs.Lists.{filter_none}
 use Rattle.list_laws.proofs.Tests.{and_off}
