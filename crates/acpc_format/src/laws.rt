@@ -26,7 +26,8 @@ ghost use Rattle.hand_records.specs.Plays.{moves_written};
 pub fn law_of_reading_again()
     ensures { (game : AnyGame) (keep : Keep) (plays : List Play)
         → length plays ≤ MOST_HANDS → AllByRecursion IsSound plays → AllByRecursion HasTexts plays
-        → first_refusal (unspelled game keep) plays ≡ None → sum_by moves_written plays ≤ MOST_FILE_MOVES
+        → first_refusal (unspelled game keep) plays ≡ None
+        → sum_by moves_written plays ≤ MOST_FILE_MOVES
         → reading game (log_text game.no_limit plays) ≡ Ok (hands_again game.no_limit 0 plays) }
 {}
 
@@ -45,7 +46,8 @@ pub fn law_of_one_setup()
 pub fn law_of_reading_back()
     ensures { (game : AnyGame) (keep : Keep) (plays : List Play)
         → length plays ≤ MOST_HANDS → AllByRecursion IsSound plays → AllByRecursion HasTexts plays
-        → first_refusal (unspelled game keep) plays ≡ None → sum_by moves_written plays ≤ MOST_FILE_MOVES
+        → first_refusal (unspelled game keep) plays ≡ None
+        → sum_by moves_written plays ≤ MOST_FILE_MOVES
         → (records : List Record) → AllByRecursion (IsOfGame game) records
         → reading game (log_text game.no_limit plays) ≡ Ok (map record_said records)
         → AreAgain KeepsNotes 0 plays records }

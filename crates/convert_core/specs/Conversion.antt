@@ -1,4 +1,4 @@
--- What a conversion comes to: the headline, over bytes.
+-- What a conversion of bytes comes to: its plays in the other notation, the first refused hand, or the first fact without a spelling.
 use Rattle.std.specs.Prelude.{◌≡◌, ℕ, List, Option, Some, None, Result, Ok, Err}
 use Rattle.hand_records.specs.declared.record.Record.{Record}
 use Rattle.hand_records.specs.declared.trace.Play.{Play}
