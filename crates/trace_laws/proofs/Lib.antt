@@ -10,4 +10,3 @@ pub mod TraceStacks
 pub mod TraceWinners
 pub mod NoChipsMade
 pub mod SameShares
-pub mod Tidied

@@ -7,10 +7,14 @@ use Rattle.serde_json.specs.Written.{compact_text, has_float}
 use Rattle.ohh_line.specs.Tree.{hand_tree}
 use Rattle.ohh_line.proofs.Plain.{hand_plain}
 use Rattle.ohh_line.proofs.document.make_text.Goals as goal
-use Rattle.trace_laws.proofs.Tidied.{sound_tidy}
+use Rattle.canon_laws.proofs.MoveCounts.{tidy_within}
+use Rattle.canonical_play.specs.Tidy.{IsTidy}
+use Rattle.hand_records.specs.SoundRecord.{script_said}
 
 pub hand_value-requires : goal.hand_value-requires
-hand_value-requires c = sound_tidy c.args.play.now c.requires
+hand_value-requires c =
+    let hand = c.args.play.now.hand in
+    subst IsTidy (sym c.requires.trace.core) (tidy_within hand.setup hand.rules (script_said hand) c.requires.legal.played c.requires.within.moves)
 
 pub returns-clause-text : goal.returns-clause-text
 returns-clause-text c =

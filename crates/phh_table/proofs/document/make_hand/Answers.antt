@@ -1,5 +1,10 @@
+use Rattle.std.proofs.Common.{subst, sym}
+use Rattle.canon_laws.proofs.MoveCounts.{tidy_within}
+use Rattle.canonical_play.specs.Tidy.{IsTidy}
+use Rattle.hand_records.specs.SoundRecord.{script_said}
 use Rattle.phh_table.proofs.document.make_hand.Goals as goal
-use Rattle.trace_laws.proofs.Tidied.{sound_tidy}
 
 pub put_trace-requires-clause-tidy : goal.put_trace-requires-clause-tidy
-put_trace-requires-clause-tidy c = sound_tidy c.args.play.now c.requires
+put_trace-requires-clause-tidy c =
+    let hand = c.args.play.now.hand in
+    subst IsTidy (sym c.requires.trace.core) (tidy_within hand.setup hand.rules (script_said hand) c.requires.legal.played c.requires.within.moves)
