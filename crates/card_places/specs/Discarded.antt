@@ -10,12 +10,12 @@ use Rattle.card_places.specs.declared.card_state.CardState.{CardState}
 use Rattle.card_places.specs.declared.search.Search.{Search}
 use Rattle.card_places.specs.Drawn.{has_drawn_at, named_at}
 use Rattle.card_places.specs.Placed.{placed}
-use Rattle.card_places.specs.Searches.{lacks_place, searched}
+use Rattle.card_places.specs.Searches.{has_unplaced_name, searched}
 
 -- a search is that of a discard: what it makes of the places, and whether it lacks some
 pub record IsDiscardSearch (code : Code) (s : Search) (placed : List Place) (on seat : ℕ) (cards : List Slot) : Type 0 where
   pub after : searched code s placed ≡ after_discard on seat cards placed
-  pub lacking : lacks_place code s placed ≡ has_no_place (filter (is_held_by seat) placed) (known_cards cards) (blanks_in cards)
+  pub lacking : has_unplaced_name code s placed ≡ has_no_place (filter (is_held_by seat) placed) (known_cards cards) (blanks_in cards)
 
 -- a seat drew and discarded these cards, and nothing else changed
 pub record IsDiscarded (old new : CardState) (on seat : ℕ) (cards : List Slot) : Type 0 where

@@ -21,9 +21,9 @@ abbrev pub searched : Code → Search → List Place → List Place
 searched code s places = search_from code s 0 s.blanks places
 
 -- more names and blanks look for an unknown place than there are covered ones
-abbrev pub lacks_place : Code → Search → List Place → Bool
-lacks_place code s places = nat_lt (count_by (λ place. is_unknown place.slot) (covered code s.seat.number s.all places)) (length (cards_of s.others) + s.blanks)
+abbrev pub has_unplaced_name : Code → Search → List Place → Bool
+has_unplaced_name code s places = nat_lt (count_by (λ place. is_unknown place.slot) (covered code s.seat.number s.all places)) (length (cards_of s.others) + s.blanks)
 
 -- a known card of the covered places is not among the names
-abbrev pub leaves_out : Code → Search → List Place → Bool
-leaves_out code s places = list_any (λ place. is_left_out (cards_of s.names) place.slot) (covered code s.seat.number s.all places)
+abbrev pub has_left_out_card : Code → Search → List Place → Bool
+has_left_out_card code s places = list_any (λ place. is_left_out (cards_of s.names) place.slot) (covered code s.seat.number s.all places)

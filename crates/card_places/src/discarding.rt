@@ -15,7 +15,7 @@ use crate::deal_table::DealTable;
 use crate::dealt_cards::DealtCards;
 use crate::misplacing::is_misplacing;
 use crate::names::{blanks, known};
-use crate::naming::lacks_place;
+use crate::naming::has_unplaced_name;
 use crate::search::{Search, run, search_of};
 use card_set::SlotRow;
 use chip_ledger::{LiveRow, Seat};
@@ -73,7 +73,7 @@ fn discard_why_on(
         Some(Illegal::WrongCount)
     } else if is_misplacing(&state.table, rows, search) {
         Some(Illegal::CardTaken)
-    } else if lacks_place(&state.table, rows, search) {
+    } else if has_unplaced_name(&state.table, rows, search) {
         Some(Illegal::NotHeld)
     } else {
         None

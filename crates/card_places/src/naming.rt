@@ -12,8 +12,8 @@ use crate::names::{is_unknown, left_out};
 use crate::search::{Search, covers};
 
 /// Whether a known card of the covered places is not named.
-pub fn leaves_out(table: &DealTable, rows: &[DealtCard], search: &Search) -> bool
-    ensures { result ≡ searches.leaves_out table.now.code search.now (map place_of rows.now) }
+pub fn has_left_out_card(table: &DealTable, rows: &[DealtCard], search: &Search) -> bool
+    ensures { result ≡ searches.has_left_out_card table.now.code search.now (map place_of rows.now) }
 {
     for row in rows {
         if covers(table, row, search.seat, search.all)
@@ -26,8 +26,8 @@ pub fn leaves_out(table: &DealTable, rows: &[DealtCard], search: &Search) -> boo
 }
 
 /// Whether fewer of the covered places are unknown than names and blanks look for one.
-pub fn lacks_place(table: &DealTable, rows: &[DealtCard], search: &Search) -> bool
-    ensures { result ≡ searches.lacks_place table.now.code search.now (map place_of rows.now) }
+pub fn has_unplaced_name(table: &DealTable, rows: &[DealtCard], search: &Search) -> bool
+    ensures { result ≡ searches.has_unplaced_name table.now.code search.now (map place_of rows.now) }
 {
     free_count(table, rows, search) < search.others.len as usize + search.blanks as usize
 }

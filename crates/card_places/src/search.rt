@@ -49,10 +49,10 @@ pub fn search_of(
         ≡ after_named table.now.code seat.number all
         (mark_by street (length (placed places.now))) (cards_of names.now) blanks
         (placed places.now) }
-    ensures lacking { searches.lacks_place table.now.code result (placed places.now)
+    ensures lacking { searches.has_unplaced_name table.now.code result (placed places.now)
         ≡ reasons.has_no_place (covered table.now.code seat.number all (placed places.now))
         (cards_of names.now) blanks }
-    ensures left_out { searches.leaves_out table.now.code result (placed places.now)
+    ensures left_out { searches.has_left_out_card table.now.code result (placed places.now)
         ≡ list_any (λ place. reasons.is_left_out (cards_of names.now) place.slot)
         (covered table.now.code seat.number all (placed places.now)) }
 {

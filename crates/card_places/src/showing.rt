@@ -17,7 +17,7 @@ use crate::dealt_card::DealtCard;
 use crate::dealt_cards::DealtCards;
 use crate::misplacing::is_misplacing;
 use crate::names::is_unknown;
-use crate::naming::{lacks_place, leaves_out};
+use crate::naming::{has_left_out_card, has_unplaced_name};
 use crate::search::{Search, run, search_of};
 use card_set::CardRow;
 use chip_ledger::{LiveRow, Seat};
@@ -71,7 +71,9 @@ fn show_why_on(
         Some(Illegal::WrongCount)
     } else if is_misplacing(&state.table, rows, search) {
         Some(Illegal::CardTaken)
-    } else if lacks_place(&state.table, rows, search) || leaves_out(&state.table, rows, search) {
+    } else if has_unplaced_name(&state.table, rows, search)
+        || has_left_out_card(&state.table, rows, search)
+    {
         Some(Illegal::NotHeld)
     } else {
         None

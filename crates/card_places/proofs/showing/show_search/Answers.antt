@@ -4,7 +4,7 @@ use Rattle.card_set.specs.Row.{cards_of}
 use Rattle.play_event.specs.CardReasons.{has_no_place, is_show_of_others}
 use Rattle.play_event.specs.Naming.{after_names, is_covered, other_names}
 use Rattle.card_places.specs.Placed.{placed}
-use Rattle.card_places.specs.Searches.{leaves_out}
+use Rattle.card_places.specs.Searches.{has_left_out_card}
 use Rattle.card_places.proofs.showing.show_search.Goals as goal
 
 pub returns : goal.returns
@@ -17,7 +17,7 @@ returns c =
     record {
       after = c.search_of.ensures.after
           ∙ ap (λ (all : Bool). after_names (is_covered code seat all) (λ place. place) names (other_names (filter (is_covered code seat all) ps) names) 0 ps) c.is_show_of_all-all.ensures;
-      others = ap (λ b. b || leaves_out code c.search_of.result ps) c.search_of.ensures.lacking
+      others = ap (λ b. b || has_left_out_card code c.search_of.result ps) c.search_of.ensures.lacking
           ∙ ap (λ b. has_no_place held names 0 || b) c.search_of.ensures.left_out
           ∙ ap (λ (all : Bool). is_show_of_others (filter (is_covered code seat all) ps) names) c.is_show_of_all-all.ensures;
     }
