@@ -13,7 +13,8 @@ use crate::search::{Search, covers};
 
 /// Whether a known card of the covered places is not named.
 pub fn has_left_out_card(table: &DealTable, rows: &[DealtCard], search: &Search) -> bool
-    ensures { result ≡ searches.has_left_out_card table.now.code search.now (map place_of rows.now) }
+    ensures { result
+        ≡ searches.has_left_out_card table.now.code search.now (map place_of rows.now) }
 {
     for row in rows {
         if covers(table, row, search.seat, search.all)
@@ -27,7 +28,8 @@ pub fn has_left_out_card(table: &DealTable, rows: &[DealtCard], search: &Search)
 
 /// Whether fewer of the covered places are unknown than names and blanks look for one.
 pub fn has_unplaced_name(table: &DealTable, rows: &[DealtCard], search: &Search) -> bool
-    ensures { result ≡ searches.has_unplaced_name table.now.code search.now (map place_of rows.now) }
+    ensures { result
+        ≡ searches.has_unplaced_name table.now.code search.now (map place_of rows.now) }
 {
     free_count(table, rows, search) < search.others.len as usize + search.blanks as usize
 }
