@@ -1,5 +1,5 @@
 -- What holds of a play that the logs of a game spell.
-use Rattle.std.proofs.Common.{◌≡◌, Bool, true, false, ◌==◌, ◌&&◌, not, nat_lt, bytes_eq, if◌then◌else◌, Option, Some, None, refl, true≢false}
+use Rattle.std.proofs.Common.{◌≡◌, Bool, true, false, ◌==◌, ◌&&◌, not, nat_lt, bytes_eq, if◌then◌else◌, Option, Some, None, refl}
 use Rattle.std.specs.List.{list_any}
 use Rattle.std.proofs.lemmas.Bool.{eqb-true}
 use Rattle.chip_ledger.specs.Seat.{seats_of}

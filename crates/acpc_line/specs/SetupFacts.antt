@@ -1,5 +1,5 @@
 -- What of a hand's setup a game must have, so that its logs spell the hand.
-use Rattle.std.specs.Prelude.{ℕ, ◌==◌, ◌&&◌, Bool, false, not, nat_lt, bytes_eq, if◌then◌else◌, List, [], ◌∷◌}
+use Rattle.std.specs.Prelude.{◌==◌, ◌&&◌, Bool, false, not, nat_lt, bytes_eq, if◌then◌else◌, List, [], ◌∷◌}
 use Rattle.std.specs.List.{list_any}
 use Rattle.chip_ledger.specs.Greatest.{greatest}
 use Rattle.play_event.specs.declared.code.Code.{Code}

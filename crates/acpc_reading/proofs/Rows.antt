@@ -1,5 +1,5 @@
 -- Rows that are written entry by entry, as the parts of a field are read.
-use Rattle.std.proofs.Common.{◌≡◌, ℕ, zero, suc, ◌+◌, ◌<◌, List, [], ◌∷◌, ◌++◌, length, set, get_or, Option, Result, Ok, ℤ, refl, sym, ap, ◌∙◌, arith}
+use Rattle.std.proofs.Common.{◌≡◌, ℕ, ◌+◌, List, [], ◌∷◌, ◌++◌, length, Option, Result, Ok, ℤ, refl, sym, ap, ◌∙◌}
 use Rattle.first_fault.specs.declared.stop.Stop.{Stop}
 use Rattle.first_fault.specs.Reading.{Fails}
 use Rattle.acpc_text.specs.declared.fault.LineFault.{LineFault}

@@ -58,84 +58,6 @@ pub struct Betting<V: Variant> {
     pub ghost seat: { KeepsSeat table } by { Prim.hlevel props },
 }
 
-// The game is a game of stud.
-fn stud<V: Variant>() -> bool
-    ensures { result ≡ is_stud V.CODE }
-{
-    match V::OPEN {
-        Opener::Blinds => false,
-        Opener::LowUp | Opener::HighUp => true,
-    }
-}
-
-// A bring-in or a move is due.
-fn betting_due(due: Due) -> bool
-    ensures { result ≡ is_bet_due due }
-{
-    match due {
-        Due::BringIn | Due::Move => true,
-        Due::Deal(_) | Due::Draw(_) | Due::Show | Due::Over => false,
-    }
-}
-
-// What is due after a move that led to these numbers.
-fn settle<V: Variant>(table: &mut Table)
-    requires code { table.old.setup.code ≡ V.CODE }
-    requires first { 1 ≤ table.old.street }
-    requires last { table.old.street ≤ V.STREETS }
-    ensures settled { IsSettledTo table.old table.new }
-    ensures first { 1 ≤ table.new.street }
-    ensures last { table.new.street ≤ V.STREETS }
-    ensures here { is_of_street table.new.street table.new.due ≡ true }
-    ensures begins { is_before_moves table.new.due ≡ true → table.new.last ≡ None }
-    ensures turn { KeepsTurn table.new }
-    ensures seat { KeepsSeat table.new }
-{
-    if table.live_count() <= 1 {
-        table.set_due(Due::Over);
-    } else {
-        pass::<V>(table);
-    }
-}
-
-// What is due where no bring-in is: the turn is passed on, or the next street begins.
-fn pass<V: Variant>(table: &mut Table)
-    requires code { table.old.setup.code ≡ V.CODE }
-    requires first { 1 ≤ table.old.street }
-    requires last { table.old.street ≤ V.STREETS }
-    ensures passed { IsPassedTo table.old table.new }
-    ensures first { 1 ≤ table.new.street }
-    ensures last { table.new.street ≤ V.STREETS }
-    ensures here { is_of_street table.new.street table.new.due ≡ true }
-    ensures begins { is_before_moves table.new.due ≡ true → table.new.last ≡ None }
-    ensures turn { KeepsTurn table.new }
-    ensures seat { KeepsSeat table.new }
-{
-    let street = table.street;
-    let opener = table.blinds_opener();
-    let next = table.mover(opener);
-    if next.is_some() {
-        table.set_turn(Due::Move, next);
-    } else if street < V::STREETS {
-        table.next_street(cards::<V>(street + 1));
-    } else {
-        table.set_due(Due::Show);
-    }
-}
-
-// The cards with which a street begins.
-fn cards<V: Variant>(street: u8) -> Due
-    requires first { 1 ≤ street }
-    requires last { street ≤ V.STREETS }
-    ensures { result ≡ street_cards V.CODE street }
-{
-    if V::street(street).draws {
-        Due::Draw(street)
-    } else {
-        Due::Deal(street)
-    }
-}
-
 impl<V: Variant> Betting<V> {
     /// The betting before the first card: antes and blinds are posted, and the first deal is due.
     pub fn start(setup: &Setup, rules: &Rules) -> Self
@@ -513,5 +435,83 @@ impl<V: Variant> Betting<V> {
             Size::Big => self.table.setup.big_bet,
             Size::Least => self.table.setup.min_bet,
         }
+    }
+}
+
+// The game is a game of stud.
+fn stud<V: Variant>() -> bool
+    ensures { result ≡ is_stud V.CODE }
+{
+    match V::OPEN {
+        Opener::Blinds => false,
+        Opener::LowUp | Opener::HighUp => true,
+    }
+}
+
+// A bring-in or a move is due.
+fn betting_due(due: Due) -> bool
+    ensures { result ≡ is_bet_due due }
+{
+    match due {
+        Due::BringIn | Due::Move => true,
+        Due::Deal(_) | Due::Draw(_) | Due::Show | Due::Over => false,
+    }
+}
+
+// What is due after a move that led to these numbers.
+fn settle<V: Variant>(table: &mut Table)
+    requires code { table.old.setup.code ≡ V.CODE }
+    requires first { 1 ≤ table.old.street }
+    requires last { table.old.street ≤ V.STREETS }
+    ensures settled { IsSettledTo table.old table.new }
+    ensures first { 1 ≤ table.new.street }
+    ensures last { table.new.street ≤ V.STREETS }
+    ensures here { is_of_street table.new.street table.new.due ≡ true }
+    ensures begins { is_before_moves table.new.due ≡ true → table.new.last ≡ None }
+    ensures turn { KeepsTurn table.new }
+    ensures seat { KeepsSeat table.new }
+{
+    if table.live_count() <= 1 {
+        table.set_due(Due::Over);
+    } else {
+        pass::<V>(table);
+    }
+}
+
+// What is due where no bring-in is: the turn is passed on, or the next street begins.
+fn pass<V: Variant>(table: &mut Table)
+    requires code { table.old.setup.code ≡ V.CODE }
+    requires first { 1 ≤ table.old.street }
+    requires last { table.old.street ≤ V.STREETS }
+    ensures passed { IsPassedTo table.old table.new }
+    ensures first { 1 ≤ table.new.street }
+    ensures last { table.new.street ≤ V.STREETS }
+    ensures here { is_of_street table.new.street table.new.due ≡ true }
+    ensures begins { is_before_moves table.new.due ≡ true → table.new.last ≡ None }
+    ensures turn { KeepsTurn table.new }
+    ensures seat { KeepsSeat table.new }
+{
+    let street = table.street;
+    let opener = table.blinds_opener();
+    let next = table.mover(opener);
+    if next.is_some() {
+        table.set_turn(Due::Move, next);
+    } else if street < V::STREETS {
+        table.next_street(cards::<V>(street + 1));
+    } else {
+        table.set_due(Due::Show);
+    }
+}
+
+// The cards with which a street begins.
+fn cards<V: Variant>(street: u8) -> Due
+    requires first { 1 ≤ street }
+    requires last { street ≤ V.STREETS }
+    ensures { result ≡ street_cards V.CODE street }
+{
+    if V::street(street).draws {
+        Due::Draw(street)
+    } else {
+        Due::Deal(street)
     }
 }

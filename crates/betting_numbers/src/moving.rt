@@ -13,6 +13,82 @@ use crate::table::Table;
 use chip_ledger::{LiveRow, Seat, SeatRow};
 use play_event::{Act, Due};
 
+impl Table {
+    /// A move of the seat to a target, where bets have this unit.
+    pub fn make(&mut self, seat: Seat, act: Act, target: u64, unit: u64)
+        requires in_hand { seat.number ≤ self.old.setup.stacks.seats }
+        requires reach { target ≤ all_in_seen self.old seat.number }
+        ensures { IsMoved self.old self.new seat.number (act_said act) target unit }
+    {
+        let price = self.price;
+        let bet = self.bets.get(seat);
+        let put = self.puts.get(seat);
+        let was_live = self.live.get(seat);
+        let was_able = self.able(seat);
+        let live = live_after(was_live, act);
+        let added = target.saturating_sub(bet);
+        let able = able_after(live, self.setup.stacks.get(seat), put + added);
+        let live_count = count_after(self.live_count, was_live, live);
+        let able_count = count_after(self.able_count, was_able, able);
+        let raised = raises(act);
+        let opens = raised || brings_in(act);
+        let opened = opens || self.opened;
+        self.bets.set(seat, bet + added);
+        self.puts.set(seat, put + added);
+        self.pot += added;
+        self.price = price.max(bet + added);
+        self.live.set(seat, live);
+        self.live_count = live_count;
+        self.able_count = able_count;
+        self.moved.set(seat, true);
+        keep(&mut self.since_rise, target <= price);
+        self.since_rise.set(seat, true);
+        self.last = Some(seat);
+        self.raises = raises_after(self.raises, raised);
+        self.full_raise = full_raise_after(self.full_raise, raised, target.saturating_sub(price));
+        self.full_bet = full_bet_after(self.full_bet, opens, unit, target);
+        self.doubled = doubled_after(self.doubled, raised, target, price);
+        self.opened = opened;
+    }
+
+    /// The next street begins with this due.
+    pub fn next_street(&mut self, due: Due)
+        requires { self.old.street < 255 }
+        ensures numbers { IsNextStreet self.old self.new }
+        ensures due { self.new.due ≡ due }
+        ensures last { self.new.last ≡ None }
+    {
+        self.street += 1;
+        self.due = due;
+        clear(&mut self.bets);
+        self.price = 0;
+        unflag(&mut self.moved);
+        unflag(&mut self.since_rise);
+        self.last = None;
+        self.raises = 0;
+        self.full_raise = self.setup.min_bet;
+        self.full_bet = 0;
+        self.doubled = 0;
+        self.opened = false;
+    }
+
+    /// Something else is due.
+    pub fn set_due(&mut self, due: Due)
+        ensures { self.new ≡ with_due self.old due }
+    {
+        let next = self.next;
+        self.set_turn(due, next);
+    }
+
+    /// Something else is due, of this seat where it is a move.
+    pub fn set_turn(&mut self, due: Due, next: Option<Seat>)
+        ensures { self.new ≡ with_turn self.old due next }
+    {
+        self.due = due;
+        self.next = next;
+    }
+}
+
 /// The move is a raise.
 pub fn raises(act: Act) -> bool
     ensures { result ≡ is_raise (act_said act) }
@@ -138,81 +214,5 @@ fn doubled_after(doubled: u64, raised: bool, target: u64, price: u64) -> u64
         (2 * target).saturating_sub(price).max(doubled)
     } else {
         doubled
-    }
-}
-
-impl Table {
-    /// A move of the seat to a target, where bets have this unit.
-    pub fn make(&mut self, seat: Seat, act: Act, target: u64, unit: u64)
-        requires in_hand { seat.number ≤ self.old.setup.stacks.seats }
-        requires reach { target ≤ all_in_seen self.old seat.number }
-        ensures { IsMoved self.old self.new seat.number (act_said act) target unit }
-    {
-        let price = self.price;
-        let bet = self.bets.get(seat);
-        let put = self.puts.get(seat);
-        let was_live = self.live.get(seat);
-        let was_able = self.able(seat);
-        let live = live_after(was_live, act);
-        let added = target.saturating_sub(bet);
-        let able = able_after(live, self.setup.stacks.get(seat), put + added);
-        let live_count = count_after(self.live_count, was_live, live);
-        let able_count = count_after(self.able_count, was_able, able);
-        let raised = raises(act);
-        let opens = raised || brings_in(act);
-        let opened = opens || self.opened;
-        self.bets.set(seat, bet + added);
-        self.puts.set(seat, put + added);
-        self.pot += added;
-        self.price = price.max(bet + added);
-        self.live.set(seat, live);
-        self.live_count = live_count;
-        self.able_count = able_count;
-        self.moved.set(seat, true);
-        keep(&mut self.since_rise, target <= price);
-        self.since_rise.set(seat, true);
-        self.last = Some(seat);
-        self.raises = raises_after(self.raises, raised);
-        self.full_raise = full_raise_after(self.full_raise, raised, target.saturating_sub(price));
-        self.full_bet = full_bet_after(self.full_bet, opens, unit, target);
-        self.doubled = doubled_after(self.doubled, raised, target, price);
-        self.opened = opened;
-    }
-
-    /// The next street begins with this due.
-    pub fn next_street(&mut self, due: Due)
-        requires { self.old.street < 255 }
-        ensures numbers { IsNextStreet self.old self.new }
-        ensures due { self.new.due ≡ due }
-        ensures last { self.new.last ≡ None }
-    {
-        self.street += 1;
-        self.due = due;
-        clear(&mut self.bets);
-        self.price = 0;
-        unflag(&mut self.moved);
-        unflag(&mut self.since_rise);
-        self.last = None;
-        self.raises = 0;
-        self.full_raise = self.setup.min_bet;
-        self.full_bet = 0;
-        self.doubled = 0;
-        self.opened = false;
-    }
-
-    /// Something else is due.
-    pub fn set_due(&mut self, due: Due)
-        ensures { self.new ≡ with_due self.old due }
-    {
-        let next = self.next;
-        self.set_turn(due, next);
-    }
-
-    /// Something else is due, of this seat where it is a move.
-    pub fn set_turn(&mut self, due: Due, next: Option<Seat>)
-        ensures { self.new ≡ with_turn self.old due next }
-    {
-        self.due = due;
-        self.next = next;
     }
 }

@@ -13,32 +13,6 @@ use crate::table::Table;
 use chip_ledger::Seat;
 use play_event::{Illegal, Limit, Reopen, Spelled};
 
-// A seat is named whose turn it is not.
-fn another(named: Option<Seat>, mover: Seat) -> bool
-    ensures { result ≡ is_another (seat_said named) mover.number }
-{
-    match named {
-        Some(seat) => seat.number != mover.number,
-        None => false,
-    }
-}
-
-// A call states other chips than it adds.
-fn stated_differs(stated: Option<u64>, due: u64) -> Option<Illegal>
-    ensures { result ≡ stated_why stated due }
-{
-    match stated {
-        Some(stated) => {
-            if stated == due {
-                None
-            } else {
-                Some(Illegal::AmountDiffers { stated, due })
-            }
-        }
-        None => None,
-    }
-}
-
 impl Table {
     /// Why a fold is refused.
     pub fn against_fold(&self, named: Option<Seat>, mover: Seat) -> Option<Illegal>
@@ -301,5 +275,31 @@ impl Table {
             None => true,
             Some(caps) => 4 < self.street || self.raises < caps[self.street as usize - 1],
         }
+    }
+}
+
+// A seat is named whose turn it is not.
+fn another(named: Option<Seat>, mover: Seat) -> bool
+    ensures { result ≡ is_another (seat_said named) mover.number }
+{
+    match named {
+        Some(seat) => seat.number != mover.number,
+        None => false,
+    }
+}
+
+// A call states other chips than it adds.
+fn stated_differs(stated: Option<u64>, due: u64) -> Option<Illegal>
+    ensures { result ≡ stated_why stated due }
+{
+    match stated {
+        Some(stated) => {
+            if stated == due {
+                None
+            } else {
+                Some(Illegal::AmountDiffers { stated, due })
+            }
+        }
+        None => None,
     }
 }

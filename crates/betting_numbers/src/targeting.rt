@@ -25,26 +25,6 @@ pub struct Targets {
     pub all_in: u64,
 }
 
-// The smaller of the full targets.
-fn smaller(fulls: (u128, Option<u128>)) -> u128
-    ensures { result ≡ smallest (fulls_list fulls) }
-{
-    match fulls.1 {
-        None => fulls.0,
-        Some(other) => fulls.0.min(other),
-    }
-}
-
-// The larger of the full targets.
-fn larger(fulls: (u128, Option<u128>)) -> u128
-    ensures { result ≡ greatest (fulls_list fulls) }
-{
-    match fulls.1 {
-        None => fulls.0,
-        Some(other) => fulls.0.max(other),
-    }
-}
-
 impl Table {
     /// Where the seat in turn may raise to, if it is known and may.
     pub fn targets_of(&self, turn: Option<Seat>, limit: Limit, size: u64) -> Option<Targets>
@@ -104,5 +84,25 @@ impl Table {
             Limit::Pot => all_in.min(self.ceiling(seat)),
             Limit::Fixed => u128::from(all_in).min(larger(self.fulls(size))) as u64,
         }
+    }
+}
+
+// The smaller of the full targets.
+fn smaller(fulls: (u128, Option<u128>)) -> u128
+    ensures { result ≡ smallest (fulls_list fulls) }
+{
+    match fulls.1 {
+        None => fulls.0,
+        Some(other) => fulls.0.min(other),
+    }
+}
+
+// The larger of the full targets.
+fn larger(fulls: (u128, Option<u128>)) -> u128
+    ensures { result ≡ greatest (fulls_list fulls) }
+{
+    match fulls.1 {
+        None => fulls.0,
+        Some(other) => fulls.0.max(other),
     }
 }

@@ -8,16 +8,6 @@ use crate::table::Table;
 use chip_ledger::{Seat, SeatRow};
 use play_event::Due;
 
-// No betting is left on the last street.
-fn after_betting(due: Due) -> bool
-    ensures { result ≡ is_after_betting due }
-{
-    match due {
-        Due::Show | Due::Over => true,
-        Due::Deal(_) | Due::Draw(_) | Due::BringIn | Due::Move => false,
-    }
-}
-
 impl Table {
     /// The chips that each seat has left.
     pub fn stacks_left(&self) -> SeatRow
@@ -53,5 +43,15 @@ impl Table {
             }
         }
         false
+    }
+}
+
+// No betting is left on the last street.
+fn after_betting(due: Due) -> bool
+    ensures { result ≡ is_after_betting due }
+{
+    match due {
+        Due::Show | Due::Over => true,
+        Due::Deal(_) | Due::Draw(_) | Due::BringIn | Due::Move => false,
     }
 }

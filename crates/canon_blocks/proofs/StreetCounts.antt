@@ -4,7 +4,7 @@ use Rattle.std.specs.List.{range_with_len}
 use Rattle.std.proofs.lemmas.Bool.{and_from, and_right, eq-eqb, ne_eqb, cases_eq, cases_lt}
 use Rattle.card_set.specs.declared.card.Slot.{Slot}
 use Rattle.play_event.specs.Past as past
-use Rattle.play_event.specs.Past.{Past, Move, moves_of, newest_street}
+use Rattle.play_event.specs.Past.{Past, moves_of, newest_street}
 use Rattle.play_event.specs.Dealing.{hole_cards_dealt, board_cards_dealt, cards_discarded, has_drawn}
 use Rattle.play_event.specs.Showing.{has_shown, has_mucked}
 use Rattle.card_set.specs.Known.{known_cards}

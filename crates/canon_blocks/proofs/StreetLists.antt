@@ -6,7 +6,7 @@ use Rattle.card_set.specs.declared.card.Slot.{Slot}
 use Rattle.play_event.specs.declared.setup.Setup.{Setup}
 use Rattle.play_event.specs.declared.setup.Rules.{Rules}
 use Rattle.play_event.specs.Past as past
-use Rattle.play_event.specs.Past.{Past, Resolved, Move, Dealt, Boarded, Moved, Discarded, Shown, Mucked, moves_of, newest_street, moves_before}
+use Rattle.play_event.specs.Past.{Past, Move, Dealt, Boarded, Moved, Discarded, Shown, Mucked, moves_of, newest_street, moves_before}
 use Rattle.play_event.specs.Dealing.{hole_cards_dealt, board_cards_dealt, has_drawn}
 use Rattle.play_event.specs.Places.{Place}
 use Rattle.play_laws.specs.PastLaws.{AreReached, is_played_on}

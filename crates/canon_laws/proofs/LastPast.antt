@@ -4,7 +4,6 @@ use Rattle.std.specs.List.{flat_map}
 use Rattle.std.proofs.lemmas.Bool.{and_parts, both_ways, le-leb, leb-false, leb-true, lt-leb, not-true}
 use Rattle.std.proofs.lemmas.List.{append-nil}
 use Rattle.play_event.specs.declared.reason.Due.{Due}
-use Rattle.play_event.specs.declared.reason.Due.TheVariants as dues
 use Rattle.play_event.specs.declared.setup.Setup.{Setup}
 use Rattle.play_event.specs.declared.setup.Rules.{Rules}
 use Rattle.play_event.specs.Games.{street_count}

@@ -29,17 +29,6 @@ pub struct DealtCard {
     pub discarded: u8,
 }
 
-// Two owners are one.
-fn is_same_owner(a: Option<Seat>, b: Option<Seat>) -> bool
-    ensures { result ≡ places.is_same_owner (seat_said a) (seat_said b) }
-{
-    match (a, b) {
-        (Some(seat), Some(other)) => seat.number == other.number,
-        (None, None) => true,
-        (Some(_), None) | (None, Some(_)) => false,
-    }
-}
-
 impl DealtCard {
     /// The owner has the card, and it is not gone.
     pub fn held_by(&self, owner: Option<Seat>) -> bool
@@ -65,5 +54,16 @@ impl DealtCard {
         ensures { result ≡ is_in_group (seat_said owner) street (place_of self.now) }
     {
         is_same_owner(self.owner, owner) && self.street == street
+    }
+}
+
+// Two owners are one.
+fn is_same_owner(a: Option<Seat>, b: Option<Seat>) -> bool
+    ensures { result ≡ places.is_same_owner (seat_said a) (seat_said b) }
+{
+    match (a, b) {
+        (Some(seat), Some(other)) => seat.number == other.number,
+        (None, None) => true,
+        (Some(_), None) | (None, Some(_)) => false,
     }
 }

@@ -65,25 +65,6 @@ fn hole_why_on(
     }
 }
 
-/// How many cards the seat is still owed on the street: in place of those that it discarded, or by
-/// the deal while it is live.
-pub fn owed(state: &CardState, live: &LiveRow, on: u8, seat: Seat) -> u8
-    requires street { on ≤ 5 }
-    requires live { live.now.seats ≡ state.now.seats }
-    requires seat { seat.number ≤ state.now.seats }
-    ensures { result ≡ why.owed_in state.now live.now on seat.number }
-{
-    let street = state.table.street(on);
-    let dealt = state.places.in_group(Some(seat), on);
-    if street.draws {
-        state.draws.named(on, seat).saturating_sub(dealt)
-    } else if live.get(seat) {
-        (street.down + street.up).saturating_sub(dealt)
-    } else {
-        0
-    }
-}
-
 /// Why the board may not be dealt these cards now.
 pub fn board_why(state: &CardState, due: Due, cards: &[Slot]) -> Option<Illegal>
     ensures { result ≡ why.board_why state.now due cards.now }
@@ -116,6 +97,25 @@ fn board_why_on(state: &CardState, on: u8, cards: &[Slot]) -> Option<Illegal>
         Some(Illegal::CardTaken)
     } else {
         None
+    }
+}
+
+/// How many cards the seat is still owed on the street: in place of those that it discarded, or by
+/// the deal while it is live.
+pub fn owed(state: &CardState, live: &LiveRow, on: u8, seat: Seat) -> u8
+    requires street { on ≤ 5 }
+    requires live { live.now.seats ≡ state.now.seats }
+    requires seat { seat.number ≤ state.now.seats }
+    ensures { result ≡ why.owed_in state.now live.now on seat.number }
+{
+    let street = state.table.street(on);
+    let dealt = state.places.in_group(Some(seat), on);
+    if street.draws {
+        state.draws.named(on, seat).saturating_sub(dealt)
+    } else if live.get(seat) {
+        (street.down + street.up).saturating_sub(dealt)
+    } else {
+        0
     }
 }
 

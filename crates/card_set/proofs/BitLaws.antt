@@ -1,5 +1,4 @@
 -- The bits of a set of cards: one that is set or cleared, those of a suit, and how many are set.
-use lib.Count.{ones}
 use Rattle.std.proofs.Common.{◌≡◌, ◌≢◌, ℕ, ◌+◌, ◌-◌, ◌*◌, ◌/◌, ◌%◌, ◌^◌, ◌<◌, ◌==◌, min, true, false, cond, sum_by, sym, ◌∙◌, ap, subst, arith, bit_and, bit_or, count_ones, w64}
 use Rattle.std.specs.Int.{bit_at, bit_not}
 use Rattle.std.proofs.lemmas.List.Sums.{length-filter}

@@ -12,18 +12,19 @@ use card_set::SlotRow;
 use chip_ledger::{LiveRow, Seat};
 use play_event::Kind;
 
-// The first slots of a row, so many of them.
-#[tactic(auto, using(std::proofs::lemmas::List::take_min))]
-fn first_slots(row: &SlotRow, count: u8) -> SlotRow
-    ensures { slots_of result ≡ take count (slots_of row.now) }
+/// What comes next in the draw of the street: a discard, or a deal.
+pub fn draw(state: &CardState, live: &LiveRow, on: u8, stock: &mut Stock) -> Kind
+    requires street { on ≤ 5 }
+    requires live { live.now.seats ≡ state.now.seats }
+    requires ten { state.now.seats ≤ 10 }
+    ensures event { Some (kind_said result)
+        ≡ (seen.draw_in state.now live.now on stock.old).event }
+    ensures left { stock.new ≡ (seen.draw_in state.now live.now on stock.old).left }
 {
-    let slots = row.as_slice();
-    let count = (count as usize).min(slots.len());
-    let mut first = SlotRow::new();
-    for slot in &slots[..count] {
-        first.push(*slot);
+    match first_to_draw(state, live, on, 1, state.seats) {
+        Some(seat) => discard(state, seat, stock),
+        None => deal(state, live, on, stock),
     }
-    first
 }
 
 /// What is dealt next on the street: to a seat what it is owed, or to the board.
@@ -69,17 +70,16 @@ fn discard(state: &CardState, seat: Seat, stock: &mut Stock) -> Kind
     }
 }
 
-/// What comes next in the draw of the street: a discard, or a deal.
-pub fn draw(state: &CardState, live: &LiveRow, on: u8, stock: &mut Stock) -> Kind
-    requires street { on ≤ 5 }
-    requires live { live.now.seats ≡ state.now.seats }
-    requires ten { state.now.seats ≤ 10 }
-    ensures event { Some (kind_said result)
-        ≡ (seen.draw_in state.now live.now on stock.old).event }
-    ensures left { stock.new ≡ (seen.draw_in state.now live.now on stock.old).left }
+// The first slots of a row, so many of them.
+#[tactic(auto, using(std::proofs::lemmas::List::take_min))]
+fn first_slots(row: &SlotRow, count: u8) -> SlotRow
+    ensures { slots_of result ≡ take count (slots_of row.now) }
 {
-    match first_to_draw(state, live, on, 1, state.seats) {
-        Some(seat) => discard(state, seat, stock),
-        None => deal(state, live, on, stock),
+    let slots = row.as_slice();
+    let count = (count as usize).min(slots.len());
+    let mut first = SlotRow::new();
+    for slot in &slots[..count] {
+        first.push(*slot);
     }
+    first
 }

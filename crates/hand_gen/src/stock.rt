@@ -25,36 +25,6 @@ impl Model for Stock {
     ghost view = { λ s. record { number = s.number; deck = s.deck.items } };
 }
 
-// The whole deck of a game.
-fn full_deck(alloc: Global, code: Code) -> Result<Vec<Card>, Memory>
-    ensures { IfOk result (λ deck. deck.items ≡ stocks.full_deck code) }
-{
-    let table = DealTable::of(code);
-    let mut deck = Vec::new(alloc);
-    for place in 0..52 {
-        let card = card_placed(place);
-        match push_if(&mut deck, table.in_deck(card), card) {
-            Ok(()) => {}
-            Err(memory) => return Err(memory),
-        }
-    }
-    Ok(deck)
-}
-
-// Puts a card behind the others, where the game has it.
-fn push_if(deck: &mut Vec<Card>, has: bool, card: Card) -> Result<(), Memory>
-    ensures { OnOk result (deck.new.items ≡ deck.old.items ++ cond has (card ∷ []) []) }
-{
-    if has {
-        match deck.push(card) {
-            Ok(()) => Ok(()),
-            Err(_) => Err(Memory),
-        }
-    } else {
-        Ok(())
-    }
-}
-
 impl Stock {
     /// The whole deck of a game, where the draws have come to this number.
     pub fn full(alloc: Global, number: u64, code: Code) -> Result<Self, Memory>
@@ -109,5 +79,35 @@ impl Stock {
         }
         let place = drawn(self.deck.len() as u64, self.number) as usize;
         self.deck.remove(place)
+    }
+}
+
+// The whole deck of a game.
+fn full_deck(alloc: Global, code: Code) -> Result<Vec<Card>, Memory>
+    ensures { IfOk result (λ deck. deck.items ≡ stocks.full_deck code) }
+{
+    let table = DealTable::of(code);
+    let mut deck = Vec::new(alloc);
+    for place in 0..52 {
+        let card = card_placed(place);
+        match push_if(&mut deck, table.in_deck(card), card) {
+            Ok(()) => {}
+            Err(memory) => return Err(memory),
+        }
+    }
+    Ok(deck)
+}
+
+// Puts a card behind the others, where the game has it.
+fn push_if(deck: &mut Vec<Card>, has: bool, card: Card) -> Result<(), Memory>
+    ensures { OnOk result (deck.new.items ≡ deck.old.items ++ cond has (card ∷ []) []) }
+{
+    if has {
+        match deck.push(card) {
+            Ok(()) => Ok(()),
+            Err(_) => Err(Memory),
+        }
+    } else {
+        Ok(())
     }
 }

@@ -1,5 +1,5 @@
 -- The calendar of the days is that of the crate of dates.
-use Rattle.std.proofs.Common.{◌≡◌, ℕ, ◌≤◌, ◌≤ℤ◌, ◌↔◌, Bool, true, false, nat_le, IsTrue, pos, sym, ◌∙◌, refl, inl, inr}
+use Rattle.std.proofs.Common.{◌≡◌, ℕ, ◌≤◌, ◌↔◌, Bool, true, false, nat_le, IsTrue, pos, sym, ◌∙◌, refl, inl, inr}
 use Rattle.std.proofs.lemmas.Bool.{cases_Bool, leb-true, le-leb}
 use Rattle.jiff.specs.Words.{IsDate}
 use Rattle.hand_records.specs.AllowedNotes.{days_in_month}

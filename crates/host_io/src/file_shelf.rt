@@ -22,14 +22,26 @@ pub struct FileShelf<R: Files> {
     faults: u64,
 }
 
-impl<R: Files> FileShelf<R> {
+impl<R: Files> Shelf for FileShelf<R> {
     ghost use Rattle.host_io.specs.FileShelf.{fault_count};
 
-    /// A shelf over the files that this runtime opens.
-    pub fn new(files: R) -> FileShelf<R>
-        ensures faults { fault_count result ≡ 0 }
+    ghost files = { λ _. None };
+
+    ghost faults = { λ shelf. fault_count shelf };
+
+    fn fetch(&mut self, alloc: Global, name: &str, max: usize) -> Result<Fetched, ShelfFault>
+        ensures later { fault_count self.old ≤ fault_count self.new }
+        ensures failed { IsErrOf result ShelfFault.Failed →
+            Rose (fault_count self.old) (fault_count self.new) }
+
+        ensures counts { fault_count self.new
+            ≡ count_after (has_failed result) (fault_count self.old) }
     {
-        FileShelf { files, faults: 0 }
+        let opened = fs::open(&self.files, name);
+        match fetch_opened(alloc, opened, max) {
+            Err(ShelfFault::Failed) => Err(count_fault(&mut self.faults).into()),
+            answer => answer,
+        }
     }
 }
 
@@ -46,6 +58,17 @@ fn fetch_opened<F: Read + Drop>(
         Ok(file) => fetch_from(alloc, &mut StdSource::new(file), max),
         Err(error) if is_missing(&error) => Ok(Fetched::Absent),
         Err(_) => Err(ShelfFault::Failed),
+    }
+}
+
+impl<R: Files> FileShelf<R> {
+    ghost use Rattle.host_io.specs.FileShelf.{fault_count};
+
+    /// A shelf over the files that this runtime opens.
+    pub fn new(files: R) -> FileShelf<R>
+        ensures faults { fault_count result ≡ 0 }
+    {
+        FileShelf { files, faults: 0 }
     }
 }
 
@@ -70,27 +93,4 @@ fn is_missing(error: &io::Error) -> bool
     ensures { IsTrue result ↔ IsMissing error.now }
 {
     matches!(error.kind(), ErrorKind::NotFound | ErrorKind::NotADirectory)
-}
-
-impl<R: Files> Shelf for FileShelf<R> {
-    ghost use Rattle.host_io.specs.FileShelf.{fault_count};
-
-    ghost files = { λ _. None };
-
-    ghost faults = { λ shelf. fault_count shelf };
-
-    fn fetch(&mut self, alloc: Global, name: &str, max: usize) -> Result<Fetched, ShelfFault>
-        ensures later { fault_count self.old ≤ fault_count self.new }
-        ensures failed { IsErrOf result ShelfFault.Failed →
-            Rose (fault_count self.old) (fault_count self.new) }
-
-        ensures counts { fault_count self.new
-            ≡ count_after (has_failed result) (fault_count self.old) }
-    {
-        let opened = fs::open(&self.files, name);
-        match fetch_opened(alloc, opened, max) {
-            Err(ShelfFault::Failed) => Err(count_fault(&mut self.faults).into()),
-            answer => answer,
-        }
-    }
 }

@@ -33,16 +33,6 @@ impl MemShelf {
     }
 }
 
-// The bytes of the first file with this name.
-fn find_file<'a>(files: &'a [(String, Vec<u8>)], name: &str) -> Option<&'a [u8]>
-    ensures { option_copied result ≡ file_named files.now name.now }
-{
-    files
-        .iter()
-        .find(|file| file.0.as_str() == name)
-        .map(|file| file.1.as_slice())
-}
-
 impl Shelf for MemShelf {
     ghost use Rattle.host_io.specs.MemShelf.{shelf_files, shelf_plan};
 
@@ -68,4 +58,14 @@ impl Shelf for MemShelf {
             Some(bytes) => Ok(Fetched::Bytes(Vec::from_slice(alloc, bytes)?)),
         }
     }
+}
+
+// The bytes of the first file with this name.
+fn find_file<'a>(files: &'a [(String, Vec<u8>)], name: &str) -> Option<&'a [u8]>
+    ensures { option_copied result ≡ file_named files.now name.now }
+{
+    files
+        .iter()
+        .find(|file| file.0.as_str() == name)
+        .map(|file| file.1.as_slice())
 }

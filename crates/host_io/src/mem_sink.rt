@@ -68,15 +68,6 @@ impl MemSink {
     }
 }
 
-// Puts the bytes after the others, into room that is there.
-fn push_reserved(held: &mut Vec<u8>, bytes: &[u8])
-    requires { vec_len held.old + length bytes.now ≤ vec_capacity held.old }
-    ensures items { held.new.items ≡ held.old.items ++ bytes.now }
-    ensures capacity { vec_capacity held.old ≤ vec_capacity held.new }
-{
-    let _ = held.extend_from_slice(bytes);
-}
-
 impl Sink for MemSink {
     ghost use Rattle.host_io.specs.MemSink.{bytes_held, room_left, sink_piece, sink_plan};
 
@@ -111,4 +102,13 @@ impl Sink for MemSink {
         push_reserved(&mut self.bytes, &bytes[..count]);
         Ok(count)
     }
+}
+
+// Puts the bytes after the others, into room that is there.
+fn push_reserved(held: &mut Vec<u8>, bytes: &[u8])
+    requires { vec_len held.old + length bytes.now ≤ vec_capacity held.old }
+    ensures items { held.new.items ≡ held.old.items ++ bytes.now }
+    ensures capacity { vec_capacity held.old ≤ vec_capacity held.new }
+{
+    let _ = held.extend_from_slice(bytes);
 }

@@ -50,19 +50,6 @@ impl MemSource {
     }
 }
 
-// Copies bytes from that place on to the start of the buffer, as many as there are and fit, and at
-// most `most`, and returns how many.
-fn copy_from(bytes: &[u8], start: usize, most: usize, buf: &mut [u8]) -> usize
-    requires { start ≤ length bytes.now }
-    ensures count { result ≡ min (min (length buf.old) most) (length bytes.now - start) }
-    ensures copied { drop start bytes.now ≡ take result buf.new ++ drop (start + result) bytes.now }
-{
-    let left = &bytes[start..];
-    let count = buf.len().min(most).min(left.len());
-    buf[..count].copy_from_slice(&left[..count]);
-    count
-}
-
 impl Source for MemSource {
     ghost use Rattle.host_io.specs.MemSource.{bytes_left, source_piece, source_plan};
 
@@ -89,4 +76,17 @@ impl Source for MemSource {
         self.given += count;
         Ok(count)
     }
+}
+
+// Copies bytes from that place on to the start of the buffer, as many as there are and fit, and at
+// most `most`, and returns how many.
+fn copy_from(bytes: &[u8], start: usize, most: usize, buf: &mut [u8]) -> usize
+    requires { start ≤ length bytes.now }
+    ensures count { result ≡ min (min (length buf.old) most) (length bytes.now - start) }
+    ensures copied { drop start bytes.now ≡ take result buf.new ++ drop (start + result) bytes.now }
+{
+    let left = &bytes[start..];
+    let count = buf.len().min(most).min(left.len());
+    buf[..count].copy_from_slice(&left[..count]);
+    count
 }

@@ -36,20 +36,6 @@ impl HandOrder for DeuceSeven {
     ghost lawful = { lawful_deuce_seven };
 }
 
-// The score of a hand.
-fn deuce_score(cards: &CardRow) -> Score
-    requires { AreHeld 5 (cards_of cards.now) }
-    ensures { Some result.points ≡ points (cards_of cards.now) }
-{
-    Score {
-        points: 0x100_0000 - hand_points(cards, LowStraight::Nothing, FlushPlace::BelowFullHouse),
-    }
-}
-
-// Judges a whole hand.
-#[derive(Drop)]
-struct DeuceHands;
-
 impl Judge for DeuceHands {
     ghost accepts = { λ judge cards. AreHeld 5 cards };
 
@@ -57,5 +43,19 @@ impl Judge for DeuceHands {
 
     fn judge(&self, chosen: &CardRow) -> Option<Score> {
         Some(deuce_score(chosen))
+    }
+}
+
+// Judges a whole hand.
+#[derive(Drop)]
+struct DeuceHands;
+
+// The score of a hand.
+fn deuce_score(cards: &CardRow) -> Score
+    requires { AreHeld 5 (cards_of cards.now) }
+    ensures { Some result.points ≡ points (cards_of cards.now) }
+{
+    Score {
+        points: 0x100_0000 - hand_points(cards, LowStraight::Nothing, FlushPlace::BelowFullHouse),
     }
 }

@@ -1,5 +1,4 @@
 -- The ranges of a moment.
-use Rattle.std.specs.Prelude.{ℕ}
 use Rattle.hand_records.specs.AllowedNotes.{IsDayOf, IsTime, IsWithin}
 use Rattle.ohh_facts.specs.declared.moment.Day.{Day}
 use Rattle.ohh_facts.specs.declared.moment.Moment.{Moment}

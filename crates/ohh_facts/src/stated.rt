@@ -12,38 +12,6 @@ use card_set::Memory;
 use chip_ledger::RakeRow;
 use std::alloc::Global;
 
-// The rakes of the first eleven pots.
-fn rakes_of(pots: &[Pot]) -> RakeRow
-    ensures said { result.rakes ≡ rakes_said (map plain_pot pots.now) }
-    ensures most { (pot : ℕ) → rake_of result pot ≤ MOST_AMOUNT }
-{
-    let rakes = [
-        rake_at(pots, 0),
-        rake_at(pots, 1),
-        rake_at(pots, 2),
-        rake_at(pots, 3),
-        rake_at(pots, 4),
-        rake_at(pots, 5),
-        rake_at(pots, 6),
-        rake_at(pots, 7),
-        rake_at(pots, 8),
-        rake_at(pots, 9),
-        rake_at(pots, 10),
-    ];
-    RakeRow { rakes }
-}
-
-// The rake of the pot with this index, or 0 where there is none.
-fn rake_at(pots: &[Pot], index: usize) -> u64
-    ensures said { result ≡ rake_at_said (map plain_pot pots.now) index }
-    ensures most { result ≤ MOST_AMOUNT }
-{
-    match pots.get(index) {
-        Some(pot) => pot.rake,
-        None => 0,
-    }
-}
-
 impl Found {
     /// No pots, of a hand with so many seats.
     pub fn new(alloc: Global, seats: u8) -> Self
@@ -103,5 +71,37 @@ impl Paid {
             total: None,
             rakes: rakes_of(&[]),
         }
+    }
+}
+
+// The rakes of the first eleven pots.
+fn rakes_of(pots: &[Pot]) -> RakeRow
+    ensures said { result.rakes ≡ rakes_said (map plain_pot pots.now) }
+    ensures most { (pot : ℕ) → rake_of result pot ≤ MOST_AMOUNT }
+{
+    let rakes = [
+        rake_at(pots, 0),
+        rake_at(pots, 1),
+        rake_at(pots, 2),
+        rake_at(pots, 3),
+        rake_at(pots, 4),
+        rake_at(pots, 5),
+        rake_at(pots, 6),
+        rake_at(pots, 7),
+        rake_at(pots, 8),
+        rake_at(pots, 9),
+        rake_at(pots, 10),
+    ];
+    RakeRow { rakes }
+}
+
+// The rake of the pot with this index, or 0 where there is none.
+fn rake_at(pots: &[Pot], index: usize) -> u64
+    ensures said { result ≡ rake_at_said (map plain_pot pots.now) index }
+    ensures most { result ≤ MOST_AMOUNT }
+{
+    match pots.get(index) {
+        Some(pot) => pot.rake,
+        None => 0,
     }
 }

@@ -25,7 +25,7 @@ use Rattle.ohh_members.specs.Values.{added_from, field, list_said, needed, numbe
 use Rattle.ohh_facts.specs.PotSums.{PlainPot, all_of, rake_at, rakes_said}
 use Rattle.ohh_facts.specs.Pots.{PlainPaid, PlainPots, amount_said, listed_paid, no_pots, none_paid, pot_added, pots_said, rake_said, summed, wins_said}
 use Rattle.ohh_facts.specs.Won.{PlainWin, won_by}
-use Rattle.ohh_line.specs.Tree.{list, pot_tree, pot_trees, share_at, win_tree}
+use Rattle.ohh_line.specs.Tree.{pot_tree, pot_trees, share_at, win_tree}
 use Rattle.ohh_line.specs.Tree as tree
 use Rattle.ohh_format.proofs.CardLists.{listed_again}
 use Rattle.ohh_format.proofs.WinsAgain.{ids_written, wins_again, wins_plain}

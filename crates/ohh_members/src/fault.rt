@@ -233,17 +233,6 @@ impl PotMember {
     }
 }
 
-// A name behind a point, and nothing where there is no name.
-fn behind_point(alloc: Global, name: &str) -> Result<String, AllocError>
-    ensures { IfOk result (λ text. string_bytes text ≡ with_point name.now) }
-{
-    if name.is_empty() {
-        String::from_str(alloc, "")
-    } else {
-        format!(in alloc; ".{name}")
-    }
-}
-
 impl Path {
     /// The path of one of the cards, from 0, where this is the path of a list of cards.
     pub fn card(self, index: u64) -> Path
@@ -332,6 +321,17 @@ impl Path {
     {
         let text = self.string(alloc)?;
         Text::new(alloc, text.as_str())
+    }
+}
+
+// A name behind a point, and nothing where there is no name.
+fn behind_point(alloc: Global, name: &str) -> Result<String, AllocError>
+    ensures { IfOk result (λ text. string_bytes text ≡ with_point name.now) }
+{
+    if name.is_empty() {
+        String::from_str(alloc, "")
+    } else {
+        format!(in alloc; ".{name}")
     }
 }
 

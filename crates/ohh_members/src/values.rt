@@ -170,65 +170,6 @@ fn known_in(slot: Slot) -> Option<Card>
     }
 }
 
-/// A fault at the path.
-pub fn wrong(what: What, path: Path) -> Stop<Fault>
-    ensures { result ≡ Stop.At (record { what = what; path = path }) }
-{
-    Stop::At(Fault { what, path })
-}
-
-/// A text.
-#[tactic(auto, unfolding(crate::specs::Values::text_said))]
-pub fn read_text(value: &Value, path: Path) -> Result<&str, Stop<Fault>>
-    ensures { Gives (λ text. text.now) result (text_said path (view value.now)) }
-{
-    match value {
-        Value::String(text) => Ok(text.as_str()),
-        _ => Err(wrong(What::WrongType, path)),
-    }
-}
-
-// A list.
-#[tactic(auto, unfolding(crate::specs::Values::list_said))]
-fn read_array(value: &Value, path: Path) -> Result<&[Value], Stop<Fault>>
-    ensures { Gives (λ values. listed (items_view values.now)) result
-        (list_said path (view value.now)) }
-{
-    match value {
-        Value::Array(values) => Ok(values.as_slice()),
-        _ => Err(wrong(What::WrongType, path)),
-    }
-}
-
-/// The values of a list.
-#[tactic(auto, using(crate::proofs::Lists::listed_view))]
-pub fn read_list(value: &Value, path: Path) -> Result<&[Value], Stop<Fault>>
-    ensures { Gives (λ values. map view values.now) result (list_said path (view value.now)) }
-{
-    let values = read_array(value, path)?;
-    Ok(values)
-}
-
-// The slot of a list of one slot.
-fn only(slots: &[Slot]) -> Option<Slot>
-    ensures { result ≡ one_slot slots.now }
-{
-    match slots {
-        [slot] => Some(*slot),
-        _ => None,
-    }
-}
-
-// The slot that a text of two letters spells.
-fn slot_in(text: &str) -> Option<Slot>
-    ensures { result ≡ slot_in_said text.now }
-{
-    match card_set::read_slots(text.as_bytes()) {
-        Ok(row) => only(row.as_slice()),
-        Err(_) => None,
-    }
-}
-
 /// At most seven cards, each known or unknown.
 #[tactic(auto, unfolding(crate::specs::Values::slots_said))]
 pub fn read_slots(value: &Value, path: Path) -> Result<SlotRow, Stop<Fault>>
@@ -236,19 +177,6 @@ pub fn read_slots(value: &Value, path: Path) -> Result<SlotRow, Stop<Fault>>
 {
     let values = read_few(value, path)?;
     fill_slots(values, path)
-}
-
-/// The values of a list of at most seven cards.
-#[tactic(auto, unfolding(crate::specs::Values::few_said))]
-pub fn read_few(value: &Value, path: Path) -> Result<&[Value], Stop<Fault>>
-    ensures said { Gives (λ values. map view values.now) result (few_said path (view value.now)) }
-    ensures few { IfOk result (λ values. length values.now ≤ 7) }
-{
-    let values = read_list(value, path)?;
-    if values.len() > 7 {
-        return Err(wrong(What::WrongType, path));
-    }
-    Ok(values)
 }
 
 // The cards of a list, each known or unknown.
@@ -273,4 +201,76 @@ pub fn read_slot(value: &Value, path: Path) -> Result<Slot, Stop<Fault>>
         Some(slot) => Ok(slot),
         None => Err(wrong(What::WrongType, path)),
     }
+}
+
+// The slot that a text of two letters spells.
+fn slot_in(text: &str) -> Option<Slot>
+    ensures { result ≡ slot_in_said text.now }
+{
+    match card_set::read_slots(text.as_bytes()) {
+        Ok(row) => only(row.as_slice()),
+        Err(_) => None,
+    }
+}
+
+// The slot of a list of one slot.
+fn only(slots: &[Slot]) -> Option<Slot>
+    ensures { result ≡ one_slot slots.now }
+{
+    match slots {
+        [slot] => Some(*slot),
+        _ => None,
+    }
+}
+
+/// The values of a list of at most seven cards.
+#[tactic(auto, unfolding(crate::specs::Values::few_said))]
+pub fn read_few(value: &Value, path: Path) -> Result<&[Value], Stop<Fault>>
+    ensures said { Gives (λ values. map view values.now) result (few_said path (view value.now)) }
+    ensures few { IfOk result (λ values. length values.now ≤ 7) }
+{
+    let values = read_list(value, path)?;
+    if values.len() > 7 {
+        return Err(wrong(What::WrongType, path));
+    }
+    Ok(values)
+}
+
+/// The values of a list.
+#[tactic(auto, using(crate::proofs::Lists::listed_view))]
+pub fn read_list(value: &Value, path: Path) -> Result<&[Value], Stop<Fault>>
+    ensures { Gives (λ values. map view values.now) result (list_said path (view value.now)) }
+{
+    let values = read_array(value, path)?;
+    Ok(values)
+}
+
+// A list.
+#[tactic(auto, unfolding(crate::specs::Values::list_said))]
+fn read_array(value: &Value, path: Path) -> Result<&[Value], Stop<Fault>>
+    ensures { Gives (λ values. listed (items_view values.now)) result
+        (list_said path (view value.now)) }
+{
+    match value {
+        Value::Array(values) => Ok(values.as_slice()),
+        _ => Err(wrong(What::WrongType, path)),
+    }
+}
+
+/// A text.
+#[tactic(auto, unfolding(crate::specs::Values::text_said))]
+pub fn read_text(value: &Value, path: Path) -> Result<&str, Stop<Fault>>
+    ensures { Gives (λ text. text.now) result (text_said path (view value.now)) }
+{
+    match value {
+        Value::String(text) => Ok(text.as_str()),
+        _ => Err(wrong(What::WrongType, path)),
+    }
+}
+
+/// A fault at the path.
+pub fn wrong(what: What, path: Path) -> Stop<Fault>
+    ensures { result ≡ Stop.At (record { what = what; path = path }) }
+{
+    Stop::At(Fault { what, path })
 }

@@ -25,6 +25,24 @@ pub struct Stakes {
     pub blinds: SeatRow,
 }
 
+impl Stakes {
+    /// The antes and blinds that posts give.
+    #[tactic(auto, unfolding(crate::specs::Stakes::stakes_said))]
+    pub fn of(table: &Table, posts: &[Post]) -> Self
+        ensures said { plain_stakes result
+            ≡ stakes_said (plain_table table.now) (map plain_post posts.now) }
+        ensures fit { AreStakesFor table.now.stacks result }
+    {
+        let firsts = FirstPosts::of(posts);
+        let antes = antes_of(table, &firsts);
+        Stakes {
+            antes,
+            dead_antes: are_dead(table, &firsts, &antes),
+            blinds: blinds_of(table, &firsts),
+        }
+    }
+}
+
 // The antes of all seats.
 fn antes_of(table: &Table, firsts: &FirstPosts) -> SeatRow
     ensures seats { result.seats ≡ table.now.stacks.seats }
@@ -112,22 +130,4 @@ fn has_some(row: &SeatRow) -> bool
         }
     }
     false
-}
-
-impl Stakes {
-    /// The antes and blinds that posts give.
-    #[tactic(auto, unfolding(crate::specs::Stakes::stakes_said))]
-    pub fn of(table: &Table, posts: &[Post]) -> Self
-        ensures said { plain_stakes result
-            ≡ stakes_said (plain_table table.now) (map plain_post posts.now) }
-        ensures fit { AreStakesFor table.now.stacks result }
-    {
-        let firsts = FirstPosts::of(posts);
-        let antes = antes_of(table, &firsts);
-        Stakes {
-            antes,
-            dead_antes: are_dead(table, &firsts, &antes),
-            blinds: blinds_of(table, &firsts),
-        }
-    }
 }

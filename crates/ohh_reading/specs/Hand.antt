@@ -1,7 +1,6 @@
 -- A hand: its members are examined in this order.
-use Rattle.std.specs.Prelude.{ℕ, ◌*◌, Bool, if◌then◌else◌, List, map, Option, None, option_map, Result, Ok}
-use Rattle.serde_json.specs.Data.{Data, object}
-use Rattle.chip_ledger.specs.declared.rows.SeatRow.{SeatRow}
+use Rattle.std.specs.Prelude.{ℕ, List, map, Option, None, option_map, Result, Ok}
+use Rattle.serde_json.specs.Data.{Data}
 use Rattle.hand_records.specs.declared.record.NetRow.{NetRow}
 use Rattle.hand_records.specs.declared.record.Record.{Record}
 use Rattle.play_event.specs.declared.code.Code.{Code}

@@ -7,7 +7,7 @@ use Rattle.canonical_play.specs.declared.limits.TheConstants.{MOST_MOVES, MOST_O
 use Rattle.canonical_play.specs.PlayedScript.{is_move}
 use Rattle.first_fault.specs.declared.limits.TheConstants.{MOST_FILE_MOVES}
 use Rattle.play_event.specs.Said as said
-use Rattle.play_event.specs.Said.{Said, Numbered, kind_said}
+use Rattle.play_event.specs.Said.{Said, kind_said}
 use Rattle.ohh_posts.specs.Posts.{PlainPost, plain_post}
 use Rattle.ohh_rounds.specs.declared.step.Deed.{Deed}
 use Rattle.ohh_rounds.specs.declared.step.Deed.TheVariants as deeds

@@ -1,11 +1,10 @@
 -- The setup that the fields of a hand say, examined in this order.
-use Rattle.std.specs.Prelude.{ℕ, Bool, false, ◌&&◌, not, nat_lt, bytes_eq, if◌then◌else◌, List, [], length, replicate, Option, find, Result, Ok}
+use Rattle.std.specs.Prelude.{ℕ, Bool, false, ◌&&◌, not, nat_lt, bytes_eq, if◌then◌else◌, List, length, replicate, Option, find, Result, Ok}
 use Rattle.std.specs.List.{list_any}
 use Rattle.std.specs.Option.{option_map_or}
 use Rattle.toml.specs.Data.{Data, Members}
 use Rattle.chip_ledger.specs.declared.numbers.TheConstants.{MOST_CHIPS}
 use Rattle.play_event.specs.declared.code.Code.{Code}
-use Rattle.play_event.specs.declared.code.Code.TheVariants as games
 use Rattle.play_event.specs.declared.setup.Setup.{Setup}
 use Rattle.play_event.specs.Code.{code_text}
 use Rattle.play_event.specs.Games.{game_of, all_games}

@@ -1,5 +1,5 @@
 -- The notes of a hand that were written read back as the kept notes.
-use Rattle.std.proofs.Common.{◌≡◌, ℕ, ◌≤◌, ◌<◌, ◌^◌, Bool, true, false, ◌&&◌, ◌||◌, ◌==◌, not, nat_le, nat_lt, cond, bytes_eq, decimal, List, [], length, slice_index, pos, Option, Some, None, IfSome, option_map, unwrap_or, Ok, refl, sym, ap, ◌∙◌, arith, true≢false}
+use Rattle.std.proofs.Common.{◌≡◌, ℕ, ◌≤◌, ◌<◌, ◌^◌, Bool, true, false, ◌&&◌, ◌||◌, ◌==◌, not, nat_le, nat_lt, cond, bytes_eq, decimal, List, [], length, slice_index, pos, Option, Some, None, IfSome, option_map, unwrap_or, Ok, refl, sym, ap, ◌∙◌, arith}
 use Rattle.std.specs.List.{list_all}
 use Rattle.std.specs.Char.{is_digit}
 use Rattle.std.specs.Str.Parse.{digits_value}

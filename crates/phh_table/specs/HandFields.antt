@@ -1,5 +1,5 @@
 -- The fields of a hand that is written, each with its key, in the order in which a reader examines them.
-use Rattle.std.specs.Prelude.{ℕ, ◌-◌, Bool, ◌&&◌, ◌||◌, ◌==◌, not, nat_lt, min, max, bytes_eq, if◌then◌else◌, pos, List, [], ◌∷◌, ◌++◌, length, map, take, codes, slice_index, Option, Some, None, option_map, unwrap_or, is_some}
+use Rattle.std.specs.Prelude.{ℕ, Bool, ◌&&◌, ◌||◌, ◌==◌, not, nat_lt, min, max, bytes_eq, if◌then◌else◌, pos, List, [], ◌∷◌, ◌++◌, length, map, take, codes, slice_index, Option, Some, None, option_map, unwrap_or, is_some}
 use Rattle.std.specs.Fmt.{decimal}
 use Rattle.std.specs.List.{list_any, range_with_len}
 use Rattle.toml.specs.Data.{Data, string, integer, boolean, datetime, array}

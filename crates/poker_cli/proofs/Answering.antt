@@ -1,5 +1,5 @@
 -- The answer to what a source has left, where it tells that, and how a run ends with it.
-use Rattle.std.proofs.Common.{◌≡◌, ◌⊎◌, ℕ, ◌<◌, ◌≤◌, true, List, length, Option, Some, None, is_some, IfOk, IfSome, Result, Ok, Err, refl, subst, sym, ap, ◌∙◌, inl, inr}
+use Rattle.std.proofs.Common.{◌≡◌, ◌⊎◌, ℕ, ◌<◌, true, List, length, Option, Some, None, is_some, IfOk, IfSome, Result, Ok, Err, refl, subst, sym, ap, ◌∙◌, inl, inr}
 use Rattle.acpc_game.specs.declared.game.Game.{Game}
 use Rattle.acpc_text.specs.declared.fault.AcpcFault.{AcpcFault}
 use Rattle.acpc_text.specs.declared.fault.AcpcFault.TheVariants as logs
@@ -38,7 +38,6 @@ use Rattle.poker_cli.specs.Run.{Ends, IsOfInput, IsOwn, MayEnd, ReadsNothing, Si
 use Rattle.poker_cli.specs.declared.status.Status.{Status}
 use Rattle.poker_cli.specs.declared.status.Status.TheVariants as statuses
 use Rattle.poker_cli.specs.declared.task.Reader.{Reader}
-use Rattle.poker_cli.specs.declared.task.Reader.TheVariants as readers
 use Rattle.poker_cli.specs.declared.task.Task.{Task}
 use Rattle.poker_cli.specs.declared.task.Task.TheVariants as tasks
 use Rattle.poker_cli.specs.declared.task.Way.{Way}

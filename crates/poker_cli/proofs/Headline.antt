@@ -19,7 +19,7 @@ use Rattle.ohh_reading.specs.Reading as trees
 use Rattle.phh_fields.specs.declared.fault.What.TheVariants as whats
 use Rattle.phh_reading.specs.Reading.{InHand, NoDocument, Wrong}
 use Rattle.phh_reading.specs.Reading as histories
-use Rattle.poker_cli.specs.Answer.{Answer, Files, IsAnswer, IsAnswerIn, IsConversion, most_input, to_fault, to_wrong_history, to_wrong_log, to_wrong_tree}
+use Rattle.poker_cli.specs.Answer.{Answer, Files, IsAnswer, most_input, to_fault, to_wrong_history, to_wrong_log, to_wrong_tree}
 use Rattle.poker_cli.specs.Answer as answers
 use Rattle.poker_cli.specs.Faults.{wrong_status}
 use Rattle.poker_cli.specs.Headline.{AsksToConvert, CanConvert, ConversionEnds, ConvertsInto, Headline, IsOfHands, IsOfLogs, NamesFault, IsTooLong, NamesRefused, NamesUnspelled, TellsAlone}

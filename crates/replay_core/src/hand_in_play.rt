@@ -40,55 +40,6 @@ pub struct HandInPlay<V: Variant> {
     pub cards: Cards<V>,
 }
 
-// The act is a fold.
-fn folds(act: Act) -> bool
-    ensures { result ≡ is_fold (act_said act) }
-{
-    match act {
-        Act::Fold => true,
-        Act::Call | Act::Raise | Act::BringIn => false,
-    }
-}
-
-// Puts an event of cards to the cards: a deal, a discard, a show or a muck.
-fn lay<V: Variant>(
-    cards: &mut Cards<V>,
-    due: Due,
-    live: &LiveRow,
-    settled: bool,
-    event: &Event,
-) -> Result<(), Illegal>
-    requires kind { is_card_said (said_of event.now) ≡ true }
-    requires due { IsDueWithin V.STREETS due }
-    requires live { live.now.seats ≡ cards.old.state.seats }
-    ensures legal { (setup : SetupNow) (rules : RulesNow) (past : Past)
-        → IsNow cards.old.state due live.now setup past
-        → is_settled setup (moves_of past) (turn setup past) ≡ settled
-        → OnOk result (why setup rules past (said_of event.now) ≡ None) }
-    ensures illegal { (setup : SetupNow) (rules : RulesNow) (past : Past)
-        → IsNow cards.old.state due live.now setup past
-        → is_settled setup (moves_of past) (turn setup past) ≡ settled
-        → IfErr result (λ reason. why setup rules past (said_of event.now) ≡ Some reason) }
-    ensures stands { (setup : SetupNow) (past : Past)
-        → IsNow cards.old.state due live.now setup past
-        → OnOk result (cards_stand.StandsFor cards.new.state
-        (with_event setup (said_of event.now) past)) }
-    ensures unchanged { OnErr result (cards.new ≡ cards.old) }
-    ensures seats { cards.new.state.seats ≡ cards.old.state.seats }
-{
-    match event.kind {
-        Kind::Hole { seat: _, cards: _ } | Kind::Board { cards: _ } => {
-            cards.deal(due, live, event)
-        }
-        Kind::Discard { seat: _, cards: _ } => cards.discard(due, live, event),
-        Kind::Show { seat: _, cards: _ } | Kind::Muck { seat: _ } => {
-            cards.show(due, live, settled, event)
-        }
-        // The condition leaves no other kind.
-        _ => Err(Illegal::WrongKind),
-    }
-}
-
 impl<V: Variant> HandInPlay<V> {
     /// The hand before its first card.
     pub fn start(setup: &Setup, rules: &Rules) -> Self
@@ -314,5 +265,54 @@ impl<V: Variant> HandInPlay<V> {
             → flag_of result seat ≡ is_live (moves_of past) seat) }
     {
         self.betting.live()
+    }
+}
+
+// The act is a fold.
+fn folds(act: Act) -> bool
+    ensures { result ≡ is_fold (act_said act) }
+{
+    match act {
+        Act::Fold => true,
+        Act::Call | Act::Raise | Act::BringIn => false,
+    }
+}
+
+// Puts an event of cards to the cards: a deal, a discard, a show or a muck.
+fn lay<V: Variant>(
+    cards: &mut Cards<V>,
+    due: Due,
+    live: &LiveRow,
+    settled: bool,
+    event: &Event,
+) -> Result<(), Illegal>
+    requires kind { is_card_said (said_of event.now) ≡ true }
+    requires due { IsDueWithin V.STREETS due }
+    requires live { live.now.seats ≡ cards.old.state.seats }
+    ensures legal { (setup : SetupNow) (rules : RulesNow) (past : Past)
+        → IsNow cards.old.state due live.now setup past
+        → is_settled setup (moves_of past) (turn setup past) ≡ settled
+        → OnOk result (why setup rules past (said_of event.now) ≡ None) }
+    ensures illegal { (setup : SetupNow) (rules : RulesNow) (past : Past)
+        → IsNow cards.old.state due live.now setup past
+        → is_settled setup (moves_of past) (turn setup past) ≡ settled
+        → IfErr result (λ reason. why setup rules past (said_of event.now) ≡ Some reason) }
+    ensures stands { (setup : SetupNow) (past : Past)
+        → IsNow cards.old.state due live.now setup past
+        → OnOk result (cards_stand.StandsFor cards.new.state
+        (with_event setup (said_of event.now) past)) }
+    ensures unchanged { OnErr result (cards.new ≡ cards.old) }
+    ensures seats { cards.new.state.seats ≡ cards.old.state.seats }
+{
+    match event.kind {
+        Kind::Hole { seat: _, cards: _ } | Kind::Board { cards: _ } => {
+            cards.deal(due, live, event)
+        }
+        Kind::Discard { seat: _, cards: _ } => cards.discard(due, live, event),
+        Kind::Show { seat: _, cards: _ } | Kind::Muck { seat: _ } => {
+            cards.show(due, live, settled, event)
+        }
+        // The condition leaves no other kind.
+        _ => Err(Illegal::WrongKind),
     }
 }

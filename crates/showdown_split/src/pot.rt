@@ -57,21 +57,6 @@ fn chips_if(flag: bool, chips: u64) -> u64
     if flag { chips } else { 0 }
 }
 
-// The seats that may win the pot and are shown.
-fn contending(pot: &Pot, shown: &LiveRow) -> LiveRow
-    requires { pot.now.eligible.seats ≡ shown.now.seats }
-    ensures seats { result.seats ≡ shown.now.seats }
-    ensures flags { (n : ℕ) → 1 ≤ n → n ≤ shown.now.seats
-        → flag_of result n ≡ (flag_of pot.now.eligible n && flag_of shown.now n) }
-{
-    let mut row = LiveRow::new(shown.seats);
-    for index in 0..shown.seats {
-        let seat = Seat { number: index + 1 };
-        row.set(seat, pot.eligible.get(seat) && shown.get(seat));
-    }
-    row
-}
-
 // What each seat gets of chips for which some seats contend: where one of them has a low hand, the chips are
 // halved, and the high half has the odd one.
 fn contested(chips: u64, contending: &LiveRow, high: &Scores, low: &Scores) -> SeatRow
@@ -89,4 +74,19 @@ fn contested(chips: u64, contending: &LiveRow, high: &Scores, low: &Scores) -> S
             &divide(&winners(contending, low), chips / 2),
         ),
     }
+}
+
+// The seats that may win the pot and are shown.
+fn contending(pot: &Pot, shown: &LiveRow) -> LiveRow
+    requires { pot.now.eligible.seats ≡ shown.now.seats }
+    ensures seats { result.seats ≡ shown.now.seats }
+    ensures flags { (n : ℕ) → 1 ≤ n → n ≤ shown.now.seats
+        → flag_of result n ≡ (flag_of pot.now.eligible n && flag_of shown.now n) }
+{
+    let mut row = LiveRow::new(shown.seats);
+    for index in 0..shown.seats {
+        let seat = Seat { number: index + 1 };
+        row.set(seat, pot.eligible.get(seat) && shown.get(seat));
+    }
+    row
 }

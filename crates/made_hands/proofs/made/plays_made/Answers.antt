@@ -1,5 +1,5 @@
 -- The records are sound, and the plays are as many.
-use Rattle.std.proofs.Common.{◌≡◌, ◌≤◌, ℕ, List, [], ◌∷◌, length, map, All, ap, sym, subst, ◌∙◌}
+use Rattle.std.proofs.Common.{◌≤◌, ℕ, List, [], ◌∷◌, length, All, ap, sym, subst, ◌∙◌}
 use Rattle.std.proofs.lemmas.List.{length-map}
 use Rattle.std.proofs.lemmas.List.Elements.{All-cons, All-head, All-nil, All-tail}
 use Rattle.std.proofs.lemmas.Result.{IfOk-weaker}

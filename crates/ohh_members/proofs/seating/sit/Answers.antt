@@ -1,6 +1,6 @@
-use Rattle.std.proofs.Common.{◌≡◌, ◌+◌, ◌-◌, ◌∷◌, ◌∙◌, [], length, length-append, map, ap, arith}
+use Rattle.std.proofs.Common.{◌-◌, ◌∷◌, ◌∙◌, [], length, length-append, map, ap, arith}
 use Rattle.std.proofs.lemmas.List.{map_push}
-use Rattle.ohh_members.specs.Players.{plain_player, seated}
+use Rattle.ohh_members.specs.Players.{plain_player}
 use Rattle.ohh_members.proofs.Round.{sits, all_sit}
 use Rattle.ohh_members.proofs.seating.sit.Goals as goal
 

@@ -1,5 +1,5 @@
 -- A line more is printed for each hand, and then their number.
-use Rattle.std.proofs.Common.{◌≡◌, ◌++◌, ◌∙◌, ap, sym, length, string_bytes}
+use Rattle.std.proofs.Common.{◌++◌, ◌∙◌, ap, sym, length, string_bytes}
 use Rattle.printed_hands.specs.Check.{check_end, check_line, each_hand}
 use Rattle.printed_hands.proofs.Hands.{all_printed, one_more}
 use Rattle.printed_hands.proofs.check.check_text.Goals as goal

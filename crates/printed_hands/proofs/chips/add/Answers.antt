@@ -1,5 +1,5 @@
 -- What is put is what the move adds.
-use Rattle.std.proofs.Common.{◌≡◌, ◌∙◌, ap, refl, rules, arith}
+use Rattle.std.proofs.Common.{refl, arith}
 use Rattle.printed_hands.proofs.Moves.{has_put_more, has_put_same}
 use Rattle.printed_hands.proofs.chips.add.Goals as goal
 

@@ -1,5 +1,5 @@
 -- The rows are printed one behind the other.
-use Rattle.std.proofs.Common.{◌≡◌, string_bytes}
+use Rattle.std.proofs.Common.{string_bytes}
 use Rattle.printed_hands.proofs.Rows.{chips_printed}
 use Rattle.printed_hands.proofs.chips.push_chips.Goals as goal
 

@@ -1,5 +1,5 @@
 -- The lines of a hand more are printed.
-use Rattle.std.proofs.Common.{◌≡◌, sym, string_bytes}
+use Rattle.std.proofs.Common.{sym, string_bytes}
 use Rattle.printed_hands.specs.Check.{each_hand}
 use Rattle.printed_hands.specs.Steps.{replay_lines}
 use Rattle.printed_hands.proofs.Hands.{all_printed, one_more}

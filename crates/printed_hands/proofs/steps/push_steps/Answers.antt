@@ -1,11 +1,10 @@
 -- Each event has its line, after those so far.
-use Rattle.std.proofs.Common.{◌≡◌, ◌+◌, ◌∷◌, ◌∙◌, List, ℕ, true, false, map, sym, subst, string_bytes, arith}
+use Rattle.std.proofs.Common.{◌+◌, ◌∙◌, List, ℕ, true, false, map, sym, subst, string_bytes, arith}
 use Rattle.std.proofs.lemmas.List.{length-map}
 use Rattle.std.proofs.lemmas.Option.{slice_get_within}
 use Rattle.canonical_play.specs.PlayedScript.{is_move}
 use Rattle.play_event.specs.Past.{moves_of}
 use Rattle.play_event.specs.Played.{move_said}
-use Rattle.play_event.specs.Said.{said_of}
 use Rattle.play_event.specs.Trace.{traced_move}
 use Rattle.printed_hands.proofs.Pasts.{moves_few}
 use Rattle.printed_hands.proofs.Printed.{ArePrinted, cards_printed, count_is, few_events, move_printed, next_move, none_printed, past_to, steps_printed}

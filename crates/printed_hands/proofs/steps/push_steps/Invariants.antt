@@ -1,5 +1,5 @@
 -- The events so far are printed.
-use Rattle.std.proofs.Common.{◌≡◌, length, string_bytes}
+use Rattle.std.proofs.Common.{length, string_bytes}
 use Rattle.printed_hands.proofs.Printed.{ArePrinted}
 use Rattle.printed_hands.proofs.steps.push_steps.Given as goal
 
