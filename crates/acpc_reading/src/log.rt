@@ -22,6 +22,9 @@ use first_fault::{MOST_HANDS, Quantity, Stop};
 use hand_records::{Record, Records};
 use std::alloc::Global;
 
+// Few lines of hands are shorter than so many bytes.
+const USUAL_LINE: usize = 32;
+
 /// The records that a log says under its game, one for each line of a hand, in order; or the first
 /// fault, with its line and byte. Each record is sound, and has the setup and the rules of the game.
 pub fn read(alloc: Global, game: &Game, bytes: &[u8]) -> Result<Records, AcpcFault>
@@ -46,6 +49,7 @@ fn read_lines(alloc: Global, game: &Game, bytes: &[u8]) -> Result<Records, Stop<
     ensures moves { IfOk result (λ records. sum_by moves_of records ≤ MOST_FILE_MOVES) }
 {
     let mut records = Records::new(alloc);
+    records.make_room((bytes.len() / USUAL_LINE).min(MOST_HANDS));
     let mut file_moves = 0;
     let mut count = 0;
     let mut rest = bytes;

@@ -25,7 +25,7 @@ pub fn plays_of(alloc: Global, records: Records) -> Result<Vec<Play>, PlaysFault
     ensures sound { IfOk result (λ plays. All IsSound plays.items) }
     ensures refused { IfErr result (IsPlaysFaultOf records) }
 {
-    let mut plays = Vec::new(alloc);
+    let mut plays = Vec::with_capacity(alloc, records.len())?;
     for hand in records.into_vec() {
         let number = plays.len() as u32 + 1;
         let play = play_of(alloc, number, hand)?;

@@ -54,6 +54,7 @@ fn read_blocks(
     ensures moves { IfOk result (λ found. sum_by moves_of found.0 ≤ MOST_FILE_MOVES) }
 {
     let mut records = Records::new(alloc);
+    records.make_room(blocks.len());
     let mut file_moves = 0;
     for (index, block) in blocks.iter().enumerate() {
         let number = index as u32 + 1;

@@ -60,6 +60,7 @@ fn read_tables(alloc: Global, tables: &[&Table]) -> Result<(Records, usize), Sto
     ensures moves { IfOk result (λ found. sum_by moves_of found.0 ≤ MOST_FILE_MOVES) }
 {
     let mut records = Records::new(alloc);
+    records.make_room(tables.len());
     let mut file_moves = 0;
     for (index, hand) in tables.iter().enumerate() {
         let (record, moves) = read_numbered(alloc, hand, index as u32 + 1, file_moves)?;
