@@ -1,5 +1,5 @@
 -- The seat in turn that is kept, or that opens by up-cards, is the seat in turn by the rules.
-use Rattle.std.proofs.Common.{◌≡◌, ◌==◌, ◌≤◌, Bool, true, false, if◌then◌else◌, Option, Some, None, IfSome, refl, sym, ap, ◌∙◌, arith}
+use Rattle.std.proofs.Common.{◌≡◌, ◌==◌, ◌≤◌, Bool, true, false, if◌then◌else◌, Option, Some, None, IfSome, is_some, ℕ, refl, sym, ap, subst, ◌∙◌, arith}
 use Rattle.std.proofs.lemmas.Bool.{true≢false}
 use Rattle.chip_ledger.specs.declared.numbers.Seat.{Seat}
 use Rattle.play_event.specs.declared.card_rows.UpRow.{UpRow}
@@ -7,7 +7,7 @@ use Rattle.play_event.specs.declared.reason.Due.{Due}
 use Rattle.play_event.specs.declared.reason.Due.TheVariants as dues
 use Rattle.play_event.specs.declared.limit.Opener.{Opener}
 use Rattle.play_event.specs.declared.limit.Opener.TheVariants as openers
-use Rattle.play_event.specs.Openers.{blinds_opener}
+use Rattle.play_event.specs.Openers.{TheSeat, blinds_opener, in_turn}
 use Rattle.play_event.specs.Past.{Past}
 use Rattle.play_event.specs.Streets.{is_stud, is_opened_by_up_cards, opener_of}
 use Rattle.play_event.specs.TurnTargets.{is_bet_due}
@@ -19,9 +19,10 @@ use Rattle.betting_numbers.specs.LegalMoves.{IsTurn}
 use Rattle.chip_ledger.specs.SeatsSaid.{seat_said}
 use Rattle.betting_numbers.specs.SeatsSaid.{turn_of}
 use Rattle.betting_numbers.specs.Standing.{StandsFor}
-use Rattle.betting_numbers.specs.Turn.{KeepsTurn}
+use Rattle.betting_numbers.specs.Seen.{first_behind_seen, has_to_move_seen, is_move_due_seen}
+use Rattle.betting_numbers.specs.Turn.{IsFirstBehind, IsNextUp, KeepsTurn}
 use Rattle.betting_numbers.specs.UpSeen.{HoldsUps, known_opener_seen}
-use Rattle.betting_numbers.proofs.InTurn.{turn_blinds}
+use Rattle.betting_numbers.proofs.InTurn.{turn_blinds, turn_found}
 use Rattle.betting_numbers.proofs.UpOpener.{bets_move, turn_first, turn_later}
 
 -- who opens where the blinds say it is of the hand
@@ -67,3 +68,28 @@ module _ (b : Table) (past : Past) (stands : StandsFor b past) (keeps : KeepsTur
       let other : b.due ≡ dues.BringIn → ⊥ = λ due_is. some_is_none last (sym is ∙ begins (ap is_before_moves due_is)) in
       turn_later b past stands last is (blinds_opener b.setup b.street) (opener_in b) (seat_said b.next) (keeps (move_of_bets b.due bets other))
       (bets_move b past stands b.due refl bets (λ due_is. absurd (other due_is)))
+
+-- who is behind the seat that is kept was not looked for
+pub none_behind : (turn : Option Seat) (P : Seat → Seat → Type 0) → IfSome turn (λ seat. IfSome None (P seat))
+none_behind None P = tt
+none_behind (Some seat) P = tt
+
+-- who is behind the seat that opens by up-cards
+pub opened_behind : (b : Table) → b.last ≡ None → (opens behind : Option Seat)
+    → IfSome opens (λ seat. in_turn (seat_said behind) ≡ first_behind_seen b seat.number)
+    → IfSome behind (λ seat. seat.number ≤ b.setup.stacks.seats) → IfSome opens (λ seat. IfSome behind (IsFirstBehind b seat.number))
+opened_behind b none None behind first in_hand = tt
+opened_behind b none (Some seat) None first in_hand = tt
+opened_behind b none (Some seat) (Some other) first in_hand = record { before_moves = none; first = first; in_hand = in_hand }
+
+-- a move is due where the seat that is next up has one to make
+some_seat : (goes : Bool) (seat : ℕ) → goes ≡ is_some (if goes then Some seat else None)
+some_seat true seat = refl
+some_seat false seat = refl
+
+pub next_due : (b : Table) (behind : Option Seat) (seat : Seat) → behind ≡ Some seat → IfSome behind (IsNextUp b) → (goes : Bool) → has_to_move_seen b seat.number ≡ goes → goes ≡ is_move_due_seen b
+next_due b behind seat is next_up goes goes_is =
+    let next : IsNextUp b seat = subst (λ (o : Option Seat). IfSome o (IsNextUp b)) is next_up in
+    some_seat goes seat.number
+    ∙ turn_found b (blinds_opener b.setup b.street) (opener_in b) (if goes then Some seat.number else None)
+    (ap (λ (g : Bool). in_turn (if g then Some seat.number else None)) (sym goes_is) ∙ next.turn (TheSeat (blinds_opener b.setup b.street)))

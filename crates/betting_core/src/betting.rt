@@ -8,7 +8,7 @@ ghost use Rattle.chip_ledger.specs.SeatRow.{amount_of};
 ghost use Rattle.play_event.specs.Chips.{chips_left, chips_put};
 ghost use Rattle.play_event.specs.Due.{is_settled, turn};
 ghost use Rattle.play_event.specs.Seats.{is_live};
-ghost use Rattle.play_event.specs.Openers.{TheSeat};
+ghost use Rattle.play_event.specs.Openers.{TheSeat, blinds_opener, in_turn};
 ghost use Rattle.play_event.specs.TurnTargets.{has_targets, is_bet_due};
 ghost use Rattle.play_event.specs.Past as plays;
 ghost use Rattle.play_event.specs.Played.{act_said, move_said};
@@ -16,23 +16,23 @@ ghost use Rattle.play_event.specs.Trace.{traced_move};
 ghost use Rattle.play_event.specs.Said as said;
 ghost use Rattle.betting_numbers.specs.SeatsSaid.{turn_of};
 ghost use Rattle.play_event.specs.Streets.{is_stud, unit};
-ghost use Rattle.betting_numbers.specs.Seen.{all_in_seen};
+ghost use Rattle.betting_numbers.specs.Seen.{all_in_seen, is_move_due_seen, mover_seen};
 ghost use Rattle.betting_numbers.specs.Standing.{StandsFor};
-ghost use Rattle.betting_numbers.specs.LegalMoves.{IsLegalMove, IsTurn, IsRefused, IsAllowed, IsOfHand, IsInReach, IsFit, WhereUps, reason_after, past_with, with_move};
+ghost use Rattle.betting_numbers.specs.LegalMoves.{IsLegalMove, IsTurn, IsInTurn, IsRefused, IsAllowed, IsOfHand, IsInReach, IsFit, WhereBets, WhereUps, reason_after, past_with, with_move};
 ghost use Rattle.street_laws.specs.CardEvents.{is_card_said};
 ghost use Rattle.street_laws.specs.Seats.{IsSeat};
 ghost use Rattle.betting_numbers.specs.UpTo.{StandsUpTo};
 ghost use Rattle.street_laws.specs.Done.{is_done};
 ghost use Rattle.street_laws.specs.Dues.{IsDueWithin, is_of_street, is_deal_or_draw, is_cards_due, is_before_moves};
 ghost use Rattle.betting_numbers.specs.Turn.{may_come_at, IsDealtTo, IsPassedTo, IsSettledTo};
-ghost use Rattle.betting_numbers.specs.Turn.{KeepsSeat, KeepsTurn};
+ghost use Rattle.betting_numbers.specs.Turn.{IsFirstBehind, IsNextUp, KeepsSeat, KeepsTurn, StartsFresh};
 ghost use Rattle.street_laws.specs.Walk.{street_cards};
 ghost use Rattle.play_event.specs.Said.{Said, said_of};
 ghost use Rattle.play_event.specs.ValidSetup.{IsValid};
 ghost use Rattle.betting_numbers.specs.Targeted.{AreEndsFor};
 ghost use Rattle.chip_ledger.specs.SeatsSaid.{seat_said};
 
-use betting_numbers::{LegalMove, Table, Targets, not_now, start};
+use betting_numbers::{LegalMove, Table, Targets, Turn, not_now, start};
 use chip_ledger::{LiveRow, Seat, SeatRow};
 use play_event::{Act, Due, Event, Illegal, Kind, Move as Moved, Rules, Setup, Spelled, UpRow};
 use std::marker::PhantomData;
@@ -54,6 +54,7 @@ pub struct Betting<V: Variant> {
     pub ghost last: { table.street ≤ V.STREETS },
     pub ghost here: { is_of_street table.street table.due ≡ true },
     pub ghost begins: { is_before_moves table.due ≡ true → table.last ≡ None },
+    pub ghost fresh: { StartsFresh table },
     pub ghost turn: { KeepsTurn table },
     pub ghost seat: { KeepsSeat table } by { Prim.hlevel props },
 }
@@ -103,119 +104,127 @@ impl<V: Variant> Betting<V> {
         ensures setup { self.new.table.setup ≡ self.old.table.setup }
         ensures rules { self.new.table.rules ≡ self.old.table.rules }
     {
-        match self.legal_move(up, event) {
-            Ok(legal) => Ok(self.play(legal)),
+        let turn = self.turn_found(up);
+        match self.legal_move(turn.seat, event) {
+            Ok(legal) => Ok(self.play(legal, turn.behind)),
             Err(reason) => Err(reason),
         }
     }
 
     // The move that an event says, if it is legal.
-    fn legal_move(&self, up: &UpRow, event: &Event) -> Result<LegalMove, Illegal>
-        requires row { up.now.seats ≡ self.now.table.setup.stacks.seats }
+    fn legal_move(&self, turn: Option<Seat>, event: &Event) -> Result<LegalMove, Illegal>
+        requires turn_in { IfSome turn (λ seat. seat.number ≤ self.now.table.setup.stacks.seats) }
         requires kind { is_card_said (said_of event.now) ≡ false }
-        ensures refused { WhereUps self.now.table up.now
+        ensures refused { WhereBets self.now.table turn
             (IsRefused self.now.table (said_of event.now) result) }
-        ensures legal { WhereUps self.now.table up.now
+        ensures legal { WhereBets self.now.table turn
             (IsAllowed self.now.table (said_of event.now) result) }
         ensures due { OnOk result (is_bet_due self.now.table.due ≡ true) }
         ensures fits { IfOk result (IsFit self.now.table) }
         ensures in_hand { IfOk result (IsOfHand self.now.table) }
+        ensures seat { IfOk result (IsInTurn turn) }
         ensures reach { IfOk result (IsInReach self.now.table) }
     {
         match event.kind {
-            Kind::Fold { actor } => self.fold(up, actor),
-            Kind::Call { actor, stated } => self.call(up, actor, stated),
-            Kind::Raise { actor, amount } => self.raise(up, actor, amount),
-            Kind::BringIn { actor } => self.bring_in(up, actor),
+            Kind::Fold { actor } => self.fold(turn, actor),
+            Kind::Call { actor, stated } => self.call(turn, actor, stated),
+            Kind::Raise { actor, amount } => self.raise(turn, actor, amount),
+            Kind::BringIn { actor } => self.bring_in(turn, actor),
             _ => Err(Illegal::WrongKind),
         }
     }
 
     // The fold that an event says, if it is legal.
-    fn fold(&self, up: &UpRow, actor: Option<Seat>) -> Result<LegalMove, Illegal>
-        requires row { up.now.seats ≡ self.now.table.setup.stacks.seats }
-        ensures refused { WhereUps self.now.table up.now
+    fn fold(&self, turn: Option<Seat>, actor: Option<Seat>) -> Result<LegalMove, Illegal>
+        requires turn_in { IfSome turn (λ seat. seat.number ≤ self.now.table.setup.stacks.seats) }
+        ensures refused { WhereBets self.now.table turn
             (IsRefused self.now.table (said.Fold (seat_said actor)) result) }
-        ensures legal { WhereUps self.now.table up.now
+        ensures legal { WhereBets self.now.table turn
             (IsAllowed self.now.table (said.Fold (seat_said actor)) result) }
         ensures due { OnOk result (is_bet_due self.now.table.due ≡ true) }
         ensures fits { IfOk result (IsFit self.now.table) }
         ensures in_hand { IfOk result (IsOfHand self.now.table) }
+        ensures seat { IfOk result (IsInTurn turn) }
         ensures reach { IfOk result (IsInReach self.now.table) }
     {
         if let Some(reason) = not_now(self.table.due, true, false) {
             return Err(reason);
         }
-        let turn = self.turn_now(up);
         self.table.legal_fold(turn, actor)
     }
 
     // The call that an event says, if it is legal.
     fn call(
         &self,
-        up: &UpRow,
+        turn: Option<Seat>,
         actor: Option<Seat>,
         stated: Option<u64>,
     ) -> Result<LegalMove, Illegal>
-        requires row { up.now.seats ≡ self.now.table.setup.stacks.seats }
-        ensures refused { WhereUps self.now.table up.now
+        requires turn_in { IfSome turn (λ seat. seat.number ≤ self.now.table.setup.stacks.seats) }
+        ensures refused { WhereBets self.now.table turn
             (IsRefused self.now.table (said.Call (seat_said actor) stated) result) }
-        ensures legal { WhereUps self.now.table up.now
+        ensures legal { WhereBets self.now.table turn
             (IsAllowed self.now.table (said.Call (seat_said actor) stated) result) }
         ensures due { OnOk result (is_bet_due self.now.table.due ≡ true) }
         ensures fits { IfOk result (IsFit self.now.table) }
         ensures in_hand { IfOk result (IsOfHand self.now.table) }
+        ensures seat { IfOk result (IsInTurn turn) }
         ensures reach { IfOk result (IsInReach self.now.table) }
     {
         if let Some(reason) = not_now(self.table.due, true, false) {
             return Err(reason);
         }
-        let turn = self.turn_now(up);
         self.table.legal_call(turn, actor, stated)
     }
 
     // The raise that an event says, if it is legal.
-    fn raise(&self, up: &UpRow, actor: Option<Seat>, amount: Spelled) -> Result<LegalMove, Illegal>
-        requires row { up.now.seats ≡ self.now.table.setup.stacks.seats }
-        ensures refused { WhereUps self.now.table up.now
+    fn raise(
+        &self,
+        turn: Option<Seat>,
+        actor: Option<Seat>,
+        amount: Spelled,
+    ) -> Result<LegalMove, Illegal>
+        requires turn_in { IfSome turn (λ seat. seat.number ≤ self.now.table.setup.stacks.seats) }
+        ensures refused { WhereBets self.now.table turn
             (IsRefused self.now.table (said.Raise (seat_said actor) amount) result) }
-        ensures legal { WhereUps self.now.table up.now
+        ensures legal { WhereBets self.now.table turn
             (IsAllowed self.now.table (said.Raise (seat_said actor) amount) result) }
         ensures due { OnOk result (is_bet_due self.now.table.due ≡ true) }
         ensures fits { IfOk result (IsFit self.now.table) }
         ensures in_hand { IfOk result (IsOfHand self.now.table) }
+        ensures seat { IfOk result (IsInTurn turn) }
         ensures reach { IfOk result (IsInReach self.now.table) }
     {
         if let Some(reason) = not_now(self.table.due, true, true) {
             return Err(reason);
         }
-        let turn = self.turn_now(up);
         let size = self.unit();
         self.table.legal_raise(turn, V::LIMIT, size, actor, amount)
     }
 
     // The bring-in that an event says, if it is legal.
-    fn bring_in(&self, up: &UpRow, actor: Option<Seat>) -> Result<LegalMove, Illegal>
-        requires row { up.now.seats ≡ self.now.table.setup.stacks.seats }
-        ensures refused { WhereUps self.now.table up.now
+    fn bring_in(&self, turn: Option<Seat>, actor: Option<Seat>) -> Result<LegalMove, Illegal>
+        requires turn_in { IfSome turn (λ seat. seat.number ≤ self.now.table.setup.stacks.seats) }
+        ensures refused { WhereBets self.now.table turn
             (IsRefused self.now.table (said.BringIn (seat_said actor)) result) }
-        ensures legal { WhereUps self.now.table up.now
+        ensures legal { WhereBets self.now.table turn
             (IsAllowed self.now.table (said.BringIn (seat_said actor)) result) }
         ensures due { OnOk result (is_bet_due self.now.table.due ≡ true) }
         ensures fits { IfOk result (IsFit self.now.table) }
         ensures in_hand { IfOk result (IsOfHand self.now.table) }
+        ensures seat { IfOk result (IsInTurn turn) }
         ensures reach { IfOk result (IsInReach self.now.table) }
     {
         if let Some(reason) = not_now(self.table.due, false, true) {
             return Err(reason);
         }
-        let turn = self.turn_now(up);
         self.table.legal_bring_in(turn, actor)
     }
 
-    // Makes a legal move.
-    fn play(&mut self, legal: LegalMove) -> Moved
+    // Makes a legal move, where this seat, if it was looked for, is the first able one behind.
+    fn play(&mut self, legal: LegalMove, behind: Option<Seat>) -> Moved
         requires in_hand { legal.seat.number ≤ self.old.table.setup.stacks.seats }
+        requires behind { IfSome behind (IsFirstBehind self.old.table legal.seat.number) }
         requires reach { legal.target ≤ all_in_seen self.old.table legal.seat.number }
         requires due { is_bet_due self.old.table.due ≡ true }
         requires fits { may_come_at (act_said legal.act) self.old.table.due ≡ true }
@@ -235,13 +244,14 @@ impl<V: Variant> Betting<V> {
         let moved = self
             .table
             .traced(V::LIMIT, size, legal.seat, legal.act, legal.target);
-        self.make(legal.seat, legal.act, legal.target);
+        self.make(legal.seat, legal.act, legal.target, behind);
         moved
     }
 
     // Makes a legal move, and what comes behind it.
-    fn make(&mut self, seat: Seat, act: Act, target: u64)
+    fn make(&mut self, seat: Seat, act: Act, target: u64, behind: Option<Seat>)
         requires in_hand { seat.number ≤ self.old.table.setup.stacks.seats }
+        requires behind { IfSome behind (IsFirstBehind self.old.table seat.number) }
         requires reach { target ≤ all_in_seen self.old.table seat.number }
         requires fits { may_come_at (act_said act) self.old.table.due ≡ true }
         ensures stands { (past : Past) → StandsFor self.old.table past
@@ -253,7 +263,7 @@ impl<V: Variant> Betting<V> {
     {
         let unit = self.unit();
         self.table.make(seat, act, target, unit);
-        settle::<V>(&mut self.table);
+        settle::<V>(&mut self.table, behind);
     }
 
     /// Ends the deal, the draw or the show that is due: the betting of the street begins, or what
@@ -318,7 +328,7 @@ impl<V: Variant> Betting<V> {
         if self.table.is_bring_in_due(stud::<V>()) {
             self.table.set_turn(Due::BringIn, None);
         } else {
-            pass::<V>(&mut self.table);
+            pass::<V>(&mut self.table, None);
         }
     }
 
@@ -416,10 +426,35 @@ impl<V: Variant> Betting<V> {
             (λ past. IsTurn self.now.table past (turn_of (seat_said result))) }
         ensures in_hand { IfSome result (λ seat. seat.number ≤ self.now.table.setup.stacks.seats) }
     {
+        self.turn_found(up).seat
+    }
+
+    // Whose turn it is, if it is known, and who is behind where the row is read. It is nobody's where
+    // neither a bring-in nor a move is due.
+    fn turn_found(&self, up: &UpRow) -> Turn
+        requires row { up.now.seats ≡ self.now.table.setup.stacks.seats }
+        ensures turn { WhereUps self.now.table up.now
+            (λ past. is_bet_due self.now.table.due ≡ true
+            → IsTurn self.now.table past (turn_of (seat_said result.seat))) }
+        ensures in_hand { IfSome result.seat
+            (λ seat. seat.number ≤ self.now.table.setup.stacks.seats) }
+        ensures behind { IfSome result.seat
+            (λ seat. IfSome result.behind (IsFirstBehind self.now.table seat.number)) }
+    {
+        if !betting_due(self.table.due) {
+            return Turn {
+                seat: None,
+                behind: None,
+            };
+        }
+        let kept = Turn {
+            seat: self.table.next,
+            behind: None,
+        };
         match self.table.last {
-            Some(_) => self.table.next,
+            Some(_) => kept,
             None => match V::OPEN {
-                Opener::Blinds => self.table.next,
+                Opener::Blinds => kept,
                 Opener::LowUp => self.table.up_opener(Opener::LowUp, up),
                 Opener::HighUp => self.table.up_opener(Opener::HighUp, up),
             },
@@ -458,48 +493,70 @@ fn betting_due(due: Due) -> bool
     }
 }
 
-// What is due after a move that led to these numbers.
-fn settle<V: Variant>(table: &mut Table)
+// What is due after a move that led to these numbers, where this seat, if it is known, is next up.
+fn settle<V: Variant>(table: &mut Table, behind: Option<Seat>)
     requires code { table.old.setup.code ≡ V.CODE }
     requires first { 1 ≤ table.old.street }
     requires last { table.old.street ≤ V.STREETS }
+    requires fresh { StartsFresh table.old }
+    requires behind { IfSome behind (IsNextUp table.old) }
     ensures settled { IsSettledTo table.old table.new }
     ensures first { 1 ≤ table.new.street }
     ensures last { table.new.street ≤ V.STREETS }
     ensures here { is_of_street table.new.street table.new.due ≡ true }
     ensures begins { is_before_moves table.new.due ≡ true → table.new.last ≡ None }
+    ensures fresh { StartsFresh table.new }
     ensures turn { KeepsTurn table.new }
     ensures seat { KeepsSeat table.new }
 {
     if table.live_count() <= 1 {
         table.set_due(Due::Over);
     } else {
-        pass::<V>(table);
+        pass::<V>(table, behind);
     }
 }
 
 // What is due where no bring-in is: the turn is passed on, or the next street begins.
-fn pass<V: Variant>(table: &mut Table)
+fn pass<V: Variant>(table: &mut Table, behind: Option<Seat>)
     requires code { table.old.setup.code ≡ V.CODE }
     requires first { 1 ≤ table.old.street }
     requires last { table.old.street ≤ V.STREETS }
+    requires fresh { StartsFresh table.old }
+    requires behind { IfSome behind (IsNextUp table.old) }
     ensures passed { IsPassedTo table.old table.new }
     ensures first { 1 ≤ table.new.street }
     ensures last { table.new.street ≤ V.STREETS }
     ensures here { is_of_street table.new.street table.new.due ≡ true }
     ensures begins { is_before_moves table.new.due ≡ true → table.new.last ≡ None }
+    ensures fresh { StartsFresh table.new }
     ensures turn { KeepsTurn table.new }
     ensures seat { KeepsSeat table.new }
 {
     let street = table.street;
-    let opener = table.blinds_opener();
-    let next = table.mover(opener);
+    let next = mover(table, behind);
     if next.is_some() {
         table.set_turn(Due::Move, next);
     } else if street < V::STREETS {
         table.next_street(cards::<V>(street + 1));
     } else {
         table.set_due(Due::Show);
+    }
+}
+
+// Whose turn it is, where the blinds say who opens: nobody's where no move is due. Where it is
+// known who is next up, no other seat is asked.
+fn mover(table: &Table, behind: Option<Seat>) -> Option<Seat>
+    requires behind { IfSome behind (IsNextUp table.now) }
+    ensures turn { in_turn (seat_said result)
+        ≡ mover_seen table.now
+        (TheSeat (blinds_opener table.now.setup table.now.street)) }
+    ensures due { is_some result ≡ is_move_due_seen table.now }
+    ensures in_hand { IfSome result (λ seat. seat.number ≤ table.now.setup.stacks.seats) }
+{
+    match behind {
+        None => table.mover(table.blinds_opener()),
+        Some(seat) if table.to_move(seat) => behind,
+        Some(_) => None,
     }
 }
 

@@ -43,20 +43,20 @@ all_true true true = refl
 all_true true false = refl
 all_true false x = refl
 
+-- of fewer than two able seats each is this one
+pub only_able : (b : Table) (first : ℕ) → IsSeat b.setup first → is_able_seen b first ≡ true → nat_le 2 (able_count_seen b) ≡ false → (k : ℕ) → 1 ≤ k → k ≤ b.setup.stacks.seats → is_able_seen b k ≡ true → k ≡ first
+only_able b first in_hand able few k low high able_k =
+    let none : list_any (λ j. is_able_seen b j && not (j == first)) (all_seats b.setup) ≡ false =
+    another_passes (is_able_seen b) 1 b.setup.stacks.seats first in_hand.first (omega (arith, in_hand.last))
+    ∙ ap (λ (own : Bool). nat_lt (cond own 1 0) (able_count_seen b)) able
+    ∙ le-ltb 1 (able_count_seen b) (omega (arith, leb-false 2 (able_count_seen b) few)) in
+    eqb-true k first (not-false (k == first) (second_fails (is_able_seen b k) (not (k == first)) able_k (none_at (λ j. is_able_seen b j && not (j == first)) b.setup.stacks.seats k low high none)))
+
 module _ (b : Table) (past : Past) (stands : StandsFor b past) (last : b.last ≡ None) (first : ℕ) (in_hand : IsSeat b.setup first) (able : is_able_seen b first ≡ true) (some : is_move_due_seen b ≡ true) where
   fresh : flag_of b.since_rise first ≡ false
   fresh =
       stands.standing.since_rise first in_hand
       ∙ none_since_start b.setup (moves_of past) b.street first (no_moves (moves_on b.street (moves_of past)) (sym stands.standing.last ∙ ap (λ (o : Option Seat). seat_said o) last))
-
-  -- of fewer than two able seats each is this one
-  only : nat_le 2 (able_count_seen b) ≡ false → (k : ℕ) → 1 ≤ k → k ≤ b.setup.stacks.seats → is_able_seen b k ≡ true → k ≡ first
-  only few k low high able_k =
-      let none : list_any (λ j. is_able_seen b j && not (j == first)) (all_seats b.setup) ≡ false =
-      another_passes (is_able_seen b) 1 b.setup.stacks.seats first in_hand.first (omega (arith, in_hand.last))
-      ∙ ap (λ (own : Bool). nat_lt (cond own 1 0) (able_count_seen b)) able
-      ∙ le-ltb 1 (able_count_seen b) (omega (arith, leb-false 2 (able_count_seen b) few)) in
-      eqb-true k first (not-false (k == first) (second_fails (is_able_seen b k) (not (k == first)) able_k (none_at (λ j. is_able_seen b j && not (j == first)) b.setup.stacks.seats k low high none)))
 
   moves_by : (many : Bool) → nat_le 2 (able_count_seen b) ≡ many → has_to_move_seen b first ≡ true
   moves_by true is =
@@ -69,7 +69,7 @@ module _ (b : Table) (past : Past) (stands : StandsFor b past) (last : b.last �
       let none : list_any (has_to_move_seen b) (all_seats b.setup) ≡ false =
       any_seats (has_to_move_seen b) (λ k. false) b.setup.stacks.seats (λ k low high. false_from_ne_true (has_to_move_seen b k) (λ moves.
       let able_k : is_able_seen b k ≡ true = (and_parts (is_able_seen b k) (if flag_of b.since_rise k then false else (nat_lt 0 (owed_seen b k) || nat_le 2 (able_count_seen b))) moves).0 in
-      true≢false (sym moves ∙ ap (has_to_move_seen b) (only is k low high able_k) ∙ fails)))
+      true≢false (sym moves ∙ ap (has_to_move_seen b) (only_able b first in_hand able is k low high able_k) ∙ fails)))
       ∙ none_passes (λ k. false) (all_seats b.setup) (λ k. refl) in
       true≢false (sym some ∙ none))
 

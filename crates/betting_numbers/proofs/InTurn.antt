@@ -61,7 +61,7 @@ why_where b past event due stands is =
     ∙ ap (λ d. first_reason (all_reasons b.setup b.rules past (b.street, d) event)) is
 
 -- a seat is found where one passes, from whichever seat one starts
-found_some : (setup : Setup) (p : ℕ → Bool) (start : ℕ) → IsSeat setup start → is_some (find p (seats_from setup start)) ≡ list_any p (all_seats setup)
+pub found_some : (setup : Setup) (p : ℕ → Bool) (start : ℕ) → IsSeat setup start → is_some (find p (seats_from setup start)) ≡ list_any p (all_seats setup)
 found_some setup p start in_hand =
     let n = setup.stacks.seats in
     let low : 1 ≤ start = in_hand.first in
@@ -95,7 +95,8 @@ pub record Passed (b : Table) (opener : ℕ) : Type 0 where
   pub is : after_last (last_seen b) (seat_after b.setup) (TheSeat opener) ≡ TheSeat seat
   pub in_hand : IsSeat b.setup seat
 
-after_in_by : (setup : Setup) (seat : ℕ) (last : Bool) → (seat == setup.stacks.seats) ≡ last → IsSeat setup seat → IsSeat setup (if last then 1 else seat + 1)
+-- the seat after a seat is of the hand
+pub after_in_by : (setup : Setup) (seat : ℕ) (last : Bool) → (seat == setup.stacks.seats) ≡ last → IsSeat setup seat → IsSeat setup (if last then 1 else seat + 1)
 after_in_by setup seat true is in_hand = record { first = omega arith; last = omega (arith, in_hand.first, in_hand.last) }
 after_in_by setup seat false is in_hand =
     let other : seat ≡ setup.stacks.seats → ⊥ = eqb-false seat setup.stacks.seats is in

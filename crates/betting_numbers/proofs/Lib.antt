@@ -13,9 +13,11 @@ pub mod WhyMove
 pub mod WhyRaise
 pub mod InTurn
 pub mod Leading
+pub mod Behind
 pub mod FirstMoves
 pub mod UpOpener
 pub mod TargetEnds
+pub mod NextUp
 pub mod TraceLaws
 pub mod Views
 pub mod LegalCards

@@ -12,6 +12,7 @@ use Rattle.play_event.specs.Reasons.{why}
 use Rattle.play_event.specs.Said.{Said}
 use Rattle.play_event.specs.Scripts.{with_event}
 use Rattle.play_event.specs.Table.{up_cards}
+use Rattle.play_event.specs.TurnTargets.{is_bet_due}
 use Rattle.betting_numbers.specs.declared.legal_moves.LegalMove.{LegalMove}
 use Rattle.betting_numbers.specs.declared.table.Table.{Table}
 use Rattle.betting_numbers.specs.SeatsSaid.{turn_of}
@@ -42,6 +43,10 @@ IsTurn b past in_turn = in_turn ≡ mover b.setup (up_cards b.setup.code past) (
 abbrev pub WhereTurn : Table → Option Seat → (Past → Type 0) → Type 0
 WhereTurn b turn P = (past : Past) → StandsFor b past → IsTurn b past (turn_of (seat_said turn)) → P past
 
+-- after each past for which the state stands, and after which this is the turn if a bring-in or a move is due
+abbrev pub WhereBets : Table → Option Seat → (Past → Type 0) → Type 0
+WhereBets b turn P = (past : Past) → StandsFor b past → (is_bet_due b.due ≡ true → IsTurn b past (turn_of (seat_said turn))) → P past
+
 -- after each past for which the state stands, where the row holds what is read of its up-cards
 abbrev pub WhereUps : Table → UpRow → (Past → Type 0) → Type 0
 WhereUps b up P = (past : Past) → StandsFor b past → HoldsOpeningUps b up past → P past
@@ -65,6 +70,10 @@ IsAllowed b event result past = IfOk result (λ legal. IsLegalMove b past event 
 -- the move is of a seat of the hand
 abbrev pub IsOfHand : Table → LegalMove → Type 0
 IsOfHand b legal = legal.seat.number ≤ b.setup.stacks.seats
+
+-- it is of the seat in turn
+abbrev pub IsInTurn : Option Seat → LegalMove → Type 0
+IsInTurn turn legal = turn ≡ Some legal.seat
 
 -- it goes no further than all-in
 abbrev pub IsInReach : Table → LegalMove → Type 0

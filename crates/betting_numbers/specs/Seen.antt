@@ -71,6 +71,10 @@ last_seen b = option_map (λ (s : Seat). s.number) b.last
 abbrev pub mover_seen : Table → InTurn → InTurn
 mover_seen b opener = first_in_turn b.setup (has_to_move_seen b) (after_last (last_seen b) (seat_after b.setup) opener)
 
+-- the first able seat behind this one, going round, with this one as the last
+abbrev pub first_behind_seen : Table → ℕ → InTurn
+first_behind_seen b seat = first_in_turn b.setup (is_able_seen b) (TheSeat (seat_after b.setup seat))
+
 -- an able seat owes chips
 abbrev pub has_able_seat_to_call_seen : Table → Bool
 has_able_seat_to_call_seen b = list_any (λ seat. is_able_seen b seat && nat_lt 0 (owed_seen b seat)) (all_seats b.setup)

@@ -1,17 +1,19 @@
 -- What is due after the betting of a street moved on.
-use Rattle.std.specs.Prelude.{◌≡◌, ◌≤◌, ℕ, Bool, true, false, nat_le, ◌||◌, Option, IfSome}
+use Rattle.std.specs.Prelude.{◌≡◌, ◌≤◌, ℕ, Bool, true, false, nat_le, ◌||◌, if◌then◌else◌, Option, Some, None, IfSome}
+use Rattle.chip_ledger.specs.LiveRow.{flag_of}
 use Rattle.chip_ledger.specs.declared.numbers.Seat.{Seat}
 use Rattle.play_event.specs.declared.reason.Due.{Due}
 use Rattle.play_event.specs.Due.{has_opened_betting}
-use Rattle.play_event.specs.Openers.{TheSeat, in_turn, blinds_opener}
+use Rattle.play_event.specs.Openers.{InTurn, TheSeat, in_turn, blinds_opener}
 use Rattle.play_event.specs.Past.{Act}
 use Rattle.play_event.specs.TurnTargets.{is_bet_due}
 use Rattle.betting_numbers.specs.declared.table.Table.{Table}
 use Rattle.chip_ledger.specs.SeatsSaid.{seat_said}
-use Rattle.betting_numbers.specs.Seen.{live_count_seen, is_bring_in_due_seen, is_move_due_seen, mover_seen}
+use Rattle.betting_numbers.specs.Seen.{first_behind_seen, has_to_move_seen, live_count_seen, is_bring_in_due_seen, is_move_due_seen, mover_seen}
 use Rattle.betting_numbers.specs.Moving.{IsNextStreet}
 use Rattle.street_laws.specs.Walk.{betting_turn, turn_after}
 use Rattle.street_laws.specs.Dues.{is_move}
+use Rattle.street_laws.specs.Seats.{IsSeat}
 
 -- the same numbers, and another thing due
 abbrev pub with_due : Table → Due → Table
@@ -28,6 +30,21 @@ KeepsTurn b = is_move b.due ≡ true → in_turn (seat_said b.next) ≡ mover_se
 -- where a bring-in or a move is due, the seat that is kept is of the hand
 abbrev pub KeepsSeat : Table → Type 0
 KeepsSeat b = is_bet_due b.due ≡ true → IfSome b.next (λ seat. seat.number ≤ b.setup.stacks.seats)
+
+-- where no seat has moved on the street, none has since the price rose
+abbrev pub StartsFresh : Table → Type 0
+StartsFresh b = b.last ≡ None → (seat : ℕ) → IsSeat b.setup seat → flag_of b.since_rise seat ≡ false
+
+-- before the first move of a street, the first able seat behind the one that makes it
+pub record IsFirstBehind (b : Table) (seat : ℕ) (behind : Seat) : Type 0 where
+  pub before_moves : b.last ≡ None
+  pub first : TheSeat behind.number ≡ first_behind_seen b seat
+  pub in_hand : behind.number ≤ b.setup.stacks.seats
+
+-- after that move this seat is in turn or, where it has no move to make, none is
+pub record IsNextUp (b : Table) (behind : Seat) : Type 0 where
+  pub turn : (opener : InTurn) → in_turn (if has_to_move_seen b behind.number then Some behind.number else None) ≡ mover_seen b opener
+  pub in_hand : behind.number ≤ b.setup.stacks.seats
 
 -- the numbers where this is what comes: the street's betting goes on, or the next street begins, or nothing is left to bet
 pub record IsTurnedTo (now : ℕ × Due) (mid next : Table) : Type 0 where

@@ -2,7 +2,7 @@
 ghost use Rattle.std.specs.Prelude.{◌≡◌, ◌≤◌, true, false, None, Some, IfOk, IfSome};
 ghost use Rattle.play_event.specs.Said as said;
 ghost use Rattle.play_event.specs.Streets.{limit_of, unit};
-ghost use Rattle.betting_numbers.specs.LegalMoves.{IsRefused, IsAllowed, IsOfHand, IsInReach, IsFit, WhereTurn};
+ghost use Rattle.betting_numbers.specs.LegalMoves.{IsRefused, IsAllowed, IsOfHand, IsInReach, IsInTurn, IsFit, WhereTurn};
 ghost use Rattle.betting_numbers.specs.Why.{is_unable, now_why, unknown_why};
 ghost use Rattle.chip_ledger.specs.SeatsSaid.{seat_said};
 
@@ -44,6 +44,7 @@ impl Table {
             (IsAllowed self.now (said.Fold (seat_said actor)) result) }
         ensures fits { IfOk result (IsFit self.now) }
         ensures in_hand { IfOk result (IsOfHand self.now) }
+        ensures seat { IfOk result (IsInTurn turn) }
         ensures reach { IfOk result (IsInReach self.now) }
     {
         match turn {
@@ -79,6 +80,7 @@ impl Table {
             (IsAllowed self.now (said.Call (seat_said actor) stated) result) }
         ensures fits { IfOk result (IsFit self.now) }
         ensures in_hand { IfOk result (IsOfHand self.now) }
+        ensures seat { IfOk result (IsInTurn turn) }
         ensures reach { IfOk result (IsInReach self.now) }
     {
         match turn {
@@ -119,6 +121,7 @@ impl Table {
             (IsAllowed self.now (said.Raise (seat_said actor) amount) result) }
         ensures fits { IfOk result (IsFit self.now) }
         ensures in_hand { IfOk result (IsOfHand self.now) }
+        ensures seat { IfOk result (IsInTurn turn) }
         ensures reach { IfOk result (IsInReach self.now) }
     {
         match turn {
@@ -154,6 +157,7 @@ impl Table {
             (IsAllowed self.now (said.BringIn (seat_said actor)) result) }
         ensures fits { IfOk result (IsFit self.now) }
         ensures in_hand { IfOk result (IsOfHand self.now) }
+        ensures seat { IfOk result (IsInTurn turn) }
         ensures reach { IfOk result (IsInReach self.now) }
     {
         match turn {

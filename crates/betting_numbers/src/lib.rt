@@ -19,3 +19,4 @@ pub use legal_moves::{LegalMove, not_now};
 pub use starting::start;
 pub use table::Table;
 pub use targeting::Targets;
+pub use up_opening::Turn;

@@ -1,41 +1,70 @@
-//! Who opens a street by up-cards.
+//! Who opens a street by up-cards, and who is behind.
 ghost use Rattle.std.specs.Prelude.{◌≡◌, ◌≤◌, ℕ, true, ◌&&◌, not, IfSome};
 ghost use Rattle.chip_ledger.specs.SeatsSaid.{seat_said};
+ghost use Rattle.play_event.specs.Openers.{in_turn};
 ghost use Rattle.betting_numbers.specs.UpSeen.{is_as_early_seen, is_before_seen, has_unknown_seen, known_opener_seen};
-ghost use Rattle.betting_numbers.specs.Seen.{is_able_seen};
+ghost use Rattle.betting_numbers.specs.Seen.{first_behind_seen, is_able_seen};
 
 use crate::table::Table;
 use chip_ledger::Seat;
 use play_event::{Opener, UpRow};
 use up_card_order::{has_unknown, is_as_early, is_opener_before, known};
 
+/// Whose turn it is, if it is known, and who is behind.
+#[derive(Clone, Copy, Debug, PartialEq, Eq)]
+pub struct Turn {
+    pub seat: Option<Seat>,
+    /// The first able seat behind that one, going round, where it was looked for: the same seat
+    /// where no other is able.
+    pub behind: Option<Seat>,
+}
+
 impl Table {
     /// Who opens, where each up-card of an able seat is known: the first able seat before which no
     /// other opens. The walk goes from the last seat to the first, and keeps of the seats so far the
     /// leader, which opens before all that any of them opens before, and the first before which none
     /// of them opens. Going this way a new seat takes the place of that one, or leaves it as it is.
-    pub fn up_opener(&self, opener: Opener, up: &UpRow) -> Option<Seat>
+    ///
+    /// The same walk finds who is behind the opener: the able seat that was walked last before it
+    /// or, where none was able before it, the one that was walked last of all.
+    pub fn up_opener(&self, opener: Opener, up: &UpRow) -> Turn
         requires row { up.now.seats ≡ self.now.setup.stacks.seats }
-        ensures found { seat_said result ≡ known_opener_seen opener self.now up.now }
-        ensures in_hand { IfSome result (λ seat. seat.number ≤ self.now.setup.stacks.seats) }
+        ensures found { seat_said result.seat ≡ known_opener_seen opener self.now up.now }
+        ensures behind { IfSome result.seat
+            (λ seat. in_turn (seat_said result.behind) ≡ first_behind_seen self.now seat.number) }
+        ensures in_hand { IfSome result.seat (λ seat. seat.number ≤ self.now.setup.stacks.seats) }
+        ensures behind_in { IfSome result.behind
+            (λ seat. seat.number ≤ self.now.setup.stacks.seats) }
     {
         let seats = self.setup.stacks.seats;
         let mut lead: u8 = seats;
         let mut first: Option<Seat> = None;
+        let mut behind: Option<Seat> = None;
+        let mut nearest: Option<Seat> = None;
         for index in 0..seats {
             let seat = Seat {
                 number: seats - index,
             };
             if self.up_unknown(up, seat) {
-                return None;
+                return Turn {
+                    seat: None,
+                    behind: None,
+                };
             }
             let next = self.earlier(opener, up, Seat { number: lead }, seat);
             if self.opens(opener, up, next, seat) {
                 first = Some(seat);
+                behind = nearest;
+            }
+            if self.able(seat) {
+                nearest = Some(seat);
             }
             lead = next.number;
         }
-        first
+        Turn {
+            seat: first,
+            behind: behind.or(nearest),
+        }
     }
 
     // The seat is able, and an up-card of it is unknown.

@@ -1,0 +1,55 @@
+-- The seat in turn that is kept, or that opens by up-cards, is the seat in turn by the rules.
+use Rattle.std.proofs.Common.{refl, sym, ap, ◌∙◌}
+use Rattle.play_event.specs.declared.code.Code.{Code}
+use Rattle.play_event.specs.declared.limit.Opener.TheVariants as openers
+use Rattle.play_event.specs.Streets.{opener_of}
+use Rattle.betting_numbers.specs.Turn.{IsFirstBehind}
+use Rattle.betting_core.proofs.KeptTurn.{kept_blinds, kept_later, by_cards, none_behind, opened_behind}
+use Rattle.betting_core.proofs.betting.Betting.turn_found.Goals as goal
+
+pub returns-in-Some-clause-turn : goal.returns-in-Some-clause-turn
+returns-in-Some-clause-turn g c =
+    let whole = c.args.self.now in
+    λ past stands holds bets. kept_later whole.table past stands whole.turn bets whole.begins c.in-Some.field-0 c.in-Some.is
+
+pub returns-in-Some-clause-behind : goal.returns-in-Some-clause-behind
+returns-in-Some-clause-behind g c =
+    let b = c.args.self.now.table in
+    none_behind b.next (λ seat. IsFirstBehind b seat.number)
+
+pub returns-in-Blinds-clause-turn : goal.returns-in-Blinds-clause-turn
+returns-in-Blinds-clause-turn g c =
+    let whole = c.args.self.now in
+    λ past stands holds bets. kept_blinds whole.table past stands whole.turn bets
+    (ap (λ (code : Code). opener_of code) whole.code ∙ sym g.met.V.Variant.values.opener_is ∙ sym c.OPEN.ensures ∙ c.in-Blinds.is)
+
+pub returns-in-Blinds-clause-behind : goal.returns-in-Blinds-clause-behind
+returns-in-Blinds-clause-behind g c =
+    let b = c.args.self.now.table in
+    none_behind b.next (λ seat. IsFirstBehind b seat.number)
+
+pub returns-in-LowUp-clause-turn : goal.returns-in-LowUp-clause-turn
+returns-in-LowUp-clause-turn g c =
+    let whole = c.args.self.now in
+    let found = c.up_opener in
+    λ past stands holds bets. by_cards whole.table past stands bets c.args.up.now c.in-None.is (holds.held c.in-None.is) openers.LowUp
+    (ap (λ (code : Code). opener_of code) whole.code ∙ sym g.met.V.Variant.values.opener_is ∙ sym c.OPEN.ensures ∙ c.in-LowUp.is)
+    refl found.result.seat found.ensures.in_hand found.ensures.found
+
+pub returns-in-LowUp-clause-behind : goal.returns-in-LowUp-clause-behind
+returns-in-LowUp-clause-behind g c =
+    let found = c.up_opener in
+    opened_behind c.args.self.now.table c.in-None.is found.result.seat found.result.behind found.ensures.behind found.ensures.behind_in
+
+pub returns-in-HighUp-clause-turn : goal.returns-in-HighUp-clause-turn
+returns-in-HighUp-clause-turn g c =
+    let whole = c.args.self.now in
+    let found = c.up_opener-in-HighUp in
+    λ past stands holds bets. by_cards whole.table past stands bets c.args.up.now c.in-None.is (holds.held c.in-None.is) openers.HighUp
+    (ap (λ (code : Code). opener_of code) whole.code ∙ sym g.met.V.Variant.values.opener_is ∙ sym c.OPEN.ensures ∙ c.in-HighUp.is)
+    refl found.result.seat found.ensures.in_hand found.ensures.found
+
+pub returns-in-HighUp-clause-behind : goal.returns-in-HighUp-clause-behind
+returns-in-HighUp-clause-behind g c =
+    let found = c.up_opener-in-HighUp in
+    opened_behind c.args.self.now.table c.in-None.is found.result.seat found.result.behind found.ensures.behind found.ensures.behind_in
