@@ -1,7 +1,7 @@
 //! Hands are read in the notation of a name, and written in another.
 use acpc_format::{Game, read_game};
 use convert_core::{Acpc, Notation, Ohh, Phh, plays};
-use hand_records::Keep;
+use hand_records::{Keep, Records};
 use ohh_members::Dialect;
 use std::alloc::Global;
 
@@ -10,21 +10,13 @@ const GAME: &[u8] =
     b"GAMEDEF\nnolimit\nnumPlayers = 3\nnumRounds = 4\nstack = 100 100 100\nblind = 1 2 0\n\
 firstPlayer = 3 1 1 1\nnumSuits = 4\nnumRanks = 13\nnumHoleCards = 2\nnumBoardCards = 0 3 1 1\nEND GAMEDEF\n";
 
-/// How many hands the bytes say in the notation of this name, if they read as hands there.
-pub fn read_hands(alloc: Global, from: &str, bytes: &[u8]) -> Option<usize> {
+/// The records that the bytes say in the notation of this name, if they read as hands there.
+pub fn read_hands(alloc: Global, from: &str, bytes: &[u8]) -> Option<Records> {
     match from {
-        "phh" => count_hands(alloc, &Phh, bytes),
-        "ohh" => count_hands(alloc, &added(), bytes),
-        "acpc" => count_hands(alloc, &game_log(alloc)?, bytes),
+        "phh" => Phh.read(alloc, bytes).ok(),
+        "ohh" => added().read(alloc, bytes).ok(),
+        "acpc" => game_log(alloc)?.read(alloc, bytes).ok(),
         _ => None,
-    }
-}
-
-// How many hands bytes say.
-fn count_hands<N: Notation>(alloc: Global, from: &N, bytes: &[u8]) -> Option<usize> {
-    match from.read(alloc, bytes) {
-        Ok(records) => Some(records.len()),
-        Err(_) => None,
     }
 }
 

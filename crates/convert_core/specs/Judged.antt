@@ -1,5 +1,5 @@
 -- What records come to: each its play, or the first that is refused, and why.
-use Rattle.std.specs.Prelude.{◌≡◌, ℕ, ◌+◌, List, ◌∷◌, ◌++◌, length, map, All, Some}
+use Rattle.std.specs.Prelude.{◌≡◌, ℕ, ◌+◌, List, [], ◌∷◌, ◌++◌, length, map, All, Some}
 use Rattle.hand_canon.specs.declared.agreement.FactDiffers.{FactDiffers}
 use Rattle.hand_records.specs.declared.record.Record.{Record}
 use Rattle.hand_records.specs.declared.trace.Play.{Play}
@@ -18,6 +18,13 @@ use Rattle.convert_core.specs.declared.fault.Refusal.TheVariants as refusals
 pub record ArePlaysOf (records : List Record) (plays : List Play) : Type 0 where
   pub same : map (λ (play : Play). play.hand) plays ≡ records
   pub judged : All IsJudged plays
+
+-- behind these plays comes one more, the play of this record
+pub record IsOneMorePlay (before : List Play) (hand : Record) (after : List Play) : Type 0 where
+  pub play : Play
+  pub same : play.hand ≡ hand
+  pub judged : IsJudged play
+  pub behind : after ≡ before ++ play ∷ []
 
 -- what is wrong with a script, where that is not want of memory
 abbrev pub IsReplayFaultOf : Record → ReplayFault → Type 0

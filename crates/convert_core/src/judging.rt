@@ -1,10 +1,10 @@
 //! Each record is replayed, and what it states is compared with its trace.
-ghost use Rattle.std.specs.Prelude.{◌≡◌, ◌≤◌, All, length, IfErr, IfOk};
+ghost use Rattle.std.specs.Prelude.{◌≡◌, ◌≤◌, ◌<◌, ◌+◌, All, length, IfErr, IfOk, OnOk};
 ghost use Rattle.hand_canon.specs.Sound.{IsSound};
 ghost use Rattle.hand_records.specs.SoundRecord.{IsSoundRecord};
 ghost use Rattle.first_fault.specs.declared.limits.TheConstants.{MOST_HANDS};
-ghost use Rattle.hand_canon.specs.Judged.{IsJudged};
-ghost use Rattle.convert_core.specs.Judged.{ArePlaysOf, IsFaultAt, IsPlaysFaultOf};
+ghost use Rattle.convert_core.specs.Judged.{ArePlaysOf, IsFaultAt, IsOneMorePlay, IsPlaysFaultOf};
+ghost use Rattle.convert_core.specs.declared.fault.PlaysFault.TheVariants as plays_faults;
 
 use crate::fault::{PlaysFault, Refusal};
 use hand_canon::check_stated;
@@ -27,39 +27,36 @@ pub fn plays_of(alloc: Global, records: Records) -> Result<Vec<Play>, PlaysFault
 {
     let mut plays = Vec::with_capacity(alloc, records.len())?;
     for hand in records.into_vec() {
-        let number = plays.len() as u32 + 1;
-        let play = play_of(alloc, number, hand)?;
-        plays.push(play)?;
+        push_play(alloc, &mut plays, hand)?;
     }
     Ok(plays)
 }
 
-/// The play of the record with this number, from 1.
-///
-/// # Errors
-///
-/// What is wrong with the hand first; or want of memory.
-pub fn play_of(alloc: Global, number: u32, hand: Record) -> Result<Play, PlaysFault>
+// Puts the play of the next record after the others. It is made where it is kept: a play is some thousand bytes, and would
+// else be copied again and again.
+fn push_play(alloc: Global, plays: &mut Vec<Play>, hand: Record) -> Result<(), PlaysFault>
     requires sound { IsSoundRecord hand }
-    ensures kept { IfOk result (λ play. play.hand ≡ hand) }
-    ensures judged { IfOk result IsJudged }
-    ensures refused { IfErr result (IsFaultAt hand number) }
+    requires few { length plays.old.items < MOST_HANDS }
+    ensures pushed { OnOk result (IsOneMorePlay plays.old.items hand plays.new.items) }
+    ensures refused { IfErr result (IsFaultAt hand (length plays.old.items + 1)) }
 {
-    let trace = match replay(alloc, &hand.setup, &hand.rules, &hand.script) {
-        Ok(trace) => trace,
-        Err(ReplayFault::Memory) => return Err(PlaysFault::Memory),
-        Err(fault) => {
-            return Err(PlaysFault::Refused {
-                hand: number,
-                why: Refusal::Replay(fault),
-            });
+    let number = plays.len() as u32 + 1;
+    match replay(alloc, &hand.setup, &hand.rules, &hand.script) {
+        Ok(trace) => {
+            if let Err(differs) = check_stated(&trace, &hand.stated) {
+                return Err(refused(number, Refusal::Fact(differs)));
+            }
+            plays.push(Play { hand, trace })?;
+            Ok(())
         }
-    };
-    match check_stated(&trace, &hand.stated) {
-        Ok(()) => Ok(Play { hand, trace }),
-        Err(differs) => Err(PlaysFault::Refused {
-            hand: number,
-            why: Refusal::Fact(differs),
-        }),
+        Err(ReplayFault::Memory) => Err(PlaysFault::Memory),
+        Err(fault) => Err(refused(number, Refusal::Replay(fault))),
     }
+}
+
+// The hand with this number is refused.
+fn refused(number: u32, why: Refusal) -> PlaysFault
+    ensures { result ≡ plays_faults.Refused number why }
+{
+    PlaysFault::Refused { hand: number, why }
 }

@@ -18,7 +18,7 @@ pub use convert_fault::ConvertFault;
 pub use converting::{convert, plays};
 pub use fault::{PlaysFault, Refusal};
 pub use format_fault::FormatFault;
-pub use judging::{play_of, plays_of};
+pub use judging::plays_of;
 pub use laws::{
     law_of_legal_conversions, law_of_one_conversion, law_of_one_outcome, law_of_sharpness,
 };

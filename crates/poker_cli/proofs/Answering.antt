@@ -10,9 +10,6 @@ use Rattle.convert_core.specs.Conversion.{IsConversion as IsConverting, IsConver
 use Rattle.convert_core.specs.Faults.{is_want_in_history, is_want_in_log, is_want_in_tree, is_want_of_memory}
 use Rattle.convert_core.specs.declared.convert_fault.ConvertFault.{ConvertFault}
 use Rattle.convert_core.specs.declared.convert_fault.ConvertFault.TheVariants as convert_faults
-use Rattle.convert_core.specs.Judged.{IsPlaysFaultOf}
-use Rattle.convert_core.specs.declared.fault.PlaysFault.{PlaysFault}
-use Rattle.convert_core.specs.declared.fault.PlaysFault.TheVariants as plays_faults
 use Rattle.convert_core.specs.declared.fault.Refusal.{Refusal}
 use Rattle.convert_core.specs.declared.format_fault.FormatFault.{FormatFault}
 use Rattle.convert_core.specs.declared.format_fault.FormatFault.TheVariants as formats
@@ -27,7 +24,6 @@ use Rattle.phh_reading.specs.declared.fault.PhhFault.TheVariants as histories
 use Rattle.poker_cli.specs.Answer.{Answer, Files, GivesGame, GivesNoGame, IsAnswer, IsAnswerIn, IsAnswerTo, IsMadeOf, IsSummed, IsToldOf, IsWay, IsWritten, done, most_input, to_excess, to_fault, to_refusal}
 use Rattle.poker_cli.specs.Answer as answers
 use Rattle.poker_cli.specs.Lacking.{IsLackTold, Lacks}
-use Rattle.poker_cli.specs.Printing.{IsPrinted}
 use Rattle.poker_cli.specs.Told.{answer_told}
 use Rattle.poker_cli.specs.Ways.{conversion_way, file_of, game_name, kept, made_by, or_file, reader_with, way, way_of}
 use Rattle.poker_cli.specs.declared.answer.Answer as made
@@ -114,23 +110,12 @@ module _ (Say : List Record → Type 0) (HaveFault : FormatFault → Type 0) whe
         → IsAnswerTo Say HaveFault IsMade answer
     answer_refused number why is told = subst (IsAnswerTo Say HaveFault IsMade) (sym told) (answers.Refused number why is)
 
-    pub answer_refused_hand : (records : List Record) (fault : PlaysFault) (number : ℕ) (why : Refusal) → Say records → IsPlaysFaultOf records fault
-        → fault ≡ plays_faults.Refused number why → answer ≡ to_refusal number why → IsAnswerTo Say HaveFault IsMade answer
-    answer_refused_hand records fault number why say first same told =
-        answer_refused number why (record { records = records; say = say; first = subst (IsPlaysFaultOf records) same first }) told
-
     -- bytes have no plays
     pub answer_unplayed : (fault : ConvertFault) → IsPlaysRefusal Say HaveFault fault → IsToldOf fault answer → IsAnswerTo Say HaveFault IsMade answer
     answer_unplayed (convert_faults.Format fault) have told = answers.Unread fault have answer told
     answer_unplayed (convert_faults.Refused number why) is told = answer_refused number why is told
     answer_unplayed (convert_faults.Unspelled number fact) is told = absurd is
     answer_unplayed convert_faults.Memory is told = absurd told
-
-  -- all hands are legal and agree, and their lines are printed
-  pub answer_printed : (command : Command) (records : List Record) (output : List ℕ) (answer : Answer) → Say records
-      → IsPrinted command records output → answer ≡ done output → IsAnswerTo Say HaveFault (IsMadeOf (tasks.Show command)) answer
-  answer_printed command records output answer say is same =
-      answers.Played is.plays (record { records = records; say = say; are = is.are }) answer (same ∙ ap done is.printed)
 
   module _ (unspelled : Play → Option Unspelled) (Spell Back : List Play → List ℕ → Type 0) (answer : Answer) where
     -- bytes are not converted

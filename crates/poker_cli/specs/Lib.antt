@@ -10,7 +10,6 @@ pub mod Outputs
 pub mod Ways
 pub mod Answer
 pub mod OneAnswer
-pub mod Printing
 pub mod Lacking
 pub mod Told
 pub mod Run

@@ -1,6 +1,7 @@
 //! The answer to the bytes of an input, as they are read and what is made of their hands.
 ghost use Rattle.std.specs.Prelude.{◌≡◌, ◌≤◌, All, Some, length, IfOk, string_bytes};
 ghost use Rattle.convert_core.specs.ReadBack.{ReadBack};
+ghost use Rattle.first_fault.specs.declared.limits.TheConstants.{MOST_HANDS};
 ghost use Rattle.hand_canon.specs.Sound.{IsSound};
 ghost use Rattle.poker_cli.specs.Answer as definition;
 ghost use Rattle.poker_cli.specs.Answer.{IsAnswer, IsAnswerTo, IsMadeOf, IsToldOf, IsWritten, most_input};
@@ -10,7 +11,7 @@ ghost use Rattle.poker_cli.specs.Told.{answer_told};
 use crate::faults::answer_to_history_fault;
 use crate::lines::refused_line;
 use crate::log_faults::answer_to_log_fault;
-use crate::printing::print_records;
+use crate::printing::print_plays;
 use crate::status::Status;
 use crate::task::{Reader, Task};
 use crate::tree_faults::answer_to_tree_fault;
@@ -19,9 +20,7 @@ use acpc_game::write_game;
 use acpc_line::game_of;
 use card_set::Memory;
 use command_words::Command;
-use convert_core::{
-    Acpc, ConvertFault, FormatFault, Notation, Ohh, Phh, PlaysFault, Refusal, convert, plays,
-};
+use convert_core::{Acpc, ConvertFault, FormatFault, Notation, Ohh, Phh, Refusal, convert, plays};
 use hand_records::{Keep, Play, Unspelled};
 use std::alloc::Global;
 
@@ -79,15 +78,22 @@ fn answer_with_text<N: Notation>(
         (N.HaveFault from.now bytes.now) (IsMadeOf (Task.Show command)) (answer_told answer)) }
     ensures own { IfOk result (λ answer. IsOfInput answer.status) }
 {
-    let records = match from.read(alloc, bytes) {
-        Ok(records) => records,
-        Err(fault) => return answer_to_unread(alloc, &fault),
-    };
-    match print_records(alloc, command, records) {
-        Ok(output) => Ok(done(alloc, output.into_bytes())),
-        Err(PlaysFault::Refused { hand, why }) => answer_to_refused(alloc, hand, &why),
-        Err(PlaysFault::Memory) => Err(Memory),
+    match plays(alloc, from, bytes) {
+        Ok(plays) => answer_with_lines(alloc, command, &plays),
+        Err(fault) => answer_to_fault(alloc, &fault),
     }
+}
+
+// The answer with what a command prints of plays.
+fn answer_with_lines(alloc: Global, command: Command, plays: &[Play]) -> Result<Answer, Memory>
+    requires sound { All IsSound plays.now }
+    requires few { length plays.now ≤ MOST_HANDS }
+    ensures answer { IfOk result (λ answer.
+        answer_told answer ≡ definition.done (definition.text_of command plays.now)) }
+    ensures own { IfOk result (λ answer. IsOfInput answer.status) }
+{
+    let text = print_plays(alloc, command, plays)?;
+    Ok(done(alloc, text.into_bytes()))
 }
 
 // The answer with the game file of the first hand of bytes.

@@ -19,8 +19,8 @@ pub fn check_text(alloc: Global, plays: &[Play]) -> Result<String, Memory>
     Ok(text)
 }
 
-/// Puts the line of the hand with this number at the end of a text: what each seat ends with.
-pub fn push_check_line(text: &mut String, number: u64, play: &Play) -> Result<(), Memory>
+// Puts the line of the hand with this number at the end of a text: what each seat ends with.
+fn push_check_line(text: &mut String, number: u64, play: &Play) -> Result<(), Memory>
     ensures { OnOk result (string_bytes text.new
         ≡ string_bytes text.old ++ check_line number play.now) }
 {
@@ -30,8 +30,8 @@ pub fn push_check_line(text: &mut String, number: u64, play: &Play) -> Result<()
     Ok(())
 }
 
-/// Puts the last line at the end of a text: how many hands there are.
-pub fn push_check_end(text: &mut String, hands: u64) -> Result<(), Memory>
+// Puts the last line at the end of a text: how many hands there are.
+fn push_check_end(text: &mut String, hands: u64) -> Result<(), Memory>
     ensures { OnOk result (string_bytes text.new ≡ string_bytes text.old ++ check_end hands) }
 {
     write!(text, "legal hands: {hands}\n")?;

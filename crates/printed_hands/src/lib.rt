@@ -8,6 +8,5 @@ mod ending;
 mod replay;
 mod steps;
 
-pub use check::{check_text, push_check_end, push_check_line};
+pub use check::check_text;
 pub use replay::replay_text;
-pub use steps::push_replay_lines;

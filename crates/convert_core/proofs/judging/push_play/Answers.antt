@@ -1,0 +1,26 @@
+-- The play is the one of the record, and what its trace differs in is told of the legal hand that has the trace.
+use Rattle.std.proofs.Common.{◌+◌, ℕ, ◌∙◌, refl, sym, ap}
+use Rattle.convert_core.proofs.judging.push_play.Goals as goal
+
+pub returns-in-Err-check_stated-clause-refused : goal.returns-in-Err-check_stated-clause-refused
+returns-in-Err-check_stated-clause-refused c =
+    rw c.refused.ensures (
+      ap (λ (n : ℕ). n + 1) (c.len.ensures ∙ c.args.plays.now.ok.0),
+      record {
+        trace = c.in-Ok.trace;
+        traced = record { legal = c.in-Ok.ensures.legal; whole = c.in-Ok.ensures.trace };
+        differs = sym c.in-Err-check_stated.ensures;
+      },
+    )
+
+pub returns-in-Ok-clause-pushed : goal.returns-in-Ok-clause-pushed
+returns-in-Ok-clause-pushed c =
+    record {
+      play = record { hand = c.args.hand; trace = c.in-Ok.trace };
+      same = refl;
+      judged = record {
+        traced = record { legal = c.in-Ok.ensures.legal; whole = c.in-Ok.ensures.trace };
+        agrees = sym c.in_default.ensures;
+      };
+      behind = c.in_ok-push-in-Ok.ensures.items;
+    }
