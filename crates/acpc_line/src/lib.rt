@@ -16,5 +16,6 @@ mod stakes;
 mod values;
 
 pub use fits::game_of;
+pub use line::push_line;
 pub use log::write;
 pub use spelled::spells;

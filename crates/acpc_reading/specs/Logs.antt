@@ -73,12 +73,16 @@ line_said game place file_moves line =
 abbrev pub Hands : Type 0
 Hands = List HandSaid × ℕ
 
+-- the hands with one that is found behind them, and how many moves they then have
+abbrev pub with_hand : {Fault : Type 0} → List HandSaid → Result (HandSaid × ℕ) Fault → Result Hands Fault
+with_hand hands found = found >>= λ hand. Ok (hands ++ hand.0 ∷ [], hand.1)
+
 -- the hands after one more line
 unfoldable pub hands_after_line : Game → Hands → ℕ → List ℕ → Result Hands AcpcFault
 hands_after_line game hands line text =
     if is_passed_over text then Ok hands
     else if nat_le MOST_HANDS (length hands.0) then in_line line (wrong (whats.TooMany quantities.Hands) 1)
-    else (in_line line (line_said game (length hands.0) hands.1 text) >>= λ found. Ok (hands.0 ++ found.0 ∷ [], found.1))
+    else with_hand hands.0 (in_line line (line_said game (length hands.0) hands.1 text))
 
 -- the hands after more lines, the first of which has this number
 unfoldable pub hands_after : Game → Hands → ℕ → List (List ℕ) → Result Hands AcpcFault

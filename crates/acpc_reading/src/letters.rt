@@ -2,9 +2,9 @@
 ghost use Rattle.std.specs.Prelude.{◌≡◌, ◌<◌, ◌+◌, ◌^◌, true, [], length, Ok, OnOk, IfErr};
 ghost use Rattle.std.specs.List.{list_all};
 ghost use Rattle.std.specs.Char.{is_digit};
-ghost use Rattle.first_fault.specs.Reading.{Fails, Gives};
+ghost use Rattle.first_fault.specs.Reading.{Fails};
 ghost use Rattle.acpc_text.specs.Letters.{scan};
-ghost use Rattle.acpc_reading.specs.Betting.{bare_said, bets_after, betting_said, letter_said, no_bets, raise_said, stroke_said, with_move};
+ghost use Rattle.acpc_reading.specs.Betting.{bare_said, bets_after, betting_said, letter_said, raise_said, stroke_said, with_move};
 ghost use Rattle.acpc_reading.specs.Views.{bets_in};
 
 use crate::betting::Betting;
@@ -13,59 +13,52 @@ use acpc_text::{LineFault, What, cut_digits, cut_first};
 use canonical_play::MOST_MOVES;
 use chip_ledger::MOST_CHIPS;
 use first_fault::{MOST_FILE_MOVES, Quantity, Stop, read_digits};
-use std::alloc::Global;
 
-// For so many letters of a hand room is made at once, and for more of them as they come.
-const USUAL_LETTERS: usize = 64;
-
-/// The betting field, which begins at this byte, in a file that has so many moves.
+/// The betting field of the next hand, which begins at this byte.
 #[tactic(auto, unfolding(crate::specs::Betting::betting_said))]
 pub fn read_betting(
-    alloc: Global,
     no_limit: bool,
-    file_moves: usize,
+    betting: &mut Betting,
     at: u64,
     text: &[u8],
-) -> Result<Betting, Stop<LineFault>>
+) -> Result<(), Stop<LineFault>>
     requires { at + length text.now < 2 ^ 64 }
-    ensures { Gives bets_in result (betting_said no_limit file_moves at text.now) }
+    ensures ok { OnOk result (betting_said no_limit betting.old.file_moves at text.now
+        ≡ Ok (bets_in betting.new)) }
+    ensures err { IfErr result (λ stop.
+        Fails stop (betting_said no_limit betting.old.file_moves at text.now)) }
 {
     let (digits, _after) = cut_digits(text);
     if !digits.is_empty() {
         return Err(wrong(What::BadBetting, at));
     }
-    read_letters(alloc, no_limit, file_moves, at, text)
+    betting.begin();
+    read_letters(no_limit, betting, at, text)
 }
 
 // The letters of a text that begins with no digit.
 fn read_letters(
-    alloc: Global,
     no_limit: bool,
-    file_moves: usize,
+    betting: &mut Betting,
     at: u64,
     text: &[u8],
-) -> Result<Betting, Stop<LineFault>>
+) -> Result<(), Stop<LineFault>>
     requires few { at + length text.now < 2 ^ 64 }
     requires begins { (scan text.now).0 ≡ [] }
-    ensures { Gives bets_in result
-        (bets_after no_limit (no_bets file_moves) at (scan text.now).1) }
+    ensures ok { OnOk result (bets_after no_limit (bets_in betting.old) at (scan text.now).1
+        ≡ Ok (bets_in betting.new)) }
+    ensures err { IfErr result (λ stop.
+        Fails stop (bets_after no_limit (bets_in betting.old) at (scan text.now).1)) }
 {
-    let steps = Vec::with_capacity(alloc, text.len().min(USUAL_LETTERS))?;
-    let mut betting = Betting {
-        steps,
-        round: 1,
-        moves: 0,
-        file_moves,
-    };
     let mut place = at;
     let mut rest = text;
     while let Some((letter, behind)) = cut_first(rest) {
         let (digits, after) = cut_digits(behind);
-        take_letter(no_limit, &mut betting, place, letter, digits)?;
+        take_letter(no_limit, betting, place, letter, digits)?;
         place += 1 + digits.len() as u64;
         rest = after;
     }
-    Ok(betting)
+    Ok(())
 }
 
 // A letter and its digits, at this byte.

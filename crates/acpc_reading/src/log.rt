@@ -1,14 +1,15 @@
 //! A log is read line by line as the hands that it says, or its first fault is named.
-ghost use Rattle.std.specs.Prelude.{◌≡◌, ◌≤◌, ◌<◌, ◌+◌, ◌^◌, map, sum_by, Ok, IfOk, IfErr, length};
+ghost use Rattle.std.specs.Prelude.{◌≡◌, ◌≤◌, ◌<◌, ◌^◌, map, sum_by, Ok, IfOk, IfErr, OnOk, length};
 ghost use Rattle.std.specs.List.{AllByRecursion};
 ghost use Rattle.first_fault.specs.declared.limits.TheConstants.{MOST_FILE_MOVES, MOST_HANDS};
 ghost use Rattle.first_fault.specs.Reading.{Fails, Gives};
 ghost use Rattle.acpc_text.specs.Faults.{Answers};
 ghost use Rattle.acpc_reading.specs.FieldsView.{HasRoom, fields_in};
-ghost use Rattle.acpc_reading.specs.Logs.{hand_of, hands_after_line, is_passed_over as is_passed_over_said, line_said, reading};
+ghost use Rattle.acpc_reading.specs.Logs.{hand_of, hands_after_line, is_passed_over as is_passed_over_said, line_said, reading, with_hand};
 ghost use Rattle.acpc_reading.specs.RecordView.{AreOfGame, IsOfGame, record_said};
 ghost use Rattle.hand_records.specs.Moves.{moves_of};
 
+use crate::betting::Betting;
 use crate::cutting::cut_fields;
 use crate::fields::Fields;
 use crate::letters::{read_betting, wrong};
@@ -19,7 +20,7 @@ use crate::values::read_values;
 use acpc_game::Game;
 use acpc_text::{AcpcFault, LineFault, What, fault_in_line, has_prefix, next_line};
 use first_fault::{MOST_HANDS, Quantity, Stop};
-use hand_records::{Record, Records};
+use hand_records::Records;
 use std::alloc::Global;
 
 // Few lines of hands are shorter than so many bytes.
@@ -50,39 +51,38 @@ fn read_lines(alloc: Global, game: &Game, bytes: &[u8]) -> Result<Records, Stop<
 {
     let mut records = Records::new(alloc);
     records.make_room((bytes.len() / USUAL_LINE).min(MOST_HANDS));
-    let mut file_moves = 0;
+    let mut betting = Betting::new(alloc)?;
     let mut count = 0;
     let mut rest = bytes;
     while let Some((line, behind)) = next_line(rest) {
         count += 1;
-        let moves = take_line(alloc, game, &mut records, file_moves, count, line)?;
-        file_moves = moves;
+        take_line(alloc, game, &mut records, &mut betting, count, line)?;
         rest = behind;
     }
     Ok(records)
 }
 
-// One more line, and how many moves the file then has.
-#[tactic(auto, unfolding(crate::specs::Logs::hands_after_line), using(crate::proofs::MatchRecords::one_more_hand))]
+// One more line.
+#[tactic(auto, unfolding(crate::specs::Logs::hands_after_line))]
 fn take_line(
     alloc: Global,
     game: &Game,
     records: &mut Records,
-    file_moves: usize,
+    betting: &mut Betting,
     line: u64,
     text: &[u8],
-) -> Result<usize, Stop<AcpcFault>>
+) -> Result<(), Stop<AcpcFault>>
     requires room { length text.now < 2 ^ 63 }
-    requires kept { AreOfGame game.now records.old file_moves }
-    ensures ok { IfOk result (λ moves.
-        hands_after_line game.now (map record_said records.old, file_moves) line text.now
-        ≡ Ok (map record_said records.new, moves)) }
-    ensures err { IfErr result (λ stop. Fails stop
-        (hands_after_line game.now (map record_said records.old, file_moves) line text.now)) }
-    ensures kept { IfOk result (AreOfGame game.now records.new) }
+    requires kept { AreOfGame game.now records.old betting.old.file_moves }
+    ensures ok { OnOk result (hands_after_line game.now
+        (map record_said records.old, betting.old.file_moves) line text.now
+        ≡ Ok (map record_said records.new, betting.new.file_moves)) }
+    ensures err { IfErr result (λ stop. Fails stop (hands_after_line game.now
+        (map record_said records.old, betting.old.file_moves) line text.now)) }
+    ensures kept { OnOk result (AreOfGame game.now records.new betting.new.file_moves) }
 {
     if is_passed_over(text) {
-        return Ok(file_moves);
+        return Ok(());
     }
     if records.len() >= MOST_HANDS {
         let fault = LineFault {
@@ -91,11 +91,8 @@ fn take_line(
         };
         return Err(Stop::At(fault_in_line(line, fault)));
     }
-    match read_line(alloc, game, records.len(), file_moves, text) {
-        Ok((record, moves)) => {
-            records.push(record)?;
-            Ok(moves)
-        }
+    match read_line(alloc, game, records, betting, text) {
+        Ok(()) => Ok(()),
         Err(Stop::Memory) => Err(Stop::Memory),
         Err(Stop::At(fault)) => Err(Stop::At(fault_in_line(line, fault))),
     }
@@ -108,46 +105,50 @@ fn is_passed_over(line: &[u8]) -> bool
     line.is_empty() || line[0] == b'#' || has_prefix(line, b"SCORE:")
 }
 
-// The hand of a line, and how many moves the file then has.
+// The hand of a line behind others.
 #[tactic(auto, unfolding(crate::specs::Logs::line_said))]
 fn read_line(
     alloc: Global,
     game: &Game,
-    place: usize,
-    file_moves: usize,
+    records: &mut Records,
+    betting: &mut Betting,
     line: &[u8],
-) -> Result<(Record, usize), Stop<LineFault>>
+) -> Result<(), Stop<LineFault>>
     requires room { length line.now < 2 ^ 63 }
-    requires few { file_moves ≤ MOST_FILE_MOVES }
-    ensures said { Gives (λ found. (record_said found.0, found.1)) result
-        (line_said game.now place file_moves line.now) }
-    ensures game { IfOk result (λ found. IsOfGame game.now found.0) }
-    ensures moves { IfOk result (λ found. found.1 ≡ file_moves + moves_of found.0) }
-    ensures few { IfOk result (λ found. found.1 ≤ MOST_FILE_MOVES) }
+    requires few { length records.old < MOST_HANDS }
+    requires kept { AreOfGame game.now records.old betting.old.file_moves }
+    ensures ok { OnOk result (with_hand (map record_said records.old)
+        (line_said game.now (length records.old) betting.old.file_moves line.now)
+        ≡ Ok (map record_said records.new, betting.new.file_moves)) }
+    ensures err { IfErr result (λ stop. Fails stop
+        (line_said game.now (length records.old) betting.old.file_moves line.now)) }
+    ensures kept { OnOk result (AreOfGame game.now records.new betting.new.file_moves) }
 {
     if !has_prefix(line, b"STATE:") {
         return Err(wrong(What::LineShape, 1));
     }
     let fields = cut_fields(line)?;
-    read_hand_of(alloc, game, place, file_moves, &fields)
+    read_hand_of(alloc, game, records, betting, &fields)
 }
 
-// The hand of some fields, and how many moves the file then has.
+// The hand of some fields behind others. Its record is made where it is kept: it has a thousand bytes.
 #[tactic(auto, unfolding(crate::specs::Logs::hand_of))]
 fn read_hand_of(
     alloc: Global,
     game: &Game,
-    place: usize,
-    file_moves: usize,
+    records: &mut Records,
+    betting: &mut Betting,
     fields: &Fields<'_>,
-) -> Result<(Record, usize), Stop<LineFault>>
+) -> Result<(), Stop<LineFault>>
     requires room { HasRoom (fields_in fields.now) }
-    requires few { file_moves ≤ MOST_FILE_MOVES }
-    ensures said { Gives (λ found. (record_said found.0, found.1)) result
-        (hand_of game.now place file_moves (fields_in fields.now)) }
-    ensures game { IfOk result (λ found. IsOfGame game.now found.0) }
-    ensures moves { IfOk result (λ found. found.1 ≡ file_moves + moves_of found.0) }
-    ensures few { IfOk result (λ found. found.1 ≤ MOST_FILE_MOVES) }
+    requires few { length records.old < MOST_HANDS }
+    requires kept { AreOfGame game.now records.old betting.old.file_moves }
+    ensures ok { OnOk result (with_hand (map record_said records.old)
+        (hand_of game.now (length records.old) betting.old.file_moves (fields_in fields.now))
+        ≡ Ok (map record_said records.new, betting.new.file_moves)) }
+    ensures err { IfErr result (λ stop. Fails stop
+        (hand_of game.now (length records.old) betting.old.file_moves (fields_in fields.now))) }
+    ensures kept { OnOk result (AreOfGame game.now records.new betting.new.file_moves) }
 {
     let players = game.stacks.seats;
     let hand_at = 1 + fields.state.len() as u64 + 1;
@@ -155,12 +156,12 @@ fn read_hand_of(
     let cards_at = betting_at + fields.betting.len() as u64 + 1;
     let values_at = cards_at + fields.cards.len() as u64 + 1;
     let names_at = values_at + fields.values.len() as u64 + 1;
-    let hand = read_hand(alloc, place, hand_at, fields.hand)?;
-    let betting = read_betting(alloc, game.no_limit, file_moves, betting_at, fields.betting)?;
+    let hand = read_hand(alloc, records.len(), hand_at, fields.hand)?;
+    read_betting(game.no_limit, betting, betting_at, fields.betting)?;
     let steps = betting.steps.as_slice();
     let script = read_script(alloc, players, steps, cards_at, fields.cards)?;
     let values = read_values(players, values_at, fields.values)?;
     let names = read_names(alloc, players, names_at, fields.names)?;
-    let record = record_of(game, script, values, names, hand);
-    Ok((record, betting.file_moves))
+    records.push(record_of(game, script, values, names, hand))?;
+    Ok(())
 }

@@ -10,7 +10,7 @@ use crate::deal_table::DealTable;
 use crate::dealt_card::DealtCard;
 use crate::dealt_cards::DealtCards;
 use crate::draws::Draws;
-use card_set::Slot;
+use card_set::{Card, Rank, Slot, Suit};
 use chip_ledger::LiveRow;
 use play_event::Code;
 
@@ -37,7 +37,7 @@ pub fn empty(code: Code, seats: u8) -> CardState
     }
 }
 
-// No places.
+// No places. Where no card is dealt stands what has no bytes but zeros, so that the row is cleared at once.
 fn no_places() -> DealtCards
     ensures { placed result ≡ [] }
 {
@@ -46,7 +46,10 @@ fn no_places() -> DealtCards
         street: 0,
         index: 0,
         number: 0,
-        slot: Slot::Unknown,
+        slot: Slot::Known(Card {
+            rank: Rank::Two,
+            suit: Suit::C,
+        }),
         past_deck: false,
         gone_after: None,
         discarded: 0,

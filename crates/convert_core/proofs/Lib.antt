@@ -2,3 +2,4 @@
 pub mod JudgedPlays
 pub mod OneOutcome
 pub mod OneConversion
+pub mod WrittenLines

@@ -39,6 +39,12 @@ pub record IsConverted (Say : List Record → Type 0) (unspelled : Play → Opti
   pub spell : Spell plays output
   pub back : ReadBack plays output
 
+-- why bytes do not read; want of memory says nothing of them
+abbrev pub IsReadFault : (FormatFault → Type 0) → ConvertFault → Type 0
+IsReadFault HaveFault (faults.Format fault) = HaveFault fault
+IsReadFault HaveFault faults.Memory = Unit {0}
+IsReadFault HaveFault fault = ⊥
+
 -- why bytes have no plays; want of memory says nothing of them
 abbrev pub IsPlaysRefusal : (List Record → Type 0) → (FormatFault → Type 0) → ConvertFault → Type 0
 IsPlaysRefusal Say HaveFault (faults.Format fault) = HaveFault fault

@@ -6,6 +6,7 @@ pub mod ReadBack
 pub mod SameRecords
 pub mod SameParts
 pub mod Conversion
+pub mod Lines
 pub mod Histories
 pub mod HistoryAlike
 pub mod UnderRules

@@ -1,5 +1,5 @@
 -- The laws that a notation keeps, of the logs of the competition under a game.
-use Rattle.std.proofs.Common.{◌≡◌, ℕ, ◌≤◌, true, List, [], ◌∷◌, length, reverse, sum_by, Some, None, Ok, refl, sym, ap, subst, ◌∙◌, arith}
+use Rattle.std.proofs.Common.{◌≡◌, ℕ, ◌+◌, ◌≤◌, Bool, true, List, [], ◌∷◌, ◌++◌, append_assoc, append-nil, length, reverse, sum_by, Some, None, Ok, refl, sym, ap, subst, ◌∙◌, arith}
 use Rattle.std.specs.List.{AllByRecursion}
 use Rattle.std.proofs.lemmas.List.Sums.{sum_by-cons}
 use Rattle.acpc_format.specs.Again.{hands_again}
@@ -8,7 +8,8 @@ use Rattle.acpc_format.proofs.HandsAgain.{read_back}
 use Rattle.acpc_format.proofs.Sharpness.{sharpness}
 use Rattle.acpc_format.proofs.SoundReads.{sound_again}
 use Rattle.acpc_game.specs.declared.game.Game.{Game}
-use Rattle.acpc_line.specs.Line.{log_text}
+use Rattle.acpc_line.proofs.SeatTexts.{plays_more}
+use Rattle.acpc_line.specs.Line.{line_text, lines_from, log_text}
 use Rattle.acpc_line.specs.Spelled as facts
 use Rattle.acpc_line.specs.Texts.{HasTexts}
 use Rattle.acpc_reading.specs.Logs.{reading}
@@ -84,6 +85,38 @@ lines_back game keep plays few sound texts spelled =
     record {
       no_fault = λ fault have. none_had game (log_text game.no_limit plays) plays fault read have;
       again = λ hands say. read_back game keep plays few.few sound texts none moves hands say.each say.reads;
+    }
+
+-- no plays are no bytes
+pub no_lines : (game : Game) → Spell game [] []
+no_lines game = record { lines = refl; texts = tt }
+
+-- lines of plays, of which the first is at a place, and the line of one play more
+lines_more : (no_limit : Bool) (place : ℕ) (before : List Play) (play : Play)
+    → lines_from no_limit place (before ++ play ∷ []) ≡ lines_from no_limit place before ++ line_text no_limit (place + length before) play
+lines_more no_limit place [] play =
+    let here : place ≡ place + 0 = omega arith in
+    append-nil (line_text no_limit place play) ∙ ap (λ (n : ℕ). line_text no_limit n play) here
+lines_more no_limit place (first ∷ rest) play =
+    let line = line_text no_limit place first in
+    let here : place + 1 + length rest ≡ place + length (first ∷ rest) = omega arith in
+    ap (λ (l : List ℕ). line ++ l) (lines_more no_limit (place + 1) rest play)
+    ∙ ap (λ (n : ℕ). line ++ (lines_from no_limit (place + 1) rest ++ line_text no_limit n play)) here
+    ∙ sym (append_assoc line (lines_from no_limit (place + 1) rest) (line_text no_limit (place + length (first ∷ rest)) play))
+
+-- behind the spelling of plays the line of one play more
+pub one_line_more : (game : Game) (before : List Play) (play : Play) (place : ℕ) (old new : List ℕ)
+    → length before ≡ place → Spell game before old → new ≡ old ++ line_text game.no_limit place play → HasTexts play
+    → Spell game (before ++ play ∷ []) new
+one_line_more game before play place old new many spell with_line one =
+    let zeroth : place ≡ 0 + length before = omega (arith, many) in
+    record {
+      lines =
+          with_line
+          ∙ ap (λ (n : ℕ). old ++ line_text game.no_limit n play) zeroth
+          ∙ ap (λ (l : List ℕ). l ++ line_text game.no_limit (0 + length before) play) spell.lines
+          ∙ sym (lines_more game.no_limit 0 before play);
+      texts = plays_more before play spell.texts one;
     }
 
 -- what is written reads back

@@ -1,5 +1,5 @@
 -- The laws that a notation keeps, of Open Hand History in a dialect.
-use Rattle.std.proofs.Common.{◌≡◌, ℕ, true, List, Some, None, Ok, refl}
+use Rattle.std.proofs.Common.{◌≡◌, ℕ, true, List, [], Some, None, Ok, refl}
 use Rattle.std.specs.List.{AllByRecursion}
 use Rattle.hand_canon.specs.Sound.{IsSound}
 use Rattle.hand_records.specs.declared.record.Record.{Record}
@@ -35,6 +35,10 @@ pub no_fault : (dialect : Dialect) (bytes : List ℕ) (hands : List Record) (fau
 no_fault dialect bytes hands (formats.Phh fault) say have = have
 no_fault dialect bytes hands (formats.Ohh fault) say have = (let said = say.reads in let had = have.reads in cc)
 no_fault dialect bytes hands (formats.Acpc fault) say have = have
+
+-- no plays are no bytes
+pub no_lines : (dialect : Dialect) → Spell dialect [] []
+no_lines dialect = record { lines = refl; trees = tt }
 
 -- what is written reads back
 pub reads_back : (dialect : Dialect) (keep : Keep) (plays : List Play) (bytes : List ℕ) → AreFew plays → AllByRecursion IsSound plays → first_refusal (facts.unspelled keep) plays ≡ None → Spell dialect plays bytes

@@ -1,11 +1,12 @@
 //! Logs of the competition, under a game.
-ghost use Rattle.std.specs.Prelude.{◌≡◌, ◌⊎◌, ◌≤◌, true, length, None, Some, IfErr, IfOk, OnOk};
+ghost use Rattle.std.specs.Prelude.{◌≡◌, ◌⊎◌, ◌≤◌, ◌++◌, [], ◌∷◌, true, List, length, None, Some, IfErr, IfOk, OnOk};
 ghost use Rattle.std.specs.List.{AllByRecursion};
 ghost use Rattle.acpc_format.specs.ReadBack.{KeepsNotes as KeepsNames};
 ghost use Rattle.acpc_line.specs.Spelled as facts;
 ghost use Rattle.acpc_reading.specs.RecordView.{rules_of as rules_of_game};
 ghost use Rattle.first_fault.specs.declared.limits.TheConstants.{MOST_HANDS};
 ghost use Rattle.hand_canon.specs.Sound.{IsSound};
+ghost use Rattle.hand_records.specs.declared.trace.Play.{Play as AnyPlay};
 ghost use Rattle.hand_records.specs.declared.writing.WriteRefusal.TheVariants as refusals;
 ghost use Rattle.convert_core.specs.Faults.{is_want_of_memory};
 ghost use Rattle.convert_core.specs.LogAlike as alike;
@@ -18,7 +19,7 @@ use crate::notation::Notation;
 use acpc_format::Game;
 use hand_records::{Keep, Play, Records, Unspelled, WriteRefusal};
 use play_event::{Reopen, Rules};
-use std::alloc::Global;
+use std::alloc::{AllocError, Global};
 
 /// The logs of the Annual Computer Poker Competition under a game.
 #[derive(Clone, Copy, Debug, PartialEq, Eq)]
@@ -55,6 +56,24 @@ fn write_log(
     acpc_format::write(alloc, game, plays, keep)
 }
 
+// The line of a play behind those of the plays before it.
+#[tactic(auto, using(crate::specs::LogLaws::one_line_more))]
+fn push_log_line(
+    alloc: Global,
+    game: &Game,
+    out: &mut Vec<u8>,
+    place: usize,
+    play: &Play,
+) -> Result<(), AllocError>
+    requires { IsSound play.now }
+    ensures { (before : List AnyPlay)
+        → length before ≡ place → logs.Spell game.now before out.old.items
+        → OnOk result (logs.Spell game.now (before ++ play.now ∷ []) out.new.items) }
+{
+    acpc_format::push_line(alloc, out, game.no_limit, place, play)?;
+    Ok(())
+}
+
 impl Notation for Acpc {
     ghost rules_of = { λ log. rules_of_game log.game };
 
@@ -63,6 +82,8 @@ impl Notation for Acpc {
     ghost HaveFault = { λ log bytes fault. logs.HaveFault log.game bytes fault };
 
     ghost unspelled = { λ log keep play. facts.unspelled log.game keep play };
+
+    ghost is_lined = { λ _. true };
 
     ghost Spell = { λ log plays bytes. logs.Spell log.game plays bytes };
 
@@ -81,6 +102,8 @@ impl Notation for Acpc {
 
     ghost sharp = { λ log keep play fact found is bytes hands say.
         laws.sharp log.game keep play fact found is bytes hands say };
+
+    ghost no_lines = { λ log _. laws.no_lines log.game };
 
     ghost reads_back = { λ log keep plays bytes few sound spelled spell.
         laws.reads_back log.game keep plays bytes few sound spelled spell };
@@ -103,5 +126,19 @@ impl Notation for Acpc {
 
     fn write(&self, alloc: Global, plays: &[Play], keep: Keep) -> Result<Vec<u8>, WriteRefusal> {
         write_log(alloc, &self.game, plays, keep)
+    }
+
+    fn has_lines(&self) -> bool {
+        true
+    }
+
+    fn push_line(
+        &self,
+        alloc: Global,
+        out: &mut Vec<u8>,
+        place: usize,
+        play: &Play,
+    ) -> Result<(), AllocError> {
+        push_log_line(alloc, &self.game, out, place, play)
     }
 }

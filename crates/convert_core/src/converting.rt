@@ -1,16 +1,17 @@
 //! Bytes of one notation come to their plays, and to bytes of another notation, by what the notations promise alone.
-ghost use Rattle.std.specs.Prelude.{IfErr, IfOk};
+ghost use Rattle.std.specs.Prelude.{◌≡◌, true, IfErr, IfOk};
 ghost use Rattle.std.specs.List.{AllByRecursion};
 ghost use Rattle.hand_canon.specs.Sound.{IsSound};
-ghost use Rattle.convert_core.specs.Conversion.{IsConversion, IsPlaysRefusal, ReadAsPlays};
+ghost use Rattle.convert_core.specs.Conversion.{IsConversion, IsPlaysRefusal, IsReadFault, ReadAsPlays};
 ghost use Rattle.convert_core.specs.ReadBack.{ReadBack};
 ghost use Rattle.convert_core.specs.Records.{AreFew};
 
 use crate::convert_fault::ConvertFault;
 use crate::fault::PlaysFault;
 use crate::judging::plays_of;
+use crate::lines::write_records;
 use crate::notation::Notation;
-use hand_records::{Keep, Play, WriteRefusal};
+use hand_records::{Keep, Play, Records, WriteRefusal};
 use std::alloc::Global;
 
 /// The bytes of the plays in another notation, if each fact to be kept has a spelling there. They read back as hands with the
@@ -33,11 +34,35 @@ pub fn convert<N: Notation, M: Notation>(
         (M.KeepsNotes to.now) plays)
         (λ output. output.items) result }
 {
+    if to.has_lines() {
+        return convert_by_lines(alloc, from, to, keep, bytes);
+    }
     let plays = plays(alloc, from, bytes)?;
     match to.write(alloc, &plays, keep) {
         Ok(output) => Ok(output),
         Err(WriteRefusal::Unspelled { hand, fact }) => Err(ConvertFault::Unspelled { hand, fact }),
         Err(WriteRefusal::Memory) => Err(ConvertFault::Memory),
+    }
+}
+
+// The same where the target has lines: its plays need not be kept, which are some thousand bytes each.
+fn convert_by_lines<N: Notation, M: Notation>(
+    alloc: Global,
+    from: &N,
+    to: &M,
+    keep: Keep,
+    bytes: &[u8],
+) -> Result<Vec<u8>, ConvertFault>
+    requires { M.is_lined to.now ≡ true }
+    ensures { IsConversion (N.Say from.now bytes.now) (N.HaveFault from.now bytes.now)
+        (M.unspelled to.now keep) (M.Spell to.now)
+        (λ plays output. ReadBack (M.Say to.now output) (M.HaveFault to.now output)
+        (M.KeepsNotes to.now) plays)
+        (λ output. output.items) result }
+{
+    match read_records(alloc, from, bytes) {
+        Ok(records) => write_records(alloc, to, keep, records),
+        Err(fault) => Err(fault),
     }
 }
 
@@ -53,18 +78,29 @@ pub fn plays<N: Notation>(alloc: Global, from: &N, bytes: &[u8]) -> Result<Vec<P
     ensures refused { IfErr result (IsPlaysRefusal (N.Say from.now bytes.now)
         (N.HaveFault from.now bytes.now)) }
 {
-    let records = match from.read(alloc, bytes) {
+    let records = match read_records(alloc, from, bytes) {
         Ok(records) => records,
-        Err(fault) => {
-            if fault.is_memory() {
-                return Err(ConvertFault::Memory);
-            }
-            return Err(ConvertFault::Format(fault));
-        }
+        Err(fault) => return Err(fault),
     };
     match plays_of(alloc, records) {
         Ok(plays) => Ok(plays),
         Err(PlaysFault::Refused { hand, why }) => Err(ConvertFault::Refused { hand, why }),
         Err(PlaysFault::Memory) => Err(ConvertFault::Memory),
+    }
+}
+
+// The records that bytes read as.
+fn read_records<N: Notation>(alloc: Global, from: &N, bytes: &[u8]) -> Result<Records, ConvertFault>
+    ensures said { IfOk result (N.Say from.now bytes.now) }
+    ensures refused { IfErr result (IsReadFault (N.HaveFault from.now bytes.now)) }
+{
+    match from.read(alloc, bytes) {
+        Ok(records) => Ok(records),
+        Err(fault) => {
+            if fault.is_memory() {
+                return Err(ConvertFault::Memory);
+            }
+            Err(ConvertFault::Format(fault))
+        }
     }
 }

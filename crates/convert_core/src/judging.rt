@@ -27,20 +27,30 @@ pub fn plays_of(alloc: Global, records: Records) -> Result<Vec<Play>, PlaysFault
 {
     let mut plays = Vec::with_capacity(alloc, records.len())?;
     for hand in records.into_vec() {
-        push_play(alloc, &mut plays, hand)?;
+        let before = plays.len();
+        push_play(alloc, &mut plays, before, hand)?;
     }
     Ok(plays)
 }
 
-// Puts the play of the next record after the others. It is made where it is kept: a play is some thousand bytes, and would
-// else be copied again and again.
-fn push_play(alloc: Global, plays: &mut Vec<Play>, hand: Record) -> Result<(), PlaysFault>
+/// Puts the play of the record behind so many others of its file after those in a list. It is made where it is kept: a play is
+/// some thousand bytes, and would else be copied again and again.
+///
+/// # Errors
+///
+/// What is wrong with the hand first; or want of memory.
+pub fn push_play(
+    alloc: Global,
+    plays: &mut Vec<Play>,
+    before: usize,
+    hand: Record,
+) -> Result<(), PlaysFault>
     requires sound { IsSoundRecord hand }
-    requires few { length plays.old.items < MOST_HANDS }
+    requires few { before < MOST_HANDS }
     ensures pushed { OnOk result (IsOneMorePlay plays.old.items hand plays.new.items) }
-    ensures refused { IfErr result (IsFaultAt hand (length plays.old.items + 1)) }
+    ensures refused { IfErr result (IsFaultAt hand (before + 1)) }
 {
-    let number = plays.len() as u32 + 1;
+    let number = before as u32 + 1;
     match replay(alloc, &hand.setup, &hand.rules, &hand.script) {
         Ok(trace) => {
             if let Err(differs) = check_stated(&trace, &hand.stated) {

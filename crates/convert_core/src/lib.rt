@@ -9,6 +9,7 @@ mod fault;
 mod format_fault;
 mod judging;
 mod laws;
+mod lines;
 mod notation;
 mod ohh;
 mod phh;

@@ -1,6 +1,6 @@
 //! What a notation is: it reads bytes as records, tells which facts of a play it does not spell, and writes plays as bytes that
 //! read back as these plays.
-ghost use Rattle.std.specs.Prelude.{◌≡◌, ◌⊎◌, ◌≤◌, ℕ, true, List, length, Option, None, Some, IfErr, IfOk, OnOk};
+ghost use Rattle.std.specs.Prelude.{◌≡◌, ◌⊎◌, ◌≤◌, ℕ, Bool, true, List, [], ◌∷◌, ◌++◌, length, Option, None, Some, IfErr, IfOk, OnOk};
 ghost use Rattle.std.specs.List.{AllByRecursion};
 ghost use Rattle.first_fault.specs.declared.limits.TheConstants.{MOST_HANDS};
 ghost use Rattle.hand_canon.specs.Sound.{IsSound};
@@ -22,7 +22,7 @@ ghost use Rattle.hand_records.specs.Refusals.{first_refusal};
 use crate::format_fault::FormatFault;
 use hand_records::{Keep, Play, Records, Unspelled, WriteRefusal};
 use play_event::Rules;
-use std::alloc::Global;
+use std::alloc::{AllocError, Global};
 
 /// A notation of hands.
 pub trait Notation {
@@ -37,6 +37,9 @@ pub trait Notation {
 
     /// The first fact of a play, among those to be kept, that has no spelling.
     ghost unspelled: { Self → AnyKeep → AnyPlay → Option Fact };
+
+    /// A file is a line for each play, one behind the other.
+    ghost is_lined: { Self → Bool };
 
     /// Bytes are the spelling of plays.
     ghost Spell: { Self → List AnyPlay → List ℕ → Type 0 };
@@ -75,6 +78,25 @@ pub trait Notation {
         ensures refused { IfErr result (λ refusal. (refusal ≡ refusals.Memory)
             ⊎ (first_refusal (unspelled self.now keep) plays.now ≡ Some refusal)) };
 
+    /// Whether a file is a line for each play, one behind the other.
+    fn has_lines(&self) -> bool
+        ensures { result ≡ is_lined self.now };
+
+    /// Puts the line of the play at a place of its file, from 0, behind those of the plays before it. Ask first that the notation
+    /// has lines, and that it spells each fact of the play that is to be kept.
+    fn push_line(
+        &self,
+        alloc: Global,
+        out: &mut Vec<u8>,
+        place: usize,
+        play: &Play,
+    ) -> Result<(), AllocError>
+        requires lined { is_lined self.now ≡ true }
+        requires sound { IsSound play.now }
+        ensures { (before : List AnyPlay)
+            → length before ≡ place → Spell self.now before out.old.items
+            → OnOk result (Spell self.now (before ++ play.now ∷ []) out.new.items) };
+
     /// What bytes say is sound, under the rules of the notation, and no more than a file may have.
     ghost reads_file: { (notation : Self) (bytes : List ℕ) (hands : List Record)
         → Say notation bytes hands → AreOfFile (rules_of notation) hands };
@@ -98,6 +120,9 @@ pub trait Notation {
         → unspelled notation keep play ≡ Some fact → is_sharp fact ≡ true
         → (bytes : List ℕ) (hands : List Record) → Say notation bytes hands
         → AllByRecursion (IsOther play) hands };
+
+    /// Where files are lines, that of no plays is empty.
+    ghost no_lines: { (notation : Self) → is_lined notation ≡ true → Spell notation [] [] };
 
     /// The spelling of sound plays, each of which has one, reads back as these plays: legal under the rules of the notation, with
     /// the whole traces, stated facts that agree, and the kept notes.

@@ -1,8 +1,9 @@
 //! Open Hand History, in a dialect.
-ghost use Rattle.std.specs.Prelude.{◌≡◌, ◌⊎◌, ◌≤◌, true, length, None, Some, IfErr, IfOk, OnOk};
+ghost use Rattle.std.specs.Prelude.{◌≡◌, ◌⊎◌, ◌≤◌, ◌++◌, [], ◌∷◌, true, List, length, None, Some, IfErr, IfOk, OnOk};
 ghost use Rattle.std.specs.List.{AllByRecursion};
 ghost use Rattle.first_fault.specs.declared.limits.TheConstants.{MOST_HANDS};
 ghost use Rattle.hand_canon.specs.Sound.{IsSound};
+ghost use Rattle.hand_records.specs.declared.trace.Play.{Play as AnyPlay};
 ghost use Rattle.hand_records.specs.declared.writing.WriteRefusal.TheVariants as refusals;
 ghost use Rattle.ohh_format.specs.ReadBack.{KeepsNotes as KeepsSpelled};
 ghost use Rattle.ohh_line.specs.Spelled as facts;
@@ -18,7 +19,7 @@ use crate::notation::Notation;
 use hand_records::{Keep, Play, Records, Unspelled, WriteRefusal};
 use ohh_format::Dialect;
 use play_event::{Reopen, Rules};
-use std::alloc::Global;
+use std::alloc::{AllocError, Global};
 
 /// Open Hand History in a dialect.
 #[derive(Clone, Copy, Debug, PartialEq, Eq)]
@@ -55,6 +56,25 @@ fn write_trees(
     ohh_format::write(alloc, dialect, plays, keep)
 }
 
+// The line of a play behind those of the plays before it.
+fn push_tree_line(
+    alloc: Global,
+    dialect: Dialect,
+    out: &mut Vec<u8>,
+    place: usize,
+    play: &Play,
+) -> Result<(), AllocError>
+    requires { IsSound play.now }
+    ensures { (before : List AnyPlay)
+        → length before ≡ place → trees.Spell dialect before out.old.items
+        → OnOk result (trees.Spell dialect (before ++ play.now ∷ []) out.new.items) }
+{
+    match ohh_format::push_line(alloc, out, dialect, place, play) {
+        Ok(()) => Ok(()),
+        Err(_) => Err(AllocError),
+    }
+}
+
 impl Notation for Ohh {
     ghost rules_of = { λ _. rules_of_histories };
 
@@ -63,6 +83,8 @@ impl Notation for Ohh {
     ghost HaveFault = { λ tree bytes fault. trees.HaveFault tree.dialect bytes fault };
 
     ghost unspelled = { λ _ keep play. facts.unspelled keep play };
+
+    ghost is_lined = { λ _. true };
 
     ghost Spell = { λ tree plays bytes. trees.Spell tree.dialect plays bytes };
 
@@ -80,6 +102,8 @@ impl Notation for Ohh {
 
     ghost sharp = { λ tree keep play fact found is bytes hands say.
         laws.sharp tree.dialect keep play fact found is bytes hands say };
+
+    ghost no_lines = { λ tree _. laws.no_lines tree.dialect };
 
     ghost reads_back = { λ tree keep plays bytes few sound spelled spell.
         laws.reads_back tree.dialect keep plays bytes few sound spelled spell };
@@ -102,5 +126,19 @@ impl Notation for Ohh {
 
     fn write(&self, alloc: Global, plays: &[Play], keep: Keep) -> Result<Vec<u8>, WriteRefusal> {
         write_trees(alloc, self.dialect, plays, keep)
+    }
+
+    fn has_lines(&self) -> bool {
+        true
+    }
+
+    fn push_line(
+        &self,
+        alloc: Global,
+        out: &mut Vec<u8>,
+        place: usize,
+        play: &Play,
+    ) -> Result<(), AllocError> {
+        push_tree_line(alloc, self.dialect, out, place, play)
     }
 }

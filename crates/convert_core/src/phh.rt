@@ -1,5 +1,5 @@
 //! Hand histories in the Poker Hand History format.
-ghost use Rattle.std.specs.Prelude.{◌≡◌, ◌⊎◌, ◌≤◌, true, length, None, Some, IfErr, IfOk, OnOk};
+ghost use Rattle.std.specs.Prelude.{◌≡◌, ◌⊎◌, ◌≤◌, true, false, length, None, Some, IfErr, IfOk, OnOk};
 ghost use Rattle.std.specs.List.{AllByRecursion};
 ghost use Rattle.first_fault.specs.declared.limits.TheConstants.{MOST_HANDS};
 ghost use Rattle.hand_canon.specs.Sound.{IsSound};
@@ -17,7 +17,7 @@ use crate::format_fault::FormatFault;
 use crate::notation::Notation;
 use hand_records::{Keep, Play, Records, Unspelled, WriteRefusal};
 use play_event::{Reopen, Rules};
-use std::alloc::Global;
+use std::alloc::{AllocError, Global};
 
 /// The Poker Hand History format.
 #[derive(Clone, Copy, Debug, PartialEq, Eq)]
@@ -56,6 +56,8 @@ impl Notation for Phh {
 
     ghost unspelled = { λ _ _ play. facts.unspelled play };
 
+    ghost is_lined = { λ _. false };
+
     ghost Spell = { λ _ plays bytes. histories.Spell plays bytes };
 
     ghost KeepsNotes = { λ _ place seats notes again. KeepsAll place seats notes again };
@@ -71,6 +73,8 @@ impl Notation for Phh {
 
     ghost sharp = { λ _ _ play fact found is bytes hands say.
         laws.sharp play fact found is bytes hands say };
+
+    ghost no_lines = { λ _ lined. absurd (cc (lined)) };
 
     ghost reads_back = { λ _ _ plays bytes few sound spelled spell.
         laws.reads_back plays bytes few sound spelled spell };
@@ -93,5 +97,14 @@ impl Notation for Phh {
 
     fn write(&self, alloc: Global, plays: &[Play], keep: Keep) -> Result<Vec<u8>, WriteRefusal> {
         write_history(alloc, plays, keep)
+    }
+
+    fn has_lines(&self) -> bool {
+        false
+    }
+
+    fn push_line(&self, _: Global, _: &mut Vec<u8>, _: usize, _: &Play) -> Result<(), AllocError> {
+        // A file of several hands numbers them, and that of one does not.
+        unreachable!()
     }
 }

@@ -1,3 +1,4 @@
+pub mod Behind
 pub mod Clean
 pub mod Counts
 pub mod Lefts

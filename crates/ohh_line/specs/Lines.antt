@@ -1,5 +1,5 @@
 -- The one list of bytes that stands for plays: a line of compact JSON for each, and an empty line between two.
-use Rattle.std.specs.Prelude.{◌≡◌, ℕ, ◌+◌, List, [], ◌∷◌, ◌++◌, Some}
+use Rattle.std.specs.Prelude.{◌≡◌, ℕ, ◌+◌, ◌==◌, if◌then◌else◌, List, [], ◌∷◌, ◌++◌, Some}
 use Rattle.std.specs.Str.{IsUtf8}
 use Rattle.serde_json.specs.Read.{read}
 use Rattle.serde_json.specs.Written.{compact_text}
@@ -15,6 +15,10 @@ hand_text dialect place play = compact_text (hand_tree dialect place play)
 abbrev pub empty_line_before : List Play → List ℕ
 empty_line_before [] = []
 empty_line_before (next ∷ rest) = 10 ∷ []
+
+-- an empty line behind so many hands, where these are any
+abbrev pub empty_line_behind : ℕ → List ℕ
+empty_line_behind place = if place == 0 then [] else 10 ∷ []
 
 -- the lines of plays, of which the first is at this place
 abbrev pub lines_from : Dialect → ℕ → List Play → List ℕ

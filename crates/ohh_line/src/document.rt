@@ -1,10 +1,11 @@
 //! Plays are written as the one list of lines that stands for them.
-ghost use Rattle.std.specs.Prelude.{◌≡◌, ◌⊎◌, ◌≤◌, ◌++◌, None, Some, length, IfOk, IfErr, OnOk};
+ghost use Rattle.std.specs.Prelude.{◌≡◌, ◌⊎◌, ◌≤◌, List, [], ◌∷◌, ◌++◌, None, Some, length, IfOk, IfErr, OnOk};
 ghost use Rattle.std.specs.List.{AllByRecursion};
 ghost use Rattle.hand_canon.specs.Sound.{IsSound};
 ghost use Rattle.first_fault.specs.declared.limits.TheConstants.{MOST_HANDS};
 ghost use Rattle.hand_records.specs.declared.writing.WriteRefusal.TheVariants as refusals;
-ghost use Rattle.ohh_line.specs.Lines.{IsTextOf, Spells, empty_line_before, hand_text};
+ghost use Rattle.hand_records.specs.declared.trace.Play.{Play as AnyPlay};
+ghost use Rattle.ohh_line.specs.Lines.{IsTextOf, Spells, empty_line_behind, hand_text};
 ghost use Rattle.ohh_line.specs.Spelled.{unspelled};
 ghost use Rattle.hand_records.specs.Refusals.{first_refusal};
 
@@ -44,18 +45,41 @@ fn spell(alloc: Global, dialect: Dialect, plays: &[Play]) -> Result<Vec<u8>, Mem
     requires sound { AllByRecursion IsSound plays.now }
     ensures { IfOk result (λ bytes. Spells dialect plays.now bytes.items) }
 {
-    let mut bytes = Vec::new(alloc);
-    let mut place = 0;
-    let mut rest = plays;
-    while let [play, behind @ ..] = rest {
-        let text = make_text(alloc, dialect, place, play)?;
-        bytes.extend_from_slice(text.as_slice())?;
-        bytes.push(b'\n')?;
-        push_empty_line(&mut bytes, behind)?;
-        place += 1;
-        rest = behind;
+    let mut out = Vec::new(alloc);
+    for (place, play) in plays.iter().enumerate() {
+        push_line(alloc, &mut out, dialect, place, play)?;
     }
-    Ok(bytes)
+    Ok(out)
+}
+
+/// Puts the line of the play at a place of its file, from 0, behind those of the plays before it, and an empty line between.
+pub fn push_line(
+    alloc: Global,
+    out: &mut Vec<u8>,
+    dialect: Dialect,
+    place: usize,
+    play: &Play,
+) -> Result<(), Memory>
+    requires { IsSound play.now }
+    ensures { (before : List AnyPlay) → length before ≡ place → Spells dialect before out.old.items
+        → OnOk result (Spells dialect (before ++ play.now ∷ []) out.new.items) }
+{
+    push_empty_line(out, place)?;
+    let text = make_text(alloc, dialect, place, play)?;
+    out.extend_from_slice(text.as_slice())?;
+    out.push(b'\n')?;
+    Ok(())
+}
+
+// Puts an empty line behind the hands that stand before a place, if there are any.
+fn push_empty_line(out: &mut Vec<u8>, place: usize) -> Result<(), Memory>
+    ensures { OnOk result (out.new.items ≡ out.old.items ++ empty_line_behind place) }
+{
+    if place == 0 {
+        return Ok(());
+    }
+    out.push(b'\n')?;
+    Ok(())
 }
 
 // The text of the hand at a place of its file, from 0.
@@ -66,15 +90,4 @@ fn make_text(alloc: Global, dialect: Dialect, place: usize, play: &Play) -> Resu
 {
     let value = hand_value(alloc, dialect, place, play)?;
     Ok(value.to_vec(alloc)?)
-}
-
-// Puts an empty line behind others, where other hands follow.
-fn push_empty_line(bytes: &mut Vec<u8>, behind: &[Play]) -> Result<(), Memory>
-    ensures { OnOk result (bytes.new.items ≡ bytes.old.items ++ empty_line_before behind.now) }
-{
-    if behind.is_empty() {
-        return Ok(());
-    }
-    bytes.push(b'\n')?;
-    Ok(())
 }

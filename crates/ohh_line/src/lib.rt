@@ -20,6 +20,6 @@ mod shows;
 mod spelled;
 mod trees;
 
-pub use document::write;
+pub use document::{push_line, write};
 pub use laws::law_of_lines;
 pub use spelled::spells;

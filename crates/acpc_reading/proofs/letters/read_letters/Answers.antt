@@ -1,7 +1,7 @@
 use Rattle.std.proofs.Common.{◌≡◌, ◌+◌, ap, arith, length}
 use Rattle.std.proofs.lemmas.Result.{err_from_is_err_and}
 use Rattle.acpc_text.specs.Letters.{scan}
-use Rattle.acpc_reading.specs.Betting.{bets_after, no_bets}
+use Rattle.acpc_reading.specs.Betting.{bets_after}
 use Rattle.acpc_reading.specs.Views.{bets_in}
 use Rattle.acpc_reading.proofs.EachLetter.{goes_on, ends, is_done}
 use Rattle.acpc_reading.proofs.letters.read_letters.Goals as goal
@@ -9,10 +9,10 @@ use Rattle.acpc_reading.proofs.letters.read_letters.Goals as goal
 pub take_letter-requires-clause-few : goal.take_letter-requires-clause-few
 take_letter-requires-clause-few c = omega (arith, ap length c.in-Some.ensures, c.cut_digits.ensures.len, c.loop-letter.invariant.place_is, c.requires.few)
 
-pub returns-in_err-take_letter : goal.returns-in_err-take_letter
-returns-in_err-take_letter c =
-    let p = err_from_is_err_and c.from_residual-in_err-take_letter.result c.from_residual-in_err-take_letter.ensures.1 in
-    rw (p.1, p.2) (ends c.args.no_limit c.in_err-take_letter.field-0.0 (bets_in c.loop-letter.betting) c.loop-letter.place c.in-Some.letter c.loop-letter.rest.now c.in-Some.behind.now c.cut_digits.result.0.now c.cut_digits.result.1.now (bets_after c.args.no_limit (no_bets c.args.file_moves) c.args.at (scan c.args.text.now).1) c.in-Some.ensures c.cut_digits.ensures.digits c.cut_digits.ensures.letters c.loop-letter.invariant.begins c.in_err-take_letter.ensures.err c.loop-letter.invariant.read)
+pub returns-in_err-take_letter-clause-err : goal.returns-in_err-take_letter-clause-err
+returns-in_err-take_letter-clause-err c =
+    let p = err_from_is_err_and c.from_residual.result c.from_residual.ensures.1 in
+    rw (p.1, p.2) (ends c.args.no_limit c.in_err-take_letter.field-0.0 (bets_in c.loop-letter.betting) c.loop-letter.place c.in-Some.letter c.loop-letter.rest.now c.in-Some.behind.now c.cut_digits.result.0.now c.cut_digits.result.1.now (bets_after c.args.no_limit (bets_in c.args.betting.now) c.args.at (scan c.args.text.now).1) c.in-Some.ensures c.cut_digits.ensures.digits c.cut_digits.ensures.letters c.loop-letter.invariant.begins c.in_err-take_letter.ensures.err c.loop-letter.invariant.read)
 
 pub loop-letter-preserved : goal.loop-letter-preserved
 loop-letter-preserved c =
@@ -22,8 +22,8 @@ loop-letter-preserved c =
       place_is = omega (arith, ap length c.in-Some.ensures, c.cut_digits.ensures.len, c.loop-letter.invariant.place_is);
       read =
           (let place : c.loop-letter.place + (1 + length c.cut_digits.result.0.now) ≡ next = omega arith in
-          rw place (goes_on c.args.no_limit (bets_in c.loop-letter.betting) (bets_in c.take_letter.new.betting) c.loop-letter.place c.in-Some.letter c.loop-letter.rest.now c.in-Some.behind.now c.cut_digits.result.0.now c.cut_digits.result.1.now (bets_after c.args.no_limit (no_bets c.args.file_moves) c.args.at (scan c.args.text.now).1) c.in-Some.ensures c.cut_digits.ensures.digits c.cut_digits.ensures.letters c.loop-letter.invariant.begins c.in_ok-take_letter.ensures.ok c.loop-letter.invariant.read));
+          rw place (goes_on c.args.no_limit (bets_in c.loop-letter.betting) (bets_in c.take_letter.new.betting) c.loop-letter.place c.in-Some.letter c.loop-letter.rest.now c.in-Some.behind.now c.cut_digits.result.0.now c.cut_digits.result.1.now (bets_after c.args.no_limit (bets_in c.args.betting.now) c.args.at (scan c.args.text.now).1) c.in-Some.ensures c.cut_digits.ensures.digits c.cut_digits.ensures.letters c.loop-letter.invariant.begins c.in_ok-take_letter.ensures.ok c.loop-letter.invariant.read));
     }
 
-pub returns : goal.returns
-returns c = is_done c.args.no_limit (bets_in c.loop-letter.betting) c.loop-letter.place c.loop-letter.rest.now (bets_after c.args.no_limit (no_bets c.args.file_moves) c.args.at (scan c.args.text.now).1) c.in_default.ensures c.loop-letter.invariant.read
+pub returns-clause-ok : goal.returns-clause-ok
+returns-clause-ok c = is_done c.args.no_limit (bets_in c.loop-letter.betting) c.loop-letter.place c.loop-letter.rest.now (bets_after c.args.no_limit (bets_in c.args.betting.now) c.args.at (scan c.args.text.now).1) c.in_default.ensures c.loop-letter.invariant.read

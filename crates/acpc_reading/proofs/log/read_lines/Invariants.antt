@@ -8,8 +8,8 @@ use Rattle.acpc_reading.proofs.log.read_lines.Given as goal
 abbrev pub invariant-loop-line : goal.invariant-loop-line
 invariant-loop-line l = record {
   few : l.count + length l.rest ≤ length l.fn.bytes;
-  kept : AreOfGame l.game l.records l.file_moves;
-  read : hands_after l.game (map record_said l.records, l.file_moves) (l.count + 1) (lines_of l.rest) ≡ hands_after l.game ([], 0) 1 (lines_of l.fn.bytes);
+  kept : AreOfGame l.game l.records l.betting.file_moves;
+  read : hands_after l.game (map record_said l.records, l.betting.file_moves) (l.count + 1) (lines_of l.rest) ≡ hands_after l.game ([], 0) 1 (lines_of l.fn.bytes);
 }
 
 abbrev pub decreases-loop-line : goal.decreases-loop-line

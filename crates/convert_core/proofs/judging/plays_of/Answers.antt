@@ -1,5 +1,5 @@
 -- Each record comes to its play behind those so far, or is the first refused one.
-use Rattle.std.proofs.Common.{◌≡◌, ◌+◌, List, ◌∷◌, [], ◌++◌, length, refl, ap, sym, ◌∙◌}
+use Rattle.std.proofs.Common.{◌≡◌, ℕ, ◌+◌, List, ◌∷◌, [], ◌++◌, length, ap, sym, ◌∙◌}
 use Rattle.std.proofs.lemmas.List.Elements.{All-push, All-rest, All-same}
 use Rattle.std.proofs.lemmas.Result.{err_from_is_err_and}
 use Rattle.std.specs.Vec.Iter.{into_iter_items}
@@ -20,7 +20,7 @@ returns-in_err-push_play-clause-refused c =
     let all : hands_of plays ++ c.in-Some.hand ∷ left ≡ c.args.records = ap (λ (xs : List Record). hands_of plays ++ xs) (sym c.in-Some.ensures.steps.0) ∙ inv.same in
     let p = err_from_is_err_and c.from_residual-in_err-push_play.result c.from_residual-in_err-push_play.ensures.1 in
     rw (p.1, p.2)
-    (first_refused plays c.in-Some.hand left c.args.records (length plays + 1) c.in_err-push_play.field-0.0 inv.judged all refl c.in_err-push_play.ensures.refused)
+    (first_refused plays c.in-Some.hand left c.args.records (c.len-before.result + 1) c.in_err-push_play.field-0.0 inv.judged all (ap (λ (n : ℕ). n + 1) (c.len-before.ensures ∙ c.loop-hand.plays.ok.0)) c.in_err-push_play.ensures.refused)
 
 pub loop-hand-preserved : goal.loop-hand-preserved
 loop-hand-preserved c =

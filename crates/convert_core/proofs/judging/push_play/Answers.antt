@@ -1,11 +1,11 @@
 -- The play is the one of the record, and what its trace differs in is told of the legal hand that has the trace.
-use Rattle.std.proofs.Common.{◌+◌, ℕ, ◌∙◌, refl, sym, ap}
+use Rattle.std.proofs.Common.{refl, sym}
 use Rattle.convert_core.proofs.judging.push_play.Goals as goal
 
 pub returns-in-Err-check_stated-clause-refused : goal.returns-in-Err-check_stated-clause-refused
 returns-in-Err-check_stated-clause-refused c =
     rw c.refused.ensures (
-      ap (λ (n : ℕ). n + 1) (c.len.ensures ∙ c.args.plays.now.ok.0),
+      refl,
       record {
         trace = c.in-Ok.trace;
         traced = record { legal = c.in-Ok.ensures.legal; whole = c.in-Ok.ensures.trace };
