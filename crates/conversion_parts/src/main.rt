@@ -2,8 +2,8 @@
 //! each part of a conversion.
 //!
 //! Its words are FROM, or FROM TO TIMES. With FROM alone it also prints how long it took until the records were there, by the
-//! clock on the wall and without the time to free them. Notations are `phh`, `ohh` and `acpc`; logs are under the game of the hands of
-//! `bench/convert`. Without words nothing is done.
+//! clock on the wall and without the time to free them. Notations are `phh`, `ohh` and `acpc`; logs are under the game of the
+//! hands of `bench/convert`. Without words nothing is done.
 #![tactic(auto)]
 
 mod parts;

@@ -1,7 +1,12 @@
 //! Hands are read in the notation of a name, and written in another.
+ghost use Rattle.std.specs.Prelude.{◌≤◌, length, IfSome};
+ghost use Rattle.std.specs.List.{AllByRecursion};
+ghost use Rattle.first_fault.specs.declared.limits.TheConstants.{MOST_HANDS};
+ghost use Rattle.hand_canon.specs.Sound.{IsSound};
+
 use acpc_format::{Game, read_game};
 use convert_core::{Acpc, Notation, Ohh, Phh, plays};
-use hand_records::{Keep, Records};
+use hand_records::{Keep, Play, Records};
 use ohh_members::Dialect;
 use std::alloc::Global;
 
@@ -23,45 +28,36 @@ pub fn read_hands(alloc: Global, from: &str, bytes: &[u8]) -> Option<Records> {
 /// How many bytes the hands have in the notation of the second name. They are read and replayed once, and written so many
 /// times.
 pub fn write_hands(alloc: Global, from: &str, to: &str, times: u32, bytes: &[u8]) -> Option<usize> {
-    match from {
-        "phh" => write_from(alloc, &Phh, to, times, bytes),
-        "ohh" => write_from(alloc, &added(), to, times, bytes),
-        "acpc" => write_from(alloc, &game_log(alloc)?, to, times, bytes),
-        _ => None,
-    }
-}
-
-// How many bytes the hands of bytes have in the notation of a name.
-fn write_from<N: Notation>(
-    alloc: Global,
-    from: &N,
-    to: &str,
-    times: u32,
-    bytes: &[u8],
-) -> Option<usize> {
+    let plays = play_hands(alloc, from, bytes)?;
     match to {
-        "phh" => write_times(alloc, from, &Phh, times, bytes),
-        "ohh" => write_times(alloc, from, &added(), times, bytes),
-        "acpc" => write_times(alloc, from, &game_log(alloc)?, times, bytes),
+        "phh" => write_times(alloc, &Phh, times, &plays),
+        "ohh" => write_times(alloc, &added(), times, &plays),
+        "acpc" => write_times(alloc, &game_log(alloc)?, times, &plays),
         _ => None,
     }
 }
 
-// How many bytes the hands of bytes have in another notation. They are written so many times.
-fn write_times<N: Notation, M: Notation>(
-    alloc: Global,
-    from: &N,
-    to: &M,
-    times: u32,
-    bytes: &[u8],
-) -> Option<usize> {
-    let plays = match plays(alloc, from, bytes) {
-        Ok(plays) => plays,
-        Err(_) => return None,
-    };
+// The plays of the bytes in the notation of this name, if they read as legal hands there.
+fn play_hands(alloc: Global, from: &str, bytes: &[u8]) -> Option<Vec<Play>>
+    ensures sound { IfSome result (λ plays. AllByRecursion IsSound plays.items) }
+    ensures few { IfSome result (λ plays. length plays.items ≤ MOST_HANDS) }
+{
+    match from {
+        "phh" => plays(alloc, &Phh, bytes).ok(),
+        "ohh" => plays(alloc, &added(), bytes).ok(),
+        "acpc" => plays(alloc, &game_log(alloc)?, bytes).ok(),
+        _ => None,
+    }
+}
+
+// How many bytes plays have in a notation. They are written so many times.
+fn write_times<N: Notation>(alloc: Global, to: &N, times: u32, plays: &[Play]) -> Option<usize>
+    requires sound { AllByRecursion IsSound plays.now }
+    requires few { length plays.now ≤ MOST_HANDS }
+{
     let mut written = 0;
     for _ in 0..times {
-        match to.write(alloc, &plays, Keep::All) {
+        match to.write(alloc, plays, Keep::All) {
             Ok(output) => written = output.len(),
             Err(_) => return None,
         }
