@@ -1,6 +1,6 @@
 //! What a notation is: it reads bytes as records, tells which facts of a play it does not spell, and writes plays as bytes that
 //! read back as these plays.
-ghost use Rattle.std.specs.Prelude.{◌≡◌, ◌⊎◌, ◌≤◌, ℕ, Bool, true, List, [], ◌∷◌, ◌++◌, length, Option, None, Some, IfErr, IfOk, OnOk};
+ghost use Rattle.std.specs.Prelude.{◌≡◌, ◌⊎◌, ◌≤◌, ℕ, Bool, true, false, List, [], ◌∷◌, ◌++◌, length, Option, None, Some, IfErr, IfOk, OnOk};
 ghost use Rattle.std.specs.List.{AllByRecursion};
 ghost use Rattle.first_fault.specs.declared.limits.TheConstants.{MOST_HANDS};
 ghost use Rattle.hand_canon.specs.Sound.{IsSound};
@@ -82,8 +82,8 @@ pub trait Notation {
     fn has_lines(&self) -> bool
         ensures { result ≡ is_lined self.now };
 
-    /// Puts the line of the play at a place of its file, from 0, behind those of the plays before it. Ask first that the notation
-    /// has lines, and that it spells each fact of the play that is to be kept.
+    /// Puts the line of the play at a place of its file, from 0, behind those of the plays before it, or nothing where the
+    /// notation has no lines. Ask first that it spells each fact of the play that is to be kept.
     fn push_line(
         &self,
         alloc: Global,
@@ -91,11 +91,11 @@ pub trait Notation {
         place: usize,
         play: &Play,
     ) -> Result<(), AllocError>
-        requires lined { is_lined self.now ≡ true }
-        requires sound { IsSound play.now }
-        ensures { (before : List AnyPlay)
+        requires { IsSound play.now }
+        ensures line { is_lined self.now ≡ true → (before : List AnyPlay)
             → length before ≡ place → Spell self.now before out.old.items
-            → OnOk result (Spell self.now (before ++ play.now ∷ []) out.new.items) };
+            → OnOk result (Spell self.now (before ++ play.now ∷ []) out.new.items) }
+        ensures nothing { is_lined self.now ≡ false → out.new ≡ out.old };
 
     /// What bytes say is sound, under the rules of the notation, and no more than a file may have.
     ghost reads_file: { (notation : Self) (bytes : List ℕ) (hands : List Record)

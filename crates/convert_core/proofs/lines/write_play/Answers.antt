@@ -13,7 +13,7 @@ returns-in_ok-push_line-in-None g c = λ hands before.
     let none = none_is c.args.lines.now.refusal (sym c.is_some.ensures ∙ c.if-is_some.false) in
     now_spelled (g.N.Notation.unspelled c.args.to.now c.args.keep) (g.N.Notation.Spell c.args.to.now) hands c.args.lines.now _ c.args.play.now before
     none c.requires.judged (sym c.spells.ensures ∙ c.in-None.is) refl refl
-    (c.in_ok-push_line-in-None.ensures before.plays (sym before.counted) (before.spell none))
+    (c.in_ok-push_line-in-None.ensures.line c.requires.lined before.plays (sym before.counted) (before.spell none))
 
 pub returns-in-Some : goal.returns-in-Some
 returns-in-Some g c = λ hands before.
