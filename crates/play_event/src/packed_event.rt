@@ -1,6 +1,7 @@
 //! The bytes of one event lie on the stack until all of them are there.
-ghost use Rattle.std.specs.Prelude.{◌≡◌, ◌+◌, ◌<◌, ◌≤◌, [], ◌∷◌, ◌++◌, length};
+ghost use Rattle.std.specs.Prelude.{◌≡◌, ◌+◌, ◌<◌, ◌≤◌, [], ◌∷◌, ◌++◌, length, OnOk, OnErr};
 
+use std::alloc::AllocError;
 use std::marker::Model;
 
 /// The bytes of a packed event so far. Fifteen are the most: those of a raise or a call with chips.
@@ -36,9 +37,9 @@ impl PackedEvent {
         requires { length self.old + length bytes.now ≤ 15 }
         ensures { self.new ≡ self.old ++ bytes.now }
     {
-        for byte in bytes {
-            self.push(*byte);
-        }
+        let end = self.len + bytes.len();
+        self.bytes[self.len..end].copy_from_slice(bytes);
+        self.len = end;
     }
 
     /// Puts a byte behind the others.
@@ -50,10 +51,15 @@ impl PackedEvent {
         self.len += 1;
     }
 
-    /// The bytes so far, in order.
-    pub(crate) fn as_slice(&self) -> &[u8]
-        ensures { result.now ≡ self.now }
+    /// Puts the bytes so far behind those of a script. All fifteen are copied and the rest is cut off
+    /// again, since a copy of a fixed size needs no call.
+    pub(crate) fn append_to(&self, script: &mut Vec<u8>) -> Result<(), AllocError>
+        ensures appended { OnOk result (script.new.items ≡ script.old.items ++ self.now) }
+        ensures unchanged { OnErr result (script.new.items ≡ script.old.items) }
     {
-        &self.bytes[..self.len]
+        let before = script.len();
+        script.extend_from_slice(&self.bytes)?;
+        script.truncate(before + self.len);
+        Ok(())
     }
 }

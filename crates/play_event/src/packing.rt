@@ -1,5 +1,5 @@
 //! An event is packed into at most fifteen bytes, before any of them goes to a script.
-ghost use Rattle.std.specs.Prelude.{◌≡◌, ◌+◌, ◌^◌, ◌<◌, ◌≤◌, List, ◌∷◌, ◌++◌, length, map, IfSome};
+ghost use Rattle.std.specs.Prelude.{◌≡◌, ◌+◌, ◌^◌, ◌<◌, ◌≤◌, List, [], ◌∷◌, ◌++◌, length, map, IfSome, OnErr, OnOk};
 ghost use Rattle.std.specs.Int.{w64, to_be_bytes};
 ghost use Rattle.card_set.specs.Row.{slots_of, cards_of};
 ghost use Rattle.play_event.specs.declared.event.Event.{Event};
@@ -10,6 +10,10 @@ use crate::event::{Event, Kind, Spelled};
 use crate::packed_event::PackedEvent;
 use card_set::{Card, CardRow, Slot, SlotRow, place_in_deck};
 use chip_ledger::Seat;
+use std::alloc::AllocError;
+
+// So many bytes are enough for the events of most hands.
+const USUAL_BYTES: usize = 72;
 
 /// No two lists of events have one packed form, so it loses nothing. The function does nothing:
 /// its contract is a law. Numbers of events fit their types, and a clause has to say so.
@@ -18,17 +22,31 @@ pub fn law_of_packing()
         → AreEvents a → AreEvents b → packed_events a ≡ packed_events b → a ≡ b }
 {}
 
-/// The packed form of the event.
-#[tactic(auto, unfolding(crate::specs::PackedForm::packed_event))]
-pub(crate) fn pack(event: Event) -> PackedEvent
-    ensures packed { result ≡ packed_event event }
+/// Puts the packed form of the event behind those of others. Without memory for it nothing changes. Before the first one there
+/// is made room for the events of most hands.
+pub(crate) fn append(script: &mut Vec<u8>, event: Event) -> Result<(), AllocError>
+    ensures appended { OnOk result (script.new.items ≡ script.old.items ++ packed_event event) }
+    ensures unchanged { OnErr result (script.new.items ≡ script.old.items) }
     ensures event { IsEvent event }
 {
+    if script.is_empty() {
+        script.try_reserve(USUAL_BYTES)?;
+    }
     let mut packed = PackedEvent::new();
+    pack(&mut packed, event);
+    packed.append_to(script)
+}
+
+// The packed form of the event, made where it is kept.
+#[tactic(auto, unfolding(crate::specs::PackedForm::packed_event))]
+fn pack(packed: &mut PackedEvent, event: Event)
+    requires { packed.old ≡ [] }
+    ensures packed { packed.new ≡ packed_event event }
+    ensures event { IsEvent event }
+{
     packed.push(number_of_kind(event.kind));
     packed.extend(&event.at.to_be_bytes());
-    pack_kind(&mut packed, event.kind);
-    packed
+    pack_kind(packed, event.kind);
 }
 
 fn number_of_kind(kind: Kind) -> u8

@@ -1,17 +1,17 @@
 //! A script is the list of a hand's events, in the order in which they happened, kept packed.
-ghost use Rattle.std.specs.Prelude.{◌≡◌, ◌++◌, length, OnOk, OnErr};
+ghost use Rattle.std.specs.Prelude.{◌≡◌, length};
 ghost use Rattle.play_event.specs.PackedScript.{PackedScript};
 ghost use Rattle.play_event.specs.PackedOnce.{one_script};
 
 use crate::cursor::Cursor;
 use crate::event::Event;
-use crate::packing::pack;
+use crate::packing::append;
 use card_set::Memory;
-use std::alloc::Global;
+use std::alloc::{AllocError, Global};
 use std::marker::Model;
 
-// So many bytes are enough for the events of most hands.
-const USUAL_BYTES: usize = 64;
+// Few events take more bytes.
+const USUAL_EVENT_BYTES: usize = 12;
 
 /// The events of a hand, in order. They take six to fifteen bytes each.
 #[derive(Debug, Drop)]
@@ -32,7 +32,7 @@ impl Model for Script {
 }
 
 impl Script {
-    ghost use Rattle.std.specs.Prelude.{◌≡◌, ◌<◌, [], ◌∷◌, ◌++◌, length, slice_get, Some, OnOk, OnErr};
+    ghost use Rattle.std.specs.Prelude.{◌≡◌, ◌<◌, [], ◌∷◌, ◌++◌, length, slice_get, Some, IfOk, OnOk, OnErr};
     ghost use Rattle.play_event.specs.PackedForm.{packed_events};
 
     /// Puts an event after the others. Without memory for it the script stays as it was.
@@ -40,8 +40,7 @@ impl Script {
         ensures pushed { OnOk result (self.new ≡ self.old ++ event ∷ []) }
         ensures unchanged { OnErr result (self.new ≡ self.old) }
     {
-        let packed = pack(event);
-        append(&mut self.bytes, packed.as_slice())?;
+        append(&mut self.bytes, event)?;
         self.count += 1;
         Ok(())
     }
@@ -76,6 +75,17 @@ impl Script {
         }
     }
 
+    /// A script without events, and with room for about so many, so that it need not move as they come. More of them find
+    /// room, too.
+    pub fn with_room(alloc: Global, events: usize) -> Result<Self, AllocError>
+        ensures { IfOk result (λ script. script ≡ []) }
+    {
+        Ok(Script {
+            bytes: Vec::with_capacity(alloc, events.saturating_mul(USUAL_EVENT_BYTES))?,
+            count: 0,
+        })
+    }
+
     /// How many events there are.
     pub fn len(&self) -> usize
         ensures { result ≡ length self.now }
@@ -89,16 +99,4 @@ impl Script {
     {
         self.bytes.as_slice()
     }
-}
-
-// Puts an event behind others. Before the first one there is made room for the events of most hands.
-fn append(bytes: &mut Vec<u8>, packed: &[u8]) -> Result<(), Memory>
-    ensures appended { OnOk result (bytes.new.items ≡ bytes.old.items ++ packed.now) }
-    ensures unchanged { OnErr result (bytes.new.items ≡ bytes.old.items) }
-{
-    if bytes.is_empty() {
-        bytes.try_reserve(USUAL_BYTES)?;
-    }
-    bytes.extend_from_slice(packed)?;
-    Ok(())
 }

@@ -1,4 +1,5 @@
-use Rattle.std.proofs.Common.{◌∙◌, [], ◌∷◌, ◌++◌, ap, length, arith, length-append}
+use Rattle.std.proofs.Common.{◌∙◌, [], ◌∷◌, ◌++◌, ap, length, arith, length-append, refl}
+use Rattle.play_event.specs.PackedForm.{packed_event}
 use Rattle.play_event.proofs.PackedScripts.{kept, unchanged_events, pushed, pushed_events, length-packed_events}
 use Rattle.play_event.proofs.script.Script.push.Goals as goal
 use Rattle.list_laws.proofs.Results.{on_err}
@@ -13,16 +14,16 @@ invariant_of-self-inside c =
 
 pub returns-in_err-append-clause-unchanged : goal.returns-in_err-append-clause-unchanged
 returns-in_err-append-clause-unchanged c =
-    search (on_err, unchanged_events c.self.inside.bytes.items c.self.inside.script c.args.self.now c.self.view_is c.append.new.bytes.items c.in_err-append.ensures.unchanged)
+    search (on_err, unchanged_events c.self.inside.bytes.items c.self.inside.script c.args.self.now c.self.view_is c.append.new.script.items c.in_err-append.ensures.unchanged)
 
 pub invariant_of-self-inside-2 : goal.invariant_of-self-inside-2
 invariant_of-self-inside-2 c =
-    let grown = c.in_ok-append.ensures.appended ∙ ap (λ form. c.self.inside.bytes.items ++ form) c.as_slice.ensures in (
-      pushed c.self.inside.bytes.items c.self.inside.script c.args.event c.pack-packed.result _ c.pack-packed.ensures.event c.pack-packed.ensures.packed grown,
+    let grown = c.in_ok-append.ensures.appended in (
+      pushed c.self.inside.bytes.items c.self.inside.script c.args.event (packed_event c.args.event) _ c.append.ensures.event refl grown,
       (omega (arith, c.self.inside.counted, length-append c.self.inside.script.events (c.args.event ∷ [])), tt),
     )
 
 pub returns-clause-pushed : goal.returns-clause-pushed
 returns-clause-pushed c =
-    let grown = c.in_ok-append.ensures.appended ∙ ap (λ form. c.self.inside.bytes.items ++ form) c.as_slice.ensures in
-    search (pushed_events c.self.inside.bytes.items c.self.inside.script c.args.self.now c.self.view_is c.args.event c.pack-packed.result c.append.new.bytes.items c.pack-packed.ensures.event c.pack-packed.ensures.packed grown)
+    let grown = c.in_ok-append.ensures.appended in
+    search (pushed_events c.self.inside.bytes.items c.self.inside.script c.args.self.now c.self.view_is c.args.event (packed_event c.args.event) c.append.new.script.items c.append.ensures.event refl grown)
