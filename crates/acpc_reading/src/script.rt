@@ -35,7 +35,7 @@ pub fn read_script(
     if count_parts(holes, b'|') != players as usize {
         return Err(wrong(What::SeatCount, at));
     }
-    let mut script = Script::new(alloc);
+    let mut script = Script::with_room(alloc, players as usize + steps.len())?;
     take_holes(&mut script, players, at, holes)?;
     take_steps(&mut script, at, boards, steps)?;
     Ok(script)

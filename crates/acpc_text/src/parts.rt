@@ -5,6 +5,8 @@ ghost use Rattle.std.specs.Option.{option_map_or};
 ghost use Rattle.acpc_text.specs.Parts.{has_front, lines_of, parts_of, without_return as without_return_said};
 ghost use Rattle.first_fault.specs.Words.{is_space, words_of};
 
+use memchr::memchr;
+
 /// Whether the text begins with these bytes.
 pub fn has_prefix(text: &[u8], front: &[u8]) -> bool
     ensures { result ≡ has_front front.now text.now }
@@ -26,11 +28,9 @@ pub fn next_line(text: &[u8]) -> Option<(&[u8], &[u8])>
     if text.is_empty() {
         return None;
     }
-    let (line, rest) = cut_at(text, b'\n');
-    let line = without_return(line);
-    match rest {
-        Some(rest) => Some((line, rest)),
-        None => Some((line, &[])),
+    match memchr(b'\n', text) {
+        Some(place) => Some((without_return(&text[..place]), &text[place + 1..])),
+        None => Some((without_return(text), &[])),
     }
 }
 
