@@ -79,19 +79,30 @@ last_first unspelled number (p ∷ plays) play none =
     ∙ last_first unspelled (number + 1) plays play parts.1
     ∙ ap (λ (n : ℕ). refused_at n (unspelled play) None) here
 
+-- a hand more, where it is known which one is refused now, and what is written where none is
+one_more : (unspelled : Play → Option Unspelled) (Spell : List Play → List ℕ → Type 0) (hands : List Record) (old new : Lines) (play : Play)
+    → (before : AreWritten unspelled Spell hands old) → IsJudged play → new.hands ≡ old.hands + 1
+    → first_refusal unspelled (before.plays ++ play ∷ []) ≡ new.refusal
+    → (new.refusal ≡ None → Spell (before.plays ++ play ∷ []) new.out.items)
+    → AreWritten unspelled Spell (hands ++ play.hand ∷ []) new
+one_more unspelled Spell hands old new play before judged more first spell =
+    record {
+      plays = before.plays ++ play ∷ [];
+      are = plays_more hands before.plays play before.are judged;
+      counted = omega (arith, more, before.counted, length-append before.plays (play ∷ []));
+      first = first;
+      spell = spell;
+    }
+
 -- a hand behind one that is refused
 pub behind_refused : (unspelled : Play → Option Unspelled) (Spell : List Play → List ℕ → Type 0) (hands : List Record) (old new : Lines) (play : Play)
     → AreWritten unspelled Spell hands old → is_some old.refusal ≡ true → IsJudged play
     → new.refusal ≡ old.refusal → new.hands ≡ old.hands + 1
     → AreWritten unspelled Spell (hands ++ play.hand ∷ []) new
 behind_refused unspelled Spell hands old new play before refused judged same more =
-    record {
-      plays = before.plays ++ play ∷ [];
-      are = plays_more hands before.plays play before.are judged;
-      counted = omega (arith, more, before.counted, length-append before.plays (play ∷ []));
-      first = stays unspelled before.plays play old.refusal refused before.first ∙ sym same;
-      spell = λ none. absurd (some_is old.refusal refused (sym same ∙ none));
-    }
+    one_more unspelled Spell hands old new play before judged more
+    (stays unspelled before.plays play old.refusal refused before.first ∙ sym same)
+    (λ none. absurd (some_is old.refusal refused (sym same ∙ none)))
 
 -- the first one that is refused
 pub now_refused : (unspelled : Play → Option Unspelled) (Spell : List Play → List ℕ → Type 0) (hands : List Record) (old new : Lines) (play : Play) (fact : Unspelled)
@@ -100,17 +111,12 @@ pub now_refused : (unspelled : Play → Option Unspelled) (Spell : List Play →
     → AreWritten unspelled Spell (hands ++ play.hand ∷ []) new
 now_refused unspelled Spell hands old new play fact before none judged found told more =
     let here : 1 + length before.plays ≡ old.hands + 1 = omega (arith, before.counted) in
-    record {
-      plays = before.plays ++ play ∷ [];
-      are = plays_more hands before.plays play before.are judged;
-      counted = omega (arith, more, before.counted, length-append before.plays (play ∷ []));
-      first =
-          last_first unspelled 1 before.plays play (before.first ∙ none)
-          ∙ ap (λ (f : Option Unspelled). refused_at (1 + length before.plays) f None) found
-          ∙ ap (λ (n : ℕ). Some (refusals.Unspelled n fact)) here
-          ∙ sym told;
-      spell = λ is. absurd (cc (is, told));
-    }
+    one_more unspelled Spell hands old new play before judged more
+    (last_first unspelled 1 before.plays play (before.first ∙ none)
+    ∙ ap (λ (f : Option Unspelled). refused_at (1 + length before.plays) f None) found
+    ∙ ap (λ (n : ℕ). Some (refusals.Unspelled n fact)) here
+    ∙ sym told)
+    (λ is. absurd (cc (is, told)))
 
 -- one that is spelled, behind others that are
 pub now_spelled : (unspelled : Play → Option Unspelled) (Spell : List Play → List ℕ → Type 0) (hands : List Record) (old new : Lines) (play : Play)
@@ -118,16 +124,11 @@ pub now_spelled : (unspelled : Play → Option Unspelled) (Spell : List Play →
     → new.refusal ≡ old.refusal → new.hands ≡ old.hands + 1 → Spell (before.plays ++ play ∷ []) new.out.items
     → AreWritten unspelled Spell (hands ++ play.hand ∷ []) new
 now_spelled unspelled Spell hands old new play before none judged spelled same more spell =
-    record {
-      plays = before.plays ++ play ∷ [];
-      are = plays_more hands before.plays play before.are judged;
-      counted = omega (arith, more, before.counted, length-append before.plays (play ∷ []));
-      first =
-          last_first unspelled 1 before.plays play (before.first ∙ none)
-          ∙ ap (λ (f : Option Unspelled). refused_at (1 + length before.plays) f None) spelled
-          ∙ sym (same ∙ none);
-      spell = λ _. spell;
-    }
+    one_more unspelled Spell hands old new play before judged more
+    (last_first unspelled 1 before.plays play (before.first ∙ none)
+    ∙ ap (λ (f : Option Unspelled). refused_at (1 + length before.plays) f None) spelled
+    ∙ sym (same ∙ none))
+    (λ _. spell)
 
 -- before the first hand nothing is written
 pub none_written : (unspelled : Play → Option Unspelled) (Spell : List Play → List ℕ → Type 0) (lines : Lines)

@@ -35,34 +35,17 @@ pub fn convert<N: Notation, M: Notation>(
         (λ output. output.items) result }
 {
     if to.has_lines() {
-        return convert_by_lines(alloc, from, to, keep, bytes);
+        // Its plays need not be kept, which are some thousand bytes each.
+        return match read_records(alloc, from, bytes) {
+            Ok(records) => write_records(alloc, to, keep, records),
+            Err(fault) => Err(fault),
+        };
     }
     let plays = plays(alloc, from, bytes)?;
     match to.write(alloc, &plays, keep) {
         Ok(output) => Ok(output),
         Err(WriteRefusal::Unspelled { hand, fact }) => Err(ConvertFault::Unspelled { hand, fact }),
         Err(WriteRefusal::Memory) => Err(ConvertFault::Memory),
-    }
-}
-
-// The same where the target has lines: its plays need not be kept, which are some thousand bytes each.
-fn convert_by_lines<N: Notation, M: Notation>(
-    alloc: Global,
-    from: &N,
-    to: &M,
-    keep: Keep,
-    bytes: &[u8],
-) -> Result<Vec<u8>, ConvertFault>
-    requires { M.is_lined to.now ≡ true }
-    ensures { IsConversion (N.Say from.now bytes.now) (N.HaveFault from.now bytes.now)
-        (M.unspelled to.now keep) (M.Spell to.now)
-        (λ plays output. ReadBack (M.Say to.now output) (M.HaveFault to.now output)
-        (M.KeepsNotes to.now) plays)
-        (λ output. output.items) result }
-{
-    match read_records(alloc, from, bytes) {
-        Ok(records) => write_records(alloc, to, keep, records),
-        Err(fault) => Err(fault),
     }
 }
 

@@ -3,7 +3,7 @@ use Rattle.std.proofs.lemmas.List.Elements.{recursion_from_All}
 use Rattle.hand_canon.specs.Sound.{IsSound}
 use Rattle.convert_core.proofs.WrittenLines.{few_plays, of_file}
 use Rattle.convert_core.specs.ReadBack.{ReadBack}
-use Rattle.convert_core.proofs.converting.convert_by_lines.Goals as goal
+use Rattle.convert_core.proofs.converting.convert.Goals as goal
 
 pub returns-in-Ok : goal.returns-in-Ok
 returns-in-Ok g c =
