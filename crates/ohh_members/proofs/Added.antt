@@ -3,7 +3,7 @@ use Rattle.std.proofs.Common.{◌≡◌, ℕ, ◌+◌, ◌<◌, ◌≤◌, List,
 use Rattle.std.proofs.lemmas.List.{drop_more, drop_all}
 use Rattle.first_fault.specs.declared.stop.Stop.{Stop}
 use Rattle.first_fault.specs.declared.stop.Stop.TheVariants as stops
-use Rattle.first_fault.specs.Reading.{◌>>=◌, Fails}
+use Rattle.first_fault.specs.Reading.{Fails}
 use Rattle.ohh_members.specs.declared.fault.Fault.{Fault}
 use Rattle.ohh_members.specs.Values.{added_from}
 

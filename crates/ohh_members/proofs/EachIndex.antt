@@ -1,7 +1,7 @@
 -- Items that are read one after the other, each told its index from 0, as a loop does.
 use Rattle.std.proofs.Common.{◌≡◌, ℕ, ◌+◌, ◌-◌, ◌<◌, ◌≤◌, List, [], ◌∷◌, ◌++◌, length, map, drop, get_or, Result, Ok}
 use Rattle.first_fault.specs.declared.stop.Stop.{Stop}
-use Rattle.first_fault.specs.Reading.{◌>>=◌, Fails, each_from}
+use Rattle.first_fault.specs.Reading.{Fails, each_from}
 use Rattle.first_fault.proofs.EachItem.{with_front, goes_on, ends, is_done}
 use Rattle.list_laws.proofs.Numbers.{plus_one_less_one}
 use Rattle.ohh_members.specs.declared.fault.Fault.{Fault}

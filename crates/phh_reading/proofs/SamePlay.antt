@@ -1,5 +1,5 @@
 -- Records that say the same plain hand say the same play.
-use Rattle.std.proofs.Common.{◌≡◌, ℕ, ◌-◌, ◌<◌, get_or, slice_index_or, Option, None, sym, ap, ap₂, ◌∙◌, arith}
+use Rattle.std.proofs.Common.{◌≡◌, ℕ, ◌<◌, get_or, slice_index_or, Option, None, sym, ap, ap₂, ◌∙◌, arith}
 use Rattle.std.proofs.lemmas.List.{get_or-take}
 use Rattle.card_set.proofs.RowLaws.{cards_same, slots_same}
 use Rattle.chip_ledger.specs.declared.numbers.Seat.{Seat}

@@ -1,11 +1,10 @@
 -- The answer to what a source has left, where it tells that, and how a run ends with it.
-use Rattle.std.proofs.Common.{◌≡◌, ◌⊎◌, ℕ, ◌<◌, true, List, length, Option, Some, None, is_some, IfOk, IfSome, Result, Ok, Err, refl, subst, sym, ap, ◌∙◌, inl, inr}
+use Rattle.std.proofs.Common.{◌≡◌, ◌⊎◌, ℕ, ◌<◌, true, List, length, Option, Some, None, is_some, IfOk, IfSome, Result, Ok, Err, refl, subst, sym, inl, inr}
 use Rattle.acpc_game.specs.declared.game.Game.{Game}
 use Rattle.acpc_text.specs.declared.fault.AcpcFault.{AcpcFault}
 use Rattle.acpc_text.specs.declared.fault.AcpcFault.TheVariants as logs
 use Rattle.command_words.specs.Words.{Convert, Load, Notation, Request, Show}
 use Rattle.command_words.specs.Words as words
-use Rattle.command_words.specs.declared.command.Command.{Command}
 use Rattle.convert_core.specs.Conversion.{IsConversion as IsConverting, IsConverted, IsPlaysRefusal, ReadAsRefused}
 use Rattle.convert_core.specs.Faults.{is_want_in_history, is_want_in_log, is_want_in_tree, is_want_of_memory}
 use Rattle.convert_core.specs.declared.convert_fault.ConvertFault.{ConvertFault}

@@ -1,5 +1,5 @@
 -- The amounts of a row are those of its seats, from the first on.
-use Rattle.std.proofs.Common.{◌≡◌, ℕ, ◌+◌, ◌-◌, ◌≤◌, List, map, ◌∙◌, ap, append_assoc, codes, ◌++◌}
+use Rattle.std.proofs.Common.{◌≡◌, ℕ, ◌-◌, ◌≤◌, List, map, ◌∙◌, ap, append_assoc, codes, ◌++◌}
 use Rattle.chip_ledger.specs.SeatRow.{amount_of, amounts_in}
 use Rattle.chip_ledger.specs.declared.rows.SeatRow.{SeatRow}
 use Rattle.play_event.specs.Chips.{chips_left, chips_put}

@@ -1,4 +1,4 @@
-use Rattle.std.proofs.Common.{◌-◌, ◌∷◌, ◌∙◌, [], length, length-append, map, ap, arith}
+use Rattle.std.proofs.Common.{◌∷◌, ◌∙◌, [], length, length-append, map, ap, arith}
 use Rattle.std.proofs.lemmas.List.{map_push}
 use Rattle.ohh_members.specs.Players.{plain_player}
 use Rattle.ohh_members.proofs.Round.{sits, all_sit}

@@ -1,8 +1,7 @@
 -- Each event has its line, after those so far.
-use Rattle.std.proofs.Common.{◌+◌, ◌∙◌, List, ℕ, true, false, map, sym, subst, string_bytes, arith}
+use Rattle.std.proofs.Common.{◌+◌, ◌∙◌, List, ℕ, map, sym, subst, string_bytes, arith}
 use Rattle.std.proofs.lemmas.List.{length-map}
 use Rattle.std.proofs.lemmas.Option.{slice_get_within}
-use Rattle.canonical_play.specs.PlayedScript.{is_move}
 use Rattle.play_event.specs.Past.{moves_of}
 use Rattle.play_event.specs.Played.{move_said}
 use Rattle.play_event.specs.Trace.{traced_move}
