@@ -14,28 +14,11 @@ use Rattle.hand_records.specs.declared.notes.Notes.{Notes}
 use Rattle.acpc_text.specs.declared.fault.LineFault.{LineFault}
 use Rattle.acpc_line.specs.Names.{is_spelled_name, name_or_default, name_text}
 use Rattle.acpc_reading.specs.Names.{name_said, names_after}
+use Rattle.acpc_reading.proofs.UsualNames.{default_again}
 use Rattle.acpc_format.specs.Again.{kept_name, name_again}
 use Rattle.acpc_line.specs.Texts.{AreTexts}
 use Rattle.list_laws.proofs.Bytes.{same_bytes}
 use Rattle.chip_ledger.specs.SeatsSaid.{default_name}
-
--- the default name of a seat reads as none
-default_again : (seat at : ℕ) → seat ≤ 10 → name_said seat at (default_name seat) ≡ Ok None
-unfolding name_said
-default_again seat at few =
-    let small : seat < 2 ^ 64 = omega (arith, few) in
-    let digits = decimal_is_IsNumeral seat small in
-    let utf8 : is_utf8 (default_name seat) ≡ true = is_utf8-from_IsUtf8 (default_name seat) (IsUtf8-from_ascii (default_name seat) (ascii digits.0.1)) in
-    let short : nat_lt MOST_TEXT_BYTES (length (default_name seat)) ≡ false = grind (arith, nat_tests, length-decimal-le_succ seat small) in
-    rw (utf8, short) (ap Ok (ap (λ b. cond (length (default_name seat) == 0 || b) None (Some (default_name seat))) (same_bytes (default_name seat)) ∙ ap (λ b. cond b None (Some (default_name seat))) (either_true (length (default_name seat) == 0))))
-  where
-    either_true : (b : Bool) → (b || true) ≡ true
-    either_true true = refl
-    either_true false = refl
-
-    ascii : AllDigits 10 (decimal seat) → Rattle.std.proofs.Common.IsAscii (112 ∷ decimal seat)
-    ascii all zero = omega arith
-    ascii all (suc i) = IsAscii-from_digits (decimal seat) all i
 
 -- a name that is said and may stand reads as itself
 said_again : (seat at : ℕ) (name : List ℕ) → IsName seat name → IsUtf8 name → name_said seat at name ≡ Ok (Some name)

@@ -2,6 +2,7 @@
 pub mod EachLetter
 pub mod CardLaws
 pub mod NumberLaws
+pub mod UsualNames
 pub mod Rows
 pub mod Dealing
 pub mod Lines

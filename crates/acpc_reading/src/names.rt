@@ -1,5 +1,5 @@
 //! The names of the players and the number of the hand are read as notes.
-ghost use Rattle.std.specs.Prelude.{◌≡◌, ℕ, ◌≤◌, ◌<◌, ◌+◌, ◌-◌, ◌^◌, [], length, take, bytes_eq, slice_index_or, is_some, None, IfOk, IfSome};
+ghost use Rattle.std.specs.Prelude.{◌≡◌, ℕ, ◌≤◌, ◌<◌, ◌+◌, ◌-◌, ◌^◌, ◌==◌, ◌||◌, [], length, take, bytes_eq, slice_index_or, is_some, None, IfOk, IfSome};
 ghost use Rattle.std.specs.Str.{is_utf8};
 ghost use Rattle.first_fault.specs.Reading.{Gives};
 ghost use Rattle.acpc_text.specs.Parts.{parts_of};
@@ -99,21 +99,21 @@ fn fill_names(
 }
 
 // The name of a seat, which begins at this byte.
-#[tactic(auto, unfolding(crate::specs::Names::name_said))]
+#[tactic(auto, using(crate::proofs::UsualNames::usual_again), unfolding(crate::specs::Names::name_said))]
 fn read_name(alloc: Global, seat: u8, at: u64, name: &[u8]) -> Result<Option<Text>, Stop<LineFault>>
     requires first { 1 ≤ seat }
     requires last { seat ≤ 10 }
     ensures said { Gives (λ name. name) result (name_said seat at name.now) }
     ensures allowed { IfOk result (λ name. IfSome name (IsName seat)) }
 {
+    if says_nothing(seat, name) {
+        return Ok(None);
+    }
     let Some(text) = text_of(name) else {
         return Err(wrong(What::LineShape, at));
     };
     if name.len() > MOST_TEXT_BYTES {
         return Err(wrong(What::TooMany(Quantity::TextBytes), at));
-    }
-    if name.is_empty() || is_default(seat, name) {
-        return Ok(None);
     }
     let text = Text::new(alloc, text)?;
     Ok(Some(text))
@@ -129,6 +129,15 @@ fn text_of(bytes: &[u8]) -> Option<&str>
         Ok(text) => Some(text),
         Err(_) => None,
     }
+}
+
+// Whether the name is none, or that of the seat where none is said.
+fn says_nothing(seat: u8, name: &[u8]) -> bool
+    requires first { 1 ≤ seat }
+    requires last { seat ≤ 10 }
+    ensures { result ≡ (length name.now == 0 || bytes_eq name.now (default_name seat)) }
+{
+    name.is_empty() || is_default(seat, name)
 }
 
 // Whether the text is the name of the seat where none is said.
