@@ -1,8 +1,10 @@
-//! Rows of hands are read from the input, one a line, and each is printed again with what `replay`, and `canon` or
-//! `check_stated` behind it, answer to it.
+//! Rows of hands are read from the input, one a line, and each is printed again with what the machines for betting and cards
+//! answer to it, or `replay`, and `canon` or `check_stated` behind it.
 #![tactic(auto)]
 
 mod answers;
+mod betting;
+mod cards;
 mod facts;
 mod hands;
 mod lists;
@@ -36,6 +38,8 @@ fn answered(alloc: Global, row: &str) -> Result<String, AllocError> {
 fn answer_to(alloc: Global, row: &str) -> Result<Option<String>, AllocError> {
     let (word, rest) = first_and_rest(row);
     match word.as_bytes() {
+        b"betting" => betting::answer_to(alloc, rest),
+        b"cards" => cards::answer_to(alloc, rest),
         b"replay" => answers::replayed(alloc, rest),
         b"canon" => answers::canonical(alloc, rest),
         b"stated" => answers::compared(alloc, rest),

@@ -1,0 +1,60 @@
+//! Rows of the rules and of devices are read from the input, one a line, and each is printed again
+//! with what the libraries answer to it.
+#![tactic(auto)]
+
+mod cards;
+mod device_case;
+mod devices;
+mod games;
+mod playable;
+mod pots;
+mod rows;
+mod scripts;
+mod shares;
+mod spelling;
+mod std_devices;
+mod words;
+
+use card_set::Memory;
+use std::io;
+use std::io::{Error, ErrorKind};
+use std::rt::Files;
+
+fn main(rt: HostRuntime) -> io::Result<()> {
+    for line in rt.lines(rt.alloc()) {
+        match answered(&rt, line?.as_str()) {
+            Ok(row) => println!(rt; "{row}")?,
+            Err(Memory) => return Err(Error::from(ErrorKind::OutOfMemory)),
+        }
+    }
+    Ok(())
+}
+
+// A row with its answer behind it. Headings, which begin with `#`, and empty lines stay as they
+// are.
+fn answered(rt: &(impl Files + AllocGlobal), row: &str) -> Result<String, Memory> {
+    let alloc = rt.alloc();
+    if row.is_empty() || row.starts_with('#') {
+        return Ok(String::from_str(alloc, row)?);
+    }
+    match answer_to(rt, row)? {
+        Some(answer) => Ok(format!(in alloc; "{row} = {answer}")?),
+        None => Ok(format!(in alloc; "{row} ? no such row")?),
+    }
+}
+
+// The answer of the subject that the first word names, none where the row has no meaning there. What
+// is no subject of the rules is a device.
+fn answer_to(rt: &(impl Files + AllocGlobal), row: &str) -> Result<Option<String>, Memory> {
+    let alloc = rt.alloc();
+    let (subject, rest) = words::first_and_rest(row);
+    let answer = match subject.as_bytes() {
+        b"cards" => cards::answer_to(alloc, rest)?,
+        b"games" => games::answer_to(alloc, rest)?,
+        b"pots" => pots::answer_to(alloc, rest)?,
+        b"scripts" => scripts::answer_to(alloc, rest)?,
+        b"spelling" => spelling::answer_to(alloc, rest)?,
+        _ => devices::answer_to(rt, row)?,
+    };
+    Ok(answer)
+}
