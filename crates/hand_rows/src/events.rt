@@ -1,6 +1,10 @@
 //! Events by their words: `hole 1 2c??`, `board 2c3d4h`, `fold 1`, `call 1 6`, `raise 1 to 40`, `bring_in 1`,
 //! `discard 1 2c`, `show 1 2c3d` and `muck 1`. A move of the seat in turn has `-` for its seat, and a call that states no
 //! chips, or a discard of no card, ends with `-`.
+ghost use Rattle.std.specs.Prelude.{◌≡◌, false, IfSome};
+ghost use Rattle.play_event.specs.Said.{kind_said};
+ghost use Rattle.street_laws.specs.CardEvents.{is_card_said};
+
 use crate::cards::{cards_text, slots_text};
 use crate::words::{first_and_rest, seat_of};
 use card_set::{CardRow, Slot, SlotRow, read_slots};
@@ -61,7 +65,10 @@ fn known(slots: &SlotRow) -> Option<CardRow> {
     Some(cards)
 }
 
-fn move_of(word: &str, rest: &str) -> Option<Kind> {
+/// The move that a first word and those behind it say: no card is in it.
+pub fn move_of(word: &str, rest: &str) -> Option<Kind>
+    ensures { IfSome result (λ kind. is_card_said (kind_said kind) ≡ false) }
+{
     let (actor, rest) = first_and_rest(rest);
     let actor = actor_of(actor)?;
     match word.as_bytes() {
@@ -79,6 +86,7 @@ fn move_of(word: &str, rest: &str) -> Option<Kind> {
     }
 }
 
+// The seat that is named, or `-` for none.
 fn actor_of(word: &str) -> Option<Option<Seat>> {
     match word.as_bytes() {
         b"-" => Some(None),
@@ -86,6 +94,7 @@ fn actor_of(word: &str) -> Option<Option<Seat>> {
     }
 }
 
+// The chips that are stated, or `-` for none.
 fn stated_of(word: &str) -> Option<Option<u64>> {
     match word.as_bytes() {
         b"-" => Some(None),

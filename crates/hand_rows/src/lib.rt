@@ -7,6 +7,6 @@ mod setups;
 mod words;
 
 pub use cards::{cards_text, slots_text};
-pub use events::{event_text, kind_of};
+pub use events::{event_text, kind_of, move_of};
 pub use setups::setup_of;
 pub use words::{first_and_rest, row_of, row_text, seat_of};

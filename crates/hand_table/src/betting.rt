@@ -9,8 +9,8 @@ ghost use Rattle.street_laws.specs.CardEvents.{is_card_said};
 use betting_core::{Betting, Moved};
 use card_set::read_slots;
 use chip_ledger::Seat;
-use hand_rows::{first_and_rest, seat_of, setup_of};
-use play_event::{Code, Due, Event, Illegal, Kind, Rules, Setup, Spelled, UpRow};
+use hand_rows::{first_and_rest, move_of, seat_of, setup_of};
+use play_event::{Code, Due, Event, Illegal, Kind, Rules, Setup, UpRow};
 use std::alloc::{AllocError, Global};
 use variant_table::{F2L3D, F7S, F7S8, FB, FO8, FR, FT, N2L1D, NS, NT, PO, Variant, is_valid};
 
@@ -146,54 +146,6 @@ fn stacks_text<V: Variant>(alloc: Global, betting: &Betting<V>) -> Result<String
         write!(text, "{chips}")?;
     }
     Ok(text)
-}
-
-// The move that the words say.
-fn move_of(word: &str, rest: &str) -> Option<Kind>
-    ensures { IfSome result (λ kind. is_card_said (kind_said kind) ≡ false) }
-{
-    let (actor, rest) = first_and_rest(rest);
-    let actor = actor_of(actor)?;
-    match word.as_bytes() {
-        b"fold" => Some(Kind::Fold { actor }),
-        b"call" => Some(Kind::Call {
-            actor,
-            stated: stated_of(rest)?,
-        }),
-        b"raise" => Some(Kind::Raise {
-            actor,
-            amount: amount_of(rest)?,
-        }),
-        b"bring_in" => Some(Kind::BringIn { actor }),
-        _ => None,
-    }
-}
-
-// The seat that is named, or `-` for none.
-fn actor_of(word: &str) -> Option<Option<Seat>> {
-    match word.as_bytes() {
-        b"-" => Some(None),
-        _ => Some(Some(seat_of(word)?)),
-    }
-}
-
-// The chips that are stated, or `-` for none.
-fn stated_of(word: &str) -> Option<Option<u64>> {
-    match word.as_bytes() {
-        b"-" => Some(None),
-        _ => Some(Some(word.parse::<u64>().ok()?)),
-    }
-}
-
-fn amount_of(words: &str) -> Option<Spelled> {
-    let (spelling, chips) = first_and_rest(words);
-    match spelling.as_bytes() {
-        b"to" => Some(Spelled::To(chips.parse::<u64>().ok()?)),
-        b"added" => Some(Spelled::Added(chips.parse::<u64>().ok()?)),
-        b"total" => Some(Spelled::HandTotal(chips.parse::<u64>().ok()?)),
-        b"unit" => Some(Spelled::Unit),
-        _ => None,
-    }
 }
 
 // Makes a move, and tells whose it was and where it went, or why it is refused.

@@ -7,6 +7,7 @@ ghost use Rattle.play_event.specs.Said.{kind_said};
 ghost use Rattle.street_laws.specs.CardEvents.{is_showing};
 ghost use Rattle.street_laws.specs.Dues.{IsDueWithin};
 
+use crate::traces::seats_text;
 use card_set::{CardRow, Slot, SlotRow, read_slots, slot_text};
 use chip_ledger::{LiveRow, Seat};
 use deal_core::Cards;
@@ -106,8 +107,8 @@ fn answered<V: Variant>(
         b"up" => up(alloc, cards),
         b"hands" => hands(alloc, cards),
         b"table" => cards_text(alloc, &cards.board()),
-        b"mucked" => flags(alloc, &cards.mucked()),
-        b"unknown" => flags(alloc, &cards.unknown()),
+        b"mucked" => seats_text(alloc, &cards.mucked()),
+        b"unknown" => seats_text(alloc, &cards.unknown()),
         b"places" => places(alloc, cards),
         _ => told_event(alloc, cards, told, word, rest),
     }
@@ -178,22 +179,6 @@ fn cards_text(alloc: Global, row: &CardRow) -> Result<String, AllocError> {
     let mut text = String::new(alloc);
     for card in row.as_slice() {
         push_slots(&mut text, &[Slot::Known(*card)])?;
-    }
-    Ok(text)
-}
-
-// The seats of a row whose flag is set, and `-` for none.
-fn flags(alloc: Global, row: &LiveRow) -> Result<String, AllocError> {
-    let mut text = String::new(alloc);
-    for index in 0..row.seats {
-        let seat = Seat { number: index + 1 };
-        if row.get(seat) {
-            let number = seat.number;
-            write!(text, "{number}")?;
-        }
-    }
-    if text.is_empty() {
-        text.push_str("-")?;
     }
     Ok(text)
 }

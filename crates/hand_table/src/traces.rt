@@ -29,8 +29,8 @@ pub fn trace_text(alloc: Global, trace: &Trace) -> Result<String, AllocError> {
     Ok(text)
 }
 
-// The seats of a row that are flagged, as `13`, and `-` for none.
-fn seats_text(alloc: Global, row: &LiveRow) -> Result<String, AllocError> {
+/// The seats of a row that are flagged, as `13`, and `-` for none.
+pub fn seats_text(alloc: Global, row: &LiveRow) -> Result<String, AllocError> {
     let mut text = String::new(alloc);
     for index in 0..row.seats {
         let seat = Seat { number: index + 1 };
