@@ -1,13 +1,11 @@
 -- The names of players and the number of the hand that were written read back as the kept ones.
-use Rattle.std.proofs.Common.{◌≡◌, ℕ, zero, suc, ◌+◌, ◌-◌, ◌≤◌, ◌<◌, ◌^◌, Bool, true, false, ◌||◌, ◌==◌, nat_lt, cond, bytes_eq, decimal, List, [], ◌∷◌, ◌++◌, length, map, slice_index_or, Option, Some, None, IfSome, IsUtf8, Result, Ok, refl, sym, ap, ◌∙◌, arith, append_assoc}
+use Rattle.std.proofs.Common.{◌≡◌, ℕ, zero, suc, ◌+◌, ◌-◌, ◌≤◌, Bool, true, false, ◌==◌, nat_lt, cond, bytes_eq, List, [], ◌∷◌, ◌++◌, length, map, slice_index_or, Option, Some, None, IfSome, IsUtf8, Result, Ok, refl, sym, ap, ◌∙◌, arith, append_assoc}
 use Rattle.std.specs.List.{range_with_len}
 use Rattle.std.specs.Str.{is_utf8}
-use Rattle.std.specs.Str.Parse.{AllDigits}
 use Rattle.std.proofs.lemmas.Bool.Decides.{nat_tests}
-use Rattle.std.proofs.lemmas.Fmt.{decimal_is_IsNumeral, length-decimal-le_succ, IsAscii-from_digits}
 use Rattle.std.proofs.lemmas.List.{append-nil}
 use Rattle.std.proofs.lemmas.Slice.Eq.{bytes_eq-Decides}
-use Rattle.std.proofs.lemmas.Str.{is_utf8-from_IsUtf8, IsUtf8-from_ascii}
+use Rattle.std.proofs.lemmas.Str.{is_utf8-from_IsUtf8}
 use Rattle.hand_records.specs.AllowedNotes.{AreAllowed, IsName}
 use Rattle.first_fault.specs.declared.limits.TheConstants.{MOST_TEXT_BYTES}
 use Rattle.hand_records.specs.declared.notes.Notes.{Notes}
@@ -17,7 +15,6 @@ use Rattle.acpc_reading.specs.Names.{name_said, names_after}
 use Rattle.acpc_reading.proofs.UsualNames.{default_again}
 use Rattle.acpc_format.specs.Again.{kept_name, name_again}
 use Rattle.acpc_line.specs.Texts.{AreTexts}
-use Rattle.list_laws.proofs.Bytes.{same_bytes}
 use Rattle.chip_ledger.specs.SeatsSaid.{default_name}
 
 -- a name that is said and may stand reads as itself

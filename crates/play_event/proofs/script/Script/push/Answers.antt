@@ -1,4 +1,4 @@
-use Rattle.std.proofs.Common.{◌∙◌, [], ◌∷◌, ◌++◌, ap, length, arith, length-append, refl}
+use Rattle.std.proofs.Common.{[], ◌∷◌, ap, length, arith, length-append, refl}
 use Rattle.play_event.specs.PackedForm.{packed_event}
 use Rattle.play_event.proofs.PackedScripts.{kept, unchanged_events, pushed, pushed_events, length-packed_events}
 use Rattle.play_event.proofs.script.Script.push.Goals as goal
