@@ -3,6 +3,7 @@ ghost use Rattle.std.specs.Prelude.{◌≤◌, All, length, IfOk};
 ghost use Rattle.first_fault.specs.declared.limits.TheConstants.{MOST_HANDS};
 ghost use Rattle.hand_canon.specs.Sound.{IsSound};
 
+use crate::pieces::parted;
 use card_set::Memory;
 use convert_core::{PlaysFault, plays_of};
 use hand_gen::make;
@@ -26,6 +27,36 @@ pub enum NoFile {
     /// The hand with this number has a fact without a spelling.
     Unspelled { hand: u32 },
     Memory,
+}
+
+impl NoFile {
+    /// The hand at fault, in words.
+    pub fn text(&self, alloc: Global) -> Result<String, Memory> {
+        match self {
+            NoFile::Refused { hand } => Ok(format!(in alloc; "refused: hand {hand}")?),
+            NoFile::Unspelled { hand } => Ok(format!(in alloc; "unspelled: hand {hand}")?),
+            NoFile::Memory => Err(Memory),
+        }
+    }
+}
+
+/// What the program says of the hands that SEED HANDS make, in one file: its status, the last line of its output, and how many
+/// moves they have.
+pub fn answer_to(alloc: Global, numbers: &str) -> Result<String, Memory> {
+    let (seed, hands) = parted(numbers, " ");
+    let (Ok(seed), Ok(hands)) = (seed.parse::<u64>(), hands.parse::<u32>()) else {
+        return Ok(String::from_str(alloc, "no two numbers")?);
+    };
+    if hands > 65_536 {
+        return Ok(String::from_str(alloc, "too many hands")?);
+    }
+    let MadeFile { bytes, moves } = match file_made(alloc, seed, hands) {
+        Ok(file) => file,
+        Err(why) => return why.text(alloc),
+    };
+    let (status, last) = check(alloc, bytes)?;
+    let status = status.number();
+    Ok(format!(in alloc; "status {status}, {last}, moves {moves}")?)
 }
 
 /// The file of so many made hands in the Poker Hand History format, and how many moves they have.
@@ -70,8 +101,8 @@ fn moves_of(plays: &[Play]) -> u64 {
     moves
 }
 
-/// The status of the program on a file of hands in the Poker Hand History format, and the last line of its output.
-pub fn check(alloc: Global, file: Vec<u8>) -> Result<(Status, String), Memory> {
+// The status of the program on a file of hands in the Poker Hand History format, and the last line of its output.
+fn check(alloc: Global, file: Vec<u8>) -> Result<(Status, String), Memory> {
     let mut words = Vec::new(alloc);
     for word in ["check", "--from", "phh"] {
         words.push(String::from_str(alloc, word)?)?;

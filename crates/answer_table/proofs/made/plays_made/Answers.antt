@@ -8,7 +8,7 @@ use Rattle.hand_gen.specs.Sound.{IsSoundHand}
 use Rattle.hand_records.specs.declared.record.Record.{Record}
 use Rattle.hand_records.specs.declared.trace.Play.{Play}
 use Rattle.hand_records.specs.SoundRecord.{IsSoundRecord}
-use Rattle.hand_files.proofs.made.plays_made.Goals as goal
+use Rattle.answer_table.proofs.made.plays_made.Goals as goal
 
 all_sound : (hands : List Record) → All IsSoundHand hands → All IsSoundRecord hands
 all_sound [] all = All-nil IsSoundRecord
