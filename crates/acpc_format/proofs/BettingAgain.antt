@@ -8,18 +8,18 @@ use Rattle.std.proofs.lemmas.Bool.Decides.{nat_tests}
 use Rattle.std.proofs.lemmas.Fmt.{decimal_is_IsNumeral}
 use Rattle.std.proofs.lemmas.List.{append-nil}
 use Rattle.chip_ledger.specs.declared.numbers.TheConstants.{MOST_CHIPS}
-use Rattle.canonical_play.specs.declared.limits.TheConstants.{MOST_MOVES}
+use Rattle.canon_script.specs.declared.limits.TheConstants.{MOST_MOVES}
 use Rattle.first_fault.specs.declared.limits.TheConstants.{MOST_FILE_MOVES}
 use Rattle.acpc_text.specs.declared.fault.LineFault.{LineFault}
 use Rattle.acpc_text.specs.Letters.{Letter, onto, scan}
 use Rattle.acpc_reading.specs.Betting.{Bets, bare_said, bets_after, betting_said, letter_said, no_bets, raise_said, stroke_said, with_move}
-use Rattle.acpc_reading.specs.declared.step.Step.{Step}
-use Rattle.acpc_reading.specs.declared.step.Step.TheVariants as steps
+use Rattle.acpc_reading.specs.declared.step.BettingStep.{BettingStep}
+use Rattle.acpc_reading.specs.declared.step.BettingStep.TheVariants as steps
 use Rattle.acpc_format.proofs.NumbersAgain.{decimal_number}
 use Rattle.acpc_format.proofs.Steps.{moves_in, step_text, strokes_in}
 
 -- a step has a letter in a game with or without limit
-abbrev pub HasLetter : Bool → Step → Type 0
+abbrev pub HasLetter : Bool → BettingStep → Type 0
 HasLetter no_limit steps.Fold = Unit {0}
 HasLetter no_limit steps.Call = Unit {0}
 HasLetter no_limit steps.Raise = no_limit ≡ false
@@ -27,7 +27,7 @@ HasLetter no_limit (steps.RaiseTo total) = (no_limit ≡ true) × (total ≤ MOS
 HasLetter no_limit steps.NextRound = Unit {0}
 
 -- a step as its letter and its digits
-abbrev letter_of : Step → Letter
+abbrev letter_of : BettingStep → Letter
 letter_of steps.Fold = (102, [])
 letter_of steps.Call = (99, [])
 letter_of steps.Raise = (114, [])
@@ -38,7 +38,7 @@ scan_digits : (digits rest : List ℕ) → AllDigits 10 digits → scan (digits 
 scan_digits [] rest all = refl
 scan_digits (digit ∷ digits) rest all = rw (scan_digits digits rest all.1, lt-ltb (digit_value digit) 10 all.0) refl
 
-scan_steps : (no_limit : Bool) (list : List Step) → AllByRecursion (HasLetter no_limit) list → scan (flat_map step_text list) ≡ ([], map letter_of list)
+scan_steps : (no_limit : Bool) (list : List BettingStep) → AllByRecursion (HasLetter no_limit) list → scan (flat_map step_text list) ≡ ([], map letter_of list)
 scan_steps no_limit [] each = refl
 scan_steps no_limit (steps.Fold ∷ list) each = rw (scan_steps no_limit list each.1) refl
 scan_steps no_limit (steps.Call ∷ list) each = rw (scan_steps no_limit list each.1) refl
@@ -54,10 +54,10 @@ record HasRoom (bets : Bets) : Type 0 where
   file : bets.file_moves + 1 ≤ MOST_FILE_MOVES
 
 -- the betting with one more move
-abbrev moved : Bets → Step → Bets
+abbrev moved : Bets → BettingStep → Bets
 moved bets step = record { steps = bets.steps ++ step ∷ []; round = bets.round; moves = bets.moves + 1; file_moves = bets.file_moves + 1 }
 
-move_again : (bets : Bets) (at : ℕ) (step : Step) → HasRoom bets → with_move bets at step ≡ Ok (moved bets step)
+move_again : (bets : Bets) (at : ℕ) (step : BettingStep) → HasRoom bets → with_move bets at step ≡ Ok (moved bets step)
 unfolding with_move
 move_again bets at step room = rw (lt-leb MOST_MOVES bets.moves (omega (arith, room.hand)), lt-leb MOST_FILE_MOVES bets.file_moves (omega (arith, room.file))) refl
 
@@ -86,7 +86,7 @@ unfolding letter_said stroke_said
 stroke_again no_limit bets at few = rw (lt-leb 4 bets.round (omega (arith, few))) refl
 
 -- the betting with more steps
-abbrev pub with_steps : Bets → List Step → Bets
+abbrev pub with_steps : Bets → List BettingStep → Bets
 with_steps bets list = record {
   steps = bets.steps ++ list;
   round = bets.round + strokes_in list;
@@ -94,20 +94,20 @@ with_steps bets list = record {
   file_moves = bets.file_moves + moves_in list;
 }
 
-record Fits (bets : Bets) (list : List Step) : Type 0 where
+record Fits (bets : Bets) (list : List BettingStep) : Type 0 where
   rounds : bets.round + strokes_in list ≤ 4
   hand : bets.moves + moves_in list ≤ MOST_MOVES
   file : bets.file_moves + moves_in list ≤ MOST_FILE_MOVES
 
 -- the betting as it is read
-abbrev said_bets : List Step → ℕ → ℕ → ℕ → Result Bets LineFault
+abbrev said_bets : List BettingStep → ℕ → ℕ → ℕ → Result Bets LineFault
 said_bets list round moves file_moves = Ok (record { steps = list; round = round; moves = moves; file_moves = file_moves })
 
-bets_same : (s t : List Step) (a b c d e f : ℕ) → s ≡ t → a ≡ b → c ≡ d → e ≡ f
+bets_same : (s t : List BettingStep) (a b c d e f : ℕ) → s ≡ t → a ≡ b → c ≡ d → e ≡ f
     → said_bets s a c e ≡ said_bets t b d f
 bets_same s t a b c d e f one two three four = rw (one, two, three, four) refl
 
-steps_again : (no_limit : Bool) (bets : Bets) (at : ℕ) (list : List Step) → AllByRecursion (HasLetter no_limit) list → Fits bets list
+steps_again : (no_limit : Bool) (bets : Bets) (at : ℕ) (list : List BettingStep) → AllByRecursion (HasLetter no_limit) list → Fits bets list
     → bets_after no_limit bets at (map letter_of list) ≡ Ok (with_steps bets list)
 unfolding bets_after
 steps_again no_limit bets at [] each fits = bets_same bets.steps (bets.steps ++ []) bets.round (bets.round + 0) bets.moves (bets.moves + 0) bets.file_moves (bets.file_moves + 0) (sym (append-nil bets.steps)) (omega arith) (omega arith) (omega arith)
@@ -133,7 +133,7 @@ steps_again no_limit bets at (steps.NextRound ∷ list) each fits =
     ∙ bets_same ((bets.steps ++ steps.NextRound ∷ []) ++ list) (bets.steps ++ steps.NextRound ∷ list) (bets.round + 1 + strokes_in list) (bets.round + (1 + strokes_in list)) (bets.moves + moves_in list) (bets.moves + moves_in list) (bets.file_moves + moves_in list) (bets.file_moves + moves_in list) (append_assoc bets.steps (steps.NextRound ∷ []) list) (omega arith) refl refl)
 
 -- the text of steps reads as these steps
-pub betting_again : (no_limit : Bool) (file_moves at : ℕ) (list : List Step) → AllByRecursion (HasLetter no_limit) list → strokes_in list ≤ 3 → moves_in list ≤ MOST_MOVES → file_moves + moves_in list ≤ MOST_FILE_MOVES
+pub betting_again : (no_limit : Bool) (file_moves at : ℕ) (list : List BettingStep) → AllByRecursion (HasLetter no_limit) list → strokes_in list ≤ 3 → moves_in list ≤ MOST_MOVES → file_moves + moves_in list ≤ MOST_FILE_MOVES
     → betting_said no_limit file_moves at (flat_map step_text list) ≡ Ok (with_steps (no_bets file_moves) list)
 unfolding betting_said
 betting_again no_limit file_moves at list each rounds hand file =

@@ -9,15 +9,15 @@ use Rattle.card_set.specs.Known.{is_unknown, known_cards}
 use Rattle.card_set.specs.Spelling.{slot_spelling, spelling}
 use Rattle.card_set.specs.declared.card.Slot.{Slot}
 use Rattle.card_set.specs.declared.card.Slot.TheVariants as slots
-use Rattle.canonical_play.specs.CanonScript.{dealt_slots}
+use Rattle.canon_script.specs.CanonScript.{dealt_slots}
 use Rattle.play_event.specs.Said as said
 use Rattle.play_event.specs.Said.{Numbered}
 use Rattle.play_event.specs.Trace.{TracedPlace}
 use Rattle.acpc_text.specs.Parts.{parts_of}
-use Rattle.acpc_line.specs.Cards.{board_text, boards_text, cards_text, hole_text, holes_text}
-use Rattle.acpc_line.specs.Names.{may_stand}
-use Rattle.acpc_line.specs.PlayFacts.{is_part_known}
-use Rattle.acpc_line.specs.Rounds.{further_streets, has_board}
+use Rattle.acpc_writing.specs.Cards.{board_text, boards_text, cards_text, hole_text, holes_text}
+use Rattle.acpc_writing.specs.Names.{may_stand}
+use Rattle.acpc_writing.specs.PlayFacts.{is_part_known}
+use Rattle.acpc_writing.specs.Rounds.{further_streets, has_board}
 use Rattle.acpc_reading.specs.Cards.{board_said, hole_after, hole_said, holes_after, known_said}
 use Rattle.acpc_format.proofs.Readable.{HasHoles}
 use Rattle.acpc_format.proofs.Signs.{cards_plain, is_plain}

@@ -9,9 +9,9 @@ use Rattle.list_laws.proofs.NumbersOfRange.{flat_none}
 use Rattle.card_set.specs.Known.{is_unknown, known_cards}
 use Rattle.card_set.specs.Spelling.{spelling}
 use Rattle.card_set.specs.declared.card.Slot.{Slot}
-use Rattle.canonical_play.specs.CanonScript as canon
-use Rattle.canonical_play.specs.CanonScript.{deal_said, deals_said, dealt_slots, is_dealt_to}
-use Rattle.canonical_play.specs.PlayedScript.{is_move}
+use Rattle.canon_script.specs.CanonScript as canon
+use Rattle.canon_script.specs.CanonScript.{deal_said, deals_said, dealt_slots, is_dealt_to}
+use Rattle.canon_script.specs.PlayedScript.{is_move}
 use Rattle.play_event.specs.Past.{Act, BroughtIn, Called, Folded, Move, Raised, moves_on}
 use Rattle.play_event.specs.Said as said
 use Rattle.play_event.specs.Said.{Numbered, Said}
@@ -20,13 +20,13 @@ use Rattle.play_event.specs.Trace.{TracedPlace}
 use Rattle.play_event.specs.declared.setup.Setup.{Setup}
 use Rattle.first_fault.specs.Reading.{◌>>=◌}
 use Rattle.acpc_text.specs.declared.fault.LineFault.{LineFault}
-use Rattle.acpc_line.specs.Betting.{hand_total}
-use Rattle.acpc_line.specs.Cards.{cards_text, hole_text, holes_text}
-use Rattle.acpc_line.specs.Rounds.{further_streets, has_board}
+use Rattle.acpc_writing.specs.Betting.{hand_total}
+use Rattle.acpc_writing.specs.Cards.{cards_text, hole_text, holes_text}
+use Rattle.acpc_writing.specs.Rounds.{further_streets, has_board}
 use Rattle.acpc_text.specs.Parts.{parts_of}
 use Rattle.acpc_reading.specs.Cards.{Written, dealt, holes_after, next_round, script_said, step_after, steps_after, steps_said, without_rest}
-use Rattle.acpc_reading.specs.declared.step.Step.{Step}
-use Rattle.acpc_reading.specs.declared.step.Step.TheVariants as steps
+use Rattle.acpc_reading.specs.declared.step.BettingStep.{BettingStep}
+use Rattle.acpc_reading.specs.declared.step.BettingStep.TheVariants as steps
 use Rattle.acpc_format.specs.Again.{move_again, move_on, moves_again, numbered_from, street_again}
 use Rattle.acpc_format.proofs.Readable.{HasBoards, HasHoles, HasLetters}
 use Rattle.acpc_format.proofs.CardsAgain.{board_again, boards_of, cut_cards, cut_holes, hole_deals, holes_again}
@@ -67,7 +67,7 @@ written_same : (e f : List Numbered) (n m size : ℕ) (boards : List (List ℕ))
     → so_read e n size boards ≡ so_read f m size boards
 written_same e f n m size boards one two = rw (one, two) refl
 
-steps_append : (at : ℕ) (so_far : Written) (some more : List Step) → steps_after at so_far (some ++ more) ≡ (steps_after at so_far some >>= λ next. steps_after at next more)
+steps_append : (at : ℕ) (so_far : Written) (some more : List BettingStep) → steps_after at so_far (some ++ more) ≡ (steps_after at so_far some >>= λ next. steps_after at next more)
 unfolding steps_after
 steps_append at so_far [] more = refl
 steps_append at so_far (step ∷ some) more = by_step (step_after at so_far step) (λ next. steps_append at next some more)
@@ -179,7 +179,7 @@ rounds_again no_limit setup placed moves at number size events (street ∷ stree
     rest : List Said
     rest = later_script no_limit setup placed moves streets
 
-    after : List Step
+    after : List BettingStep
     after = flat_map (round_steps no_limit setup placed moves) streets
 
     deals : deals_said setup placed street ≡ canon.board_said cards

@@ -7,9 +7,9 @@ use Rattle.canon_laws.proofs.SameCore.{plain_again, moves_kept}
 use Rattle.canon_laws.proofs.SuitedMoves.{played_by}
 use Rattle.canon_laws.specs.Confluence.{HasTraceOf}
 use Rattle.canon_laws.specs.OtherRules.{SuitsRules}
-use Rattle.canonical_play.specs.CanonScript.{plain_moves, street_said}
-use Rattle.canonical_play.specs.PlayedScript.{IsPlayed, is_move}
-use Rattle.canonical_play.specs.TraceCore.{TraceCore, core_after, core_of}
+use Rattle.canon_script.specs.CanonScript.{plain_moves, street_said}
+use Rattle.canon_script.specs.PlayedScript.{IsPlayed, is_move}
+use Rattle.canon_script.specs.TraceCore.{TraceCore, core_after, core_of}
 use Rattle.play_event.specs.Due.{is_unfinished, turn}
 use Rattle.play_event.specs.Laws.{AreLegal}
 use Rattle.play_event.specs.Past.{Move, Past, moves_of}
@@ -34,14 +34,14 @@ use Rattle.hand_records.specs.declared.trace.Play.{Play}
 use Rattle.hand_records.specs.declared.trace.Trace.{Trace}
 use Rattle.hand_records.specs.declared.writing.Keep.{Keep}
 use Rattle.acpc_game.specs.declared.game.Game.{Game}
-use Rattle.acpc_line.specs.PlayFacts.{is_open_muck}
-use Rattle.acpc_line.specs.SetupFacts.{is_code_of}
-use Rattle.acpc_line.specs.Spelled.{unspelled}
+use Rattle.acpc_writing.specs.PlayFacts.{is_open_muck}
+use Rattle.acpc_writing.specs.SetupFacts.{is_code_of}
+use Rattle.acpc_writing.specs.Spelled.{unspelled}
 use Rattle.acpc_reading.specs.Logs.{HandSaid}
 use Rattle.acpc_reading.specs.RecordView.{IsOfGame, code_of, record_said, rules_of}
 use Rattle.acpc_format.specs.Again.{hand_again, numbered_from, script_again, street_again}
 use Rattle.hand_canon.specs.ReadAgain.{IsAgain}
-use Rattle.acpc_format.specs.ReadBack.{KeepsNotes}
+use Rattle.acpc_format.specs.KeptNotes.{KeepsNotes}
 use Rattle.acpc_format.proofs.HiddenMucks.{mucks_hide}
 use Rattle.acpc_format.proofs.Holdem.{IsHoldem, holdem}
 use Rattle.acpc_format.proofs.LetterEvents.{letters_same}
@@ -103,7 +103,7 @@ letters_played game setup rules script trace valid played is kind has same hide 
 -- ---- the hand
 
 -- a spelled play, under the rules of the game, in letters
-play_again : (game : Game) (keep : Keep) (play : Play) → IsSound play → unspelled game keep play ≡ None
+pub play_again : (game : Game) (keep : Keep) (play : Play) → IsSound play → unspelled game keep play ≡ None
     → HasTraceOf play.hand.setup (rules_of game) (script_said play.hand) (script_again game.no_limit play.trace)
 play_again game keep play sound none =
     let setup = play.hand.setup in
@@ -132,7 +132,7 @@ play_again game keep play sound none =
     subst (HasTraceOf setup (rules_of game) script) words (letters_played game setup (rules_of game) script trace sound.valid played is kind it.played core hide)
 
 -- what the numbered events say
-events_said : (n : ℕ) (script : List Said) → map (λ (event : Numbered). event.1) (numbered_from n script) ≡ script
+pub events_said : (n : ℕ) (script : List Said) → map (λ (event : Numbered). event.1) (numbered_from n script) ≡ script
 events_said n [] = refl
 events_said n (event ∷ rest) = by_move (is_move event) (events_said (n + 1) rest) (events_said n rest)
   where

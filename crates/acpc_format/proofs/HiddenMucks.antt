@@ -6,7 +6,7 @@ use Rattle.canon_blocks.proofs.DiscardTests.{out_is}
 use Rattle.canon_blocks.proofs.TraceOrder.{finals_of, is_final}
 use Rattle.canon_blocks.proofs.TracedSlots.{discarded_same}
 use Rattle.canon_laws.proofs.HeldSame.{held_script, slots_held}
-use Rattle.canonical_play.specs.CanonScript.{held_slots, is_dealt_to, is_discard_of}
+use Rattle.canon_script.specs.CanonScript.{held_slots, is_dealt_to, is_discard_of}
 use Rattle.card_set.specs.Known.{is_unknown}
 use Rattle.chip_ledger.proofs.Flags.{flag-from_flagged}
 use Rattle.chip_ledger.proofs.SeatLists.{none_at}
@@ -27,7 +27,7 @@ use Rattle.play_event.specs.Table.{places_of}
 use Rattle.play_event.specs.Trace.{TracedPlace, has_unknown_card, is_mucked, is_shown, traced_place, traced_places}
 use Rattle.play_event.specs.declared.setup.Rules.{Rules}
 use Rattle.play_event.specs.declared.setup.Setup.{Setup}
-use Rattle.acpc_line.specs.PlayFacts.{has_unknown_hole_card, is_open_muck}
+use Rattle.acpc_writing.specs.PlayFacts.{has_unknown_hole_card, is_open_muck}
 use Rattle.acpc_format.proofs.WithoutShows.{MucksHide}
 
 -- without draws no card is discarded

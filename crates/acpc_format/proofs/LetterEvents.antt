@@ -1,8 +1,8 @@
 -- Events in the letters of a log are as legal as those of the canonical script, and leave their past: a letter names no seat, and a
 -- raise is spelled by the chips of the whole hand, or by the unit.
 use Rattle.std.proofs.Common.{◌≡◌, ℕ, ◌≤◌, Bool, true, false, if◌then◌else◌, List, [], ◌∷◌, ◌++◌, Some, None, refl, sym, ap, subst, ◌∙◌, true≢false}
-use Rattle.canonical_play.specs.CanonScript.{act_named, move_named}
-use Rattle.canonical_play.specs.PlayedScript.{is_move}
+use Rattle.canon_script.specs.CanonScript.{act_named, move_named}
+use Rattle.canon_script.specs.PlayedScript.{is_move}
 use Rattle.play_event.proofs.SpellingLaws as spelling_laws
 use Rattle.play_event.specs.Amounts.{raise_target, unit_target}
 use Rattle.play_event.specs.Chips.{street_chips}
@@ -20,7 +20,7 @@ use Rattle.play_event.specs.declared.setup.Rules.{Rules}
 use Rattle.play_event.specs.declared.setup.Setup.{Setup}
 use Rattle.play_laws.proofs.MoveKinds.{call_said, fold_said, raise_said}
 use Rattle.play_laws.proofs.OneSpelling.{same_past, same_reason}
-use Rattle.acpc_line.specs.Betting.{hand_total}
+use Rattle.acpc_writing.specs.Betting.{hand_total}
 use Rattle.acpc_format.specs.Again.{move_again}
 use Rattle.canon_ranges.proofs.RaiseUp.{named_in_turn, raise_up}
 use Rattle.canon_ranges.proofs.SameEvents.{AreSame, IsNewest, IsSame, newest, one_more, same_moves}

@@ -7,7 +7,7 @@ use Rattle.std.proofs.lemmas.List.FromFn.{length-range_with_len}
 use Rattle.chip_ledger.specs.SeatRow.{amount_of}
 use Rattle.chip_ledger.specs.declared.numbers.TheConstants.{MOST_CHIPS}
 use Rattle.card_set.specs.Spelling.{spelling}
-use Rattle.canonical_play.specs.CanonScript.{dealt_slots, plain_move, plain_moves}
+use Rattle.canon_script.specs.CanonScript.{dealt_slots, plain_move, plain_moves}
 use Rattle.hand_canon.specs.Agreement.{value_of}
 use Rattle.hand_records.specs.TraceRows.{core_said}
 use Rattle.first_fault.specs.declared.limits.TheConstants.{MOST_FILE_MOVES}
@@ -20,19 +20,19 @@ use Rattle.play_event.specs.Trace.{TracedMove, TracedPlace}
 use Rattle.play_event.specs.declared.setup.Setup.{Setup}
 use Rattle.acpc_text.specs.Parts.{parts_of}
 use Rattle.acpc_game.specs.declared.game.Game.{Game}
-use Rattle.acpc_line.specs.Betting.{betting_text, hand_total}
-use Rattle.acpc_line.specs.Cards.{board_text, boards_text, cards_text, hole_text, holes_text}
-use Rattle.acpc_line.specs.Line.{end_text, head_text, line_text, play_text}
-use Rattle.acpc_line.specs.Names.{hand_text, is_spelled_hand, is_spelled_name, may_stand, name_or_default, name_text, names_text}
-use Rattle.acpc_line.specs.Rounds.{further_streets, has_board}
-use Rattle.acpc_line.specs.Seats.{for_seats}
-use Rattle.acpc_line.specs.Values.{value_text, values_text}
+use Rattle.acpc_writing.specs.Betting.{betting_text, hand_total}
+use Rattle.acpc_writing.specs.Cards.{board_text, boards_text, cards_text, hole_text, holes_text}
+use Rattle.acpc_writing.specs.Line.{end_text, head_text, line_text, play_text}
+use Rattle.acpc_writing.specs.Names.{hand_text, is_spelled_hand, is_spelled_name, may_stand, name_or_default, name_text, names_text}
+use Rattle.acpc_writing.specs.Rounds.{further_streets, has_board}
+use Rattle.acpc_writing.specs.Seats.{for_seats}
+use Rattle.acpc_writing.specs.Values.{value_text, values_text}
 use Rattle.acpc_reading.specs.Betting.{betting_said, no_bets}
 use Rattle.acpc_reading.specs.Logs.{FieldsSaid, behind, hand_of, line_said, six_fields}
 use Rattle.acpc_reading.specs.Names.{names_said}
 use Rattle.acpc_reading.specs.Values.{values_said}
-use Rattle.acpc_reading.specs.declared.step.Step.{Step}
-use Rattle.acpc_reading.specs.declared.step.Step.TheVariants as steps
+use Rattle.acpc_reading.specs.declared.step.BettingStep.{BettingStep}
+use Rattle.acpc_reading.specs.declared.step.BettingStep.TheVariants as steps
 use Rattle.acpc_format.specs.Again.{hand_again, name_again}
 use Rattle.acpc_format.proofs.Readable.{IsReadable}
 use Rattle.acpc_format.proofs.BettingAgain.{HasLetter, betting_again, with_steps}
@@ -50,7 +50,7 @@ use Rattle.hand_records.specs.Plays.{moves_written}
 -- ---- the letters of a play
 
 -- each step has a letter
-all_letters : (no_limit : Bool) (some more : List Step) → AllByRecursion (HasLetter no_limit) some → AllByRecursion (HasLetter no_limit) more → AllByRecursion (HasLetter no_limit) (some ++ more)
+all_letters : (no_limit : Bool) (some more : List BettingStep) → AllByRecursion (HasLetter no_limit) some → AllByRecursion (HasLetter no_limit) more → AllByRecursion (HasLetter no_limit) (some ++ more)
 all_letters no_limit [] more one other = other
 all_letters no_limit (step ∷ some) more one other = (one.0, all_letters no_limit some more one.1 other)
 
@@ -86,7 +86,7 @@ rounds_letters no_limit setup placed moves (street ∷ streets) few =
     by_dealt true = (tt, street_letters no_limit setup street moves few)
     by_dealt false = tt
 
-step_clear : (no_limit : Bool) (step : Step) → HasLetter no_limit step → Passes is_clear (step_text step)
+step_clear : (no_limit : Bool) (step : BettingStep) → HasLetter no_limit step → Passes is_clear (step_text step)
 step_clear no_limit steps.Fold has = record { all = refl }
 step_clear no_limit steps.Call has = record { all = refl }
 step_clear no_limit steps.Raise has = record { all = refl }
@@ -94,7 +94,7 @@ step_clear no_limit steps.NextRound has = record { all = refl }
 step_clear no_limit (steps.RaiseTo total) has =
     passes_more is_clear 114 (decimal total) refl (passes_wider is_plain is_clear (decimal total) (λ sign is. stands_clear sign (plain_stands sign is)) (decimal_plain total (omega (arith, has.1))))
 
-steps_clear : (no_limit : Bool) (list : List Step) → AllByRecursion (HasLetter no_limit) list → Passes is_clear (flat_map step_text list)
+steps_clear : (no_limit : Bool) (list : List BettingStep) → AllByRecursion (HasLetter no_limit) list → Passes is_clear (flat_map step_text list)
 steps_clear no_limit [] each = passes_none is_clear
 steps_clear no_limit (step ∷ list) each = passes_both is_clear (step_text step) (flat_map step_text list) (step_clear no_limit step each.0) (steps_clear no_limit list each.1)
 
@@ -270,7 +270,7 @@ inner_line fields clear =
 -- ---- the hand
 
 -- the steps of a play
-abbrev pub steps_of : Game → Play → List Step
+abbrev pub steps_of : Game → Play → List BettingStep
 steps_of game play = all_steps game.no_limit play.trace.setup (core_said play.trace).places (plain_moves (core_said play.trace).moves)
 
 pub few_moves : (game : Game) (play : Play) → moves_in (steps_of game play) ≤ moves_written play

@@ -11,7 +11,7 @@ use Rattle.acpc_text.proofs.LineLaws.{line_and_more}
 use Rattle.acpc_text.specs.Parts.{lines_of, without_return}
 use Rattle.acpc_text.specs.declared.fault.AcpcFault.{AcpcFault}
 use Rattle.acpc_game.specs.declared.game.Game.{Game}
-use Rattle.acpc_line.specs.Line.{lines_from, log_text}
+use Rattle.acpc_writing.specs.Line.{lines_from, log_text}
 use Rattle.acpc_reading.specs.Logs.{HandSaid, Hands, hands_after, hands_after_line, is_passed_over, reading}
 use Rattle.acpc_format.specs.Again.{hand_again, hands_again}
 use Rattle.acpc_format.proofs.Readable.{IsReadable}

@@ -8,7 +8,7 @@ use Rattle.card_set.specs.Spelling.{slots_spelled}
 use Rattle.card_set.specs.declared.card.Slot.{Slot}
 use Rattle.card_set.specs.declared.card.Slot.TheVariants as slots
 use Rattle.chip_ledger.specs.declared.numbers.TheConstants.{MOST_CHIPS}
-use Rattle.canonical_play.specs.declared.limits.TheConstants.{MOST_MOVES}
+use Rattle.canon_script.specs.declared.limits.TheConstants.{MOST_MOVES}
 use Rattle.first_fault.specs.Digits.{number_of}
 use Rattle.first_fault.specs.declared.limits.Quantity.TheVariants as quantities
 use Rattle.first_fault.specs.declared.limits.TheConstants.{MOST_FILE_MOVES, MOST_HANDS}
@@ -22,15 +22,15 @@ use Rattle.acpc_text.specs.Faults.{in_line, wrong}
 use Rattle.acpc_text.specs.Letters.{Letter, scan}
 use Rattle.acpc_text.specs.Parts.{has_front, lines_of, parts_of}
 use Rattle.acpc_text.specs.declared.fault.LineFault.{LineFault}
-use Rattle.acpc_text.specs.declared.fault.What.TheVariants as whats
+use Rattle.acpc_text.specs.declared.fault.LineFaultKind.TheVariants as whats
 use Rattle.acpc_reading.proofs.Checked.{after}
 use Rattle.acpc_reading.specs.Betting.{Bets, bare_said, bets_after, betting_said, letter_said, no_bets, raise_said, stroke_said, with_move}
 use Rattle.acpc_reading.specs.Cards.{Written, bad_cards, board_said, dealt, hole_after, hole_said, holes_after, known_said, next_round, only_known, script_said, step_after, steps_after, steps_said, without_rest}
 use Rattle.acpc_reading.specs.Logs.{FieldsSaid, HandSaid, Hands, behind, hand_of, hands_after, hands_after_line, is_passed_over, line_said, reading, six_fields}
 use Rattle.acpc_reading.specs.Names.{hand_said, names_said}
 use Rattle.acpc_reading.specs.Values.{values_said}
-use Rattle.acpc_reading.specs.declared.step.Step.{Step}
-use Rattle.acpc_reading.specs.declared.step.Step.TheVariants as steps
+use Rattle.acpc_reading.specs.declared.step.BettingStep.{BettingStep}
+use Rattle.acpc_reading.specs.declared.step.BettingStep.TheVariants as steps
 use Rattle.list_laws.proofs.Entries.{all_push}
 use Rattle.list_laws.proofs.Results.{ok_anyway, ok_either, ok_where_found, ok_where_some}
 
@@ -61,7 +61,7 @@ IsLogNumbered no_limit event = IsLogEvent no_limit event.1
 -- ---- the betting
 
 -- a step as the game has it
-abbrev IsStepOf : Bool → Step → Type 0
+abbrev IsStepOf : Bool → BettingStep → Type 0
 IsStepOf no_limit steps.Fold = Unit {0}
 IsStepOf no_limit steps.Call = Unit {0}
 IsStepOf no_limit steps.Raise = no_limit ≡ false
@@ -71,14 +71,14 @@ IsStepOf no_limit steps.NextRound = Unit {0}
 abbrev AreSteps : Bool → Bets → Type 0
 AreSteps no_limit bets = AllByRecursion (IsStepOf no_limit) bets.steps
 
-one_step : (no_limit : Bool) (bets : Bets) (at : ℕ) (step : Step) → IsStepOf no_limit step → AreSteps no_limit bets → IfOk (with_move bets at step) (AreSteps no_limit)
+one_step : (no_limit : Bool) (bets : Bets) (at : ℕ) (step : BettingStep) → IsStepOf no_limit step → AreSteps no_limit bets → IfOk (with_move bets at step) (AreSteps no_limit)
 unfolding with_move
 one_step no_limit bets at step is all =
     ok_either (nat_le MOST_MOVES bets.moves) (wrong (whats.TooMany quantities.Moves) at) _ (AreSteps no_limit) (λ _. tt)
     (λ _. ok_either (nat_le MOST_FILE_MOVES bets.file_moves) (wrong (whats.TooMany quantities.FileMoves) at) _ (AreSteps no_limit) (λ _. tt)
     (λ _. all_push (IsStepOf no_limit) bets.steps step all is))
 
-bare : (no_limit : Bool) (bets : Bets) (at : ℕ) (digits : List ℕ) (step : Step) → IsStepOf no_limit step → AreSteps no_limit bets → IfOk (bare_said bets at digits step) (AreSteps no_limit)
+bare : (no_limit : Bool) (bets : Bets) (at : ℕ) (digits : List ℕ) (step : BettingStep) → IsStepOf no_limit step → AreSteps no_limit bets → IfOk (bare_said bets at digits step) (AreSteps no_limit)
 unfolding bare_said
 bare no_limit bets at digits step is all = ok_either (eqb (length digits) 0) (with_move bets at step) (wrong whats.BadBetting (at + 1)) (AreSteps no_limit) (λ _. one_step no_limit bets at step is all) (λ _. tt)
 
@@ -169,7 +169,7 @@ round_log no_limit at so_far (board ∷ boards) all =
     ok_where_some (board_said so_far.size board) (λ cards. Ok (record { events = so_far.events ++ (0, said.Board cards) ∷ []; number = so_far.number; size = 1; boards = boards })) (bad_cards at) (IsLog no_limit)
     (λ cards. all_push (IsLogNumbered no_limit) so_far.events (0, said.Board cards) all tt) tt
 
-step_log : (no_limit : Bool) (at : ℕ) (so_far : Written) (step : Step) → IsStepOf no_limit step → IsLog no_limit so_far → IfOk (step_after at so_far step) (IsLog no_limit)
+step_log : (no_limit : Bool) (at : ℕ) (so_far : Written) (step : BettingStep) → IsStepOf no_limit step → IsLog no_limit so_far → IfOk (step_after at so_far step) (IsLog no_limit)
 unfolding step_after
 step_log no_limit at so_far steps.Fold is all = all_push (IsLogNumbered no_limit) so_far.events (_, said.Fold None) all tt
 step_log no_limit at so_far steps.Call is all = all_push (IsLogNumbered no_limit) so_far.events (_, said.Call None None) all tt
@@ -177,7 +177,7 @@ step_log no_limit at so_far steps.Raise is all = all_push (IsLogNumbered no_limi
 step_log no_limit at so_far (steps.RaiseTo total) is all = all_push (IsLogNumbered no_limit) so_far.events (_, said.Raise None (spelled.HandTotal total)) all is
 step_log no_limit at so_far steps.NextRound is all = round_log no_limit at so_far so_far.boards all
 
-steps_log : (no_limit : Bool) (at : ℕ) (so_far : Written) (bets : List Step) → AllByRecursion (IsStepOf no_limit) bets → IsLog no_limit so_far → IfOk (steps_after at so_far bets) (IsLog no_limit)
+steps_log : (no_limit : Bool) (at : ℕ) (so_far : Written) (bets : List BettingStep) → AllByRecursion (IsStepOf no_limit) bets → IsLog no_limit so_far → IfOk (steps_after at so_far bets) (IsLog no_limit)
 unfolding steps_after
 steps_log no_limit at so_far [] each all = all
 steps_log no_limit at so_far (step ∷ rest) each all =
@@ -187,12 +187,12 @@ steps_log no_limit at so_far (step ∷ rest) each all =
 ending_log : (no_limit : Bool) (at : ℕ) (written : Written) → IsLog no_limit written → IfOk (without_rest at written) (AreLog no_limit)
 ending_log no_limit at written all = ok_either (eqb (length written.boards) 0) (Ok written.events) (bad_cards at) (AreLog no_limit) (λ _. all) (λ _. tt)
 
-all_steps_log : (no_limit : Bool) (at : ℕ) (so_far : Written) (bets : List Step) → AllByRecursion (IsStepOf no_limit) bets → IsLog no_limit so_far → IfOk (steps_said at so_far bets) (AreLog no_limit)
+all_steps_log : (no_limit : Bool) (at : ℕ) (so_far : Written) (bets : List BettingStep) → AllByRecursion (IsStepOf no_limit) bets → IsLog no_limit so_far → IfOk (steps_said at so_far bets) (AreLog no_limit)
 unfolding steps_said
 all_steps_log no_limit at so_far bets each all =
     after (steps_after at so_far bets) (without_rest at) (IsLog no_limit) (AreLog no_limit) (steps_log no_limit at so_far bets each all) (λ written one. ending_log no_limit at written one)
 
-script_log : (no_limit : Bool) (players : ℕ) (bets : List Step) (at : ℕ) (parts : List (List ℕ)) → AllByRecursion (IsStepOf no_limit) bets → IfOk (script_said players bets at parts) (AreLog no_limit)
+script_log : (no_limit : Bool) (players : ℕ) (bets : List BettingStep) (at : ℕ) (parts : List (List ℕ)) → AllByRecursion (IsStepOf no_limit) bets → IfOk (script_said players bets at parts) (AreLog no_limit)
 unfolding script_said
 script_log no_limit players bets at [] each = tt
 script_log no_limit players bets at (holes ∷ boards) each =

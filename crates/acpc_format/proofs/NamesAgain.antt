@@ -10,11 +10,11 @@ use Rattle.hand_records.specs.AllowedNotes.{AreAllowed, IsName}
 use Rattle.first_fault.specs.declared.limits.TheConstants.{MOST_TEXT_BYTES}
 use Rattle.hand_records.specs.declared.notes.Notes.{Notes}
 use Rattle.acpc_text.specs.declared.fault.LineFault.{LineFault}
-use Rattle.acpc_line.specs.Names.{is_spelled_name, name_or_default, name_text}
+use Rattle.acpc_writing.specs.Names.{is_spelled_name, name_or_default, name_text}
 use Rattle.acpc_reading.specs.Names.{name_said, names_after}
 use Rattle.acpc_reading.proofs.UsualNames.{default_again}
 use Rattle.acpc_format.specs.Again.{kept_name, name_again}
-use Rattle.acpc_line.specs.Texts.{AreTexts}
+use Rattle.acpc_writing.specs.Texts.{AreTexts}
 use Rattle.chip_ledger.specs.SeatsSaid.{default_name}
 
 -- a name that is said and may stand reads as itself

@@ -7,7 +7,7 @@ use Rattle.play_event.specs.Past.{Move}
 use Rattle.play_event.specs.declared.event.Spelled.TheVariants as spelled
 use Rattle.play_event.specs.declared.setup.Setup.{Setup}
 use Rattle.canon_ranges.proofs.MoveRanges.{added_less, brought_less}
-use Rattle.acpc_line.specs.Betting.{hand_total}
+use Rattle.acpc_writing.specs.Betting.{hand_total}
 
 -- what a raise adds to the chips of the hand it adds to those of the street
 pub same_target : (setup : Setup) (older : List Move) (move : Move) (street : ℕ) → move.from ≡ street_chips setup older street move.seat → move.from ≤ move.to

@@ -3,8 +3,8 @@ use Rattle.std.proofs.Common.{◌≡◌, ℕ, ◌≤◌, true, false, List, [], 
 use Rattle.std.specs.List.{list_any}
 use Rattle.card_set.specs.Known.{is_unknown}
 use Rattle.chip_ledger.specs.declared.numbers.TheConstants.{MOST_CHIPS}
-use Rattle.canonical_play.specs.CanonScript.{dealt_slots, plain_moves}
-use Rattle.canonical_play.specs.declared.limits.TheConstants.{MOST_MOVES}
+use Rattle.canon_script.specs.CanonScript.{dealt_slots, plain_moves}
+use Rattle.canon_script.specs.declared.limits.TheConstants.{MOST_MOVES}
 use Rattle.play_event.specs.Chips.{chips_put}
 use Rattle.play_event.specs.Past.{Move, moves_on}
 use Rattle.play_event.specs.Trace.{TracedPlace}
@@ -13,9 +13,9 @@ use Rattle.hand_records.specs.AllowedNotes.{AreAllowed}
 use Rattle.hand_records.specs.TraceRows.{core_said}
 use Rattle.hand_records.specs.declared.trace.Play.{Play}
 use Rattle.acpc_game.specs.declared.game.Game.{Game}
-use Rattle.acpc_line.specs.PlayFacts.{is_part_known}
-use Rattle.acpc_line.specs.Rounds.{has_board}
-use Rattle.acpc_line.specs.Texts.{HasTexts}
+use Rattle.acpc_writing.specs.PlayFacts.{is_part_known}
+use Rattle.acpc_writing.specs.Rounds.{has_board}
+use Rattle.acpc_writing.specs.Texts.{HasTexts}
 
 -- each seat of so many is dealt two hole cards before the first round and none later, and both are known or both are not
 pub record HasHoles (count : ℕ) (placed : List TracedPlace) : Type 0 where

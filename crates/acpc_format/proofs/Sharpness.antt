@@ -9,8 +9,8 @@ use Rattle.canon_laws.proofs.StreetDeals.{group_is}
 use Rattle.canon_laws.specs.OtherRules as other_rules
 use Rattle.canon_laws.specs.OtherRules.{SuitsRules}
 use Rattle.canon_ranges.proofs.SuitedRules.{suits_own}
-use Rattle.canonical_play.specs.CanonScript.{dealt_slots, plain_moves}
-use Rattle.canonical_play.specs.TraceCore.{TraceCore, core_after}
+use Rattle.canon_script.specs.CanonScript.{dealt_slots, plain_moves}
+use Rattle.canon_script.specs.TraceCore.{TraceCore, core_after}
 use Rattle.card_set.specs.Known.{is_unknown}
 use Rattle.card_set.specs.declared.card.Slot.{Slot}
 use Rattle.chip_ledger.proofs.Flags.{flagged-from_flag}
@@ -51,10 +51,10 @@ use Rattle.hand_records.specs.declared.writing.Keep.TheVariants as keeps
 use Rattle.hand_records.specs.declared.writing.Unspelled.{Unspelled}
 use Rattle.hand_records.specs.declared.writing.Unspelled.TheVariants as facts
 use Rattle.acpc_game.specs.declared.game.Game.{Game}
-use Rattle.acpc_line.specs.NoteFacts.{text_conditions, time_conditions}
-use Rattle.acpc_line.specs.PlayFacts.{has_unknown_hole_card, is_above_cap, is_above_caps, is_free_fold, is_off_unit, is_open_muck, is_part_known, is_raise_on, is_uneven, play_conditions}
-use Rattle.acpc_line.specs.SetupFacts.{is_code_of, setup_conditions}
-use Rattle.acpc_line.specs.Spelled.{unspelled, unspelled_note}
+use Rattle.acpc_writing.specs.NoteFacts.{text_conditions, time_conditions}
+use Rattle.acpc_writing.specs.PlayFacts.{has_unknown_hole_card, is_above_cap, is_above_caps, is_free_fold, is_off_unit, is_open_muck, is_part_known, is_raise_on, is_uneven, play_conditions}
+use Rattle.acpc_writing.specs.SetupFacts.{is_code_of, setup_conditions}
+use Rattle.acpc_writing.specs.Spelled.{unspelled, unspelled_note}
 use Rattle.acpc_reading.specs.Logs.{reading}
 use Rattle.acpc_reading.specs.RecordView.{IsOfGame, record_said, rules_of}
 use Rattle.acpc_format.proofs.GameSetups.{code_fits, setup_none}
@@ -65,7 +65,7 @@ use Rattle.acpc_format.proofs.LogPasts.{AreByUnit, all_whole, any_among, by_unit
 use Rattle.acpc_format.proofs.SuitsGame.{is_off, raises_said}
 use Rattle.list_laws.proofs.Tests.{not_both_still, not_true}
 use Rattle.hand_canon.specs.Sharp.{IsOther, is_sharp}
-use Rattle.hand_records.specs.Refusals.{or_behind}
+use Rattle.hand_records.specs.WriteRefusals.{or_behind}
 use Rattle.first_fault.specs.Conditions.{first_where}
 
 -- ---- the play, fact by fact

@@ -5,10 +5,10 @@ use Rattle.std.proofs.lemmas.Bool.{cases_lt}
 use Rattle.std.proofs.lemmas.List.{length-map, length-reverse}
 use Rattle.canon_laws.proofs.MoveCounts.{tidy_within}
 use Rattle.canon_laws.proofs.SameCore.{plain_again}
-use Rattle.canonical_play.specs.CanonScript.{dealt_slots, is_dealt_to, plain_move, plain_moves}
-use Rattle.canonical_play.specs.PlayedScript.{IsPlayed}
-use Rattle.canonical_play.specs.Tidy.{IsTidy}
-use Rattle.canonical_play.specs.TraceCore.{TraceCore, core_of}
+use Rattle.canon_script.specs.CanonScript.{dealt_slots, is_dealt_to, plain_move, plain_moves}
+use Rattle.canon_script.specs.PlayedScript.{IsPlayed}
+use Rattle.canon_script.specs.Tidy.{IsTidy}
+use Rattle.canon_script.specs.TraceCore.{TraceCore, core_of}
 use Rattle.chip_ledger.proofs.SeatLists.{none_at}
 use Rattle.chip_ledger.specs.SeatRow.{amount_of}
 use Rattle.chip_ledger.specs.declared.numbers.TheConstants.{MOST_CHIPS}
@@ -30,11 +30,11 @@ use Rattle.hand_records.specs.declared.trace.Play.{Play}
 use Rattle.first_fault.specs.declared.limits.TheConstants.{MOST_FILE_MOVES, MOST_HANDS}
 use Rattle.hand_records.specs.declared.writing.Keep.{Keep}
 use Rattle.acpc_game.specs.declared.game.Game.{Game}
-use Rattle.acpc_line.specs.Line.{log_text}
-use Rattle.acpc_line.specs.PlayFacts.{is_part_known}
-use Rattle.acpc_line.specs.Rounds.{has_board}
-use Rattle.acpc_line.specs.Spelled.{unspelled}
-use Rattle.acpc_line.specs.Texts.{HasTexts}
+use Rattle.acpc_writing.specs.Line.{log_text}
+use Rattle.acpc_writing.specs.PlayFacts.{is_part_known}
+use Rattle.acpc_writing.specs.Rounds.{has_board}
+use Rattle.acpc_writing.specs.Spelled.{unspelled}
+use Rattle.acpc_writing.specs.Texts.{HasTexts}
 use Rattle.acpc_format.proofs.Readable.{HasBoards, HasLetters, IsReadable}
 use Rattle.acpc_reading.specs.Logs.{reading}
 use Rattle.acpc_format.specs.Again.{hands_again}
@@ -46,7 +46,7 @@ use Rattle.canon_ranges.proofs.StreetsPlayed.{HasStreet, board_known, came_befor
 use Rattle.list_laws.proofs.Lists.{none_from_length}
 use Rattle.hand_records.proofs.Refusals.{none_refused}
 use Rattle.play_event.proofs.ScriptLaws.{at_end}
-use Rattle.hand_records.specs.Refusals.{refusal_from, first_refusal}
+use Rattle.hand_records.specs.WriteRefusals.{refusal_from, first_refusal}
 use Rattle.hand_records.specs.Plays.{moves_written}
 
 -- cards of the board, and whether there are some

@@ -7,35 +7,35 @@ use Rattle.std.proofs.lemmas.List.{append-nil}
 use Rattle.play_event.specs.Past.{Act, BroughtIn, Called, Folded, Move, Raised}
 use Rattle.play_event.specs.Trace.{TracedPlace}
 use Rattle.play_event.specs.declared.setup.Setup.{Setup}
-use Rattle.acpc_line.specs.Betting.{betting_text, hand_total, letter, letters_on, round_text}
-use Rattle.acpc_line.specs.Rounds.{further_streets, has_board}
-use Rattle.acpc_reading.specs.declared.step.Step.{Step}
-use Rattle.acpc_reading.specs.declared.step.Step.TheVariants as steps
+use Rattle.acpc_writing.specs.Betting.{betting_text, hand_total, letter, letters_on, round_text}
+use Rattle.acpc_writing.specs.Rounds.{further_streets, has_board}
+use Rattle.acpc_reading.specs.declared.step.BettingStep.{BettingStep}
+use Rattle.acpc_reading.specs.declared.step.BettingStep.TheVariants as steps
 
 -- the step of a move
-abbrev pub step_of : Bool → Act → ℕ → List Step
+abbrev pub step_of : Bool → Act → ℕ → List BettingStep
 step_of no_limit Folded total = steps.Fold ∷ []
 step_of no_limit Called total = steps.Call ∷ []
 step_of no_limit Raised total = (if no_limit then steps.RaiseTo total else steps.Raise) ∷ []
 step_of no_limit BroughtIn total = []
 
-abbrev pub step_on : Bool → ℕ → Move → ℕ → List Step
+abbrev pub step_on : Bool → ℕ → Move → ℕ → List BettingStep
 step_on no_limit street move total = if move.street == street then step_of no_limit move.act total else []
 
 -- the steps of a street
-unfoldable pub steps_on : Bool → Setup → ℕ → List Move → List Step
+unfoldable pub steps_on : Bool → Setup → ℕ → List Move → List BettingStep
 steps_on no_limit setup street [] = []
 steps_on no_limit setup street (move ∷ before) = steps_on no_limit setup street before ++ step_on no_limit street move (hand_total setup move before)
 
 -- the steps of a further round
-abbrev pub round_steps : Bool → Setup → List TracedPlace → List Move → ℕ → List Step
+abbrev pub round_steps : Bool → Setup → List TracedPlace → List Move → ℕ → List BettingStep
 round_steps no_limit setup placed moves street = if has_board placed street then steps.NextRound ∷ steps_on no_limit setup street moves else []
 
-abbrev pub all_steps : Bool → Setup → List TracedPlace → List Move → List Step
+abbrev pub all_steps : Bool → Setup → List TracedPlace → List Move → List BettingStep
 all_steps no_limit setup placed moves = steps_on no_limit setup 1 moves ++ flat_map (round_steps no_limit setup placed moves) further_streets
 
 -- the text of a step
-abbrev pub step_text : Step → List ℕ
+abbrev pub step_text : BettingStep → List ℕ
 step_text steps.Fold = 102 ∷ []
 step_text steps.Call = 99 ∷ []
 step_text steps.Raise = 114 ∷ []
@@ -79,7 +79,7 @@ steps_text no_limit setup placed moves =
     ∙ ap₂ (λ (a b : List ℕ). a ++ b) (letters_text no_limit setup 1 moves) (rounds_text no_limit setup placed moves further_streets)
 
 -- how many moves some steps have, and how many strokes
-abbrev pub moves_in : List Step → ℕ
+abbrev pub moves_in : List BettingStep → ℕ
 moves_in [] = 0
 moves_in (steps.NextRound ∷ rest) = moves_in rest
 moves_in (steps.Fold ∷ rest) = 1 + moves_in rest
@@ -87,7 +87,7 @@ moves_in (steps.Call ∷ rest) = 1 + moves_in rest
 moves_in (steps.Raise ∷ rest) = 1 + moves_in rest
 moves_in (steps.RaiseTo total ∷ rest) = 1 + moves_in rest
 
-abbrev pub strokes_in : List Step → ℕ
+abbrev pub strokes_in : List BettingStep → ℕ
 strokes_in [] = 0
 strokes_in (steps.NextRound ∷ rest) = 1 + strokes_in rest
 strokes_in (steps.Fold ∷ rest) = strokes_in rest
@@ -95,7 +95,7 @@ strokes_in (steps.Call ∷ rest) = strokes_in rest
 strokes_in (steps.Raise ∷ rest) = strokes_in rest
 strokes_in (steps.RaiseTo total ∷ rest) = strokes_in rest
 
-pub moves_append : (some more : List Step) → moves_in (some ++ more) ≡ moves_in some + moves_in more
+pub moves_append : (some more : List BettingStep) → moves_in (some ++ more) ≡ moves_in some + moves_in more
 moves_append [] more = omega arith
 moves_append (steps.NextRound ∷ some) more = omega (arith, moves_append some more)
 moves_append (steps.Fold ∷ some) more = omega (arith, moves_append some more)
@@ -103,7 +103,7 @@ moves_append (steps.Call ∷ some) more = omega (arith, moves_append some more)
 moves_append (steps.Raise ∷ some) more = omega (arith, moves_append some more)
 moves_append (steps.RaiseTo total ∷ some) more = omega (arith, moves_append some more)
 
-pub strokes_append : (some more : List Step) → strokes_in (some ++ more) ≡ strokes_in some + strokes_in more
+pub strokes_append : (some more : List BettingStep) → strokes_in (some ++ more) ≡ strokes_in some + strokes_in more
 strokes_append [] more = omega arith
 strokes_append (steps.NextRound ∷ some) more = omega (arith, strokes_append some more)
 strokes_append (steps.Fold ∷ some) more = omega (arith, strokes_append some more)

@@ -5,7 +5,7 @@ use Rattle.std.proofs.lemmas.Bool.{eqb-true, ltb-false, ne_eqb, not-false, or_pa
 use Rattle.canon_laws.specs.OtherRules as other_rules
 use Rattle.canon_laws.specs.OtherRules.{SuitsRules}
 use Rattle.canon_laws.proofs.AllStreets.{AreSince}
-use Rattle.canonical_play.specs.CanonScript.{plain_move, plain_moves}
+use Rattle.canon_script.specs.CanonScript.{plain_move, plain_moves}
 use Rattle.list_laws.proofs.Any.{list_any-map}
 use Rattle.list_laws.proofs.Counting.{count_by-cons}
 use Rattle.list_laws.proofs.Finding.{list_any-push}
@@ -32,7 +32,7 @@ use Rattle.play_laws.proofs.MovesLaw.{MovesLaw}
 use Rattle.hand_records.specs.TraceRows.{core_said}
 use Rattle.hand_records.specs.declared.trace.Trace.{Trace}
 use Rattle.acpc_game.specs.declared.game.Game.{Game}
-use Rattle.acpc_line.specs.PlayFacts.{is_above_cap, is_above_caps, is_off_unit, is_raise_on}
+use Rattle.acpc_writing.specs.PlayFacts.{is_above_cap, is_above_caps, is_off_unit, is_raise_on}
 use Rattle.acpc_reading.specs.RecordView.{rules_of}
 use Rattle.acpc_format.proofs.LetterEvents.{HaveLetters}
 use Rattle.acpc_format.proofs.SpelledFacts.{HasPlayOf}

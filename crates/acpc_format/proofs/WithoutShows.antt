@@ -16,9 +16,9 @@ use Rattle.play_event.specs.Seats.{all_seats, is_live, live_count}
 use Rattle.play_event.specs.Showing.{has_mucked, is_show_due}
 use Rattle.play_event.specs.Table.{places_of}
 use Rattle.play_event.specs.Trace.{has_unknown_card, is_mucked, is_shown, streets_of, traced_places}
-use Rattle.canonical_play.specs.CanonScript.{plain_moves, street_said}
-use Rattle.canonical_play.specs.PlayedScript.{IsPlayed}
-use Rattle.canonical_play.specs.TraceCore.{TraceCore, core_after, core_of}
+use Rattle.canon_script.specs.CanonScript.{plain_moves, street_said}
+use Rattle.canon_script.specs.PlayedScript.{IsPlayed}
+use Rattle.canon_script.specs.TraceCore.{TraceCore, core_after, core_of}
 use Rattle.list_laws.proofs.NumbersOfRange.{filter_range}
 use Rattle.play_laws.proofs.LegalPlaces.{LegalPast, legal_past}
 use Rattle.play_laws.proofs.PlayedStreets.{IsReached}

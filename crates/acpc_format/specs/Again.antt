@@ -9,15 +9,15 @@ use Rattle.play_event.specs.Said as said
 use Rattle.play_event.specs.Said.{Numbered, Said}
 use Rattle.play_event.specs.Seats.{all_seats}
 use Rattle.play_event.specs.Trace.{TracedPlace}
-use Rattle.canonical_play.specs.CanonScript.{deals_said, plain_moves}
-use Rattle.canonical_play.specs.PlayedScript.{is_move}
+use Rattle.canon_script.specs.CanonScript.{deals_said, plain_moves}
+use Rattle.canon_script.specs.PlayedScript.{is_move}
 use Rattle.hand_canon.specs.Agreement.{value_of}
 use Rattle.hand_records.specs.TraceRows.{core_said}
 use Rattle.hand_records.specs.declared.notes.Notes.{Notes}
 use Rattle.hand_records.specs.declared.trace.Play.{Play}
 use Rattle.hand_records.specs.declared.trace.Trace.{Trace}
-use Rattle.acpc_line.specs.Betting.{hand_total}
-use Rattle.acpc_line.specs.Names.{is_spelled_hand, is_spelled_name}
+use Rattle.acpc_writing.specs.Betting.{hand_total}
+use Rattle.acpc_writing.specs.Names.{is_spelled_hand, is_spelled_name}
 use Rattle.acpc_reading.specs.Logs.{HandSaid}
 use Rattle.first_fault.specs.Numbers.{kept_number}
 

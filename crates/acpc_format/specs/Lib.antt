@@ -1,3 +1,3 @@
 -- What is read again of plays that were written.
 pub mod Again
-pub mod ReadBack
+pub mod KeptNotes

@@ -9,16 +9,16 @@ ghost use Rattle.hand_records.specs.declared.trace.Play.{Play};
 ghost use Rattle.hand_records.specs.declared.writing.Keep.{Keep};
 ghost use Rattle.hand_records.specs.declared.writing.Unspelled.{Unspelled};
 ghost use Rattle.acpc_game.specs.declared.game.Game.{Game as AnyGame};
-ghost use Rattle.acpc_line.specs.Line.{log_text};
-ghost use Rattle.acpc_line.specs.Spelled.{unspelled};
-ghost use Rattle.acpc_line.specs.Texts.{HasTexts};
+ghost use Rattle.acpc_writing.specs.Line.{log_text};
+ghost use Rattle.acpc_writing.specs.Spelled.{unspelled};
+ghost use Rattle.acpc_writing.specs.Texts.{HasTexts};
 ghost use Rattle.acpc_reading.specs.Logs.{reading};
 ghost use Rattle.acpc_reading.specs.RecordView.{IsOfGame, IsSetupOf, record_said};
 ghost use Rattle.acpc_format.specs.Again.{hands_again};
 ghost use Rattle.hand_canon.specs.ReadAgain.{AreAgain};
-ghost use Rattle.acpc_format.specs.ReadBack.{KeepsNotes};
+ghost use Rattle.acpc_format.specs.KeptNotes.{KeepsNotes};
 ghost use Rattle.hand_canon.specs.Sharp.{IsOther, is_sharp};
-ghost use Rattle.hand_records.specs.Refusals.{first_refusal};
+ghost use Rattle.hand_records.specs.WriteRefusals.{first_refusal};
 ghost use Rattle.hand_records.specs.Plays.{moves_written};
 
 /// The lines of sound plays that the logs of a game spell read as the hands of these plays: with their canonical scripts as

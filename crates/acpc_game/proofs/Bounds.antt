@@ -3,8 +3,8 @@ use Rattle.std.proofs.Common.{◌≡◌, ℕ, zero, suc, ◌≤◌, true, nat_le
 use Rattle.std.specs.List.{list_all}
 use Rattle.std.proofs.lemmas.Bool.{and_parts, le-leb, leb-true}
 use Rattle.std.proofs.lemmas.Bool.Decides.{nat_tests}
-use Rattle.acpc_game.specs.declared.key.Key.{Key}
-use Rattle.acpc_game.specs.declared.key.Key.TheVariants as keys
+use Rattle.acpc_game.specs.declared.key.GameKey.{GameKey}
+use Rattle.acpc_game.specs.declared.key.GameKey.TheVariants as keys
 use Rattle.acpc_game.specs.Keys.{most_of, key_place, has_count}
 use Rattle.acpc_game.specs.Games.{are_chips}
 use Rattle.chip_ledger.specs.declared.numbers.TheConstants.{MOST_CHIPS}
@@ -15,7 +15,7 @@ more_room most (number ∷ numbers) few all =
     let parts = and_parts (nat_le number most) (list_all (λ n. nat_le n most) numbers) all in
     rw (le-leb number MOST_CHIPS (omega (arith, few, leb-true number most parts.0)), more_room most numbers few parts.1) refl
 
-most_few : (key : Key) → most_of key ≤ MOST_CHIPS
+most_few : (key : GameKey) → most_of key ≤ MOST_CHIPS
 most_few keys.Begin = omega arith
 most_few keys.End = omega arith
 most_few keys.Limit = omega arith
@@ -32,7 +32,7 @@ most_few keys.NumRanks = omega arith
 most_few keys.NumHoleCards = omega arith
 most_few keys.NumBoardCards = omega arith
 
-pub within_most : (key : Key) (numbers : List ℕ) → list_all (λ number. nat_le number (most_of key)) numbers ≡ true → are_chips numbers ≡ true
+pub within_most : (key : GameKey) (numbers : List ℕ) → list_all (λ number. nat_le number (most_of key)) numbers ≡ true → are_chips numbers ≡ true
 within_most key numbers all = more_room (most_of key) numbers (most_few key) all
 
 -- the stack of each player where none are said is one that may be stated
@@ -46,7 +46,7 @@ chips_within [] index all = omega arith
 chips_within (number ∷ numbers) zero all = leb-true number MOST_CHIPS (and_parts (nat_le number MOST_CHIPS) (are_chips numbers) all).0
 chips_within (number ∷ numbers) (suc index) all = chips_within numbers index (and_parts (nat_le number MOST_CHIPS) (are_chips numbers) all).1
 
-caps_key : (key : Key) → eqb (key_place key) 8 ≡ true → key ≡ keys.MaxRaises
+caps_key : (key : GameKey) → eqb (key_place key) 8 ≡ true → key ≡ keys.MaxRaises
 caps_key keys.Begin is = absurd (cc (is))
 caps_key keys.End is = absurd (cc (is))
 caps_key keys.Limit is = absurd (cc (is))
@@ -64,8 +64,8 @@ caps_key keys.NumHoleCards is = absurd (cc (is))
 caps_key keys.NumBoardCards is = absurd (cc (is))
 
 -- caps are four numbers of 32 bits
-pub caps_small : (key : Key) (numbers : List ℕ) → eqb (key_place key) 8 ≡ true → list_all (λ number. nat_le number (most_of key)) numbers ≡ true → list_all (λ number. nat_le number 4294967295) numbers ≡ true
-caps_small key numbers is all = subst (λ (k : Key). list_all (λ number. nat_le number (most_of k)) numbers ≡ true) (caps_key key is) all
+pub caps_small : (key : GameKey) (numbers : List ℕ) → eqb (key_place key) 8 ≡ true → list_all (λ number. nat_le number (most_of key)) numbers ≡ true → list_all (λ number. nat_le number 4294967295) numbers ≡ true
+caps_small key numbers is all = subst (λ (k : GameKey). list_all (λ number. nat_le number (most_of k)) numbers ≡ true) (caps_key key is) all
 
-pub caps_four : (key : Key) (count : ℕ) → eqb (key_place key) 8 ≡ true → has_count key count ≡ true → count ≡ 4
-caps_four key count is has = let four : eqb count 4 ≡ true = subst (λ (k : Key). has_count k count ≡ true) (caps_key key is) has in grind (arith, nat_tests, four)
+pub caps_four : (key : GameKey) (count : ℕ) → eqb (key_place key) 8 ≡ true → has_count key count ≡ true → count ≡ 4
+caps_four key count is has = let four : eqb count 4 ≡ true = subst (λ (k : GameKey). has_count k count ≡ true) (caps_key key is) has in grind (arith, nat_tests, four)

@@ -5,7 +5,7 @@ use Rattle.std.proofs.lemmas.Bool.{and_parts, leb-true, not-false}
 use Rattle.std.proofs.lemmas.Bool.Decides.{nat_tests}
 use Rattle.std.proofs.lemmas.List.{length-replicate}
 use Rattle.chip_ledger.specs.Greatest.{greatest}
-use Rattle.acpc_game.specs.declared.key.Key.TheVariants as keys
+use Rattle.acpc_game.specs.declared.key.GameKey.TheVariants as keys
 use Rattle.acpc_game.specs.GameFile.{EntrySaid, needed, is_whole, is_for_all, has_no_limit, has_key, stacks_at, numbers_at, number_at, size_at, are_sizes}
 use Rattle.acpc_game.specs.Games.{are_chips, has_fitting_sizes}
 use Rattle.acpc_game.proofs.Bounds.{chips_within}

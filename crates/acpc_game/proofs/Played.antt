@@ -1,20 +1,20 @@
 -- The facts of a game of which nothing shows that it is not played.
 use Rattle.std.proofs.Common.{◌≡◌, Bool, true, false, nat_le, ◌&&◌, List, [], ◌∷◌, Option, Some, None, refl}
 use Rattle.std.specs.List.{AllByRecursion}
-use Rattle.acpc_game.specs.declared.key.Key.{Key}
-use Rattle.acpc_game.specs.declared.key.Key.TheVariants as keys
+use Rattle.acpc_game.specs.declared.key.GameKey.{GameKey}
+use Rattle.acpc_game.specs.declared.key.GameKey.TheVariants as keys
 use Rattle.acpc_game.specs.Keys.{or_else}
 use Rattle.acpc_game.specs.GameFile.{EntrySaid, first_unsupported, other_cards, other_chips, number_at}
 use Rattle.acpc_game.specs.Playable.{IsPlayable}
 use Rattle.std.proofs.lemmas.Bool.{not-false}
 use Rattle.first_fault.specs.Conditions.{first_where}
 
-none_of : (tests : List (Bool × Key)) → first_where tests ≡ None → AllByRecursion (λ test. test.0 ≡ false) tests
+none_of : (tests : List (Bool × GameKey)) → first_where tests ≡ None → AllByRecursion (λ test. test.0 ≡ false) tests
 none_of [] none = tt
 none_of ((true, key) ∷ rest) none = absurd (cc (none))
 none_of ((false, key) ∷ rest) none = (refl, none_of rest none)
 
-none_both : (first second : Option Key) → or_else first second ≡ None → (first ≡ None) × (second ≡ None)
+none_both : (first second : Option GameKey) → or_else first second ≡ None → (first ≡ None) × (second ≡ None)
 none_both (Some key) second none = absurd (cc (none))
 none_both None second none = (refl, none)
 

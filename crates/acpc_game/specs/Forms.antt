@@ -3,8 +3,8 @@ use Rattle.std.specs.Prelude.{ℕ, ◌-◌, ◌==◌, Bool, ◌||◌, ◌&&◌, 
 use Rattle.std.specs.List.{list_all}
 use Rattle.first_fault.specs.Digits.{are_digits}
 use Rattle.acpc_text.specs.Parts.{parts_of}
-use Rattle.acpc_game.specs.declared.key.Key.{Key}
-use Rattle.acpc_game.specs.declared.key.Key.TheVariants as keys
+use Rattle.acpc_game.specs.declared.key.GameKey.{GameKey}
+use Rattle.acpc_game.specs.declared.key.GameKey.TheVariants as keys
 use Rattle.acpc_game.specs.Keys.{is_word, key_named, has_count}
 use Rattle.first_fault.specs.Words.{is_space, words_of}
 
@@ -14,19 +14,19 @@ is_passed_over line = length line == 0 || slice_index line 0 == 35
 
 -- a key, and the words of its numbers
 abbrev pub Form : Type 0
-Form = Key × List (List ℕ)
+Form = GameKey × List (List ℕ)
 
 -- the key that one word names
-abbrev pub only_key : List (List ℕ) → Option Key
+abbrev pub only_key : List (List ℕ) → Option GameKey
 only_key (word ∷ []) = key_named word
 only_key words = None
 
 -- the key in front of =, with spaces behind it or none
-unfoldable pub key_before : List ℕ → Option Key
+unfoldable pub key_before : List ℕ → Option GameKey
 key_before front = if is_space (slice_index front 0) then None else only_key (words_of front)
 
 -- the numbers behind =, with spaces before them or none, as many as the key has
-unfoldable pub numbers_behind : Key → List ℕ → Option Form
+unfoldable pub numbers_behind : GameKey → List ℕ → Option Form
 numbers_behind key behind =
     if is_space (slice_index behind (length behind - 1)) then None
     else if list_all are_digits (words_of behind) && has_count key (length (words_of behind)) then Some (key, words_of behind)

@@ -8,8 +8,8 @@ use Rattle.first_fault.specs.Digits.{number_of}
 use Rattle.acpc_text.specs.declared.fault.AcpcFault.{AcpcFault}
 use Rattle.acpc_text.specs.declared.fault.AcpcFault.TheVariants as faults
 use Rattle.acpc_text.specs.Parts.{lines_of}
-use Rattle.acpc_game.specs.declared.key.Key.{Key}
-use Rattle.acpc_game.specs.declared.key.Key.TheVariants as keys
+use Rattle.acpc_game.specs.declared.key.GameKey.{GameKey}
+use Rattle.acpc_game.specs.declared.key.GameKey.TheVariants as keys
 use Rattle.acpc_game.specs.Keys.{key_place, most_of, or_else}
 use Rattle.acpc_game.specs.Forms.{Form, form_of, is_passed_over}
 use Rattle.first_fault.specs.Numbers.{kept_number}
@@ -19,7 +19,7 @@ use Rattle.first_fault.specs.Conditions.{first_where}
 
 -- a line with a key: the key, the number of the line, and its numbers
 pub record EntrySaid : Type 0 where
-  pub key : Key
+  pub key : GameKey
   pub line : ℕ
   pub numbers : List ℕ
 
@@ -32,19 +32,19 @@ abbrev pub too_great : {A : Type 0} → ℕ → Result A AcpcFault
 too_great line = Err (faults.AmountLimit (kept_number line) 1)
 
 -- an entry has this key; limit and nolimit count as one
-abbrev pub is_of : Key → EntrySaid → Bool
+abbrev pub is_of : GameKey → EntrySaid → Bool
 is_of key entry = key_place entry.key == key_place key
 
 -- the entry with a key, if one stands
-abbrev pub found : Key → List EntrySaid → Option EntrySaid
+abbrev pub found : GameKey → List EntrySaid → Option EntrySaid
 found key entries = find (is_of key) entries
 
 -- an entry with this key stands
-abbrev pub has_key : Key → List EntrySaid → Bool
+abbrev pub has_key : GameKey → List EntrySaid → Bool
 has_key key entries = list_any (is_of key) entries
 
 -- a key may stand after these entries: GAMEDEF before all others, and each other key once, until END GAMEDEF
-abbrev pub may_stand : Key → List EntrySaid → Bool
+abbrev pub may_stand : GameKey → List EntrySaid → Bool
 may_stand keys.Begin entries = length entries == 0
 may_stand key entries = nat_lt 0 (length entries) && (not (has_key keys.End entries) && not (has_key key entries))
 
@@ -81,19 +81,19 @@ entries_said bytes = entries_after [] 1 (lines_of bytes) >>= λ entries. Ok (ent
 -- ---- what they say
 
 -- the numbers behind a key, and none where it does not stand
-abbrev pub numbers_at : Key → List EntrySaid → List ℕ
+abbrev pub numbers_at : GameKey → List EntrySaid → List ℕ
 numbers_at key entries = option_map_or (λ entry. entry.numbers) (found key entries) []
 
 -- the one number behind a key
-abbrev pub number_at : Key → List EntrySaid → ℕ
+abbrev pub number_at : GameKey → List EntrySaid → ℕ
 number_at key entries = slice_index (numbers_at key entries) 0
 
 -- the line of a key
-abbrev pub line_at : Key → List EntrySaid → ℕ
+abbrev pub line_at : GameKey → List EntrySaid → ℕ
 line_at key entries = option_map_or (λ entry. entry.line) (found key entries) 0
 
 -- a key says that the game has no limit
-abbrev pub is_no_limit : Key → Bool
+abbrev pub is_no_limit : GameKey → Bool
 is_no_limit keys.NoLimit = true
 is_no_limit _ = false
 
@@ -102,13 +102,13 @@ abbrev pub has_no_limit : List EntrySaid → Bool
 has_no_limit entries = option_map_or (λ entry. is_no_limit entry.key) (found keys.Limit entries) false
 
 -- the keys that every game file has
-abbrev pub needed : List Key
+abbrev pub needed : List GameKey
 needed =
     keys.Begin ∷ keys.Limit ∷ keys.NumPlayers ∷ keys.NumRounds ∷ keys.Blind ∷ keys.FirstPlayer
     ∷ keys.NumSuits ∷ keys.NumRanks ∷ keys.NumHoleCards ∷ keys.NumBoardCards ∷ keys.End ∷ []
 
 -- the numbers behind a key are as many as the players
-abbrev pub is_for_all : Key → List EntrySaid → Bool
+abbrev pub is_for_all : GameKey → List EntrySaid → Bool
 is_for_all key entries = length (numbers_at key entries) == number_at keys.NumPlayers entries
 
 -- nothing is missing: in no limit the stacks are needed, in a limit game the sizes of raises, and stacks may stand
@@ -166,7 +166,7 @@ are_sizes (s ∷ t ∷ b ∷ c ∷ []) = (nat_le 1 s && s == t) && (nat_le 1 b &
 are_sizes _ = false
 
 -- a number of players, rounds or cards that is not played; each with the key that shows it
-abbrev pub other_cards : List EntrySaid → List (Bool × Key)
+abbrev pub other_cards : List EntrySaid → List (Bool × GameKey)
 other_cards entries =
     (not (nat_le 2 (number_at keys.NumPlayers entries) && nat_le (number_at keys.NumPlayers entries) 10), keys.NumPlayers)
     ∷ (not (number_at keys.NumRounds entries == 4), keys.NumRounds)
@@ -177,7 +177,7 @@ other_cards entries =
     ∷ []
 
 -- chips that are not played; each with the key that shows them
-abbrev pub other_chips : List EntrySaid → List (Bool × Key)
+abbrev pub other_chips : List EntrySaid → List (Bool × GameKey)
 other_chips entries =
     (has_short_stack (stacks_at entries) (numbers_at keys.Blind entries), if has_key keys.Stack entries then keys.Stack else keys.Blind)
     ∷ (is_reversed (numbers_at keys.Blind entries), keys.Blind)
@@ -188,7 +188,7 @@ other_chips entries =
     ∷ []
 
 -- the key that shows that the game is not played
-unfoldable pub first_unsupported : List EntrySaid → Option Key
+unfoldable pub first_unsupported : List EntrySaid → Option GameKey
 first_unsupported entries = or_else (first_where (other_cards entries)) (first_where (other_chips entries))
 
 -- ---- the game

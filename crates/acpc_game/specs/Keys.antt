@@ -2,20 +2,20 @@
 use Rattle.std.specs.Prelude.{ℕ, ◌==◌, Bool, nat_lt, bytes_eq, if◌then◌else◌, List, map, codes, Option, Some, None}
 use Rattle.std.specs.Char.{to_ascii_lowercase}
 use Rattle.chip_ledger.specs.declared.numbers.TheConstants.{MOST_CHIPS}
-use Rattle.acpc_game.specs.declared.key.Key.{Key}
-use Rattle.acpc_game.specs.declared.key.Key.TheVariants as keys
+use Rattle.acpc_game.specs.declared.key.GameKey.{GameKey}
+use Rattle.acpc_game.specs.declared.key.GameKey.TheVariants as keys
 
 -- a text is this word, in any case
 unfoldable pub is_word : List ℕ → List ℕ → Bool
 is_word name text = bytes_eq (map to_ascii_lowercase text) (map to_ascii_lowercase name)
 
 -- a key that was found, or else another
-abbrev pub or_else : Option Key → Option Key → Option Key
+abbrev pub or_else : Option GameKey → Option GameKey → Option GameKey
 or_else (Some key) other = Some key
 or_else None other = other
 
 -- the key of one number, or of the cards of the board, that a word names
-unfoldable pub card_key_named : List ℕ → Option Key
+unfoldable pub card_key_named : List ℕ → Option GameKey
 card_key_named word =
     if is_word (codes "numPlayers") word then Some keys.NumPlayers
     else if is_word (codes "numRounds") word then Some keys.NumRounds
@@ -26,7 +26,7 @@ card_key_named word =
     else None
 
 -- the key of chips or turns that a word names
-unfoldable pub chip_key_named : List ℕ → Option Key
+unfoldable pub chip_key_named : List ℕ → Option GameKey
 chip_key_named word =
     if is_word (codes "stack") word then Some keys.Stack
     else if is_word (codes "blind") word then Some keys.Blind
@@ -36,11 +36,11 @@ chip_key_named word =
     else None
 
 -- the key with numbers that a word names
-abbrev pub key_named : List ℕ → Option Key
+abbrev pub key_named : List ℕ → Option GameKey
 key_named word = or_else (card_key_named word) (chip_key_named word)
 
 -- where a key stands in the one spelling; limit and nolimit have one place
-abbrev pub key_place : Key → ℕ
+abbrev pub key_place : GameKey → ℕ
 key_place keys.Begin = 0
 key_place keys.Limit = 1
 key_place keys.NoLimit = 1
@@ -58,12 +58,12 @@ key_place keys.NumBoardCards = 12
 key_place keys.End = 13
 
 -- the greatest number that may stand behind a key: a cap has 32 bits, any other number is an amount
-abbrev pub most_of : Key → ℕ
+abbrev pub most_of : GameKey → ℕ
 most_of keys.MaxRaises = 4294967295
 most_of _ = MOST_CHIPS
 
 -- a key has so many numbers behind it; stacks and blinds are compared with the players later
-abbrev pub has_count : Key → ℕ → Bool
+abbrev pub has_count : GameKey → ℕ → Bool
 has_count keys.Begin count = count == 0
 has_count keys.End count = count == 0
 has_count keys.Limit count = count == 0

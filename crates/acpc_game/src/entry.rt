@@ -3,12 +3,12 @@ ghost use Rattle.std.specs.Prelude.{◌≡◌, true, nat_le, length};
 ghost use Rattle.std.specs.List.{list_all};
 ghost use Rattle.acpc_game.specs.Keys.{has_count, most_of};
 
-use crate::key::Key;
+use crate::key::GameKey;
 
 /// A line with a key.
 #[derive(Debug, Drop)]
 pub struct Entry {
-    pub key: Key,
+    pub key: GameKey,
     pub line: u64,
     pub numbers: Vec<u64>,
     pub ghost bounded: { list_all (λ number. nat_le number (most_of key)) numbers.items ≡ true },

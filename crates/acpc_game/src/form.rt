@@ -7,7 +7,7 @@ ghost use Rattle.first_fault.specs.Digits.{are_digits as are_digits_said};
 ghost use Rattle.acpc_game.specs.Keys.{has_count};
 ghost use Rattle.acpc_game.specs.Forms.{form_of, is_passed_over as is_passed_over_said, key_and_numbers, key_before as key_before_said, numbers_behind};
 
-use crate::key::{Key, is_word, key_named};
+use crate::key::{GameKey, is_word, key_named};
 use acpc_text::{cut_at, next_word};
 use first_fault::are_digits;
 
@@ -20,26 +20,26 @@ pub fn is_passed_over(line: &[u8]) -> bool
 
 /// The key of a line, and the text of its numbers, where the line has the form of one.
 #[tactic(auto, unfolding(crate::specs::Forms::form_of))]
-pub fn read_form(line: &[u8]) -> Option<(Key, &[u8])>
+pub fn read_form(line: &[u8]) -> Option<(GameKey, &[u8])>
     ensures fits { IfSome result (λ found. (list_all are_digits_said (words_of found.1.now) ≡ true)
         × (has_count found.0 (length (words_of found.1.now)) ≡ true)) }
     ensures form { option_map (λ found. (found.0, words_of found.1.now)) result ≡ form_of line.now }
 {
     if line == b"GAMEDEF".as_slice() {
-        Some((Key::Begin, &[]))
+        Some((GameKey::Begin, &[]))
     } else if line == b"END GAMEDEF".as_slice() {
-        Some((Key::End, &[]))
+        Some((GameKey::End, &[]))
     } else if is_word("limit", line) {
-        Some((Key::Limit, &[]))
+        Some((GameKey::Limit, &[]))
     } else if is_word("nolimit", line) {
-        Some((Key::NoLimit, &[]))
+        Some((GameKey::NoLimit, &[]))
     } else {
         read_numbered(line)
     }
 }
 
 // A key, `=`, and numbers.
-fn read_numbered(line: &[u8]) -> Option<(Key, &[u8])>
+fn read_numbered(line: &[u8]) -> Option<(GameKey, &[u8])>
     ensures fits { IfSome result (λ found. (list_all are_digits_said (words_of found.1.now) ≡ true)
         × (has_count found.0 (length (words_of found.1.now)) ≡ true)) }
     ensures form { option_map (λ found. (found.0, words_of found.1.now)) result
@@ -54,7 +54,7 @@ fn read_numbered(line: &[u8]) -> Option<(Key, &[u8])>
 
 // A key, and the numbers behind `=`, in which no second `=` stands.
 #[tactic(auto, using(crate::proofs::Forms::no_third_part))]
-fn read_behind<'a>(front: &[u8], rest: &'a [u8]) -> Option<(Key, &'a [u8])>
+fn read_behind<'a>(front: &[u8], rest: &'a [u8]) -> Option<(GameKey, &'a [u8])>
     ensures fits { IfSome result (λ found. (list_all are_digits_said (words_of found.1.now) ≡ true)
         × (has_count found.0 (length (words_of found.1.now)) ≡ true)) }
     ensures form { option_map (λ found. (found.0, words_of found.1.now)) result
@@ -72,7 +72,7 @@ fn read_behind<'a>(front: &[u8], rest: &'a [u8]) -> Option<(Key, &'a [u8])>
 
 // The key in front of `=`.
 #[tactic(auto, unfolding(crate::specs::Forms::key_before))]
-fn key_before(front: &[u8]) -> Option<Key>
+fn key_before(front: &[u8]) -> Option<GameKey>
     ensures { result ≡ key_before_said front.now }
 {
     if begins_with_space(front) {
@@ -94,7 +94,7 @@ fn begins_with_space(text: &[u8]) -> bool
 
 // The numbers behind `=`, as many as the key has.
 #[tactic(auto, unfolding(crate::specs::Forms::numbers_behind))]
-fn numbers_of(key: Key, behind: &[u8]) -> Option<(Key, &[u8])>
+fn numbers_of(key: GameKey, behind: &[u8]) -> Option<(GameKey, &[u8])>
     ensures fits { IfSome result (λ found. (list_all are_digits_said (words_of found.1.now) ≡ true)
         × (has_count found.0 (length (words_of found.1.now)) ≡ true)) }
     ensures form { option_map (λ found. (found.0, words_of found.1.now)) result

@@ -5,10 +5,10 @@ ghost use Rattle.acpc_game.specs.Games.{are_chips};
 ghost use Rattle.acpc_game.specs.GameFile.{found, is_of, is_for_all as is_for_all_said, line_at as line_at_said, number_at as number_at_said, numbers_at as numbers_at_said, has_key as has_key_said};
 
 use crate::entry::Entry;
-use crate::key::Key;
+use crate::key::GameKey;
 
 /// Whether an entry has this key.
-pub fn has_key(entries: &[Entry], key: Key) -> bool
+pub fn has_key(entries: &[Entry], key: GameKey) -> bool
     ensures { result ≡ has_key_said key (map entry_said entries.now) }
 {
     match entries {
@@ -18,7 +18,7 @@ pub fn has_key(entries: &[Entry], key: Key) -> bool
 }
 
 /// The line of a key.
-pub fn line_at(entries: &[Entry], key: Key) -> u64
+pub fn line_at(entries: &[Entry], key: GameKey) -> u64
     ensures { result ≡ line_at_said key (map entry_said entries.now) }
 {
     match find_entry(entries, key) {
@@ -28,14 +28,14 @@ pub fn line_at(entries: &[Entry], key: Key) -> u64
 }
 
 /// Whether there are as many numbers behind a key as players.
-pub fn is_for_all(entries: &[Entry], key: Key) -> bool
+pub fn is_for_all(entries: &[Entry], key: GameKey) -> bool
     ensures { result ≡ is_for_all_said key (map entry_said entries.now) }
 {
-    numbers_at(entries, key).len() as u64 == number_at(entries, Key::NumPlayers)
+    numbers_at(entries, key).len() as u64 == number_at(entries, GameKey::NumPlayers)
 }
 
 /// The one number behind a key.
-pub fn number_at(entries: &[Entry], key: Key) -> u64
+pub fn number_at(entries: &[Entry], key: GameKey) -> u64
     ensures { result ≡ number_at_said key (map entry_said entries.now) }
 {
     let numbers = numbers_at(entries, key);
@@ -44,7 +44,7 @@ pub fn number_at(entries: &[Entry], key: Key) -> u64
 
 /// The numbers behind a key, and none where it doesn't stand.
 #[tactic(auto, using(crate::proofs::Bounds::within_most))]
-pub fn numbers_at(entries: &[Entry], key: Key) -> &[u64]
+pub fn numbers_at(entries: &[Entry], key: GameKey) -> &[u64]
     ensures few { are_chips result.now ≡ true }
     ensures numbers { result.now ≡ numbers_at_said key (map entry_said entries.now) }
 {
@@ -55,7 +55,7 @@ pub fn numbers_at(entries: &[Entry], key: Key) -> &[u64]
 }
 
 /// The entry with this key, if one stands.
-pub fn find_entry(entries: &[Entry], key: Key) -> Option<&Entry>
+pub fn find_entry(entries: &[Entry], key: GameKey) -> Option<&Entry>
     ensures is { IfSome result (λ entry. is_of key (entry_said entry.now) ≡ true) }
     ensures entry { option_map (λ entry. entry_said entry.now) result
         ≡ found key (map entry_said entries.now) }

@@ -6,7 +6,7 @@ use chip_ledger::MOST_CHIPS;
 
 /// What a line of a game file begins with, or is.
 #[derive(Clone, Copy, Debug, PartialEq, Eq)]
-pub enum Key {
+pub enum GameKey {
     /// `GAMEDEF`
     Begin,
     /// `END GAMEDEF`
@@ -27,7 +27,7 @@ pub enum Key {
 }
 
 /// The key with numbers that a word names.
-pub fn key_named(word: &[u8]) -> Option<Key>
+pub fn key_named(word: &[u8]) -> Option<GameKey>
     ensures { result ≡ key_named_said word.now }
 {
     match card_key_named(word) {
@@ -38,21 +38,21 @@ pub fn key_named(word: &[u8]) -> Option<Key>
 
 // The key of one number, or of the cards of the board, that a word names.
 #[tactic(auto, unfolding(crate::specs::Keys::card_key_named))]
-fn card_key_named(word: &[u8]) -> Option<Key>
+fn card_key_named(word: &[u8]) -> Option<GameKey>
     ensures { result ≡ card_key_named_said word.now }
 {
     if is_word("numPlayers", word) {
-        Some(Key::NumPlayers)
+        Some(GameKey::NumPlayers)
     } else if is_word("numRounds", word) {
-        Some(Key::NumRounds)
+        Some(GameKey::NumRounds)
     } else if is_word("numSuits", word) {
-        Some(Key::NumSuits)
+        Some(GameKey::NumSuits)
     } else if is_word("numRanks", word) {
-        Some(Key::NumRanks)
+        Some(GameKey::NumRanks)
     } else if is_word("numHoleCards", word) {
-        Some(Key::NumHoleCards)
+        Some(GameKey::NumHoleCards)
     } else if is_word("numBoardCards", word) {
-        Some(Key::NumBoardCards)
+        Some(GameKey::NumBoardCards)
     } else {
         None
     }
@@ -60,19 +60,19 @@ fn card_key_named(word: &[u8]) -> Option<Key>
 
 // The key of chips or turns that a word names.
 #[tactic(auto, unfolding(crate::specs::Keys::chip_key_named))]
-fn chip_key_named(word: &[u8]) -> Option<Key>
+fn chip_key_named(word: &[u8]) -> Option<GameKey>
     ensures { result ≡ chip_key_named_said word.now }
 {
     if is_word("stack", word) {
-        Some(Key::Stack)
+        Some(GameKey::Stack)
     } else if is_word("blind", word) {
-        Some(Key::Blind)
+        Some(GameKey::Blind)
     } else if is_word("raiseSize", word) {
-        Some(Key::RaiseSize)
+        Some(GameKey::RaiseSize)
     } else if is_word("firstPlayer", word) {
-        Some(Key::FirstPlayer)
+        Some(GameKey::FirstPlayer)
     } else if is_word("maxRaises", word) {
-        Some(Key::MaxRaises)
+        Some(GameKey::MaxRaises)
     } else {
         None
     }
@@ -86,27 +86,27 @@ pub fn is_word(name: &str, text: &[u8]) -> bool
     text.eq_ignore_ascii_case(name.as_bytes())
 }
 
-impl Key {
+impl GameKey {
     /// Where the key stands in the one spelling; `limit` and `nolimit` have one place.
     pub fn place(self) -> u8
         ensures { result ≡ key_place self }
     {
         match self {
-            Key::Begin => 0,
-            Key::Limit => 1,
-            Key::NoLimit => 1,
-            Key::NumPlayers => 2,
-            Key::NumRounds => 3,
-            Key::Stack => 4,
-            Key::Blind => 5,
-            Key::RaiseSize => 6,
-            Key::FirstPlayer => 7,
-            Key::MaxRaises => 8,
-            Key::NumSuits => 9,
-            Key::NumRanks => 10,
-            Key::NumHoleCards => 11,
-            Key::NumBoardCards => 12,
-            Key::End => 13,
+            GameKey::Begin => 0,
+            GameKey::Limit => 1,
+            GameKey::NoLimit => 1,
+            GameKey::NumPlayers => 2,
+            GameKey::NumRounds => 3,
+            GameKey::Stack => 4,
+            GameKey::Blind => 5,
+            GameKey::RaiseSize => 6,
+            GameKey::FirstPlayer => 7,
+            GameKey::MaxRaises => 8,
+            GameKey::NumSuits => 9,
+            GameKey::NumRanks => 10,
+            GameKey::NumHoleCards => 11,
+            GameKey::NumBoardCards => 12,
+            GameKey::End => 13,
         }
     }
 
@@ -115,7 +115,7 @@ impl Key {
         ensures { result ≡ most_of self }
     {
         match self {
-            Key::MaxRaises => 4_294_967_295,
+            GameKey::MaxRaises => 4_294_967_295,
             _ => MOST_CHIPS,
         }
     }
@@ -125,11 +125,17 @@ impl Key {
         ensures { result ≡ has_count_said self count }
     {
         match self {
-            Key::Begin | Key::End | Key::Limit | Key::NoLimit => count == 0,
-            Key::Stack | Key::Blind => count > 0,
-            Key::RaiseSize | Key::FirstPlayer | Key::MaxRaises | Key::NumBoardCards => count == 4,
-            Key::NumPlayers | Key::NumRounds | Key::NumSuits | Key::NumRanks | Key::NumHoleCards =>
-                count == 1,
+            GameKey::Begin | GameKey::End | GameKey::Limit | GameKey::NoLimit => count == 0,
+            GameKey::Stack | GameKey::Blind => count > 0,
+            GameKey::RaiseSize
+            | GameKey::FirstPlayer
+            | GameKey::MaxRaises
+            | GameKey::NumBoardCards => count == 4,
+            GameKey::NumPlayers
+            | GameKey::NumRounds
+            | GameKey::NumSuits
+            | GameKey::NumRanks
+            | GameKey::NumHoleCards => count == 1,
         }
     }
 }

@@ -11,8 +11,8 @@ ghost use Rattle.acpc_game.specs.GameFile.{entries_after_line, entries_said, may
 use crate::entry::Entry;
 use crate::form::{is_passed_over, read_form};
 use crate::found::has_key;
-use crate::key::Key;
-use acpc_text::{AcpcFault, LineFault, What, fault_in_line, next_line, next_word};
+use crate::key::GameKey;
+use acpc_text::{AcpcFault, LineFault, LineFaultKind, fault_in_line, next_line, next_word};
 use first_fault::{Stop, read_digits};
 use std::alloc::Global;
 
@@ -49,10 +49,10 @@ fn take_line(
         return Ok(());
     }
     let Some((key, words)) = read_form(text) else {
-        return Err(wrong(What::GameShape, line));
+        return Err(wrong(LineFaultKind::GameShape, line));
     };
     if !may_stand(entries.as_slice(), key) {
-        return Err(wrong(What::GameShape, line));
+        return Err(wrong(LineFaultKind::GameShape, line));
     }
     let numbers = read_numbers(alloc, line, key.most(), words)?;
     entries.push(Entry { key, line, numbers })?;
@@ -60,12 +60,12 @@ fn take_line(
 }
 
 // Whether a key may stand after these entries.
-fn may_stand(entries: &[Entry], key: Key) -> bool
+fn may_stand(entries: &[Entry], key: GameKey) -> bool
     ensures { result ≡ may_stand_said key (map entry_said entries.now) }
 {
     match key {
-        Key::Begin => entries.is_empty(),
-        _ => !entries.is_empty() && !has_key(entries, Key::End) && !has_key(entries, key),
+        GameKey::Begin => entries.is_empty(),
+        _ => !entries.is_empty() && !has_key(entries, GameKey::End) && !has_key(entries, key),
     }
 }
 
@@ -104,12 +104,12 @@ fn read_number(line: u64, most: u64, word: &[u8]) -> Result<u64, Stop<AcpcFault>
 {
     match read_digits(word, most) {
         Some(number) => Ok(number),
-        None => Err(wrong(What::AmountLimit, line)),
+        None => Err(wrong(LineFaultKind::AmountLimit, line)),
     }
 }
 
 /// A fault of this kind at a line.
-pub fn wrong(what: What, line: u64) -> Stop<AcpcFault>
+pub fn wrong(what: LineFaultKind, line: u64) -> Stop<AcpcFault>
     ensures { result ≡ Stop.At (fault_in_line_said line (record { what = what; byte = 1 })) }
 {
     Stop::At(fault_in_line(line, LineFault { what, byte: 1 }))

@@ -3,7 +3,7 @@ ghost use Rattle.std.specs.Prelude.{◌≡◌, ◌≤◌, if◌then◌else◌, t
 ghost use Rattle.std.specs.List.{list_all};
 ghost use Rattle.first_fault.specs.Reading.{Gives};
 ghost use Rattle.acpc_text.specs.Faults.{Answers};
-ghost use Rattle.acpc_game.specs.declared.key.Key.TheVariants as keys;
+ghost use Rattle.acpc_game.specs.declared.key.GameKey.TheVariants as keys;
 ghost use Rattle.acpc_game.specs.Entries.{entry_said};
 ghost use Rattle.acpc_game.specs.GameFile.{found, game_at_end, game_by, game_said, is_whole as is_whole_said, stacks_at};
 ghost use Rattle.acpc_game.specs.GameView.{game_in};
@@ -14,10 +14,10 @@ ghost use Rattle.acpc_game.specs.Playable.{IsPlayable};
 use crate::entry::Entry;
 use crate::found::{find_entry, has_key, line_at, numbers_at};
 use crate::game::Game;
-use crate::key::Key;
+use crate::key::GameKey;
 use crate::lines::{read_entries, wrong};
 use crate::supported::{end_line, first_unsupported, has_no_limit, is_whole};
-use acpc_text::{AcpcFault, What};
+use acpc_text::{AcpcFault, LineFaultKind};
 use chip_ledger::SeatRow;
 use first_fault::Stop;
 use std::alloc::Global;
@@ -52,11 +52,11 @@ fn game_by_end(alloc: Global, entries: &[Entry], count: u64) -> Result<Game, Sto
     ensures { Gives game_in result (game_at_end count (map entry_said entries.now)) }
 {
     if !is_whole(entries) {
-        return Err(wrong(What::GameShape, end_line(entries, count)));
+        return Err(wrong(LineFaultKind::GameShape, end_line(entries, count)));
     }
     let stacks = stacks_of(alloc, entries)?;
     match first_unsupported(entries, stacks.as_slice()) {
-        Some(key) => Err(wrong(What::UnsupportedGame, line_at(entries, key))),
+        Some(key) => Err(wrong(LineFaultKind::UnsupportedGame, line_at(entries, key))),
         None => Ok(build(entries, stacks.as_slice())),
     }
 }
@@ -68,10 +68,10 @@ fn stacks_of(alloc: Global, entries: &[Entry]) -> Result<Vec<u64>, Stop<AcpcFaul
     ensures few { IfOk result (λ stacks. are_chips stacks.items ≡ true) }
     ensures memory { IfErr result (λ stop. stop ≡ Stop.Memory) }
 {
-    if has_key(entries, Key::Stack) {
-        Ok(Vec::from_slice(alloc, numbers_at(entries, Key::Stack))?)
+    if has_key(entries, GameKey::Stack) {
+        Ok(Vec::from_slice(alloc, numbers_at(entries, GameKey::Stack))?)
     } else {
-        let count = numbers_at(entries, Key::Blind).len();
+        let count = numbers_at(entries, GameKey::Blind).len();
         Ok(vec![in alloc; DEFAULT_STACK; count]?)
     }
 }
@@ -85,8 +85,8 @@ fn build(entries: &[Entry], stacks: &[u64]) -> Game
     requires few { are_chips stacks.now ≡ true }
     ensures { game_in result ≡ game_by (map entry_said entries.now) }
 {
-    let blinds = numbers_at(entries, Key::Blind);
-    let sizes = numbers_at(entries, Key::RaiseSize);
+    let blinds = numbers_at(entries, GameKey::Blind);
+    let sizes = numbers_at(entries, GameKey::RaiseSize);
     let no_limit = has_no_limit(entries);
     let small_raise = size_at(no_limit, sizes, 0);
     let big_raise = size_at(no_limit, sizes, 2);
@@ -118,7 +118,7 @@ fn caps_of(entries: &[Entry]) -> Option<[u32; 4]>
     ensures { result
         ≡ option_map (λ entry. entry.numbers) (found keys.MaxRaises (map entry_said entries.now)) }
 {
-    match find_entry(entries, Key::MaxRaises) {
+    match find_entry(entries, GameKey::MaxRaises) {
         None => None,
         Some(entry) => Some(four_caps(entry.numbers.as_slice())),
     }

@@ -8,7 +8,7 @@ ghost use Rattle.first_fault.specs.Conditions.{first_where};
 
 use crate::entry::Entry;
 use crate::found::{find_entry, has_key, is_for_all, number_at, numbers_at};
-use crate::key::Key;
+use crate::key::GameKey;
 
 /// Whether nothing is missing.
 #[tactic(auto, unfolding(crate::specs::GameFile::is_whole))]
@@ -19,39 +19,39 @@ pub fn is_whole(entries: &[Entry]) -> bool
         return false;
     }
     let sizes = if has_no_limit(entries) {
-        Key::Stack
+        GameKey::Stack
     } else {
-        Key::RaiseSize
+        GameKey::RaiseSize
     };
     if !has_key(entries, sizes) {
         return false;
     }
-    is_for_all(entries, Key::Blind)
-        && (!has_key(entries, Key::Stack) || is_for_all(entries, Key::Stack))
+    is_for_all(entries, GameKey::Blind)
+        && (!has_key(entries, GameKey::Stack) || is_for_all(entries, GameKey::Stack))
 }
 
 // Whether each key stands that every game file has.
 fn has_needed(entries: &[Entry]) -> bool
     ensures { result ≡ list_all (λ key. has_key_said key (map entry_said entries.now)) needed }
 {
-    has_key(entries, Key::Begin)
-        && has_key(entries, Key::Limit)
-        && has_key(entries, Key::NumPlayers)
-        && has_key(entries, Key::NumRounds)
-        && has_key(entries, Key::Blind)
-        && has_key(entries, Key::FirstPlayer)
-        && has_key(entries, Key::NumSuits)
-        && has_key(entries, Key::NumRanks)
-        && has_key(entries, Key::NumHoleCards)
-        && has_key(entries, Key::NumBoardCards)
-        && has_key(entries, Key::End)
+    has_key(entries, GameKey::Begin)
+        && has_key(entries, GameKey::Limit)
+        && has_key(entries, GameKey::NumPlayers)
+        && has_key(entries, GameKey::NumRounds)
+        && has_key(entries, GameKey::Blind)
+        && has_key(entries, GameKey::FirstPlayer)
+        && has_key(entries, GameKey::NumSuits)
+        && has_key(entries, GameKey::NumRanks)
+        && has_key(entries, GameKey::NumHoleCards)
+        && has_key(entries, GameKey::NumBoardCards)
+        && has_key(entries, GameKey::End)
 }
 
 /// The line that a fault of the whole names.
 pub fn end_line(entries: &[Entry], count: u64) -> u64
     ensures { result ≡ end_line_said count (map entry_said entries.now) }
 {
-    match find_entry(entries, Key::End) {
+    match find_entry(entries, GameKey::End) {
         Some(entry) => entry.line,
         None => count.max(1),
     }
@@ -59,7 +59,7 @@ pub fn end_line(entries: &[Entry], count: u64) -> u64
 
 /// The first key that shows that the game is not played.
 #[tactic(auto, unfolding(crate::specs::GameFile::first_unsupported))]
-pub fn first_unsupported(entries: &[Entry], stacks: &[u64]) -> Option<Key>
+pub fn first_unsupported(entries: &[Entry], stacks: &[u64]) -> Option<GameKey>
     requires { stacks.now ≡ stacks_at (map entry_said entries.now) }
     ensures { result ≡ first_unsupported_said (map entry_said entries.now) }
 {
@@ -70,64 +70,64 @@ pub fn first_unsupported(entries: &[Entry], stacks: &[u64]) -> Option<Key>
 }
 
 // The first number of players, rounds or cards that is not played.
-fn other_cards(entries: &[Entry]) -> Option<Key>
+fn other_cards(entries: &[Entry]) -> Option<GameKey>
     ensures { result ≡ first_where (other_cards_said (map entry_said entries.now)) }
 {
-    let players = number_at(entries, Key::NumPlayers);
+    let players = number_at(entries, GameKey::NumPlayers);
     if !(2 <= players && players <= 10) {
-        return Some(Key::NumPlayers);
+        return Some(GameKey::NumPlayers);
     }
-    if number_at(entries, Key::NumRounds) != 4 {
-        return Some(Key::NumRounds);
+    if number_at(entries, GameKey::NumRounds) != 4 {
+        return Some(GameKey::NumRounds);
     }
-    if number_at(entries, Key::NumSuits) != 4 {
-        return Some(Key::NumSuits);
+    if number_at(entries, GameKey::NumSuits) != 4 {
+        return Some(GameKey::NumSuits);
     }
-    if number_at(entries, Key::NumRanks) != 13 {
-        return Some(Key::NumRanks);
+    if number_at(entries, GameKey::NumRanks) != 13 {
+        return Some(GameKey::NumRanks);
     }
-    if number_at(entries, Key::NumHoleCards) != 2 {
-        return Some(Key::NumHoleCards);
+    if number_at(entries, GameKey::NumHoleCards) != 2 {
+        return Some(GameKey::NumHoleCards);
     }
-    if !are_four(numbers_at(entries, Key::NumBoardCards), [0, 3, 1, 1]) {
-        return Some(Key::NumBoardCards);
+    if !are_four(numbers_at(entries, GameKey::NumBoardCards), [0, 3, 1, 1]) {
+        return Some(GameKey::NumBoardCards);
     }
     None
 }
 
 // The first chips that are not played.
-fn other_chips(entries: &[Entry], stacks: &[u64]) -> Option<Key>
+fn other_chips(entries: &[Entry], stacks: &[u64]) -> Option<GameKey>
     requires { stacks.now ≡ stacks_at (map entry_said entries.now) }
     ensures { result ≡ first_where (other_chips_said (map entry_said entries.now)) }
 {
-    let blinds = numbers_at(entries, Key::Blind);
-    let sizes = numbers_at(entries, Key::RaiseSize);
+    let blinds = numbers_at(entries, GameKey::Blind);
+    let sizes = numbers_at(entries, GameKey::RaiseSize);
     let no_limit = has_no_limit(entries);
     let most = greatest(blinds);
     if has_short_stack(stacks, blinds) {
-        return Some(if has_key(entries, Key::Stack) {
-            Key::Stack
+        return Some(if has_key(entries, GameKey::Stack) {
+            GameKey::Stack
         } else {
-            Key::Blind
+            GameKey::Blind
         });
     }
     if is_reversed(blinds) {
-        return Some(Key::Blind);
+        return Some(GameKey::Blind);
     }
     if !are_four(
-        numbers_at(entries, Key::FirstPlayer),
+        numbers_at(entries, GameKey::FirstPlayer),
         [opener_of(blinds), 1, 1, 1],
     ) {
-        return Some(Key::FirstPlayer);
+        return Some(GameKey::FirstPlayer);
     }
     if no_limit && most == 0 {
-        return Some(Key::Blind);
+        return Some(GameKey::Blind);
     }
     if !no_limit && !are_sizes(sizes) {
-        return Some(Key::RaiseSize);
+        return Some(GameKey::RaiseSize);
     }
     if !no_limit && is_small_blind_of(most, sizes) {
-        return Some(Key::RaiseSize);
+        return Some(GameKey::RaiseSize);
     }
     None
 }
@@ -136,9 +136,9 @@ fn other_chips(entries: &[Entry], stacks: &[u64]) -> Option<Key>
 pub fn has_no_limit(entries: &[Entry]) -> bool
     ensures { result ≡ has_no_limit_said (map entry_said entries.now) }
 {
-    match find_entry(entries, Key::Limit) {
+    match find_entry(entries, GameKey::Limit) {
         Some(entry) => match entry.key {
-            Key::NoLimit => true,
+            GameKey::NoLimit => true,
             _ => false,
         },
         None => false,

@@ -3,21 +3,21 @@ use Rattle.std.proofs.Common.{◌≡◌, ℕ, ◌+◌, ◌≤◌, Bool, true, fa
 use Rattle.std.proofs.lemmas.Bool.Decides.{nat_tests}
 use Rattle.list_laws.proofs.Counting.{count_by-push}
 use Rattle.chip_ledger.specs.declared.numbers.TheConstants.{MOST_CHIPS}
-use Rattle.canonical_play.specs.declared.limits.TheConstants.{MOST_MOVES}
+use Rattle.canon_script.specs.declared.limits.TheConstants.{MOST_MOVES}
 use Rattle.first_fault.specs.declared.limits.TheConstants.{MOST_FILE_MOVES}
 use Rattle.first_fault.specs.declared.limits.Quantity.TheVariants as quantities
 use Rattle.first_fault.specs.Digits.{number_of}
-use Rattle.acpc_text.specs.declared.fault.What.TheVariants as whats
+use Rattle.acpc_text.specs.declared.fault.LineFaultKind.TheVariants as whats
 use Rattle.acpc_text.specs.Faults.{wrong}
 use Rattle.acpc_text.specs.Letters.{Letter, scan}
-use Rattle.acpc_reading.specs.declared.step.Step.{Step}
-use Rattle.acpc_reading.specs.declared.step.Step.TheVariants as steps
+use Rattle.acpc_reading.specs.declared.step.BettingStep.{BettingStep}
+use Rattle.acpc_reading.specs.declared.step.BettingStep.TheVariants as steps
 use Rattle.acpc_reading.specs.Betting.{Bets, no_bets, with_move, bare_said, raise_said, stroke_said, letter_said, bets_after, betting_said}
 use Rattle.acpc_reading.proofs.Checked.{after}
 use Rattle.list_laws.proofs.Results.{ok_either, ok_where_some}
 
 -- a step is a move
-abbrev pub is_letter : Step → Bool
+abbrev pub is_letter : BettingStep → Bool
 is_letter steps.Fold = true
 is_letter steps.Call = true
 is_letter steps.Raise = true
@@ -25,7 +25,7 @@ is_letter (steps.RaiseTo total) = true
 is_letter steps.NextRound = false
 
 -- a step begins a round
-abbrev pub is_stroke : Step → Bool
+abbrev pub is_stroke : BettingStep → Bool
 is_stroke step = not (is_letter step)
 
 -- the betting is counted, where the file had so many moves before the hand
@@ -38,7 +38,7 @@ pub record AreCounted (earlier : ℕ) (bets : Bets) : Type 0 where
   pub few_file_moves : bets.file_moves ≤ MOST_FILE_MOVES
 
 module _ (earlier : ℕ) where
-  one_move : (bets : Bets) (at : ℕ) (step : Step) → is_letter step ≡ true → AreCounted earlier bets → IfOk (with_move bets at step) (AreCounted earlier)
+  one_move : (bets : Bets) (at : ℕ) (step : BettingStep) → is_letter step ≡ true → AreCounted earlier bets → IfOk (with_move bets at step) (AreCounted earlier)
   unfolding with_move
   one_move bets at step is counted =
       let moves = count_by-push is_letter bets.steps step in
@@ -56,7 +56,7 @@ module _ (earlier : ℕ) where
         few_file_moves = grind (arith, nat_tests, file_room);
       }))
 
-  bare : (bets : Bets) (at : ℕ) (digits : List ℕ) (step : Step) → is_letter step ≡ true → AreCounted earlier bets → IfOk (bare_said bets at digits step) (AreCounted earlier)
+  bare : (bets : Bets) (at : ℕ) (digits : List ℕ) (step : BettingStep) → is_letter step ≡ true → AreCounted earlier bets → IfOk (bare_said bets at digits step) (AreCounted earlier)
   unfolding bare_said
   bare bets at digits step is counted = ok_either (eqb (length digits) 0) (with_move bets at step) (wrong whats.BadBetting (at + 1)) (AreCounted earlier) (λ _. one_move bets at step is counted) (λ _. tt)
 

@@ -8,7 +8,7 @@ use Rattle.first_fault.specs.Reading.{Fails}
 use Rattle.acpc_text.specs.declared.fault.LineFault.{LineFault}
 use Rattle.acpc_text.specs.Parts.{parts_of}
 use Rattle.acpc_game.proofs.Steps.{fails_first, fails_at}
-use Rattle.acpc_reading.specs.declared.step.Step.{Step}
+use Rattle.acpc_reading.specs.declared.step.BettingStep.{BettingStep}
 use Rattle.acpc_reading.specs.Cards.{Written, bad_cards, hole_after, holes_after, step_after, steps_after, without_rest}
 
 module _ (at : ℕ) (events : List Numbered) (seat : ℕ) (all : List (List ℕ)) (whole : Result (List Numbered) LineFault) where
@@ -33,9 +33,9 @@ module _ (at : ℕ) (events : List Numbered) (seat : ℕ) (all : List (List ℕ)
   unfolding holes_after
   holes_done none so_far = sym so_far ∙ ap (holes_after at events seat) none
 
-module _ (at : ℕ) (so_far : Written) (all : List Step) (whole : Result Written LineFault) where
+module _ (at : ℕ) (so_far : Written) (all : List BettingStep) (whole : Result Written LineFault) where
   -- one more step was written
-  pub step_read : (step : Step) (steps : List Step) (more : Written) → all ≡ step ∷ steps → step_after at so_far step ≡ Ok more
+  pub step_read : (step : BettingStep) (steps : List BettingStep) (more : Written) → all ≡ step ∷ steps → step_after at so_far step ≡ Ok more
       → steps_after at so_far all ≡ whole → steps_after at more steps ≡ whole
   unfolding steps_after
   step_read step steps more cut is before =
@@ -43,7 +43,7 @@ module _ (at : ℕ) (so_far : Written) (all : List Step) (whole : Result Written
       sym one ∙ before
 
   -- a step was refused
-  pub step_fails : (stop : Stop LineFault) (step : Step) (steps : List Step) → all ≡ step ∷ steps → Fails stop (step_after at so_far step)
+  pub step_fails : (stop : Stop LineFault) (step : BettingStep) (steps : List BettingStep) → all ≡ step ∷ steps → Fails stop (step_after at so_far step)
       → steps_after at so_far all ≡ whole → Fails stop whole
   unfolding steps_after
   step_fails stop step steps cut fails before =

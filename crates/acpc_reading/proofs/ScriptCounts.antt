@@ -4,17 +4,17 @@ use Rattle.std.proofs.lemmas.Bool.Decides.{nat_tests}
 use Rattle.std.proofs.lemmas.Result.{IfOk-at_ok}
 use Rattle.list_laws.proofs.Counting.{count_by-push, count_by-cons}
 use Rattle.list_laws.proofs.Options.{along}
-use Rattle.canonical_play.specs.PlayedScript.{is_move, IsWithinLimits}
+use Rattle.canon_script.specs.PlayedScript.{is_move, IsWithinLimits}
 use Rattle.first_fault.specs.declared.limits.TheConstants.{MOST_FILE_MOVES}
 use Rattle.play_event.specs.declared.event.Event.{Event}
 use Rattle.play_event.specs.declared.event.Spelled.TheVariants as spelled
 use Rattle.play_event.specs.Said as said
 use Rattle.play_event.specs.Said.{Said, Numbered, numbered, said_of}
-use Rattle.acpc_text.specs.declared.fault.What.TheVariants as whats
+use Rattle.acpc_text.specs.declared.fault.LineFaultKind.TheVariants as whats
 use Rattle.acpc_text.specs.Faults.{wrong}
 use Rattle.acpc_text.specs.Parts.{parts_of}
-use Rattle.acpc_reading.specs.declared.step.Step.{Step}
-use Rattle.acpc_reading.specs.declared.step.Step.TheVariants as steps
+use Rattle.acpc_reading.specs.declared.step.BettingStep.{BettingStep}
+use Rattle.acpc_reading.specs.declared.step.BettingStep.TheVariants as steps
 use Rattle.acpc_reading.specs.Betting.{Bets, betting_said}
 use Rattle.acpc_reading.specs.Cards.{Written, bad_cards, board_said, dealt, hole_said, hole_after, holes_after, next_round, script_said, step_after, steps_after, steps_said, without_rest}
 use Rattle.acpc_reading.proofs.Checked.{after}
@@ -65,7 +65,7 @@ holes_counted at events seat (part ∷ parts) =
     }) (holes_counted at more (seat + 1) parts))
 
 -- what a step adds
-abbrev AddsStep : Step → Written → Written → Type 0
+abbrev AddsStep : BettingStep → Written → Written → Type 0
 AddsStep step before after = Adds (cond (is_letter step) 1 0) (cond (is_stroke step) 1 0) before.events after.events
 
 board_counted : (at : ℕ) (so_far : Written) (boards : List (List ℕ)) → IfOk (next_round at so_far boards) (AddsStep steps.NextRound so_far)
@@ -75,7 +75,7 @@ board_counted at so_far (board ∷ boards) =
     ok_where_some (board_said so_far.size board) (λ cards. Ok (record { events = so_far.events ++ (0, said.Board cards) ∷ []; number = so_far.number; size = 1; boards = boards })) (bad_cards at) (AddsStep steps.NextRound so_far)
     (λ cards. one_other so_far.events 0 (said.Board cards) refl) tt
 
-step_counted : (at : ℕ) (so_far : Written) (step : Step) → IfOk (step_after at so_far step) (AddsStep step so_far)
+step_counted : (at : ℕ) (so_far : Written) (step : BettingStep) → IfOk (step_after at so_far step) (AddsStep step so_far)
 unfolding step_after
 step_counted at so_far steps.Fold = one_move so_far.events _ (said.Fold None) refl
 step_counted at so_far steps.Call = one_move so_far.events _ (said.Call None None) refl
@@ -84,10 +84,10 @@ step_counted at so_far (steps.RaiseTo total) = one_move so_far.events _ (said.Ra
 step_counted at so_far steps.NextRound = board_counted at so_far so_far.boards
 
 -- what steps add
-abbrev AddsSteps : List Step → Written → Written → Type 0
+abbrev AddsSteps : List BettingStep → Written → Written → Type 0
 AddsSteps all before after = Adds (count_by is_letter all) (count_by is_stroke all) before.events after.events
 
-steps_counted : (at : ℕ) (so_far : Written) (all : List Step) → IfOk (steps_after at so_far all) (AddsSteps all so_far)
+steps_counted : (at : ℕ) (so_far : Written) (all : List BettingStep) → IfOk (steps_after at so_far all) (AddsSteps all so_far)
 unfolding steps_after
 steps_counted at so_far [] = record { moves_are = omega arith; others_are = omega arith }
 steps_counted at so_far (step ∷ rest) =
@@ -100,14 +100,14 @@ steps_counted at so_far (step ∷ rest) =
 ending : (at : ℕ) (before : List Numbered) (moves others : ℕ) (written : Written) → Adds moves others before written.events → IfOk (without_rest at written) (Adds moves others before)
 ending at before moves others written adds = ok_either (eqb (length written.boards) 0) (Ok written.events) (bad_cards at) (Adds moves others before) (λ _. adds) (λ _. tt)
 
-all_steps : (at : ℕ) (so_far : Written) (all : List Step) → IfOk (steps_said at so_far all) (Adds (count_by is_letter all) (count_by is_stroke all) so_far.events)
+all_steps : (at : ℕ) (so_far : Written) (all : List BettingStep) → IfOk (steps_said at so_far all) (Adds (count_by is_letter all) (count_by is_stroke all) so_far.events)
 unfolding steps_said
 all_steps at so_far all =
     after (steps_after at so_far all) (without_rest at) (AddsSteps all so_far) _ (steps_counted at so_far all)
     (λ written adds. ending at so_far.events (count_by is_letter all) (count_by is_stroke all) written adds)
 
 -- a script of so many players has a move for each letter, and a deal for each seat and each further round
-script_counted : (players : ℕ) (all : List Step) (at : ℕ) (parts : List (List ℕ)) → IfOk (script_said players all at parts) (Adds (count_by is_letter all) (players + count_by is_stroke all) [])
+script_counted : (players : ℕ) (all : List BettingStep) (at : ℕ) (parts : List (List ℕ)) → IfOk (script_said players all at parts) (Adds (count_by is_letter all) (players + count_by is_stroke all) [])
 unfolding script_said
 script_counted players all at [] = tt
 script_counted players all at (holes ∷ boards) =
@@ -133,7 +133,7 @@ others_same (event ∷ rest) =
     ∙ ap (λ n. cond (not (is_move (said_of event))) 1 0 + n) (others_same rest)
     ∙ sym (count_by-cons (λ event. not (is_move event.1)) (numbered event) (map numbered rest))
 
-module _ (no_limit : Bool) (players earlier betting_at at : ℕ) (text : List ℕ) (bets : Bets) (steps : List Step) (parts : List (List ℕ)) (script : List Event)
+module _ (no_limit : Bool) (players earlier betting_at at : ℕ) (text : List ℕ) (bets : Bets) (steps : List BettingStep) (parts : List (List ℕ)) (script : List Event)
     (few : earlier ≤ MOST_FILE_MOVES) (bets_are : betting_said no_limit earlier betting_at text ≡ Ok bets) (same : steps ≡ bets.steps) (script_is : script_said players steps at parts ≡ Ok (map numbered script)) where
   counted : AreCounted earlier bets
   counted = IfOk-at_ok (AreCounted earlier) bets_are (betting_counted no_limit earlier betting_at text few)

@@ -2,21 +2,21 @@
 use Rattle.std.specs.Prelude.{ℕ, ◌+◌, ◌==◌, Bool, nat_lt, nat_le, if◌then◌else◌, List, [], ◌∷◌, ◌++◌, length, Result, Ok}
 use Rattle.std.specs.Option.{option_map_or}
 use Rattle.chip_ledger.specs.declared.numbers.TheConstants.{MOST_CHIPS}
-use Rattle.canonical_play.specs.declared.limits.TheConstants.{MOST_MOVES}
+use Rattle.canon_script.specs.declared.limits.TheConstants.{MOST_MOVES}
 use Rattle.first_fault.specs.declared.limits.TheConstants.{MOST_FILE_MOVES}
 use Rattle.first_fault.specs.declared.limits.Quantity.TheVariants as quantities
 use Rattle.first_fault.specs.Reading.{◌>>=◌}
 use Rattle.first_fault.specs.Digits.{number_of}
 use Rattle.acpc_text.specs.declared.fault.LineFault.{LineFault}
-use Rattle.acpc_text.specs.declared.fault.What.TheVariants as whats
+use Rattle.acpc_text.specs.declared.fault.LineFaultKind.TheVariants as whats
 use Rattle.acpc_text.specs.Faults.{wrong}
 use Rattle.acpc_text.specs.Letters.{Letter, scan}
-use Rattle.acpc_reading.specs.declared.step.Step.{Step}
-use Rattle.acpc_reading.specs.declared.step.Step.TheVariants as steps
+use Rattle.acpc_reading.specs.declared.step.BettingStep.{BettingStep}
+use Rattle.acpc_reading.specs.declared.step.BettingStep.TheVariants as steps
 
 -- the betting so far: its steps, the round that the next letter is of, and how many moves the hand and the file have
 pub record Bets : Type 0 where
-  pub steps : List Step
+  pub steps : List BettingStep
   pub round : ℕ
   pub moves : ℕ
   pub file_moves : ℕ
@@ -26,14 +26,14 @@ abbrev pub no_bets : ℕ → Bets
 no_bets file_moves = record { steps = []; round = 1; moves = 0; file_moves = file_moves }
 
 -- one more move, if the hand and the file may have it
-unfoldable pub with_move : Bets → ℕ → Step → Result Bets LineFault
+unfoldable pub with_move : Bets → ℕ → BettingStep → Result Bets LineFault
 with_move bets at step =
     if nat_le MOST_MOVES bets.moves then wrong (whats.TooMany quantities.Moves) at
     else if nat_le MOST_FILE_MOVES bets.file_moves then wrong (whats.TooMany quantities.FileMoves) at
     else Ok (record { steps = bets.steps ++ step ∷ []; round = bets.round; moves = bets.moves + 1; file_moves = bets.file_moves + 1 })
 
 -- a letter that has no digits behind it
-unfoldable pub bare_said : Bets → ℕ → List ℕ → Step → Result Bets LineFault
+unfoldable pub bare_said : Bets → ℕ → List ℕ → BettingStep → Result Bets LineFault
 bare_said bets at digits step = if length digits == 0 then with_move bets at step else wrong whats.BadBetting (at + 1)
 
 -- a raise to the total that its digits say

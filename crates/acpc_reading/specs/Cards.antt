@@ -12,11 +12,11 @@ use Rattle.play_event.specs.Said as said
 use Rattle.play_event.specs.Said.{Said, Numbered}
 use Rattle.first_fault.specs.Reading.{◌>>=◌}
 use Rattle.acpc_text.specs.declared.fault.LineFault.{LineFault}
-use Rattle.acpc_text.specs.declared.fault.What.TheVariants as whats
+use Rattle.acpc_text.specs.declared.fault.LineFaultKind.TheVariants as whats
 use Rattle.acpc_text.specs.Faults.{wrong}
 use Rattle.acpc_text.specs.Parts.{parts_of}
-use Rattle.acpc_reading.specs.declared.step.Step.{Step}
-use Rattle.acpc_reading.specs.declared.step.Step.TheVariants as steps
+use Rattle.acpc_reading.specs.declared.step.BettingStep.{BettingStep}
+use Rattle.acpc_reading.specs.declared.step.BettingStep.TheVariants as steps
 use Rattle.first_fault.specs.Numbers.{kept_number}
 
 -- these slots, if they are so many and all of them known
@@ -67,7 +67,7 @@ next_round at so_far (board ∷ boards) =
     option_map_or (λ cards. Ok (record { events = so_far.events ++ (0, said.Board cards) ∷ []; number = so_far.number; size = 1; boards = boards })) (board_said so_far.size board) (bad_cards at)
 
 -- one more step: a letter with its number, or a board deal
-unfoldable pub step_after : ℕ → Written → Step → Result Written LineFault
+unfoldable pub step_after : ℕ → Written → BettingStep → Result Written LineFault
 step_after at so_far steps.Fold = Ok (with_letter so_far (said.Fold None))
 step_after at so_far steps.Call = Ok (with_letter so_far (said.Call None None))
 step_after at so_far steps.Raise = Ok (with_letter so_far (said.Raise None spelled.Unit))
@@ -75,7 +75,7 @@ step_after at so_far (steps.RaiseTo total) = Ok (with_letter so_far (said.Raise 
 step_after at so_far steps.NextRound = next_round at so_far so_far.boards
 
 -- the same of more steps
-unfoldable pub steps_after : ℕ → Written → List Step → Result Written LineFault
+unfoldable pub steps_after : ℕ → Written → List BettingStep → Result Written LineFault
 steps_after at so_far [] = Ok so_far
 steps_after at so_far (step ∷ rest) = step_after at so_far step >>= λ more. steps_after at more rest
 
@@ -88,11 +88,11 @@ abbrev pub dealt : List Numbered → List (List ℕ) → Written
 dealt events boards = record { events = events; number = 1; size = 3; boards = boards }
 
 -- the events of all steps, after which no cards are left
-unfoldable pub steps_said : ℕ → Written → List Step → Result (List Numbered) LineFault
+unfoldable pub steps_said : ℕ → Written → List BettingStep → Result (List Numbered) LineFault
 steps_said at so_far bets = steps_after at so_far bets >>= without_rest at
 
 -- The cards field at this byte, with the hole cards in front of its first stroke, and a part for each further round.
-unfoldable pub script_said : ℕ → List Step → ℕ → List (List ℕ) → Result (List Numbered) LineFault
+unfoldable pub script_said : ℕ → List BettingStep → ℕ → List (List ℕ) → Result (List Numbered) LineFault
 script_said players bets at [] = bad_cards at
 script_said players bets at (holes ∷ boards) =
     if length (parts_of 124 holes) == players

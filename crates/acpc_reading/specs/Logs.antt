@@ -6,7 +6,7 @@ use Rattle.first_fault.specs.declared.limits.Quantity.TheVariants as quantities
 use Rattle.first_fault.specs.Reading.{◌>>=◌}
 use Rattle.acpc_text.specs.declared.fault.AcpcFault.{AcpcFault}
 use Rattle.acpc_text.specs.declared.fault.LineFault.{LineFault}
-use Rattle.acpc_text.specs.declared.fault.What.TheVariants as whats
+use Rattle.acpc_text.specs.declared.fault.LineFaultKind.TheVariants as whats
 use Rattle.acpc_text.specs.Faults.{wrong, in_line}
 use Rattle.acpc_text.specs.Parts.{parts_of, lines_of, has_front}
 use Rattle.acpc_game.specs.declared.game.Game.{Game}

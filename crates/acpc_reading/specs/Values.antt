@@ -6,7 +6,7 @@ use Rattle.chip_ledger.specs.declared.rows.TheConstants.{MOST_AMOUNT}
 use Rattle.first_fault.specs.Reading.{◌>>=◌}
 use Rattle.first_fault.specs.Digits.{are_digits, number_of}
 use Rattle.acpc_text.specs.declared.fault.LineFault.{LineFault}
-use Rattle.acpc_text.specs.declared.fault.What.TheVariants as whats
+use Rattle.acpc_text.specs.declared.fault.LineFaultKind.TheVariants as whats
 use Rattle.acpc_text.specs.Faults.{wrong}
 use Rattle.acpc_text.specs.Parts.{parts_of}
 

@@ -3,7 +3,7 @@ ghost use Rattle.std.specs.Prelude.{◌≡◌, IfOk};
 ghost use Rattle.acpc_reading.specs.Betting.{no_bets};
 ghost use Rattle.acpc_reading.specs.Views.{bets_in};
 
-use crate::step::Step;
+use crate::step::BettingStep;
 use std::alloc::{AllocError, Global};
 
 // For so many letters of a hand room is made at once, and for more of them as they come.
@@ -11,8 +11,8 @@ const USUAL_LETTERS: usize = 64;
 
 /// The betting of a hand so far. One serves all lines of a log, so that room for it is made once.
 #[derive(Debug, Drop)]
-pub struct Betting {
-    pub steps: Vec<Step>,
+pub struct ReadBetting {
+    pub steps: Vec<BettingStep>,
     /// The round that the next letter is of, from 1.
     pub round: u8,
     /// How many moves the hand has.
@@ -21,12 +21,12 @@ pub struct Betting {
     pub file_moves: usize,
 }
 
-impl Betting {
+impl ReadBetting {
     /// No betting, in a file without moves.
     pub fn new(alloc: Global) -> Result<Self, AllocError>
         ensures { IfOk result (λ betting. bets_in betting ≡ no_bets 0) }
     {
-        Ok(Betting {
+        Ok(ReadBetting {
             steps: Vec::with_capacity(alloc, USUAL_LETTERS)?,
             round: 1,
             moves: 0,

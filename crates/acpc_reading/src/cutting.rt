@@ -7,7 +7,7 @@ ghost use Rattle.acpc_reading.specs.FieldsView.{HasRoom, fields_in};
 
 use crate::fields::Fields;
 use crate::letters::wrong;
-use acpc_text::{LineFault, What, cut_at};
+use acpc_text::{LineFault, LineFaultKind, cut_at};
 use first_fault::Stop;
 
 /// The six fields of a line.
@@ -19,19 +19,19 @@ pub fn cut_fields(line: &[u8]) -> Result<Fields<'_>, Stop<LineFault>>
 {
     let end = line.len() as u64 + 1;
     let (state, Some(rest)) = cut_at(line, b':') else {
-        return Err(wrong(What::LineShape, end));
+        return Err(wrong(LineFaultKind::LineShape, end));
     };
     let (hand, Some(rest)) = cut_at(rest, b':') else {
-        return Err(wrong(What::LineShape, end));
+        return Err(wrong(LineFaultKind::LineShape, end));
     };
     let (betting, Some(rest)) = cut_at(rest, b':') else {
-        return Err(wrong(What::LineShape, end));
+        return Err(wrong(LineFaultKind::LineShape, end));
     };
     let (cards, Some(rest)) = cut_at(rest, b':') else {
-        return Err(wrong(What::LineShape, end));
+        return Err(wrong(LineFaultKind::LineShape, end));
     };
     let (values, Some(rest)) = cut_at(rest, b':') else {
-        return Err(wrong(What::LineShape, end));
+        return Err(wrong(LineFaultKind::LineShape, end));
     };
     let (names, more) = cut_at(rest, b':');
     match more {
@@ -43,6 +43,6 @@ pub fn cut_fields(line: &[u8]) -> Result<Fields<'_>, Stop<LineFault>>
             values,
             names,
         }),
-        Some(more) => Err(wrong(What::LineShape, (line.len() - more.len()) as u64)),
+        Some(more) => Err(wrong(LineFaultKind::LineShape, (line.len() - more.len()) as u64)),
     }
 }

@@ -7,10 +7,10 @@ ghost use Rattle.acpc_text.specs.Letters.{scan};
 ghost use Rattle.acpc_reading.specs.Betting.{bare_said, bets_after, betting_said, letter_said, raise_said, stroke_said, with_move};
 ghost use Rattle.acpc_reading.specs.Views.{bets_in};
 
-use crate::betting::Betting;
-use crate::step::Step;
-use acpc_text::{LineFault, What, cut_digits, cut_first};
-use canonical_play::MOST_MOVES;
+use crate::betting::ReadBetting;
+use crate::step::BettingStep;
+use acpc_text::{LineFault, LineFaultKind, cut_digits, cut_first};
+use canon_script::MOST_MOVES;
 use chip_ledger::MOST_CHIPS;
 use first_fault::{MOST_FILE_MOVES, Quantity, Stop, read_digits};
 
@@ -18,7 +18,7 @@ use first_fault::{MOST_FILE_MOVES, Quantity, Stop, read_digits};
 #[tactic(auto, unfolding(crate::specs::Betting::betting_said))]
 pub fn read_betting(
     no_limit: bool,
-    betting: &mut Betting,
+    betting: &mut ReadBetting,
     at: u64,
     text: &[u8],
 ) -> Result<(), Stop<LineFault>>
@@ -30,7 +30,7 @@ pub fn read_betting(
 {
     let (digits, _after) = cut_digits(text);
     if !digits.is_empty() {
-        return Err(wrong(What::BadBetting, at));
+        return Err(wrong(LineFaultKind::BadBetting, at));
     }
     betting.begin();
     read_letters(no_limit, betting, at, text)
@@ -39,7 +39,7 @@ pub fn read_betting(
 // The letters of a text that begins with no digit.
 fn read_letters(
     no_limit: bool,
-    betting: &mut Betting,
+    betting: &mut ReadBetting,
     at: u64,
     text: &[u8],
 ) -> Result<(), Stop<LineFault>>
@@ -65,7 +65,7 @@ fn read_letters(
 #[tactic(auto, unfolding(crate::specs::Betting::letter_said))]
 fn take_letter(
     no_limit: bool,
-    betting: &mut Betting,
+    betting: &mut ReadBetting,
     at: u64,
     letter: u8,
     digits: &[u8],
@@ -78,30 +78,30 @@ fn take_letter(
         Fails stop (letter_said no_limit (bets_in betting.old) at (letter, digits.now))) }
 {
     if letter == b'f' {
-        return take_bare(betting, at, digits, Step::Fold);
+        return take_bare(betting, at, digits, BettingStep::Fold);
     }
     if letter == b'c' {
-        return take_bare(betting, at, digits, Step::Call);
+        return take_bare(betting, at, digits, BettingStep::Call);
     }
     if letter == b'r' {
         if no_limit {
             return take_raise(betting, at, digits);
         }
-        return take_bare(betting, at, digits, Step::Raise);
+        return take_bare(betting, at, digits, BettingStep::Raise);
     }
     if letter == b'/' {
         return take_stroke(betting, at, digits);
     }
-    Err(wrong(What::BadBetting, at))
+    Err(wrong(LineFaultKind::BadBetting, at))
 }
 
 // A letter that has no digits behind it.
 #[tactic(auto, unfolding(crate::specs::Betting::bare_said))]
 fn take_bare(
-    betting: &mut Betting,
+    betting: &mut ReadBetting,
     at: u64,
     digits: &[u8],
-    step: Step,
+    step: BettingStep,
 ) -> Result<(), Stop<LineFault>>
     requires { at + length digits.now < 2 ^ 64 }
     ensures ok { OnOk result (bare_said (bets_in betting.old) at digits.now step
@@ -110,14 +110,14 @@ fn take_bare(
         Fails stop (bare_said (bets_in betting.old) at digits.now step)) }
 {
     if !digits.is_empty() {
-        return Err(wrong(What::BadBetting, at + 1));
+        return Err(wrong(LineFaultKind::BadBetting, at + 1));
     }
     take_move(betting, at, step)
 }
 
 // A raise to the total that its digits say.
 #[tactic(auto, unfolding(crate::specs::Betting::raise_said, first_fault::specs::Digits::are_digits))]
-fn take_raise(betting: &mut Betting, at: u64, digits: &[u8]) -> Result<(), Stop<LineFault>>
+fn take_raise(betting: &mut ReadBetting, at: u64, digits: &[u8]) -> Result<(), Stop<LineFault>>
     requires few { at + 1 + length digits.now < 2 ^ 64 }
     requires digits { list_all (λ b. is_digit b 10) digits.now ≡ true }
     ensures ok { OnOk result (raise_said (bets_in betting.old) at digits.now
@@ -126,25 +126,25 @@ fn take_raise(betting: &mut Betting, at: u64, digits: &[u8]) -> Result<(), Stop<
         Fails stop (raise_said (bets_in betting.old) at digits.now)) }
 {
     if digits.is_empty() {
-        return Err(wrong(What::BadBetting, at + 1));
+        return Err(wrong(LineFaultKind::BadBetting, at + 1));
     }
     match read_digits(digits, MOST_CHIPS) {
-        Some(total) => take_move(betting, at, Step::RaiseTo(total)),
-        None => Err(wrong(What::AmountLimit, at + 1)),
+        Some(total) => take_move(betting, at, BettingStep::RaiseTo(total)),
+        None => Err(wrong(LineFaultKind::AmountLimit, at + 1)),
     }
 }
 
 // One more move, if the hand and the file may have it.
 #[tactic(auto, unfolding(crate::specs::Betting::with_move))]
-fn take_move(betting: &mut Betting, at: u64, step: Step) -> Result<(), Stop<LineFault>>
+fn take_move(betting: &mut ReadBetting, at: u64, step: BettingStep) -> Result<(), Stop<LineFault>>
     ensures ok { OnOk result (with_move (bets_in betting.old) at step ≡ Ok (bets_in betting.new)) }
     ensures err { IfErr result (λ stop. Fails stop (with_move (bets_in betting.old) at step)) }
 {
     if betting.moves >= MOST_MOVES {
-        return Err(wrong(What::TooMany(Quantity::Moves), at));
+        return Err(wrong(LineFaultKind::TooMany(Quantity::Moves), at));
     }
     if betting.file_moves >= MOST_FILE_MOVES {
-        return Err(wrong(What::TooMany(Quantity::FileMoves), at));
+        return Err(wrong(LineFaultKind::TooMany(Quantity::FileMoves), at));
     }
     betting.steps.push(step)?;
     betting.moves += 1;
@@ -154,7 +154,7 @@ fn take_move(betting: &mut Betting, at: u64, step: Step) -> Result<(), Stop<Line
 
 // A stroke, which begins the next of at most four rounds.
 #[tactic(auto, unfolding(crate::specs::Betting::stroke_said))]
-fn take_stroke(betting: &mut Betting, at: u64, digits: &[u8]) -> Result<(), Stop<LineFault>>
+fn take_stroke(betting: &mut ReadBetting, at: u64, digits: &[u8]) -> Result<(), Stop<LineFault>>
     requires { at + 1 + length digits.now < 2 ^ 64 }
     ensures ok { OnOk result (stroke_said (bets_in betting.old) at digits.now
         ≡ Ok (bets_in betting.new)) }
@@ -162,18 +162,18 @@ fn take_stroke(betting: &mut Betting, at: u64, digits: &[u8]) -> Result<(), Stop
         Fails stop (stroke_said (bets_in betting.old) at digits.now)) }
 {
     if betting.round >= 4 {
-        return Err(wrong(What::BadBetting, at));
+        return Err(wrong(LineFaultKind::BadBetting, at));
     }
     if !digits.is_empty() {
-        return Err(wrong(What::BadBetting, at + 1));
+        return Err(wrong(LineFaultKind::BadBetting, at + 1));
     }
-    betting.steps.push(Step::NextRound)?;
+    betting.steps.push(BettingStep::NextRound)?;
     betting.round += 1;
     Ok(())
 }
 
 /// A fault at a byte.
-pub fn wrong(what: What, byte: u64) -> Stop<LineFault>
+pub fn wrong(what: LineFaultKind, byte: u64) -> Stop<LineFault>
     ensures { result ≡ Stop.At (record { what = what; byte = byte }) }
 {
     Stop::At(LineFault { what, byte })

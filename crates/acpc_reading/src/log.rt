@@ -9,7 +9,7 @@ ghost use Rattle.acpc_reading.specs.Logs.{hand_of, hands_after_line, is_passed_o
 ghost use Rattle.acpc_reading.specs.RecordView.{AreOfGame, IsOfGame, record_said};
 ghost use Rattle.hand_records.specs.Moves.{moves_of};
 
-use crate::betting::Betting;
+use crate::betting::ReadBetting;
 use crate::cutting::cut_fields;
 use crate::fields::Fields;
 use crate::letters::{read_betting, wrong};
@@ -18,7 +18,7 @@ use crate::record::record_of;
 use crate::script::read_script;
 use crate::values::read_values;
 use acpc_game::Game;
-use acpc_text::{AcpcFault, LineFault, What, fault_in_line, has_prefix, next_line};
+use acpc_text::{AcpcFault, LineFault, LineFaultKind, fault_in_line, has_prefix, next_line};
 use first_fault::{MOST_HANDS, Quantity, Stop};
 use hand_records::Records;
 use std::alloc::Global;
@@ -51,7 +51,7 @@ fn read_lines(alloc: Global, game: &Game, bytes: &[u8]) -> Result<Records, Stop<
 {
     let mut records = Records::new(alloc);
     records.make_room((bytes.len() / USUAL_LINE).min(MOST_HANDS));
-    let mut betting = Betting::new(alloc)?;
+    let mut betting = ReadBetting::new(alloc)?;
     let mut count = 0;
     let mut rest = bytes;
     while let Some((line, behind)) = next_line(rest) {
@@ -68,7 +68,7 @@ fn take_line(
     alloc: Global,
     game: &Game,
     records: &mut Records,
-    betting: &mut Betting,
+    betting: &mut ReadBetting,
     line: u64,
     text: &[u8],
 ) -> Result<(), Stop<AcpcFault>>
@@ -86,7 +86,7 @@ fn take_line(
     }
     if records.len() >= MOST_HANDS {
         let fault = LineFault {
-            what: What::TooMany(Quantity::Hands),
+            what: LineFaultKind::TooMany(Quantity::Hands),
             byte: 1,
         };
         return Err(Stop::At(fault_in_line(line, fault)));
@@ -111,7 +111,7 @@ fn read_line(
     alloc: Global,
     game: &Game,
     records: &mut Records,
-    betting: &mut Betting,
+    betting: &mut ReadBetting,
     line: &[u8],
 ) -> Result<(), Stop<LineFault>>
     requires room { length line.now < 2 ^ 63 }
@@ -125,7 +125,7 @@ fn read_line(
     ensures kept { OnOk result (AreOfGame game.now records.new betting.new.file_moves) }
 {
     if !has_prefix(line, b"STATE:") {
-        return Err(wrong(What::LineShape, 1));
+        return Err(wrong(LineFaultKind::LineShape, 1));
     }
     let fields = cut_fields(line)?;
     read_hand_of(alloc, game, records, betting, &fields)
@@ -137,7 +137,7 @@ fn read_hand_of(
     alloc: Global,
     game: &Game,
     records: &mut Records,
-    betting: &mut Betting,
+    betting: &mut ReadBetting,
     fields: &Fields<'_>,
 ) -> Result<(), Stop<LineFault>>
     requires room { HasRoom (fields_in fields.now) }

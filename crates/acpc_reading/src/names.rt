@@ -9,7 +9,7 @@ ghost use Rattle.chip_ledger.specs.SeatsSaid.{default_name};
 
 use crate::letters::wrong;
 use crate::parts::next_part;
-use acpc_text::{LineFault, What, count_parts};
+use acpc_text::{LineFault, LineFaultKind, count_parts};
 use first_fault::{MOST_TEXT_BYTES, Quantity, Stop, Text, are_digits, read_digits};
 use std::alloc::Global;
 
@@ -30,7 +30,7 @@ pub fn read_hand(
     ensures allowed { IfOk result (λ note. IfSome note IsNoteText) }
 {
     if !are_digits(text) || text.len() > MOST_HAND_DIGITS {
-        return Err(wrong(What::LineShape, at));
+        return Err(wrong(LineFaultKind::LineShape, at));
     }
     match read_digits(text, MOST_HAND) {
         Some(number) => {
@@ -41,7 +41,7 @@ pub fn read_hand(
             let note = Text::new(alloc, digits.as_str())?;
             Ok(Some(note))
         }
-        None => Err(wrong(What::LineShape, at)),
+        None => Err(wrong(LineFaultKind::LineShape, at)),
     }
 }
 
@@ -63,7 +63,7 @@ pub fn read_names(
         → slice_index_or names index None ≡ None) }
 {
     if count_parts(text, b'|') != players as usize {
-        return Err(wrong(What::SeatCount, at));
+        return Err(wrong(LineFaultKind::SeatCount, at));
     }
     fill_names(alloc, players, at, text)
 }
@@ -110,10 +110,10 @@ fn read_name(alloc: Global, seat: u8, at: u64, name: &[u8]) -> Result<Option<Tex
         return Ok(None);
     }
     let Some(text) = text_of(name) else {
-        return Err(wrong(What::LineShape, at));
+        return Err(wrong(LineFaultKind::LineShape, at));
     };
     if name.len() > MOST_TEXT_BYTES {
-        return Err(wrong(What::TooMany(Quantity::TextBytes), at));
+        return Err(wrong(LineFaultKind::TooMany(Quantity::TextBytes), at));
     }
     let text = Text::new(alloc, text)?;
     Ok(Some(text))

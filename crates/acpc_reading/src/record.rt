@@ -1,6 +1,6 @@
 //! What a line says of a hand, with the setup and the rules of its game, is a record.
 ghost use Rattle.std.specs.Prelude.{◌≡◌, ℕ, ◌-◌, ◌≤◌, None, map, take, slice_index_or, IfSome};
-ghost use Rattle.canonical_play.specs.PlayedScript.{IsWithinLimits};
+ghost use Rattle.canon_script.specs.PlayedScript.{IsWithinLimits};
 ghost use Rattle.hand_records.specs.AllowedNotes.{IsName, IsNoteText};
 ghost use Rattle.play_event.specs.Said.{numbered, said_of};
 ghost use Rattle.acpc_reading.specs.RecordView.{IsOfGame, NotesNames, StatesValues, record_said};

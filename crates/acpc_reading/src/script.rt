@@ -11,8 +11,8 @@ use crate::cards::{read_board, read_hole};
 use crate::letters::wrong;
 use crate::parts::next_part;
 use crate::pending::Pending;
-use crate::step::Step;
-use acpc_text::{LineFault, What, count_parts, cut_at, kept};
+use crate::step::BettingStep;
+use acpc_text::{LineFault, LineFaultKind, count_parts, cut_at, kept};
 use chip_ledger::Seat;
 use first_fault::Stop;
 use play_event::{Event, Kind, Script, Spelled};
@@ -23,7 +23,7 @@ use std::alloc::Global;
 pub fn read_script(
     alloc: Global,
     players: u8,
-    steps: &[Step],
+    steps: &[BettingStep],
     at: u64,
     field: &[u8],
 ) -> Result<Script, Stop<LineFault>>
@@ -33,7 +33,7 @@ pub fn read_script(
 {
     let (holes, boards) = cut_at(field, b'/');
     if count_parts(holes, b'|') != players as usize {
-        return Err(wrong(What::SeatCount, at));
+        return Err(wrong(LineFaultKind::SeatCount, at));
     }
     let mut script = Script::with_room(alloc, players as usize + steps.len())?;
     take_holes(&mut script, players, at, holes)?;
@@ -84,7 +84,7 @@ fn take_hole(script: &mut Script, seat: u8, at: u64, part: &[u8]) -> Result<(), 
             })?;
             Ok(())
         }
-        None => Err(wrong(What::BadCards, at)),
+        None => Err(wrong(LineFaultKind::BadCards, at)),
     }
 }
 
@@ -94,7 +94,7 @@ fn take_steps(
     script: &mut Script,
     at: u64,
     boards: Option<&[u8]>,
-    steps: &[Step],
+    steps: &[BettingStep],
 ) -> Result<(), Stop<LineFault>>
     ensures ok { OnOk result
         (steps_said at (dealt (map numbered script.old) (parts_left 47 boards.entry)) steps.now
@@ -113,7 +113,7 @@ fn take_steps(
     }
     match pending.boards {
         None => Ok(()),
-        Some(_) => Err(wrong(What::BadCards, at)),
+        Some(_) => Err(wrong(LineFaultKind::BadCards, at)),
     }
 }
 
@@ -123,7 +123,7 @@ fn take_step<'a>(
     script: &mut Script,
     at: u64,
     pending: Pending<'a>,
-    step: Step,
+    step: BettingStep,
 ) -> Result<Pending<'a>, Stop<LineFault>>
     requires few { pending.number < 2 ^ 64 - 1 }
     requires small { pending.size ≤ 7 }
@@ -135,29 +135,29 @@ fn take_step<'a>(
         Fails stop (step_after at (written_by script.old pending.entry) step)) }
 {
     match step {
-        Step::Fold => take_letter(script, pending, Kind::Fold { actor: None }),
-        Step::Call => {
+        BettingStep::Fold => take_letter(script, pending, Kind::Fold { actor: None }),
+        BettingStep::Call => {
             let kind = Kind::Call {
                 actor: None,
                 stated: None,
             };
             take_letter(script, pending, kind)
         }
-        Step::Raise => {
+        BettingStep::Raise => {
             let kind = Kind::Raise {
                 actor: None,
                 amount: Spelled::Unit,
             };
             take_letter(script, pending, kind)
         }
-        Step::RaiseTo(total) => {
+        BettingStep::RaiseTo(total) => {
             let kind = Kind::Raise {
                 actor: None,
                 amount: Spelled::HandTotal(total),
             };
             take_letter(script, pending, kind)
         }
-        Step::NextRound => take_board(script, at, pending),
+        BettingStep::NextRound => take_board(script, at, pending),
     }
 }
 
@@ -200,7 +200,7 @@ fn take_board<'a>(
         (written_by script.old pending.entry) (parts_left 47 pending.entry.boards))) }
 {
     let Some(left) = pending.boards else {
-        return Err(wrong(What::BadCards, at));
+        return Err(wrong(LineFaultKind::BadCards, at));
     };
     let (board, rest) = cut_at(left, b'/');
     match read_board(pending.size, board) {
@@ -215,6 +215,6 @@ fn take_board<'a>(
                 boards: rest,
             })
         }
-        None => Err(wrong(What::BadCards, at)),
+        None => Err(wrong(LineFaultKind::BadCards, at)),
     }
 }

@@ -2,7 +2,7 @@
 
 /// What a letter of the betting says, or a stroke.
 #[derive(Clone, Copy, Debug, PartialEq, Eq)]
-pub enum Step {
+pub enum BettingStep {
     Fold,
     Call,
     /// A raise by the size of the round.

@@ -8,7 +8,7 @@ ghost use Rattle.acpc_reading.specs.Views.{nets_in};
 
 use crate::letters::wrong;
 use crate::parts::next_part;
-use acpc_text::{LineFault, What, count_parts, cut_at, cut_first};
+use acpc_text::{LineFault, LineFaultKind, count_parts, cut_at, cut_first};
 use chip_ledger::MOST_AMOUNT;
 use first_fault::{Stop, are_digits, read_digits};
 use hand_records::NetRow;
@@ -22,7 +22,7 @@ pub fn read_values(players: u8, at: u64, text: &[u8]) -> Result<NetRow, Stop<Lin
     ensures seats { IfOk result (λ row. row.seats ≡ players) }
 {
     if count_parts(text, b'|') != players as usize {
-        return Err(wrong(What::SeatCount, at));
+        return Err(wrong(LineFaultKind::SeatCount, at));
     }
     fill_values(players, at, text)
 }
@@ -57,7 +57,7 @@ fn read_value(at: u64, text: &[u8]) -> Result<i64, Stop<LineFault>>
     ensures { Gives (λ value. value) result (value_said at text.now) }
 {
     let Some((first, rest)) = cut_first(text) else {
-        return Err(wrong(What::BadValue, at));
+        return Err(wrong(LineFaultKind::BadValue, at));
     };
     if first == b'-' {
         read_unsigned(true, at, rest)
@@ -90,10 +90,10 @@ fn read_fraction(
 {
     let (zeros, more) = cut_at(rest, b'.');
     match more {
-        Some(_) => Err(wrong(What::BadValue, at)),
+        Some(_) => Err(wrong(LineFaultKind::BadValue, at)),
         None => {
             if !are_zeros(zeros) {
-                return Err(wrong(What::BadValue, at));
+                return Err(wrong(LineFaultKind::BadValue, at));
             }
             read_whole(is_negative, at, digits)
         }
@@ -121,11 +121,11 @@ fn read_whole(is_negative: bool, at: u64, digits: &[u8]) -> Result<i64, Stop<Lin
     ensures { Gives (λ value. value) result (whole_said is_negative at digits.now) }
 {
     if !are_digits(digits) {
-        return Err(wrong(What::BadValue, at));
+        return Err(wrong(LineFaultKind::BadValue, at));
     }
     match read_digits(digits, MOST_AMOUNT) {
         Some(number) => Ok(signed(is_negative, number)),
-        None => Err(wrong(What::AmountLimit, at)),
+        None => Err(wrong(LineFaultKind::AmountLimit, at)),
     }
 }
 

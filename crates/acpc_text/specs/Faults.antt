@@ -1,14 +1,14 @@
 -- Faults of a line, and of a file by the number of the line.
 use Rattle.std.specs.Prelude.{◌≡◌, ℕ, Result, Ok, Err}
-use Rattle.acpc_text.specs.declared.fault.What.{What}
-use Rattle.acpc_text.specs.declared.fault.What.TheVariants as whats
+use Rattle.acpc_text.specs.declared.fault.LineFaultKind.{LineFaultKind}
+use Rattle.acpc_text.specs.declared.fault.LineFaultKind.TheVariants as whats
 use Rattle.acpc_text.specs.declared.fault.LineFault.{LineFault}
 use Rattle.acpc_text.specs.declared.fault.AcpcFault.{AcpcFault}
 use Rattle.acpc_text.specs.declared.fault.AcpcFault.TheVariants as faults
 use Rattle.first_fault.specs.Numbers.{kept_number}
 
 -- the fault of this kind at a line and a byte
-abbrev pub fault_of : What → ℕ → ℕ → AcpcFault
+abbrev pub fault_of : LineFaultKind → ℕ → ℕ → AcpcFault
 fault_of whats.LineShape line byte = faults.LineShape line byte
 fault_of whats.BadBetting line byte = faults.BadBetting line byte
 fault_of whats.BadCards line byte = faults.BadCards line byte
@@ -24,7 +24,7 @@ abbrev pub fault_in_line : ℕ → LineFault → AcpcFault
 fault_in_line line fault = fault_of fault.what (kept_number line) (kept_number fault.byte)
 
 -- a line is wrong at a byte
-abbrev pub wrong : {A : Type 0} → What → ℕ → Result A LineFault
+abbrev pub wrong : {A : Type 0} → LineFaultKind → ℕ → Result A LineFault
 wrong what byte = Err (record { what = what; byte = byte })
 
 -- what a line says, or its fault as one of the file

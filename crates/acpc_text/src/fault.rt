@@ -7,7 +7,7 @@ use first_fault::Quantity;
 
 /// What is wrong with a line.
 #[derive(Clone, Copy, Debug, PartialEq, Eq)]
-pub enum What {
+pub enum LineFaultKind {
     /// A line of a log is no state, has another number of fields, no number of a hand, or a name that is no text.
     LineShape,
     BadBetting,
@@ -27,7 +27,7 @@ pub enum What {
 /// What is wrong with a line, and the byte of it that shows it, from 1.
 #[derive(Clone, Copy, Debug, PartialEq, Eq)]
 pub struct LineFault {
-    pub what: What,
+    pub what: LineFaultKind,
     pub byte: u64,
 }
 
@@ -82,15 +82,15 @@ pub fn fault_in_line(line: u64, fault: LineFault) -> AcpcFault
     let byte = kept(fault.byte);
     let line = kept(line);
     match fault.what {
-        What::LineShape => AcpcFault::LineShape { line, byte },
-        What::BadBetting => AcpcFault::BadBetting { line, byte },
-        What::BadCards => AcpcFault::BadCards { line, byte },
-        What::BadValue => AcpcFault::BadValue { line, byte },
-        What::SeatCount => AcpcFault::SeatCount { line, byte },
-        What::GameShape => AcpcFault::GameShape { line, byte },
-        What::UnsupportedGame => AcpcFault::UnsupportedGame { line, byte },
-        What::AmountLimit => AcpcFault::AmountLimit { line, byte },
-        What::TooMany(quantity) => AcpcFault::TooMany {
+        LineFaultKind::LineShape => AcpcFault::LineShape { line, byte },
+        LineFaultKind::BadBetting => AcpcFault::BadBetting { line, byte },
+        LineFaultKind::BadCards => AcpcFault::BadCards { line, byte },
+        LineFaultKind::BadValue => AcpcFault::BadValue { line, byte },
+        LineFaultKind::SeatCount => AcpcFault::SeatCount { line, byte },
+        LineFaultKind::GameShape => AcpcFault::GameShape { line, byte },
+        LineFaultKind::UnsupportedGame => AcpcFault::UnsupportedGame { line, byte },
+        LineFaultKind::AmountLimit => AcpcFault::AmountLimit { line, byte },
+        LineFaultKind::TooMany(quantity) => AcpcFault::TooMany {
             quantity,
             line,
             byte,

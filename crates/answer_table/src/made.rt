@@ -73,7 +73,7 @@ pub fn file_made(alloc: Global, seed: u64, count: u32) -> Result<MadeFile, NoFil
         Err(PlaysFault::Memory) => return Err(NoFile::Memory),
     };
     let moves = moves_of(&plays);
-    match phh_table::write(alloc, &plays, Keep::All) {
+    match phh_writing::write(alloc, &plays, Keep::All) {
         Ok(bytes) => Ok(MadeFile { bytes, moves }),
         Err(WriteRefusal::Unspelled { hand, .. }) => Err(NoFile::Unspelled { hand }),
         Err(WriteRefusal::Memory) => Err(NoFile::Memory),

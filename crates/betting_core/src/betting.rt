@@ -13,28 +13,28 @@ ghost use Rattle.play_event.specs.TurnTargets.{has_targets, is_bet_due};
 ghost use Rattle.play_event.specs.Past as plays;
 ghost use Rattle.play_event.specs.Played.{act_said, move_said};
 ghost use Rattle.play_event.specs.Trace.{traced_move};
-ghost use Rattle.play_event.specs.Said as said;
 ghost use Rattle.betting_numbers.specs.SeatsSaid.{turn_of};
 ghost use Rattle.play_event.specs.Streets.{is_stud, unit};
 ghost use Rattle.betting_numbers.specs.Seen.{all_in_seen, is_move_due_seen, mover_seen};
+ghost use Rattle.betting_core.specs.Kept.{AreKept, IsOfTable, IsOnStreet, IsSameHand};
 ghost use Rattle.betting_numbers.specs.Standing.{StandsFor};
 ghost use Rattle.betting_numbers.specs.LegalMoves.{IsLegalMove, IsTurn, IsInTurn, IsRefused, IsAllowed, IsOfHand, IsInReach, IsFit, WhereBets, WhereUps, reason_after, past_with, with_move};
 ghost use Rattle.street_laws.specs.CardEvents.{is_card_said};
 ghost use Rattle.street_laws.specs.Seats.{IsSeat};
 ghost use Rattle.betting_numbers.specs.UpTo.{StandsUpTo};
 ghost use Rattle.street_laws.specs.Done.{is_done};
-ghost use Rattle.street_laws.specs.Dues.{IsDueWithin, is_of_street, is_deal_or_draw, is_cards_due, is_before_moves};
+ghost use Rattle.street_laws.specs.Dues.{IsDueWithin, is_deal_or_draw, is_cards_due};
 ghost use Rattle.betting_numbers.specs.Turn.{may_come_at, IsDealtTo, IsPassedTo, IsSettledTo};
-ghost use Rattle.betting_numbers.specs.Turn.{IsFirstBehind, IsNextUp, KeepsSeat, KeepsTurn, StartsFresh};
+ghost use Rattle.betting_numbers.specs.Turn.{IsFirstBehind, IsNextUp};
 ghost use Rattle.street_laws.specs.Walk.{street_cards};
 ghost use Rattle.play_event.specs.Said.{Said, said_of};
 ghost use Rattle.play_event.specs.ValidSetup.{IsValid};
 ghost use Rattle.betting_numbers.specs.Targeted.{AreEndsFor};
 ghost use Rattle.chip_ledger.specs.SeatsSaid.{seat_said};
 
-use betting_numbers::{LegalMove, Table, Targets, Turn, not_now, start};
+use betting_numbers::{LegalMove, RunningNumbers, SeatInTurn, Targets, not_now, start};
 use chip_ledger::{LiveRow, Seat, SeatRow};
-use play_event::{Act, Due, Event, Illegal, Kind, Move as Moved, Rules, Setup, Spelled, UpRow};
+use play_event::{Act, Due, Event, Illegal, Kind, Move as Moved, Rules, Setup, UpRow};
 use std::marker::PhantomData;
 use variant_table::{Opener, Size, Variant};
 
@@ -47,16 +47,10 @@ use variant_table::{Opener, Size, Variant};
 #[derive(Drop)]
 pub struct Betting<V: Variant> {
     /// The running numbers. They are public for the contracts of those who hold a machine.
-    pub table: Table,
+    pub table: RunningNumbers,
     pub game: PhantomData<V>,
     pub ghost code: { table.setup.code ≡ V.CODE },
-    pub ghost first: { 1 ≤ table.street },
-    pub ghost last: { table.street ≤ V.STREETS },
-    pub ghost here: { is_of_street table.street table.due ≡ true },
-    pub ghost begins: { is_before_moves table.due ≡ true → table.last ≡ None },
-    pub ghost fresh: { StartsFresh table },
-    pub ghost turn: { KeepsTurn table },
-    pub ghost seat: { KeepsSeat table } by { Prim.hlevel props },
+    pub ghost kept: { AreKept V.STREETS table } by { Prim.hlevel props },
 }
 
 impl<V: Variant> Betting<V> {
@@ -101,8 +95,7 @@ impl<V: Variant> Betting<V> {
             → past_with self.old.table past (said_of event.now) ≡ plays.Moved move ∷ past
             → move_said moved ≡ traced_move self.old.table.setup move (moves_of past))) }
         ensures unchanged { OnErr result (self.new ≡ self.old) }
-        ensures setup { self.new.table.setup ≡ self.old.table.setup }
-        ensures rules { self.new.table.rules ≡ self.old.table.rules }
+        ensures same { IsSameHand self.old.table self.new.table }
     {
         let turn = self.turn_found(up);
         match self.legal_move(turn.seat, event) {
@@ -113,7 +106,7 @@ impl<V: Variant> Betting<V> {
 
     // The move that an event says, if it is legal.
     fn legal_move(&self, turn: Option<Seat>, event: &Event) -> Result<LegalMove, Illegal>
-        requires turn_in { IfSome turn (λ seat. seat.number ≤ self.now.table.setup.stacks.seats) }
+        requires turn_in { IsOfTable self.now.table turn }
         requires kind { is_card_said (said_of event.now) ≡ false }
         ensures refused { WhereBets self.now.table turn
             (IsRefused self.now.table (said_of event.now) result) }
@@ -126,99 +119,27 @@ impl<V: Variant> Betting<V> {
         ensures reach { IfOk result (IsInReach self.now.table) }
     {
         match event.kind {
-            Kind::Fold { actor } => self.fold(turn, actor),
-            Kind::Call { actor, stated } => self.call(turn, actor, stated),
-            Kind::Raise { actor, amount } => self.raise(turn, actor, amount),
-            Kind::BringIn { actor } => self.bring_in(turn, actor),
+            Kind::Fold { actor } => match not_now(self.table.due, true, false) {
+                Some(reason) => Err(reason),
+                None => self.table.legal_fold(turn, actor),
+            },
+            Kind::Call { actor, stated } => match not_now(self.table.due, true, false) {
+                Some(reason) => Err(reason),
+                None => self.table.legal_call(turn, actor, stated),
+            },
+            Kind::Raise { actor, amount } => match not_now(self.table.due, true, true) {
+                Some(reason) => Err(reason),
+                None => {
+                    let size = self.unit();
+                    self.table.legal_raise(turn, V::LIMIT, size, actor, amount)
+                }
+            },
+            Kind::BringIn { actor } => match not_now(self.table.due, false, true) {
+                Some(reason) => Err(reason),
+                None => self.table.legal_bring_in(turn, actor),
+            },
             _ => Err(Illegal::WrongKind),
         }
-    }
-
-    // The fold that an event says, if it is legal.
-    fn fold(&self, turn: Option<Seat>, actor: Option<Seat>) -> Result<LegalMove, Illegal>
-        requires turn_in { IfSome turn (λ seat. seat.number ≤ self.now.table.setup.stacks.seats) }
-        ensures refused { WhereBets self.now.table turn
-            (IsRefused self.now.table (said.Fold (seat_said actor)) result) }
-        ensures legal { WhereBets self.now.table turn
-            (IsAllowed self.now.table (said.Fold (seat_said actor)) result) }
-        ensures due { OnOk result (is_bet_due self.now.table.due ≡ true) }
-        ensures fits { IfOk result (IsFit self.now.table) }
-        ensures in_hand { IfOk result (IsOfHand self.now.table) }
-        ensures seat { IfOk result (IsInTurn turn) }
-        ensures reach { IfOk result (IsInReach self.now.table) }
-    {
-        if let Some(reason) = not_now(self.table.due, true, false) {
-            return Err(reason);
-        }
-        self.table.legal_fold(turn, actor)
-    }
-
-    // The call that an event says, if it is legal.
-    fn call(
-        &self,
-        turn: Option<Seat>,
-        actor: Option<Seat>,
-        stated: Option<u64>,
-    ) -> Result<LegalMove, Illegal>
-        requires turn_in { IfSome turn (λ seat. seat.number ≤ self.now.table.setup.stacks.seats) }
-        ensures refused { WhereBets self.now.table turn
-            (IsRefused self.now.table (said.Call (seat_said actor) stated) result) }
-        ensures legal { WhereBets self.now.table turn
-            (IsAllowed self.now.table (said.Call (seat_said actor) stated) result) }
-        ensures due { OnOk result (is_bet_due self.now.table.due ≡ true) }
-        ensures fits { IfOk result (IsFit self.now.table) }
-        ensures in_hand { IfOk result (IsOfHand self.now.table) }
-        ensures seat { IfOk result (IsInTurn turn) }
-        ensures reach { IfOk result (IsInReach self.now.table) }
-    {
-        if let Some(reason) = not_now(self.table.due, true, false) {
-            return Err(reason);
-        }
-        self.table.legal_call(turn, actor, stated)
-    }
-
-    // The raise that an event says, if it is legal.
-    fn raise(
-        &self,
-        turn: Option<Seat>,
-        actor: Option<Seat>,
-        amount: Spelled,
-    ) -> Result<LegalMove, Illegal>
-        requires turn_in { IfSome turn (λ seat. seat.number ≤ self.now.table.setup.stacks.seats) }
-        ensures refused { WhereBets self.now.table turn
-            (IsRefused self.now.table (said.Raise (seat_said actor) amount) result) }
-        ensures legal { WhereBets self.now.table turn
-            (IsAllowed self.now.table (said.Raise (seat_said actor) amount) result) }
-        ensures due { OnOk result (is_bet_due self.now.table.due ≡ true) }
-        ensures fits { IfOk result (IsFit self.now.table) }
-        ensures in_hand { IfOk result (IsOfHand self.now.table) }
-        ensures seat { IfOk result (IsInTurn turn) }
-        ensures reach { IfOk result (IsInReach self.now.table) }
-    {
-        if let Some(reason) = not_now(self.table.due, true, true) {
-            return Err(reason);
-        }
-        let size = self.unit();
-        self.table.legal_raise(turn, V::LIMIT, size, actor, amount)
-    }
-
-    // The bring-in that an event says, if it is legal.
-    fn bring_in(&self, turn: Option<Seat>, actor: Option<Seat>) -> Result<LegalMove, Illegal>
-        requires turn_in { IfSome turn (λ seat. seat.number ≤ self.now.table.setup.stacks.seats) }
-        ensures refused { WhereBets self.now.table turn
-            (IsRefused self.now.table (said.BringIn (seat_said actor)) result) }
-        ensures legal { WhereBets self.now.table turn
-            (IsAllowed self.now.table (said.BringIn (seat_said actor)) result) }
-        ensures due { OnOk result (is_bet_due self.now.table.due ≡ true) }
-        ensures fits { IfOk result (IsFit self.now.table) }
-        ensures in_hand { IfOk result (IsOfHand self.now.table) }
-        ensures seat { IfOk result (IsInTurn turn) }
-        ensures reach { IfOk result (IsInReach self.now.table) }
-    {
-        if let Some(reason) = not_now(self.table.due, false, true) {
-            return Err(reason);
-        }
-        self.table.legal_bring_in(turn, actor)
     }
 
     // Makes a legal move, where this seat, if it was looked for, is the first able one behind.
@@ -237,8 +158,7 @@ impl<V: Variant> Betting<V> {
             legal.target
             → (move : plays.Move) → past_with self.old.table past event ≡ plays.Moved move ∷ past
             → move_said result ≡ traced_move self.old.table.setup move (moves_of past) }
-        ensures setup { self.new.table.setup ≡ self.old.table.setup }
-        ensures rules { self.new.table.rules ≡ self.old.table.rules }
+        ensures same { IsSameHand self.old.table self.new.table }
     {
         let size = self.unit();
         let moved = self
@@ -258,8 +178,7 @@ impl<V: Variant> Betting<V> {
             → is_bet_due self.old.table.due ≡ true
             → StandsFor self.new.table
             (with_move self.old.table past seat.number (act_said act) target) }
-        ensures setup { self.new.table.setup ≡ self.old.table.setup }
-        ensures rules { self.new.table.rules ≡ self.old.table.rules }
+        ensures same { IsSameHand self.old.table self.new.table }
     {
         let unit = self.unit();
         self.table.make(seat, act, target, unit);
@@ -281,43 +200,12 @@ impl<V: Variant> Betting<V> {
             → is_done self.old.table.setup past self.new.table.due ≡ true
             → self.new.table.due ≡ dues.Show }
         ensures over { self.old.table.due ≡ dues.Show → self.new.table.due ≡ dues.Over }
-        ensures setup { self.new.table.setup ≡ self.old.table.setup }
-        ensures rules { self.new.table.rules ≡ self.old.table.rules }
+        ensures same { IsSameHand self.old.table self.new.table }
     {
         match self.table.due {
-            Due::Show => self.shown(),
-            _ => self.carded(),
+            Due::Show => self.table.set_due(Due::Over),
+            _ => self.bet(),
         }
-    }
-
-    // Ends the showdown.
-    fn shown(&mut self)
-        requires { self.old.table.due ≡ dues.Show }
-        ensures stands { (past : Past) → StandsUpTo self.old.table past
-            → StandsFor self.new.table past }
-        ensures due { self.new.table.due ≡ dues.Over }
-        ensures setup { self.new.table.setup ≡ self.old.table.setup }
-        ensures rules { self.new.table.rules ≡ self.old.table.rules }
-    {
-        self.table.set_due(Due::Over);
-    }
-
-    // Ends the deal or the draw that is due.
-    fn carded(&mut self)
-        requires { is_deal_or_draw self.old.table.due ≡ true }
-        ensures stands { (past : Past) → StandsUpTo self.old.table past
-            → is_done self.old.table.setup past self.new.table.due ≡ false
-            → StandsFor self.new.table past }
-        ensures up_to { (past : Past) → StandsUpTo self.old.table past
-            → is_done self.old.table.setup past self.new.table.due ≡ true
-            → StandsUpTo self.new.table past }
-        ensures showdown { (past : Past) → StandsUpTo self.old.table past
-            → is_done self.old.table.setup past self.new.table.due ≡ true
-            → self.new.table.due ≡ dues.Show }
-        ensures setup { self.new.table.setup ≡ self.old.table.setup }
-        ensures rules { self.new.table.rules ≡ self.old.table.rules }
-    {
-        self.bet();
     }
 
     // The deal or the draw of the street is ended.
@@ -424,30 +312,29 @@ impl<V: Variant> Betting<V> {
         requires bets { is_bet_due self.now.table.due ≡ true }
         ensures turn { WhereUps self.now.table up.now
             (λ past. IsTurn self.now.table past (turn_of (seat_said result))) }
-        ensures in_hand { IfSome result (λ seat. seat.number ≤ self.now.table.setup.stacks.seats) }
+        ensures in_hand { IsOfTable self.now.table result }
     {
         self.turn_found(up).seat
     }
 
     // Whose turn it is, if it is known, and who is behind where the row is read. It is nobody's where
     // neither a bring-in nor a move is due.
-    fn turn_found(&self, up: &UpRow) -> Turn
+    fn turn_found(&self, up: &UpRow) -> SeatInTurn
         requires row { up.now.seats ≡ self.now.table.setup.stacks.seats }
         ensures turn { WhereUps self.now.table up.now
             (λ past. is_bet_due self.now.table.due ≡ true
             → IsTurn self.now.table past (turn_of (seat_said result.seat))) }
-        ensures in_hand { IfSome result.seat
-            (λ seat. seat.number ≤ self.now.table.setup.stacks.seats) }
+        ensures in_hand { IsOfTable self.now.table result.seat }
         ensures behind { IfSome result.seat
             (λ seat. IfSome result.behind (IsFirstBehind self.now.table seat.number)) }
     {
         if !betting_due(self.table.due) {
-            return Turn {
+            return SeatInTurn {
                 seat: None,
                 behind: None,
             };
         }
-        let kept = Turn {
+        let kept = SeatInTurn {
             seat: self.table.next,
             behind: None,
         };
@@ -494,20 +381,12 @@ fn betting_due(due: Due) -> bool
 }
 
 // What is due after a move that led to these numbers, where this seat, if it is known, is next up.
-fn settle<V: Variant>(table: &mut Table, behind: Option<Seat>)
+fn settle<V: Variant>(table: &mut RunningNumbers, behind: Option<Seat>)
     requires code { table.old.setup.code ≡ V.CODE }
-    requires first { 1 ≤ table.old.street }
-    requires last { table.old.street ≤ V.STREETS }
-    requires fresh { StartsFresh table.old }
+    requires on { IsOnStreet V.STREETS table.old }
     requires behind { IfSome behind (IsNextUp table.old) }
     ensures settled { IsSettledTo table.old table.new }
-    ensures first { 1 ≤ table.new.street }
-    ensures last { table.new.street ≤ V.STREETS }
-    ensures here { is_of_street table.new.street table.new.due ≡ true }
-    ensures begins { is_before_moves table.new.due ≡ true → table.new.last ≡ None }
-    ensures fresh { StartsFresh table.new }
-    ensures turn { KeepsTurn table.new }
-    ensures seat { KeepsSeat table.new }
+    ensures kept { AreKept V.STREETS table.new }
 {
     if table.live_count() <= 1 {
         table.set_due(Due::Over);
@@ -517,20 +396,12 @@ fn settle<V: Variant>(table: &mut Table, behind: Option<Seat>)
 }
 
 // What is due where no bring-in is: the turn is passed on, or the next street begins.
-fn pass<V: Variant>(table: &mut Table, behind: Option<Seat>)
+fn pass<V: Variant>(table: &mut RunningNumbers, behind: Option<Seat>)
     requires code { table.old.setup.code ≡ V.CODE }
-    requires first { 1 ≤ table.old.street }
-    requires last { table.old.street ≤ V.STREETS }
-    requires fresh { StartsFresh table.old }
+    requires on { IsOnStreet V.STREETS table.old }
     requires behind { IfSome behind (IsNextUp table.old) }
     ensures passed { IsPassedTo table.old table.new }
-    ensures first { 1 ≤ table.new.street }
-    ensures last { table.new.street ≤ V.STREETS }
-    ensures here { is_of_street table.new.street table.new.due ≡ true }
-    ensures begins { is_before_moves table.new.due ≡ true → table.new.last ≡ None }
-    ensures fresh { StartsFresh table.new }
-    ensures turn { KeepsTurn table.new }
-    ensures seat { KeepsSeat table.new }
+    ensures kept { AreKept V.STREETS table.new }
 {
     let street = table.street;
     let next = mover(table, behind);
@@ -545,13 +416,13 @@ fn pass<V: Variant>(table: &mut Table, behind: Option<Seat>)
 
 // Whose turn it is, where the blinds say who opens: nobody's where no move is due. Where it is
 // known who is next up, no other seat is asked.
-fn mover(table: &Table, behind: Option<Seat>) -> Option<Seat>
+fn mover(table: &RunningNumbers, behind: Option<Seat>) -> Option<Seat>
     requires behind { IfSome behind (IsNextUp table.now) }
     ensures turn { in_turn (seat_said result)
         ≡ mover_seen table.now
         (TheSeat (blinds_opener table.now.setup table.now.street)) }
     ensures due { is_some result ≡ is_move_due_seen table.now }
-    ensures in_hand { IfSome result (λ seat. seat.number ≤ table.now.setup.stacks.seats) }
+    ensures in_hand { IsOfTable table.now result }
 {
     match behind {
         None => table.mover(table.blinds_opener()),

@@ -14,7 +14,7 @@ use Rattle.play_event.specs.Price.{price, doubled_raises}
 use Rattle.chip_ledger.specs.Greatest.{greatest}
 use Rattle.play_event.specs.Due.{has_moved_since_rise, has_opened_betting}
 use Rattle.play_event.specs.Raising.{has_moved, raises_on}
-use Rattle.betting_numbers.specs.declared.table.Table.{Table}
+use Rattle.betting_numbers.specs.declared.running.RunningNumbers.{RunningNumbers}
 use Rattle.betting_numbers.specs.Moving.{IsMoved, most_raises}
 use Rattle.street_laws.specs.Seats.{IsSeat}
 use Rattle.betting_numbers.specs.Standing.{Standing, newest_seat}
@@ -56,7 +56,7 @@ doubled_one_more : (r : Bool) (twice : ℕ) (rest : List ℕ) → (if r then max
 doubled_one_more true twice rest = refl
 doubled_one_more false twice rest = refl
 
-module _ (b next : Table) (moves : List Move) (seat target unit : ℕ) (act : Act) (st : Standing b.setup b.street b moves) (in_hand : IsSeat b.setup seat) (mv : IsMoved b next seat act target unit) (unit_is : unit ≡ streets.unit b.setup b.street) where
+module _ (b next : RunningNumbers) (moves : List Move) (seat target unit : ℕ) (act : Act) (st : Standing b.setup b.street b moves) (in_hand : IsSeat b.setup seat) (mv : IsMoved b next seat act target unit) (unit_is : unit ≡ streets.unit b.setup b.street) where
   abbrev pub the_move : Move
   the_move = record { street = b.street; seat = seat; act = act; from = street_chips b.setup moves b.street seat; to = target }
 

@@ -10,18 +10,18 @@ use Rattle.list_laws.proofs.Finding.{range_split}
 use Rattle.list_laws.proofs.Options.{or_nothing}
 use Rattle.play_event.specs.Mover.{seats_from}
 use Rattle.play_event.specs.Openers.{in_turn}
-use Rattle.betting_numbers.specs.declared.table.Table.{Table}
+use Rattle.betting_numbers.specs.declared.running.RunningNumbers.{RunningNumbers}
 use Rattle.betting_numbers.specs.Seen.{first_behind_seen, is_able_seen}
 
 -- the first able one of so many seats from a first one on
-abbrev pub able_from : Table → (first count : ℕ) → Option ℕ
+abbrev pub able_from : RunningNumbers → (first count : ℕ) → Option ℕ
 able_from b first count = find (is_able_seen b) (range_with_len first count)
 
 -- the first able seat above this one
-abbrev pub able_above : Table → ℕ → Option ℕ
+abbrev pub able_above : RunningNumbers → ℕ → Option ℕ
 able_above b seat = able_from b (seat + 1) (b.setup.stacks.seats - seat)
 
-module _ (b : Table) where
+module _ (b : RunningNumbers) where
   abbrev seats : ℕ
   seats = b.setup.stacks.seats
 
@@ -96,7 +96,7 @@ either_in None other P first second = second
 either_in (Some seat) other P first second = first
 
 -- behind the opener that is found
-pub behind_found : (b : Table) (first behind nearest : Option Seat) → IfSome first (λ seat. seat.number ≤ b.setup.stacks.seats) → IfSome first (λ seat. seat_said behind ≡ able_above b seat.number) → seat_said nearest ≡ able_from b (b.setup.stacks.seats + 1 - b.setup.stacks.seats) b.setup.stacks.seats → IfSome first (λ seat. in_turn (seat_said (option_or behind nearest)) ≡ first_behind_seen b seat.number)
+pub behind_found : (b : RunningNumbers) (first behind nearest : Option Seat) → IfSome first (λ seat. seat.number ≤ b.setup.stacks.seats) → IfSome first (λ seat. seat_said behind ≡ able_above b seat.number) → seat_said nearest ≡ able_from b (b.setup.stacks.seats + 1 - b.setup.stacks.seats) b.setup.stacks.seats → IfSome first (λ seat. in_turn (seat_said (option_or behind nearest)) ≡ first_behind_seen b seat.number)
 behind_found b None behind nearest in_hand behind_is nearest_is = tt
 behind_found b (Some seat) behind nearest in_hand behind_is nearest_is =
     ap in_turn (either_said behind nearest) ∙ behind_all b seat.number (seat_said behind) (seat_said nearest) in_hand behind_is nearest_is

@@ -17,7 +17,7 @@ use Rattle.play_event.specs.Streets.{is_stud}
 use Rattle.play_event.specs.Openers.{InTurn, NoSeat, TheSeat, Undecided, in_turn, seat_after}
 use Rattle.play_event.specs.Mover.{mover_after, first_in_turn, next_in_turn}
 use Rattle.play_event.specs.Raising.{has_able_opponent}
-use Rattle.betting_numbers.specs.declared.table.Table.{Table}
+use Rattle.betting_numbers.specs.declared.running.RunningNumbers.{RunningNumbers}
 use Rattle.betting_numbers.specs.Seen.{left_seen, is_able_seen, price_seen, owed_seen, all_in_seen, live_count_seen, able_count_seen, has_to_move_seen, is_move_due_seen, is_bring_in_due_seen, has_opponent_seen, after_last, last_seen, mover_seen}
 use Rattle.street_laws.specs.Seats.{IsSeat}
 use Rattle.betting_numbers.specs.Standing.{Standing, newest_seat}
@@ -55,7 +55,7 @@ passed_on setup opener (move ∷ before) = refl
 abbrev to_move_by : Bool → Bool → ℕ → ℕ → Bool
 to_move_by able since owes count = able && (if since then false else (nat_lt 0 owes || nat_le 2 count))
 
-module _ (b : Table) (moves : List Move) (st : Standing b.setup b.street b moves) where
+module _ (b : RunningNumbers) (moves : List Move) (st : Standing b.setup b.street b moves) where
   pub left_is : (seat : ℕ) → IsSeat b.setup seat → left_seen b seat ≡ chips_left b.setup moves seat
   left_is seat in_hand = ap (λ n. amount_of b.setup.stacks seat - n) (st.puts seat in_hand)
 

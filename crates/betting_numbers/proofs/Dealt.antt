@@ -16,7 +16,7 @@ use Rattle.play_event.specs.Dealing.{is_deal_due, is_draw_due, next_to_draw, rep
 use Rattle.play_event.specs.Showing.{is_show_due, has_to_show}
 use Rattle.play_event.specs.Due.{turn, due_on, showdown, is_bring_in_due, is_move_due, is_settled, has_able_seat_to_call, is_after_betting}
 use Rattle.play_event.specs.ValidSetup.{IsValid}
-use Rattle.betting_numbers.specs.declared.table.Table.{Table}
+use Rattle.betting_numbers.specs.declared.running.RunningNumbers.{RunningNumbers}
 use Rattle.betting_numbers.specs.Seen.{is_move_due_seen}
 use Rattle.betting_numbers.specs.Standing.{Standing, StandsFor}
 use Rattle.street_laws.specs.Walk.{street_cards, betting_turn}
@@ -114,13 +114,13 @@ cards_before setup past street dues.BringIn other come = refl
 cards_before setup past street dues.Move other come = refl
 cards_before setup past street dues.Over other come = absurd come
 
-pub record IsShowdown (b next : Table) (past : Past) : Type 0 where
+pub record IsShowdown (b next : RunningNumbers) (past : Past) : Type 0 where
   pub same : next.street ≡ b.street
   pub show : next.due ≡ dues.Show
   pub last : b.street ≡ street_count b.setup.code
   pub quiet : due_on b.setup past b.street ≡ None
 
-module _ (b next : Table) (past : Past) (up : StandsUpTo b past) (other : b.due ≡ dues.Show → ⊥) (from_one : 1 ≤ b.street) (within : b.street ≤ street_count b.setup.code) (to : IsDealtTo b next) where
+module _ (b next : RunningNumbers) (past : Past) (up : StandsUpTo b past) (other : b.due ≡ dues.Show → ⊥) (from_one : 1 ≤ b.street) (within : b.street ≤ street_count b.setup.code) (to : IsDealtTo b next) where
   are : AreDealt b.setup past b.street
   are = are_dealt b.setup past b.street b.due other up.come up.done
 
@@ -132,8 +132,8 @@ module _ (b next : Table) (past : Past) (up : StandsUpTo b past) (other : b.due 
   comes : Comes
   comes = elim (cases_eq next.street b.street) [
     | inl same ↦ record {
-      setup = ap (λ (t : Table). t.setup) (to.stays same);
-      standing = subst (λ (t : Table). Standing t.setup t.street t (moves_of past)) (sym (to.stays same)) (standing_with_turn b.setup b.street b next.due next.next (moves_of past) up.standing);
+      setup = ap (λ (t : RunningNumbers). t.setup) (to.stays same);
+      standing = subst (λ (t : RunningNumbers). Standing t.setup t.street t (moves_of past)) (sym (to.stays same)) (standing_with_turn b.setup b.street b next.due next.next (moves_of past) up.standing);
       street = inl same;
     }
     | inr new ↦ record {
@@ -238,7 +238,7 @@ module _ (b next : Table) (past : Past) (up : StandsUpTo b past) (other : b.due 
   showdown_dealt done = (showdown_by (is_bring_in_due b.setup (moves_of past) b.street) (is_move_due b.setup (moves_of past) b.street) (nat_lt b.street (street_count b.setup.code)) refl refl refl to_is done).show
 
 -- the showdown is ended: the hand is over
-pub show_ended : (b : Table) (past : Past) → StandsUpTo b past → b.due ≡ dues.Show → StandsFor (with_due b dues.Over) past
+pub show_ended : (b : RunningNumbers) (past : Past) → StandsUpTo b past → b.due ≡ dues.Show → StandsFor (with_due b dues.Over) past
 show_ended b past up due_is =
     let come : HasCome b.setup past b.street dues.Show = subst (HasCome b.setup past b.street) due_is up.come in
     let shown : is_show_due b.setup past ≡ false = not-true (is_show_due b.setup past) (sym (ap (is_done b.setup past) due_is) ∙ up.done) in

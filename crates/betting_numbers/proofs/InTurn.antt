@@ -17,7 +17,7 @@ use Rattle.play_event.specs.Openers.{InTurn, NoSeat, TheSeat, Undecided, in_turn
 use Rattle.play_event.specs.Mover.{mover, mover_after, first_in_turn, seats_from}
 use Rattle.play_event.specs.Table.{up_cards}
 use Rattle.play_event.specs.Reasons.{why, first_reason, all_reasons}
-use Rattle.betting_numbers.specs.declared.table.Table.{Table}
+use Rattle.betting_numbers.specs.declared.running.RunningNumbers.{RunningNumbers}
 use Rattle.street_laws.specs.Dues.{is_move}
 use Rattle.play_event.specs.TurnTargets.{is_bet_due}
 use Rattle.betting_numbers.specs.SeatsSaid.{turn_of}
@@ -54,7 +54,7 @@ use Rattle.chip_ledger.specs.SeatsSaid.{seat_said}
 use Rattle.play_event.specs.Targets.{greatest_by}
 
 -- why an event is refused where this is due
-pub why_where : (b : Table) (past : Past) (event : Said) (due : Due) → StandsFor b past → b.due ≡ due → why b.setup b.rules past event ≡ first_reason (all_reasons b.setup b.rules past (b.street, due) event)
+pub why_where : (b : RunningNumbers) (past : Past) (event : Said) (due : Due) → StandsFor b past → b.due ≡ due → why b.setup b.rules past event ≡ first_reason (all_reasons b.setup b.rules past (b.street, due) event)
 unfolding why
 why_where b past event due stands is =
     ap (λ now. first_reason (all_reasons b.setup b.rules past now event)) stands.turn_is
@@ -90,7 +90,7 @@ nobody_by setup p from seat is in_hand some none =
     none_is_nobody (find p (seats_from setup seat)) (sym (ap (first_in_turn setup p) is) ∙ none) (found_round setup p seat in_hand some)
 
 -- the seat to which the turn is passed
-pub record Passed (b : Table) (opener : ℕ) : Type 0 where
+pub record Passed (b : RunningNumbers) (opener : ℕ) : Type 0 where
   pub seat : ℕ
   pub is : after_last (last_seen b) (seat_after b.setup) (TheSeat opener) ≡ TheSeat seat
   pub in_hand : IsSeat b.setup seat
@@ -102,7 +102,7 @@ after_in_by setup seat false is in_hand =
     let other : seat ≡ setup.stacks.seats → ⊥ = eqb-false seat setup.stacks.seats is in
     record { first = omega arith; last = omega (arith, in_hand.last, other) }
 
-passed_by : (b : Table) (opener : ℕ) → IsSeat b.setup opener → (last : Option Seat) → b.last ≡ last → Passed b opener
+passed_by : (b : RunningNumbers) (opener : ℕ) → IsSeat b.setup opener → (last : Option Seat) → b.last ≡ last → Passed b opener
 passed_by b opener in_hand None is = record { seat = opener; is = ap (λ (o : Option Seat). after_last (seat_said o) (seat_after b.setup) (TheSeat opener)) is; in_hand = in_hand }
 passed_by b opener in_hand (Some s) is = record {
   seat = seat_after b.setup s.number;
@@ -110,7 +110,7 @@ passed_by b opener in_hand (Some s) is = record {
   in_hand = after_in_by b.setup s.number (s.number == b.setup.stacks.seats) refl (record { first = s.first; last = b.last_in s is });
 }
 
-pub passed : (b : Table) (opener : ℕ) → IsSeat b.setup opener → Passed b opener
+pub passed : (b : RunningNumbers) (opener : ℕ) → IsSeat b.setup opener → Passed b opener
 passed b opener in_hand = passed_by b opener in_hand b.last refl
 
 -- a seat is in turn where some seat has a move to make
@@ -120,7 +120,7 @@ same_found None (Some seat) same = absurd (cc)
 same_found (Some seat) None same = absurd (cc)
 same_found (Some seat) (Some other) same = refl
 
-pub turn_found : (b : Table) (opener : ℕ) → IsSeat b.setup opener → (found : Option ℕ) → in_turn found ≡ mover_seen b (TheSeat opener) → is_some found ≡ is_move_due_seen b
+pub turn_found : (b : RunningNumbers) (opener : ℕ) → IsSeat b.setup opener → (found : Option ℕ) → in_turn found ≡ mover_seen b (TheSeat opener) → is_some found ≡ is_move_due_seen b
 turn_found b opener in_hand found is =
     let to : Passed b opener = passed b opener in_hand in
     same_found found (find (has_to_move_seen b) (seats_from b.setup to.seat)) (is ∙ ap (first_in_turn b.setup (has_to_move_seen b)) to.is)
@@ -148,13 +148,13 @@ bring_in_now dues.Move is = absurd (cc)
 bring_in_now dues.Show is = absurd (cc)
 
 -- a bring-in is never due in a game with blinds
-no_bring_in : (b : Table) (past : Past) → StandsFor b past → opener_of b.setup.code ≡ openers.Blinds → b.due ≡ dues.BringIn → ⊥
+no_bring_in : (b : RunningNumbers) (past : Past) → StandsFor b past → opener_of b.setup.code ≡ openers.Blinds → b.due ≡ dues.BringIn → ⊥
 no_bring_in b past stands game due_is =
     let stud : is_stud b.setup.code ≡ true = bring_in_is_due b.setup past b.street (stands.turn_is ∙ ap (λ (d : Due). (b.street, d)) due_is) in
     true≢false (sym stud ∙ ap is_opened_by_up_cards game)
 
 -- somebody has to move where betting is due in a game with blinds
-bets_are_moves : (b : Table) (past : Past) → StandsFor b past → opener_of b.setup.code ≡ openers.Blinds → (due : Due) → b.due ≡ due → is_bet_due due ≡ true → is_move_due_seen b ≡ true
+bets_are_moves : (b : RunningNumbers) (past : Past) → StandsFor b past → opener_of b.setup.code ≡ openers.Blinds → (due : Due) → b.due ≡ due → is_bet_due due ≡ true → is_move_due_seen b ≡ true
 bets_are_moves b past stands game dues.Move is bets = move_due_is b (moves_of past) stands.standing ∙ move_is_due b.setup past b.street (stands.turn_is ∙ ap (λ (d : Due). (b.street, d)) is)
 bets_are_moves b past stands game dues.BringIn is bets = absurd (no_bring_in b past stands game is)
 bets_are_moves b past stands game (dues.Deal street) is bets = absurd (true≢false (sym bets))
@@ -167,7 +167,7 @@ pub found_turn : (found : Option ℕ) (in_seen : InTurn) → in_turn found ≡ i
 found_turn None in_seen is some = absurd (some (sym is))
 found_turn (Some seat) in_seen is some = is
 
-module _ (b : Table) (past : Past) (stands : StandsFor b past) (opener : ℕ) (in_hand : IsSeat b.setup opener) where
+module _ (b : RunningNumbers) (past : Past) (stands : StandsFor b past) (opener : ℕ) (in_hand : IsSeat b.setup opener) where
   passed_to : Passed b opener
   passed_to = passed b opener in_hand
 
@@ -198,15 +198,15 @@ passes_by : (another : Bool) (rest : Option Illegal) → (if another then Some r
 passes_by true rest is = absurd cc
 passes_by false rest is = refl
 
-fold_actor : (b : Table) (named : Option ℕ) (m : ℕ) → fold_why b named m ≡ None → actor_of named (TheSeat m) ≡ m
+fold_actor : (b : RunningNumbers) (named : Option ℕ) (m : ℕ) → fold_why b named m ≡ None → actor_of named (TheSeat m) ≡ m
 fold_actor b named m none =
     actor_by named m (is_another named m) refl (passes_by (is_another named m) (if not b.rules.free_fold && (owed_seen b m == 0) then Some reasons.NothingToCall else None) none)
 
-call_actor : (b : Table) (named stated : Option ℕ) (m : ℕ) → call_why b named stated m ≡ None → actor_of named (TheSeat m) ≡ m
+call_actor : (b : RunningNumbers) (named stated : Option ℕ) (m : ℕ) → call_why b named stated m ≡ None → actor_of named (TheSeat m) ≡ m
 call_actor b named stated m none =
     actor_by named m (is_another named m) refl (passes_by (is_another named m) (stated_why stated (call_seen b m - amount_of b.bets m)) none)
 
-raise_actor : (limit : Limit) (b : Table) (floor : ℕ) (named : Option ℕ) (amount : Spelled) (m : ℕ) → raise_why limit b floor named amount m ≡ None → actor_of named (TheSeat m) ≡ m
+raise_actor : (limit : Limit) (b : RunningNumbers) (floor : ℕ) (named : Option ℕ) (amount : Spelled) (m : ℕ) → raise_why limit b floor named amount m ≡ None → actor_of named (TheSeat m) ≡ m
 raise_actor limit b floor named amount m none =
     actor_by named m (is_another named m) refl (passes_by (is_another named m) (raise_to_why limit b floor m (target_seen b m amount)) none)
 
@@ -226,7 +226,7 @@ greatest_within limits.No all_in ceiling fulls = omega arith
 greatest_within limits.Pot all_in ceiling fulls = omega arith
 greatest_within limits.Fixed all_in ceiling fulls = omega arith
 
-pub raise_reach : (limit : Limit) (b : Table) (floor : ℕ) (named : Option ℕ) (amount : Spelled) (m : ℕ) → None ≡ raise_why limit b floor named amount m → target_seen b m amount ≤ all_in_seen b m
+pub raise_reach : (limit : Limit) (b : RunningNumbers) (floor : ℕ) (named : Option ℕ) (amount : Spelled) (m : ℕ) → None ≡ raise_why limit b floor named amount m → target_seen b m amount ≤ all_in_seen b m
 raise_reach limit b floor named amount m none =
     let most : target_seen b m amount ≤ greatest_seen limit b m =
     ltb-false (greatest_seen limit b m) (target_seen b m amount)
@@ -235,19 +235,19 @@ raise_reach limit b floor named amount m none =
     omega (arith, most, greatest_within limit (all_in_seen b m) (ceiling_seen b m) (fulls_seen b))
 
 -- a call goes where the rules have it
-call_is : (b : Table) (moves : List Move) → Standing b.setup b.street b moves → (m : ℕ) → IsSeat b.setup m → call_seen b m ≡ call_target b.setup moves b.street m
+call_is : (b : RunningNumbers) (moves : List Move) → Standing b.setup b.street b moves → (m : ℕ) → IsSeat b.setup m → call_seen b m ≡ call_target b.setup moves b.street m
 call_is b moves st m in_m =
     ap (λ p. min p (all_in_seen b m)) (price_is b moves st)
     ∙ ap (λ a. min (price b.setup moves b.street) a) (all_in_is b moves st m in_m)
 
 -- a bring-in goes where the rules have it
-bring_in_is : (b : Table) (moves : List Move) → Standing b.setup b.street b moves → (m : ℕ) → IsSeat b.setup m → bring_in_seen b m ≡ bring_in_target b.setup moves b.street m
+bring_in_is : (b : RunningNumbers) (moves : List Move) → Standing b.setup b.street b moves → (m : ℕ) → IsSeat b.setup m → bring_in_seen b m ≡ bring_in_target b.setup moves b.street m
 bring_in_is b moves st m in_m = ap (λ a. min b.setup.bring_in a) (all_in_is b moves st m in_m)
 
 bring_in_actor : (named : Option ℕ) (m : ℕ) → bring_in_why named m ≡ None → actor_of named (TheSeat m) ≡ m
 bring_in_actor named m none = actor_by named m (is_another named m) refl (passes_by (is_another named m) None none)
 
-fold_not_now : (b : Table) (past : Past) (named : Option ℕ) (reason : Illegal) (due : Due) → now_why true false due ≡ Some reason → first_reason (all_reasons b.setup b.rules past (b.street, due) (said.Fold named)) ≡ Some reason
+fold_not_now : (b : RunningNumbers) (past : Past) (named : Option ℕ) (reason : Illegal) (due : Due) → now_why true false due ≡ Some reason → first_reason (all_reasons b.setup b.rules past (b.street, due) (said.Fold named)) ≡ Some reason
 fold_not_now b past named reason dues.Move is = absurd (cc)
 fold_not_now b past named reason dues.Over is = is
 fold_not_now b past named reason (dues.Deal street) is = is
@@ -255,7 +255,7 @@ fold_not_now b past named reason (dues.Draw street) is = is
 fold_not_now b past named reason dues.BringIn is = is
 fold_not_now b past named reason dues.Show is = is
 
-call_not_now : (b : Table) (past : Past) (named stated : Option ℕ) (reason : Illegal) (due : Due) → now_why true false due ≡ Some reason → first_reason (all_reasons b.setup b.rules past (b.street, due) (said.Call named stated)) ≡ Some reason
+call_not_now : (b : RunningNumbers) (past : Past) (named stated : Option ℕ) (reason : Illegal) (due : Due) → now_why true false due ≡ Some reason → first_reason (all_reasons b.setup b.rules past (b.street, due) (said.Call named stated)) ≡ Some reason
 call_not_now b past named stated reason dues.Move is = absurd (cc)
 call_not_now b past named stated reason dues.Over is = is
 call_not_now b past named stated reason (dues.Deal street) is = is
@@ -263,7 +263,7 @@ call_not_now b past named stated reason (dues.Draw street) is = is
 call_not_now b past named stated reason dues.BringIn is = is
 call_not_now b past named stated reason dues.Show is = is
 
-raise_not_now : (b : Table) (past : Past) (named : Option ℕ) (amount : Spelled) (reason : Illegal) (due : Due) → now_why true true due ≡ Some reason → first_reason (all_reasons b.setup b.rules past (b.street, due) (said.Raise named amount)) ≡ Some reason
+raise_not_now : (b : RunningNumbers) (past : Past) (named : Option ℕ) (amount : Spelled) (reason : Illegal) (due : Due) → now_why true true due ≡ Some reason → first_reason (all_reasons b.setup b.rules past (b.street, due) (said.Raise named amount)) ≡ Some reason
 raise_not_now b past named amount reason dues.Move is = absurd (cc)
 raise_not_now b past named amount reason dues.BringIn is = absurd (cc)
 raise_not_now b past named amount reason dues.Over is = is
@@ -271,7 +271,7 @@ raise_not_now b past named amount reason (dues.Deal street) is = is
 raise_not_now b past named amount reason (dues.Draw street) is = is
 raise_not_now b past named amount reason dues.Show is = is
 
-bring_in_not_now : (b : Table) (past : Past) (named : Option ℕ) (reason : Illegal) (due : Due) → now_why false true due ≡ Some reason → first_reason (all_reasons b.setup b.rules past (b.street, due) (said.BringIn named)) ≡ Some reason
+bring_in_not_now : (b : RunningNumbers) (past : Past) (named : Option ℕ) (reason : Illegal) (due : Due) → now_why false true due ≡ Some reason → first_reason (all_reasons b.setup b.rules past (b.street, due) (said.BringIn named)) ≡ Some reason
 bring_in_not_now b past named reason dues.BringIn is = absurd (cc)
 bring_in_not_now b past named reason dues.Move is = is
 bring_in_not_now b past named reason dues.Over is = is
@@ -280,7 +280,7 @@ bring_in_not_now b past named reason (dues.Draw street) is = is
 bring_in_not_now b past named reason dues.Show is = is
 
 -- the reason where it is not known whose turn it is
-unknown_by : (b : Table) (named : Option ℕ) (other : Bool) → other ≡ is_unable b named → (if other then Some reasons.WrongSeat else Some reasons.UpCardUnknown) ≡ Some (unknown_why b named)
+unknown_by : (b : RunningNumbers) (named : Option ℕ) (other : Bool) → other ≡ is_unable b named → (if other then Some reasons.WrongSeat else Some reasons.UpCardUnknown) ≡ Some (unknown_why b named)
 unknown_by b named other is = ap (λ (o : Bool). if o then Some reasons.WrongSeat else Some reasons.UpCardUnknown) is ∙ each (is_unable b named)
   where
     each : (o : Bool) → (if o then Some reasons.WrongSeat else Some reasons.UpCardUnknown) ≡ Some (if o then reasons.WrongSeat else reasons.UpCardUnknown)
@@ -288,7 +288,7 @@ unknown_by b named other is = ap (λ (o : Bool). if o then Some reasons.WrongSea
     each false = refl
 
 -- another thing is due
-module _ (b : Table) (past : Past) (stands : StandsFor b past) where
+module _ (b : RunningNumbers) (past : Past) (stands : StandsFor b past) where
   pub fold_now : (named : Option ℕ) (reason : Illegal) → Some reason ≡ now_why true false b.due → why b.setup b.rules past (said.Fold named) ≡ Some reason
   fold_now named reason is = why_where b past (said.Fold named) b.due stands refl ∙ fold_not_now b past named reason b.due (sym is)
 

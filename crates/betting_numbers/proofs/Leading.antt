@@ -14,7 +14,7 @@ use Rattle.play_event.specs.SeatSlots.{ups_of}
 use Rattle.play_event.proofs.OpenerOrder.{opens_not}
 use Rattle.chip_ledger.proofs.SeatLists.{none_at}
 use Rattle.up_card_order.proofs.Earlier.{early_opens, late_opens}
-use Rattle.betting_numbers.specs.declared.table.Table.{Table}
+use Rattle.betting_numbers.specs.declared.running.RunningNumbers.{RunningNumbers}
 use Rattle.betting_numbers.specs.Seen.{is_able_seen}
 use Rattle.betting_numbers.specs.UpSeen.{has_unknown_seen, has_unknown_up_card_seen, is_as_early_seen, is_before_seen, known_opener_seen, up_opener_seen}
 
@@ -42,21 +42,21 @@ known_by true seat found is = absurd cc
 known_by false seat found is = (refl, is)
 
 -- none of so many seats from a first one on opens before this one, which is able
-abbrev pub opens_from : Opener → Table → UpRow → (first count seat : ℕ) → Bool
+abbrev pub opens_from : Opener → RunningNumbers → UpRow → (first count seat : ℕ) → Bool
 opens_from opener b up first count seat = is_able_seen b seat && not (list_any (is_before_seen opener b up seat) (range_with_len first count))
 
 -- a seat opens before each seat before which one of these opens
-abbrev pub Leads : Opener → Table → UpRow → (first count lead : ℕ) → Type 0
+abbrev pub Leads : Opener → RunningNumbers → UpRow → (first count lead : ℕ) → Type 0
 Leads opener b up first count lead =
     (seat other : ℕ) → first ≤ other → other < first + count → is_before_seen opener b up seat other ≡ true → is_before_seen opener b up seat lead ≡ true
 
 -- what is kept of the seats so far
-pub record IsWalked (opener : Opener) (b : Table) (up : UpRow) (first count lead : ℕ) (found : Option ℕ) : Type 0 where
+pub record IsWalked (opener : Opener) (b : RunningNumbers) (up : UpRow) (first count lead : ℕ) (found : Option ℕ) : Type 0 where
   pub known : list_any (has_unknown_seen b up) (range_with_len first count) ≡ false
   pub leads : Leads opener b up first count lead
   pub found_is : found ≡ find (opens_from opener b up first count) (range_with_len first count)
 
-module _ (opener : Opener) (b : Table) (up : UpRow) where
+module _ (opener : Opener) (b : RunningNumbers) (up : UpRow) where
   abbrev before : ℕ → ℕ → Bool
   before seat other = is_before_seen opener b up seat other
 

@@ -11,7 +11,7 @@ use Rattle.play_event.specs.Price as prices
 use Rattle.play_event.specs.Price.{price, rise, doubled_raises, starting_price}
 use Rattle.chip_ledger.specs.Greatest.{greatest}
 use Rattle.play_event.specs.Due.{has_moved_since_rise, has_opened_betting}
-use Rattle.betting_numbers.specs.declared.table.Table.{Table}
+use Rattle.betting_numbers.specs.declared.running.RunningNumbers.{RunningNumbers}
 use Rattle.betting_numbers.specs.Moving.{IsNextStreet, most_raises}
 use Rattle.street_laws.specs.Seats.{IsSeat}
 use Rattle.betting_numbers.specs.Standing.{Standing, newest_seat}
@@ -62,7 +62,7 @@ no_bet_by : (full : Bool) (start : ℕ) → start ≡ 0 → (if full then start 
 no_bet_by true start is = is
 no_bet_by false start is = refl
 
-module _ (b next : Table) (moves : List Move) (st : Standing b.setup b.street b moves) (early : has_no_move_later moves b.street ≡ true) (from_one : 1 ≤ b.street) (new : IsNextStreet b next) where
+module _ (b next : RunningNumbers) (moves : List Move) (st : Standing b.setup b.street b moves) (early : has_no_move_later moves b.street ≡ true) (from_one : 1 ≤ b.street) (new : IsNextStreet b next) where
   later : ℕ
   later = b.street + 1
 

@@ -16,7 +16,7 @@ use Rattle.play_event.specs.Seats.{all_seats}
 use Rattle.play_event.specs.Mover.{first_in_turn, seats_from}
 use Rattle.play_event.specs.Openers.{InTurn, TheSeat, in_turn, seat_after}
 use Rattle.street_laws.specs.Seats.{IsSeat}
-use Rattle.betting_numbers.specs.declared.table.Table.{Table}
+use Rattle.betting_numbers.specs.declared.running.RunningNumbers.{RunningNumbers}
 use Rattle.betting_numbers.specs.Seen.{is_able_seen, owed_seen, price_seen, able_count_seen, has_to_move_seen, after_last, mover_seen, first_behind_seen}
 use Rattle.betting_numbers.specs.Moving.{IsMoved}
 use Rattle.betting_numbers.specs.Turn.{IsFirstBehind, IsNextUp, StartsFresh}
@@ -112,7 +112,7 @@ flagged_by able false more flag is = true≢false (sym flag)
 flagged_by true true more flag is = true≢false (sym is)
 flagged_by false true more flag is = true≢false (sym is)
 
-module _ (b next : Table) (seat : ℕ) (act : Act) (target unit : ℕ) (moved : IsMoved b next seat act target unit) (in_hand : IsSeat b.setup seat)
+module _ (b next : RunningNumbers) (seat : ℕ) (act : Act) (target unit : ℕ) (moved : IsMoved b next seat act target unit) (in_hand : IsSeat b.setup seat)
     (fresh : (k : ℕ) → IsSeat b.setup k → flag_of b.since_rise k ≡ false) (behind : ℕ) (in_behind : IsSeat b.setup behind) (first : TheSeat behind ≡ first_behind_seen b seat) where
   abbrev moves : ℕ → Bool
   moves = has_to_move_seen next
@@ -185,7 +185,7 @@ module _ (b next : Table) (seat : ℕ) (act : Act) (target unit : ℕ) (moved : 
       ∙ ap (λ (o : Option ℕ). first_in_turn next.setup moves (after_last o (seat_after next.setup) opener)) (sym moved.last)
 
 -- after the first move of the street
-pub next_up : (b next : Table) (seat : ℕ) (act : Act) (target unit : ℕ) → IsMoved b next seat act target unit → IsSeat b.setup seat → StartsFresh b → (behind : Seat) → IsFirstBehind b seat behind → IsNextUp next behind
+pub next_up : (b next : RunningNumbers) (seat : ℕ) (act : Act) (target unit : ℕ) → IsMoved b next seat act target unit → IsSeat b.setup seat → StartsFresh b → (behind : Seat) → IsFirstBehind b seat behind → IsNextUp next behind
 next_up b next seat act target unit moved in_hand fresh behind is = record {
   turn = turn_next b next seat act target unit moved in_hand (fresh is.before_moves) behind.number (record { first = behind.first; last = is.in_hand }) is.first;
   in_hand = subst (λ (setup : Setup). behind.number ≤ setup.stacks.seats) (sym moved.setup) is.in_hand;

@@ -5,19 +5,19 @@ use Rattle.std.specs.Option.{option_or}
 use Rattle.std.proofs.lemmas.List.Folds.{find-append}
 use Rattle.play_event.specs.Openers.{TheSeat, InTurn, in_turn, seat_after}
 use Rattle.play_event.specs.Mover.{first_in_turn, seats_from}
-use Rattle.betting_numbers.specs.declared.table.Table.{Table}
+use Rattle.betting_numbers.specs.declared.running.RunningNumbers.{RunningNumbers}
 use Rattle.betting_numbers.specs.Seen.{after_last, last_seen, mover_seen, has_to_move_seen}
 
-turn_from : (b : Table) (opener : InTurn) (start : ℕ) (found : Option ℕ) → TheSeat start ≡ after_last (last_seen b) (seat_after b.setup) opener → found ≡ find (has_to_move_seen b) (seats_from b.setup start) → in_turn found ≡ mover_seen b opener
+turn_from : (b : RunningNumbers) (opener : InTurn) (start : ℕ) (found : Option ℕ) → TheSeat start ≡ after_last (last_seen b) (seat_after b.setup) opener → found ≡ find (has_to_move_seen b) (seats_from b.setup start) → in_turn found ≡ mover_seen b opener
 turn_from b opener start found is first = ap in_turn first ∙ ap (first_in_turn b.setup (has_to_move_seen b)) is
 
-joined : (b : Table) (start : ℕ) → find (has_to_move_seen b) (seats_from b.setup start) ≡ option_or (find (has_to_move_seen b) (range_with_len start (b.setup.stacks.seats + 1 - start))) (find (has_to_move_seen b) (range_with_len 1 (start - 1)))
+joined : (b : RunningNumbers) (start : ℕ) → find (has_to_move_seen b) (seats_from b.setup start) ≡ option_or (find (has_to_move_seen b) (range_with_len start (b.setup.stacks.seats + 1 - start))) (find (has_to_move_seen b) (range_with_len 1 (start - 1)))
 joined b start = find-append (has_to_move_seen b) (range_with_len start (b.setup.stacks.seats + 1 - start)) (range_with_len 1 (start - 1))
 
-pub mover_before : (b : Table) (opener : InTurn) (start seat : ℕ) → TheSeat start ≡ after_last (last_seen b) (seat_after b.setup) opener → Some seat ≡ find (has_to_move_seen b) (range_with_len start (b.setup.stacks.seats + 1 - start)) → in_turn (Some seat) ≡ mover_seen b opener
+pub mover_before : (b : RunningNumbers) (opener : InTurn) (start seat : ℕ) → TheSeat start ≡ after_last (last_seen b) (seat_after b.setup) opener → Some seat ≡ find (has_to_move_seen b) (range_with_len start (b.setup.stacks.seats + 1 - start)) → in_turn (Some seat) ≡ mover_seen b opener
 mover_before b opener start seat is found =
     turn_from b opener start (Some seat) is (ap (λ o. option_or o (find (has_to_move_seen b) (range_with_len 1 (start - 1)))) found ∙ sym (joined b start))
 
-pub mover_behind : (b : Table) (opener : InTurn) (start : ℕ) (found : Option ℕ) → TheSeat start ≡ after_last (last_seen b) (seat_after b.setup) opener → None ≡ find (has_to_move_seen b) (range_with_len start (b.setup.stacks.seats + 1 - start)) → found ≡ find (has_to_move_seen b) (range_with_len 1 (start - 1)) → in_turn found ≡ mover_seen b opener
+pub mover_behind : (b : RunningNumbers) (opener : InTurn) (start : ℕ) (found : Option ℕ) → TheSeat start ≡ after_last (last_seen b) (seat_after b.setup) opener → None ≡ find (has_to_move_seen b) (range_with_len start (b.setup.stacks.seats + 1 - start)) → found ≡ find (has_to_move_seen b) (range_with_len 1 (start - 1)) → in_turn found ≡ mover_seen b opener
 mover_behind b opener start found is none later =
     turn_from b opener start found is (later ∙ ap (λ o. option_or o (find (has_to_move_seen b) (range_with_len 1 (start - 1)))) none ∙ sym (joined b start))

@@ -16,7 +16,7 @@ use Rattle.play_event.specs.Streets.{is_stud}
 use Rattle.play_event.specs.Seats.{able_count}
 use Rattle.play_event.specs.Past.{moves_on}
 use Rattle.play_event.specs.Due.{has_opened_betting, turn, is_bring_in_due, is_move_due}
-use Rattle.betting_numbers.specs.declared.table.Table.{Table}
+use Rattle.betting_numbers.specs.declared.running.RunningNumbers.{RunningNumbers}
 use Rattle.betting_numbers.specs.Seen.{live_count_seen, is_move_due_seen}
 use Rattle.betting_numbers.specs.Moving.{IsMoved, IsNextStreet}
 use Rattle.street_laws.specs.Seats.{IsSeat}
@@ -41,7 +41,7 @@ use Rattle.play_event.proofs.StillAble.{able_still, still_live}
 use Rattle.play_event.proofs.FloorLaws.{bet_unfinished}
 
 -- the numbers stand whatever is due
-pub standing_with_turn : (setup : Setup) (street : ℕ) (b : Table) (due : Due) (next : Option Seat) (moves : List Move) → Standing setup street b moves → Standing setup street (with_turn b due next) moves
+pub standing_with_turn : (setup : Setup) (street : ℕ) (b : RunningNumbers) (due : Due) (next : Option Seat) (moves : List Move) → Standing setup street b moves → Standing setup street (with_turn b due next) moves
 standing_with_turn setup street b due next moves st = record {
   puts = st.puts;
   bets = st.bets;
@@ -99,7 +99,7 @@ street_after code street false true move = omega arith
 street_after code street false false true = omega arith
 street_after code street false false false = behind_by street (nat_lt street (street_count code)) (street_cards code (street + 1)) dues.Show
 
-module _ (b mid next : Table) (past : Past) (seat target unit : ℕ) (act : Act) (stands : StandsFor b past) (bets : is_bet_due b.due ≡ true) (in_hand : IsSeat b.setup seat) (mv : IsMoved b mid seat act target unit) (unit_is : unit ≡ streets.unit b.setup b.street) (from_one : 1 ≤ b.street) (within : b.street ≤ street_count b.setup.code) (fits : may_come_at act b.due ≡ true) (to : IsSettledTo mid next) where
+module _ (b mid next : RunningNumbers) (past : Past) (seat target unit : ℕ) (act : Act) (stands : StandsFor b past) (bets : is_bet_due b.due ≡ true) (in_hand : IsSeat b.setup seat) (mv : IsMoved b mid seat act target unit) (unit_is : unit ≡ streets.unit b.setup b.street) (from_one : 1 ≤ b.street) (within : b.street ≤ street_count b.setup.code) (fits : may_come_at act b.due ≡ true) (to : IsSettledTo mid next) where
   abbrev pub new_move : Move
   new_move = the_move b mid (moves_of past) seat target unit act stands.standing in_hand mv unit_is
 
@@ -124,8 +124,8 @@ module _ (b mid next : Table) (past : Past) (seat target unit : ℕ) (act : Act)
 
   stays_by : next ≡ with_turn mid next.due next.next → Comes
   stays_by is = record {
-    setup = ap (λ (t : Table). t.setup) is ∙ mv.setup;
-    standing = subst (λ (t : Table). Standing t.setup t.street t (new_move ∷ moves_of past)) (sym is) (standing_with_turn mid.setup mid.street mid next.due next.next (new_move ∷ moves_of past) mid_stands);
+    setup = ap (λ (t : RunningNumbers). t.setup) is ∙ mv.setup;
+    standing = subst (λ (t : RunningNumbers). Standing t.setup t.street t (new_move ∷ moves_of past)) (sym is) (standing_with_turn mid.setup mid.street mid next.due next.next (new_move ∷ moves_of past) mid_stands);
   }
 
   goes_by : IsNextStreet mid next → Comes

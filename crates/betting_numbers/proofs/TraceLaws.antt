@@ -10,7 +10,7 @@ use Rattle.play_event.specs.Chips.{street_chips}
 use Rattle.play_event.specs.Price.{price}
 use Rattle.play_event.specs.Raising.{is_closed, is_reopened}
 use Rattle.play_event.specs.Trace.{TracedMove, traced_move, unit_target_in}
-use Rattle.betting_numbers.specs.declared.table.Table.{Table}
+use Rattle.betting_numbers.specs.declared.running.RunningNumbers.{RunningNumbers}
 use Rattle.betting_numbers.specs.Seen.{price_seen}
 use Rattle.street_laws.specs.Seats.{IsSeat}
 use Rattle.betting_numbers.specs.Standing.{Standing}
@@ -23,7 +23,7 @@ use Rattle.betting_numbers.proofs.WhyRaise.{target_is, open_is, legal_is}
 abbrev traced_by : ℕ → ℕ → Act → (from to the_price : ℕ) → Bool → ℕ → TracedMove
 traced_by street seat act from to the_price closed unit_to = record { street = street; seat = seat; act = act; from = from; to = to; price = the_price; closed = closed; unit_to = unit_to }
 
-module _ (b : Table) (moves : List Move) (st : Standing b.setup b.street b moves) (m : ℕ) (in_hand : IsSeat b.setup m) (limit : Limit) (limit_is : limit_of b.setup.code ≡ limit) where
+module _ (b : RunningNumbers) (moves : List Move) (st : Standing b.setup b.street b moves) (m : ℕ) (in_hand : IsSeat b.setup m) (limit : Limit) (limit_is : limit_of b.setup.code ≡ limit) where
   closed_is : (target : ℕ) → is_closed_seen limit b m target ≡ is_closed b.setup moves b.street m target
   closed_is target =
       ap (λ o. not o || not (is_legal_seen limit b (floor_by reopen.Full 0 b) m target)) (sym (open_is b moves st m in_hand limit limit_is reopen.Full))

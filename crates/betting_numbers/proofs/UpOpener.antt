@@ -18,7 +18,7 @@ use Rattle.play_event.specs.Openers.{InTurn, NoSeat, TheSeat, Undecided, in_turn
 use Rattle.card_set.specs.Known.{is_unknown, known_cards}
 use Rattle.play_event.specs.Mover.{mover, mover_after, first_in_turn}
 use Rattle.play_event.specs.Table.{up_cards}
-use Rattle.betting_numbers.specs.declared.table.Table.{Table}
+use Rattle.betting_numbers.specs.declared.running.RunningNumbers.{RunningNumbers}
 use Rattle.betting_numbers.specs.SeatsSaid.{turn_of}
 use Rattle.betting_numbers.specs.Seen.{is_able_seen, owed_seen, able_count_seen, has_to_move_seen, is_move_due_seen, after_last, last_seen, mover_seen}
 use Rattle.street_laws.specs.Seats.{IsSeat}
@@ -40,7 +40,7 @@ use Rattle.list_laws.proofs.Finding.{find-filter, found_passes}
 use Rattle.betting_numbers.proofs.FirstMoves.{all_true, no_moves, none_since_start, opener_turn}
 use Rattle.chip_ledger.specs.SeatsSaid.{seat_said}
 
-module _ (b : Table) (past : Past) (stands : StandsFor b past) (up : UpRow) (holds : HoldsUps b.setup up past) where
+module _ (b : RunningNumbers) (past : Past) (stands : StandsFor b past) (up : UpRow) (holds : HoldsUps b.setup up past) where
   unknown_is : has_unknown_up_card_seen b up ≡ has_unknown_up_card b.setup (up_cards b.setup.code past) (moves_of past)
   unknown_is =
       any_seats (has_unknown_seen b up) (λ seat. is_able b.setup (moves_of past) seat && list_any is_unknown (up_cards b.setup.code past seat)) b.setup.stacks.seats
@@ -102,7 +102,7 @@ module _ (b : Table) (past : Past) (stands : StandsFor b past) (up : UpRow) (hol
       ∙ some_able some
       )
 
-module _ (b : Table) (past : Past) (stands : StandsFor b past) where
+module _ (b : RunningNumbers) (past : Past) (stands : StandsFor b past) where
   -- where a bring-in is due and nobody moved, each able seat has to move
   bring_in_moves : b.due ≡ dues.BringIn → b.last ≡ None → is_move_due_seen b ≡ true
   bring_in_moves is last =

@@ -17,7 +17,7 @@ use Rattle.play_event.specs.Mover.{mover}
 use Rattle.play_event.specs.Table.{up_cards}
 use Rattle.play_event.specs.MoveReasons.{actor_of, is_other_seat, is_undecided, chips_to_call}
 use Rattle.play_event.specs.Reasons.{why, first_reason, all_reasons}
-use Rattle.betting_numbers.specs.declared.table.Table.{Table}
+use Rattle.betting_numbers.specs.declared.running.RunningNumbers.{RunningNumbers}
 use Rattle.betting_numbers.specs.Seen.{is_able_seen, left_seen, all_in_seen}
 use Rattle.street_laws.specs.Seats.{IsSeat}
 use Rattle.betting_numbers.specs.Standing.{Standing, StandsFor}
@@ -42,7 +42,7 @@ pub other_is : (setup : Setup) (moves : List Move) (named : Option ℕ) (mover :
 other_is setup moves None mover = refl
 other_is setup moves (Some seat) mover = refl
 
-module _ (b : Table) (past : Past) (stands : StandsFor b past) (due_is : b.due ≡ dues.Move) (m : ℕ) (in_hand : IsSeat b.setup m) (mover_is : mover b.setup (up_cards b.setup.code past) (moves_of past) b.street ≡ TheSeat m) where
+module _ (b : RunningNumbers) (past : Past) (stands : StandsFor b past) (due_is : b.due ≡ dues.Move) (m : ℕ) (in_hand : IsSeat b.setup m) (mover_is : mover b.setup (up_cards b.setup.code past) (moves_of past) b.street ≡ TheSeat m) where
   pub why_fold : (named : Option ℕ) → why b.setup b.rules past (said.Fold named) ≡ fold_why b named m
   unfolding why
   why_fold named =
@@ -86,7 +86,7 @@ module _ (b : Table) (past : Past) (stands : StandsFor b past) (due_is : b.due �
       ∙ ap (λ due. if is_another named m then Some reasons.WrongSeat else stated_why (Some stated) due) chips_is
 
 -- a number that is no seat's is not that of an able seat; 0 reads as the first seat
-module _ (b : Table) (moves : List Move) (st : Standing b.setup b.street b moves) where
+module _ (b : RunningNumbers) (moves : List Move) (st : Standing b.setup b.street b moves) where
   pub able_anywhere : (seat : ℕ) → 1 ≤ seat → is_able_seen b seat ≡ is_able b.setup moves seat
   able_anywhere seat some = elim (cases_lt b.setup.stacks.seats seat) [
     | inl past_last ↦ nobody (flag_of b.live seat) (is_live moves seat) (nothing (left_seen b seat) (no_stack seat past_last (amount_of b.puts seat))) (nothing (chips_left b.setup moves seat) (no_stack seat past_last (chips_put b.setup moves seat)))
@@ -102,7 +102,7 @@ module _ (b : Table) (moves : List Move) (st : Standing b.setup b.street b moves
       no_stack : (k : ℕ) → b.setup.stacks.seats < k → (n : ℕ) → amount_of b.setup.stacks k - n ≡ 0
       no_stack k late n = let none : amount_of b.setup.stacks k ≡ 0 = b.setup.stacks.filler (k - 1) (omega (arith, late)) in omega (arith, none)
 
-module _ (b : Table) (past : Past) (stands : StandsFor b past) (due_is : b.due ≡ dues.BringIn) (m : ℕ) (mover_is : mover b.setup (up_cards b.setup.code past) (moves_of past) b.street ≡ TheSeat m) where
+module _ (b : RunningNumbers) (past : Past) (stands : StandsFor b past) (due_is : b.due ≡ dues.BringIn) (m : ℕ) (mover_is : mover b.setup (up_cards b.setup.code past) (moves_of past) b.street ≡ TheSeat m) where
   pub why_bring_in : (named : Option ℕ) → why b.setup b.rules past (said.BringIn named) ≡ bring_in_why named m
   unfolding why
   why_bring_in named =
@@ -115,7 +115,7 @@ module _ (b : Table) (past : Past) (stands : StandsFor b past) (due_is : b.due �
       ∙ ap (λ o. if o then Some reasons.WrongSeat else None) (other_is b.setup (moves_of past) named m)
 
 -- it is not known whose turn it is
-module _ (b : Table) (past : Past) (stands : StandsFor b past) (due_is : b.due ≡ dues.BringIn) (mover_is : mover b.setup (up_cards b.setup.code past) (moves_of past) b.street ≡ Undecided) where
+module _ (b : RunningNumbers) (past : Past) (stands : StandsFor b past) (due_is : b.due ≡ dues.BringIn) (mover_is : mover b.setup (up_cards b.setup.code past) (moves_of past) b.street ≡ Undecided) where
   pub bring_in_undecided : (named : Option ℕ) → why b.setup b.rules past (said.BringIn named) ≡ (if is_other_seat b.setup (moves_of past) named Undecided then Some reasons.WrongSeat else Some reasons.UpCardUnknown)
   unfolding why
   bring_in_undecided named =
@@ -126,7 +126,7 @@ module _ (b : Table) (past : Past) (stands : StandsFor b past) (due_is : b.due �
       else if is_undecided t then Some reasons.UpCardUnknown
       else None) mover_is
 
-module _ (b : Table) (past : Past) (stands : StandsFor b past) (due_is : b.due ≡ dues.Move) (mover_is : mover b.setup (up_cards b.setup.code past) (moves_of past) b.street ≡ Undecided) where
+module _ (b : RunningNumbers) (past : Past) (stands : StandsFor b past) (due_is : b.due ≡ dues.Move) (mover_is : mover b.setup (up_cards b.setup.code past) (moves_of past) b.street ≡ Undecided) where
   pub fold_undecided : (named : Option ℕ) → why b.setup b.rules past (said.Fold named) ≡ (if is_other_seat b.setup (moves_of past) named Undecided then Some reasons.WrongSeat else Some reasons.UpCardUnknown)
   unfolding why
   fold_undecided named =

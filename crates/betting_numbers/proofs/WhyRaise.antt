@@ -32,7 +32,7 @@ use Rattle.play_event.specs.Mover.{mover}
 use Rattle.play_event.specs.Table.{up_cards}
 use Rattle.play_event.specs.MoveReasons.{actor_of, is_other_seat, is_undecided, is_below_targets, is_above_targets}
 use Rattle.play_event.specs.Reasons.{why, first_reason, all_reasons}
-use Rattle.betting_numbers.specs.declared.table.Table.{Table}
+use Rattle.betting_numbers.specs.declared.running.RunningNumbers.{RunningNumbers}
 use Rattle.betting_numbers.specs.Caps.{cap_at}
 use Rattle.betting_numbers.specs.Moving.{most_raises}
 use Rattle.betting_numbers.specs.Seen.{price_seen, owed_seen, all_in_seen}
@@ -43,7 +43,7 @@ use Rattle.betting_numbers.specs.Why.{now_why, is_reopened_by, ceiling_seen, ful
 use Rattle.betting_numbers.proofs.Bridge.{price_is, owed_is, all_in_is, opponent_is}
 use Rattle.betting_numbers.proofs.WhyMove.{read_mover, other_is}
 
-module _ (b : Table) (moves : List Move) (st : Standing b.setup b.street b moves) (m : ℕ) (in_hand : IsSeat b.setup m) where
+module _ (b : RunningNumbers) (moves : List Move) (st : Standing b.setup b.street b moves) (m : ℕ) (in_hand : IsSeat b.setup m) where
   pub target_is : (amount : Spelled) → raise_target b.setup moves b.street m amount ≡ target_seen b m amount
   target_is (spelled.To amount) = refl
   target_is (spelled.Added amount) = ap (λ n. n + amount) (sym (st.bets m in_hand))
@@ -187,7 +187,7 @@ module _ (b : Table) (moves : List Move) (st : Standing b.setup b.street b moves
         else if nat_lt g (target_seen b m amount) then Some reasons.RaiseTooBig
         else None) greatest_is
 
-module _ (b : Table) (past : Past) (stands : StandsFor b past) where
+module _ (b : RunningNumbers) (past : Past) (stands : StandsFor b past) where
   refused : ℕ → Spelled → Option Illegal
   refused seat amount =
       if not (may_raise b.setup b.rules (moves_of past) b.street seat) then Some reasons.RaiseClosed
@@ -218,7 +218,7 @@ module _ (b : Table) (past : Past) (stands : StandsFor b past) where
   pub raise_undecided : mover b.setup (up_cards b.setup.code past) (moves_of past) b.street ≡ Undecided → (due : Due) → b.due ≡ due → now_why true true due ≡ None → (named : Option ℕ) (amount : Spelled) → why b.setup b.rules past (said.Raise named amount) ≡ (if is_other_seat b.setup (moves_of past) named Undecided then Some reasons.WrongSeat else Some reasons.UpCardUnknown)
   raise_undecided mover_is due due_is now named amount = refused_at due due_is now named amount ∙ ap (λ (t : InTurn). refused_by t named amount) mover_is
 
-module _ (b : Table) (past : Past) (stands : StandsFor b past) (limit : Limit) (limit_is : limit_of b.setup.code ≡ limit) (m : ℕ) (in_hand : IsSeat b.setup m) (mover_is : mover b.setup (up_cards b.setup.code past) (moves_of past) b.street ≡ TheSeat m) where
+module _ (b : RunningNumbers) (past : Past) (stands : StandsFor b past) (limit : Limit) (limit_is : limit_of b.setup.code ≡ limit) (m : ℕ) (in_hand : IsSeat b.setup m) (mover_is : mover b.setup (up_cards b.setup.code past) (moves_of past) b.street ≡ TheSeat m) where
   pub why_raise : (due : Due) → b.due ≡ due → now_why true true due ≡ None → (named : Option ℕ) (amount : Spelled) → why b.setup b.rules past (said.Raise named amount) ≡ raise_why limit b (floor_by b.rules.reopen (starting_price b.setup b.street) b) named amount m
   unfolding refused
   why_raise due due_is now named amount =

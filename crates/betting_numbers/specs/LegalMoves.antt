@@ -14,7 +14,7 @@ use Rattle.play_event.specs.Scripts.{with_event}
 use Rattle.play_event.specs.Table.{up_cards}
 use Rattle.play_event.specs.TurnTargets.{is_bet_due}
 use Rattle.betting_numbers.specs.declared.legal_moves.LegalMove.{LegalMove}
-use Rattle.betting_numbers.specs.declared.table.Table.{Table}
+use Rattle.betting_numbers.specs.declared.running.RunningNumbers.{RunningNumbers}
 use Rattle.betting_numbers.specs.SeatsSaid.{turn_of}
 use Rattle.betting_numbers.specs.Seen.{all_in_seen}
 use Rattle.betting_numbers.specs.Standing.{StandsFor}
@@ -23,52 +23,52 @@ use Rattle.betting_numbers.specs.UpSeen.{HoldsOpeningUps}
 use Rattle.chip_ledger.specs.SeatsSaid.{seat_said}
 
 -- a move of a seat to a target, after these moves
-abbrev pub move_of : Table → List Move → ℕ → Act → ℕ → Move
+abbrev pub move_of : RunningNumbers → List Move → ℕ → Act → ℕ → Move
 move_of b moves seat act target = record { street = b.street; seat = seat; act = act; from = street_chips b.setup moves b.street seat; to = target }
 
 -- the past with that move
-abbrev pub with_move : Table → Past → ℕ → Act → ℕ → Past
+abbrev pub with_move : RunningNumbers → Past → ℕ → Act → ℕ → Past
 with_move b past seat act target = Moved (move_of b (moves_of past) seat act target) ∷ past
 
 -- an event is legal, and it takes place as this move
-pub record IsLegalMove (b : Table) (past : Past) (event : Said) (seat : ℕ) (act : Act) (target : ℕ) : Type 0 where
+pub record IsLegalMove (b : RunningNumbers) (past : Past) (event : Said) (seat : ℕ) (act : Act) (target : ℕ) : Type 0 where
   pub legal : why b.setup b.rules past event ≡ None
   pub moved : with_event b.setup event past ≡ with_move b past seat act target
 
 -- the turn is this after a past
-abbrev pub IsTurn : Table → Past → InTurn → Type 0
+abbrev pub IsTurn : RunningNumbers → Past → InTurn → Type 0
 IsTurn b past in_turn = in_turn ≡ mover b.setup (up_cards b.setup.code past) (moves_of past) b.street
 
 -- after each past for which the state stands, and after which this is the turn
-abbrev pub WhereTurn : Table → Option Seat → (Past → Type 0) → Type 0
+abbrev pub WhereTurn : RunningNumbers → Option Seat → (Past → Type 0) → Type 0
 WhereTurn b turn P = (past : Past) → StandsFor b past → IsTurn b past (turn_of (seat_said turn)) → P past
 
 -- after each past for which the state stands, and after which this is the turn if a bring-in or a move is due
-abbrev pub WhereBets : Table → Option Seat → (Past → Type 0) → Type 0
+abbrev pub WhereBets : RunningNumbers → Option Seat → (Past → Type 0) → Type 0
 WhereBets b turn P = (past : Past) → StandsFor b past → (is_bet_due b.due ≡ true → IsTurn b past (turn_of (seat_said turn))) → P past
 
 -- after each past for which the state stands, where the row holds what is read of its up-cards
-abbrev pub WhereUps : Table → UpRow → (Past → Type 0) → Type 0
+abbrev pub WhereUps : RunningNumbers → UpRow → (Past → Type 0) → Type 0
 WhereUps b up P = (past : Past) → StandsFor b past → HoldsOpeningUps b up past → P past
 
 -- why an event is refused after a past, under the state's setup and rules
-abbrev pub reason_after : Table → Past → Said → Option Illegal
+abbrev pub reason_after : RunningNumbers → Past → Said → Option Illegal
 reason_after b past event = why b.setup b.rules past event
 
 -- the past with one event more
-abbrev pub past_with : Table → Past → Said → Past
+abbrev pub past_with : RunningNumbers → Past → Said → Past
 past_with b past event = with_event b.setup event past
 
 -- a refusal has the reason of the rules
-abbrev pub IsRefused : {T : Type 0} → Table → Said → Result T Illegal → Past → Type 0
+abbrev pub IsRefused : {T : Type 0} → RunningNumbers → Said → Result T Illegal → Past → Type 0
 IsRefused b event result past = IfErr result (λ reason. reason_after b past event ≡ Some reason)
 
 -- an event is allowed: it is legal, and takes place as the move that is given
-abbrev pub IsAllowed : Table → Said → Result LegalMove Illegal → Past → Type 0
+abbrev pub IsAllowed : RunningNumbers → Said → Result LegalMove Illegal → Past → Type 0
 IsAllowed b event result past = IfOk result (λ legal. IsLegalMove b past event legal.seat.number (act_said legal.act) legal.target)
 
 -- the move is of a seat of the hand
-abbrev pub IsOfHand : Table → LegalMove → Type 0
+abbrev pub IsOfHand : RunningNumbers → LegalMove → Type 0
 IsOfHand b legal = legal.seat.number ≤ b.setup.stacks.seats
 
 -- it is of the seat in turn
@@ -76,9 +76,9 @@ abbrev pub IsInTurn : Option Seat → LegalMove → Type 0
 IsInTurn turn legal = turn ≡ Some legal.seat
 
 -- it goes no further than all-in
-abbrev pub IsInReach : Table → LegalMove → Type 0
+abbrev pub IsInReach : RunningNumbers → LegalMove → Type 0
 IsInReach b legal = legal.target ≤ all_in_seen b legal.seat.number
 
 -- it may come where this is due
-abbrev pub IsFit : Table → LegalMove → Type 0
+abbrev pub IsFit : RunningNumbers → LegalMove → Type 0
 IsFit b legal = may_come_at (act_said legal.act) b.due ≡ true

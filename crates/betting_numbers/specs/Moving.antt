@@ -4,7 +4,7 @@ use Rattle.chip_ledger.specs.LiveRow.{flag_of}
 use Rattle.chip_ledger.specs.SeatRow.{amount_of}
 use Rattle.play_event.specs.Past.{Act, is_fold, is_raise, is_bring_in}
 use Rattle.play_event.specs.Due.{has_opened_betting}
-use Rattle.betting_numbers.specs.declared.table.Table.{Table}
+use Rattle.betting_numbers.specs.declared.running.RunningNumbers.{RunningNumbers}
 use Rattle.betting_numbers.specs.Seen.{price_seen, last_seen}
 
 -- the most raises that are counted
@@ -12,7 +12,7 @@ abbrev pub most_raises : ℕ
 most_raises = 4294967295
 
 -- a seat made a move to a target, where bets have this unit
-pub record IsMoved (b next : Table) (seat : ℕ) (act : Act) (target unit : ℕ) : Type 0 where
+pub record IsMoved (b next : RunningNumbers) (seat : ℕ) (act : Act) (target unit : ℕ) : Type 0 where
   pub setup : next.setup ≡ b.setup
   pub rules : next.rules ≡ b.rules
   pub street : next.street ≡ b.street
@@ -34,7 +34,7 @@ pub record IsMoved (b next : Table) (seat : ℕ) (act : Act) (target unit : ℕ)
   pub opened : next.opened ≡ (has_opened_betting act || b.opened)
 
 -- the next street begins, on which nobody has moved
-pub record IsNextStreet (b next : Table) : Type 0 where
+pub record IsNextStreet (b next : RunningNumbers) : Type 0 where
   pub setup : next.setup ≡ b.setup
   pub rules : next.rules ≡ b.rules
   pub street : next.street ≡ b.street + 1

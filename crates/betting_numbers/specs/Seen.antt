@@ -11,51 +11,51 @@ use Rattle.play_event.specs.Seats.{all_seats}
 use Rattle.play_event.specs.Streets.{is_stud}
 use Rattle.play_event.specs.Openers.{InTurn, TheSeat, seat_after}
 use Rattle.play_event.specs.Mover.{first_in_turn}
-use Rattle.betting_numbers.specs.declared.table.Table.{Table}
+use Rattle.betting_numbers.specs.declared.running.RunningNumbers.{RunningNumbers}
 
 -- the chips that a seat has left
-abbrev pub left_seen : Table → ℕ → ℕ
+abbrev pub left_seen : RunningNumbers → ℕ → ℕ
 left_seen b seat = amount_of b.setup.stacks seat - amount_of b.puts seat
 
 -- the seat is able to act
-abbrev pub is_able_seen : Table → ℕ → Bool
+abbrev pub is_able_seen : RunningNumbers → ℕ → Bool
 is_able_seen b seat = flag_of b.live seat && nat_lt 0 (left_seen b seat)
 
 -- the price of the street
-abbrev pub price_seen : Table → ℕ
+abbrev pub price_seen : RunningNumbers → ℕ
 price_seen b = greatest (map (amount_of b.bets) (all_seats b.setup))
 
 -- what a seat owes
-abbrev pub owed_seen : Table → ℕ → ℕ
+abbrev pub owed_seen : RunningNumbers → ℕ → ℕ
 owed_seen b seat = price_seen b - amount_of b.bets seat
 
 -- the street's chips of a seat that puts all it has left
-abbrev pub all_in_seen : Table → ℕ → ℕ
+abbrev pub all_in_seen : RunningNumbers → ℕ → ℕ
 all_in_seen b seat = amount_of b.bets seat + left_seen b seat
 
 -- how many seats are live
-abbrev pub live_count_seen : Table → ℕ
+abbrev pub live_count_seen : RunningNumbers → ℕ
 live_count_seen b = count_by (flag_of b.live) (all_seats b.setup)
 
 -- how many seats are able
-abbrev pub able_count_seen : Table → ℕ
+abbrev pub able_count_seen : RunningNumbers → ℕ
 able_count_seen b = count_by (is_able_seen b) (all_seats b.setup)
 
 -- a seat has a move to make
-abbrev pub has_to_move_seen : Table → ℕ → Bool
+abbrev pub has_to_move_seen : RunningNumbers → ℕ → Bool
 has_to_move_seen b seat =
     is_able_seen b seat && (if flag_of b.since_rise seat then false else (nat_lt 0 (owed_seen b seat) || nat_le 2 (able_count_seen b)))
 
 -- some seat has a move to make
-abbrev pub is_move_due_seen : Table → Bool
+abbrev pub is_move_due_seen : RunningNumbers → Bool
 is_move_due_seen b = list_any (has_to_move_seen b) (all_seats b.setup)
 
 -- a bring-in is due
-abbrev pub is_bring_in_due_seen : Table → Bool
+abbrev pub is_bring_in_due_seen : RunningNumbers → Bool
 is_bring_in_due_seen b = is_stud b.setup.code && (b.street == 1) && nat_le 2 (able_count_seen b) && not b.opened
 
 -- another seat is able
-abbrev pub has_opponent_seen : Table → ℕ → Bool
+abbrev pub has_opponent_seen : RunningNumbers → ℕ → Bool
 has_opponent_seen b seat = list_any (λ other. is_able_seen b other && not (other == seat)) (all_seats b.setup)
 
 -- where the turn is passed to: after a seat to the next one, and before any to the opener
@@ -64,21 +64,21 @@ after_last None after opener = opener
 after_last (Some seat) after opener = TheSeat (after seat)
 
 -- the number of the seat that moved last
-abbrev pub last_seen : Table → Option ℕ
+abbrev pub last_seen : RunningNumbers → Option ℕ
 last_seen b = option_map (λ (s : Seat). s.number) b.last
 
 -- whose turn it is, the opener being this
-abbrev pub mover_seen : Table → InTurn → InTurn
+abbrev pub mover_seen : RunningNumbers → InTurn → InTurn
 mover_seen b opener = first_in_turn b.setup (has_to_move_seen b) (after_last (last_seen b) (seat_after b.setup) opener)
 
 -- the first able seat behind this one, going round, with this one as the last
-abbrev pub first_behind_seen : Table → ℕ → InTurn
+abbrev pub first_behind_seen : RunningNumbers → ℕ → InTurn
 first_behind_seen b seat = first_in_turn b.setup (is_able_seen b) (TheSeat (seat_after b.setup seat))
 
 -- an able seat owes chips
-abbrev pub has_able_seat_to_call_seen : Table → Bool
+abbrev pub has_able_seat_to_call_seen : RunningNumbers → Bool
 has_able_seat_to_call_seen b = list_any (λ seat. is_able_seen b seat && nat_lt 0 (owed_seen b seat)) (all_seats b.setup)
 
 -- the hand is settled
-abbrev pub is_settled_seen : Table → Bool
+abbrev pub is_settled_seen : RunningNumbers → Bool
 is_settled_seen b = nat_le 2 (live_count_seen b) && (is_after_betting b.due || (nat_le (able_count_seen b) 1 && not (has_able_seat_to_call_seen b)))

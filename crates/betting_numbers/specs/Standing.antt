@@ -17,7 +17,7 @@ use Rattle.play_event.specs.Showing.{has_to_show}
 use Rattle.play_event.specs.ValidSetup.{IsValid}
 use Rattle.street_laws.specs.Seats.{IsSeat}
 use Rattle.street_laws.specs.Walk.{has_nothing_later}
-use Rattle.betting_numbers.specs.declared.table.Table.{Table}
+use Rattle.betting_numbers.specs.declared.running.RunningNumbers.{RunningNumbers}
 use Rattle.betting_numbers.specs.Moving.{most_raises}
 use Rattle.betting_numbers.specs.Seen.{last_seen}
 
@@ -27,7 +27,7 @@ newest_seat [] = None
 newest_seat (move ∷ before) = Some move.seat
 
 -- The running numbers are what the rules say of the moves, where this is the street.
-pub record Standing (setup : Setup) (street : ℕ) (b : Table) (moves : List Move) : Type 0 where
+pub record Standing (setup : Setup) (street : ℕ) (b : RunningNumbers) (moves : List Move) : Type 0 where
   -- the chips that each seat put in this hand
   pub puts : (seat : ℕ) → IsSeat setup seat → amount_of b.puts seat ≡ chips_put setup moves seat
   -- the chips that each seat put on this street
@@ -54,7 +54,7 @@ pub record Standing (setup : Setup) (street : ℕ) (b : Table) (moves : List Mov
 -- The state stands for a past: each of its numbers and flags is what the rules say of the moves of the past, and what is
 -- due is due by the rules. A past in which a card was dealt on a later street, or a hand shown before the betting was
 -- over, has no state that stands for it: no legal past is such.
-pub record StandsFor (b : Table) (past : Past) : Type 0 where
+pub record StandsFor (b : RunningNumbers) (past : Past) : Type 0 where
   -- the setup is valid
   pub valid : IsValid b.setup
   -- the running numbers are those of the moves of the past

@@ -2,7 +2,7 @@
 use Rattle.std.specs.Prelude.{ℕ, ◌+◌, List}
 use Rattle.play_event.specs.declared.limit.Limit.{Limit}
 use Rattle.play_event.specs.Targets.{least_by}
-use Rattle.betting_numbers.specs.declared.table.Table.{Table}
+use Rattle.betting_numbers.specs.declared.running.RunningNumbers.{RunningNumbers}
 use Rattle.betting_numbers.specs.Seen.{price_seen, all_in_seen}
 use Rattle.betting_numbers.specs.Why.{fulls_seen}
 use Rattle.play_event.specs.Past.{Move}
@@ -10,9 +10,9 @@ use Rattle.play_event.specs.TurnTargets.{AreTargets}
 use Rattle.betting_numbers.specs.declared.targeting.Targets.{Targets}
 
 -- and that of a seat, where the floor is this
-abbrev pub least_seen : Limit → Table → (floor seat : ℕ) → ℕ
+abbrev pub least_seen : Limit → RunningNumbers → (floor seat : ℕ) → ℕ
 least_seen limit b floor seat = least_by limit floor (price_seen b + b.full_raise) (all_in_seen b seat) (fulls_seen b)
 
 -- these are the ends of the legal targets of a seat after these moves, and its all-in
-abbrev pub AreEndsFor : Table → List Move → ℕ → Targets → Type 0
+abbrev pub AreEndsFor : RunningNumbers → List Move → ℕ → Targets → Type 0
 AreEndsFor b moves seat targets = AreTargets b.setup b.rules moves b.street seat targets.least targets.greatest targets.all_in

@@ -9,24 +9,24 @@ use Rattle.play_event.specs.declared.limit.Limit.TheVariants as limits
 use Rattle.play_event.specs.Past.{Act, is_raise}
 use Rattle.play_event.specs.Streets.{unit}
 use Rattle.play_event.specs.Trace.{TracedMove}
-use Rattle.betting_numbers.specs.declared.table.Table.{Table}
+use Rattle.betting_numbers.specs.declared.running.RunningNumbers.{RunningNumbers}
 use Rattle.betting_numbers.specs.Seen.{price_seen, owed_seen}
 use Rattle.betting_numbers.specs.Why.{is_open_by, is_legal_seen, floor_by, target_seen}
 
 -- a raise needs rules by which betting always reopens
-abbrev pub is_closed_seen : Limit → Table → (seat target : ℕ) → Bool
+abbrev pub is_closed_seen : Limit → RunningNumbers → (seat target : ℕ) → Bool
 is_closed_seen limit b seat target =
     not (is_open_by reopen.Full limit (flag_of b.moved seat) b.full_raise (unit b.setup b.street) (owed_seen b seat))
     || not (is_legal_seen limit b (floor_by reopen.Full 0 b) seat target)
 
 -- where a raise by the unit goes, in fixed limit
-abbrev pub unit_seen : Limit → Table → ℕ → ℕ
+abbrev pub unit_seen : Limit → RunningNumbers → ℕ → ℕ
 unit_seen limits.Fixed b seat = target_seen b seat spelled.Unit
 unit_seen limits.Pot b seat = 0
 unit_seen limits.No b seat = 0
 
 -- the move as the trace keeps it
-abbrev pub traced_seen : Limit → Table → (seat : ℕ) → Act → (target : ℕ) → TracedMove
+abbrev pub traced_seen : Limit → RunningNumbers → (seat : ℕ) → Act → (target : ℕ) → TracedMove
 traced_seen limit b seat act target =
     record {
       street = b.street;

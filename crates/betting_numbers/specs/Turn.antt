@@ -7,7 +7,7 @@ use Rattle.play_event.specs.Due.{has_opened_betting}
 use Rattle.play_event.specs.Openers.{InTurn, TheSeat, in_turn, blinds_opener}
 use Rattle.play_event.specs.Past.{Act}
 use Rattle.play_event.specs.TurnTargets.{is_bet_due}
-use Rattle.betting_numbers.specs.declared.table.Table.{Table}
+use Rattle.betting_numbers.specs.declared.running.RunningNumbers.{RunningNumbers}
 use Rattle.chip_ledger.specs.SeatsSaid.{seat_said}
 use Rattle.betting_numbers.specs.Seen.{first_behind_seen, has_to_move_seen, live_count_seen, is_bring_in_due_seen, is_move_due_seen, mover_seen}
 use Rattle.betting_numbers.specs.Moving.{IsNextStreet}
@@ -16,38 +16,38 @@ use Rattle.street_laws.specs.Dues.{is_move}
 use Rattle.street_laws.specs.Seats.{IsSeat}
 
 -- the same numbers, and another thing due
-abbrev pub with_due : Table → Due → Table
+abbrev pub with_due : RunningNumbers → Due → RunningNumbers
 with_due b due = record b { due = due }
 
 -- the same numbers, another thing due, and another seat in turn
-abbrev pub with_turn : Table → Due → Option Seat → Table
+abbrev pub with_turn : RunningNumbers → Due → Option Seat → RunningNumbers
 with_turn b due next = record b { due = due; next = next }
 
 -- where a move is due, the seat in turn that is kept is the first with a move to make, where the blinds say who opens
-abbrev pub KeepsTurn : Table → Type 0
+abbrev pub KeepsTurn : RunningNumbers → Type 0
 KeepsTurn b = is_move b.due ≡ true → in_turn (seat_said b.next) ≡ mover_seen b (TheSeat (blinds_opener b.setup b.street))
 
 -- where a bring-in or a move is due, the seat that is kept is of the hand
-abbrev pub KeepsSeat : Table → Type 0
+abbrev pub KeepsSeat : RunningNumbers → Type 0
 KeepsSeat b = is_bet_due b.due ≡ true → IfSome b.next (λ seat. seat.number ≤ b.setup.stacks.seats)
 
 -- where no seat has moved on the street, none has since the price rose
-abbrev pub StartsFresh : Table → Type 0
+abbrev pub StartsFresh : RunningNumbers → Type 0
 StartsFresh b = b.last ≡ None → (seat : ℕ) → IsSeat b.setup seat → flag_of b.since_rise seat ≡ false
 
 -- before the first move of a street, the first able seat behind the one that makes it
-pub record IsFirstBehind (b : Table) (seat : ℕ) (behind : Seat) : Type 0 where
+pub record IsFirstBehind (b : RunningNumbers) (seat : ℕ) (behind : Seat) : Type 0 where
   pub before_moves : b.last ≡ None
   pub first : TheSeat behind.number ≡ first_behind_seen b seat
   pub in_hand : behind.number ≤ b.setup.stacks.seats
 
 -- after that move this seat is in turn or, where it has no move to make, none is
-pub record IsNextUp (b : Table) (behind : Seat) : Type 0 where
+pub record IsNextUp (b : RunningNumbers) (behind : Seat) : Type 0 where
   pub turn : (opener : InTurn) → in_turn (if has_to_move_seen b behind.number then Some behind.number else None) ≡ mover_seen b opener
   pub in_hand : behind.number ≤ b.setup.stacks.seats
 
 -- the numbers where this is what comes: the street's betting goes on, or the next street begins, or nothing is left to bet
-pub record IsTurnedTo (now : ℕ × Due) (mid next : Table) : Type 0 where
+pub record IsTurnedTo (now : ℕ × Due) (mid next : RunningNumbers) : Type 0 where
   pub turn_is : (next.street, next.due) ≡ now
   pub stays : next.street ≡ mid.street → next ≡ with_turn mid next.due next.next
   pub goes : (next.street ≡ mid.street → ⊥) → IsNextStreet mid next
@@ -55,15 +55,15 @@ pub record IsTurnedTo (now : ℕ × Due) (mid next : Table) : Type 0 where
   pub rules : next.rules ≡ mid.rules
 
 -- after a move comes what is due after it
-abbrev pub IsSettledTo : Table → Table → Type 0
+abbrev pub IsSettledTo : RunningNumbers → RunningNumbers → Type 0
 IsSettledTo mid next = IsTurnedTo (turn_after mid.setup.code mid.street (nat_le (live_count_seen mid) 1) false (is_move_due_seen mid)) mid next
 
 -- after the deal or the draw of a street comes a bring-in, a move, or what comes behind it
-abbrev pub IsDealtTo : Table → Table → Type 0
+abbrev pub IsDealtTo : RunningNumbers → RunningNumbers → Type 0
 IsDealtTo mid next = IsTurnedTo (betting_turn mid.setup.code mid.street (is_bring_in_due_seen mid) (is_move_due_seen mid)) mid next
 
 -- where no bring-in is due a move comes, or what comes behind it
-abbrev pub IsPassedTo : Table → Table → Type 0
+abbrev pub IsPassedTo : RunningNumbers → RunningNumbers → Type 0
 IsPassedTo mid next = IsTurnedTo (betting_turn mid.setup.code mid.street false (is_move_due_seen mid)) mid next
 
 -- a move that brings no chips in comes only where a move is due

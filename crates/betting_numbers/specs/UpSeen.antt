@@ -11,7 +11,7 @@ use Rattle.up_card_order.specs.Earliest.{is_as_early}
 use Rattle.play_event.specs.SeatSlots.{ups_of}
 use Rattle.play_event.specs.Seats.{all_seats}
 use Rattle.play_event.specs.Table.{up_cards}
-use Rattle.betting_numbers.specs.declared.table.Table.{Table}
+use Rattle.betting_numbers.specs.declared.running.RunningNumbers.{RunningNumbers}
 use Rattle.betting_numbers.specs.Seen.{is_able_seen}
 
 -- a row holds the up-cards of a past
@@ -19,35 +19,35 @@ abbrev pub HoldsUps : Setup → UpRow → Past → Type 0
 HoldsUps setup up past = (seat : ℕ) → 1 ≤ seat → seat ≤ setup.stacks.seats → ups_of up seat ≡ up_cards setup.code past seat
 
 -- a row holds what is read of the up-cards of a past: who opens a street is asked only until a seat has moved on it
-pub record HoldsOpeningUps (b : Table) (up : UpRow) (past : Past) : Type 0 where
+pub record HoldsOpeningUps (b : RunningNumbers) (up : UpRow) (past : Past) : Type 0 where
   -- the row holds the up-cards of the past, where no seat has moved on the street yet
   pub held : b.last ≡ None → HoldsUps b.setup up past
 
 -- an up-card of an able seat is unknown
-abbrev pub has_unknown_seen : Table → UpRow → ℕ → Bool
+abbrev pub has_unknown_seen : RunningNumbers → UpRow → ℕ → Bool
 has_unknown_seen b up seat = is_able_seen b seat && list_any is_unknown (ups_of up seat)
 
 -- such a seat is there
-abbrev pub has_unknown_up_card_seen : Table → UpRow → Bool
+abbrev pub has_unknown_up_card_seen : RunningNumbers → UpRow → Bool
 has_unknown_up_card_seen b up = list_any (has_unknown_seen b up) (all_seats b.setup)
 
 -- an able seat opens before this one
-abbrev pub is_before_seen : Opener → Table → UpRow → (seat other : ℕ) → Bool
+abbrev pub is_before_seen : Opener → RunningNumbers → UpRow → (seat other : ℕ) → Bool
 is_before_seen opener b up seat other =
     is_able_seen b other && is_opener_before opener (b.street == 1) (known_cards (ups_of up other)) (known_cards (ups_of up seat))
 
 -- a seat's up-cards open before all that another's open before
-abbrev pub is_as_early_seen : Opener → Table → UpRow → (seat other : ℕ) → Bool
+abbrev pub is_as_early_seen : Opener → RunningNumbers → UpRow → (seat other : ℕ) → Bool
 is_as_early_seen opener b up seat other = is_as_early opener (b.street == 1) (known_cards (ups_of up seat)) (known_cards (ups_of up other))
 
 -- a seat is able, and no able seat opens before it
-abbrev pub is_opener_seen : Opener → Table → UpRow → ℕ → Bool
+abbrev pub is_opener_seen : Opener → RunningNumbers → UpRow → ℕ → Bool
 is_opener_seen opener b up seat = is_able_seen b seat && not (list_any (is_before_seen opener b up seat) (all_seats b.setup))
 
 -- the first able seat before which no other opens
-abbrev pub up_opener_seen : Opener → Table → UpRow → Option ℕ
+abbrev pub up_opener_seen : Opener → RunningNumbers → UpRow → Option ℕ
 up_opener_seen opener b up = find (is_opener_seen opener b up) (all_seats b.setup)
 
 -- who opens, where each up-card of an able seat is known
-abbrev pub known_opener_seen : Opener → Table → UpRow → Option ℕ
+abbrev pub known_opener_seen : Opener → RunningNumbers → UpRow → Option ℕ
 known_opener_seen opener b up = if has_unknown_up_card_seen b up then None else up_opener_seen opener b up

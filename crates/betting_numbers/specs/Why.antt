@@ -15,7 +15,7 @@ use Rattle.play_event.specs.declared.limit.Limit.{Limit}
 use Rattle.play_event.specs.declared.limit.Limit.TheVariants as limits
 use Rattle.play_event.specs.Streets.{unit}
 use Rattle.play_event.specs.Targets.{above_price, is_legal_by, greatest_by}
-use Rattle.betting_numbers.specs.declared.table.Table.{Table}
+use Rattle.betting_numbers.specs.declared.running.RunningNumbers.{RunningNumbers}
 use Rattle.betting_numbers.specs.Seen.{price_seen, owed_seen, is_able_seen, all_in_seen, has_opponent_seen}
 use Rattle.play_event.specs.Price.{starting_price}
 
@@ -25,14 +25,14 @@ is_another None mover = false
 is_another (Some seat) mover = not (seat == mover)
 
 -- why a fold is refused
-abbrev pub fold_why : Table → Option ℕ → ℕ → Option Illegal
+abbrev pub fold_why : RunningNumbers → Option ℕ → ℕ → Option Illegal
 fold_why b named mover =
     if is_another named mover then Some reasons.WrongSeat
     else if not b.rules.free_fold && (owed_seen b mover == 0) then Some reasons.NothingToCall
     else None
 
 -- where a call goes
-abbrev pub call_seen : Table → ℕ → ℕ
+abbrev pub call_seen : RunningNumbers → ℕ → ℕ
 call_seen b seat = min (price_seen b) (all_in_seen b seat)
 
 -- a call states other chips than it adds
@@ -41,12 +41,12 @@ stated_why None due = None
 stated_why (Some stated) due = if not (stated == due) then Some (reasons.AmountDiffers stated due) else None
 
 -- why a call is refused
-abbrev pub call_why : Table → Option ℕ → Option ℕ → ℕ → Option Illegal
+abbrev pub call_why : RunningNumbers → Option ℕ → Option ℕ → ℕ → Option Illegal
 call_why b named stated mover =
     if is_another named mover then Some reasons.WrongSeat else stated_why stated (call_seen b mover - amount_of b.bets mover)
 
 -- where a raise goes
-abbrev pub target_seen : Table → ℕ → Spelled → ℕ
+abbrev pub target_seen : RunningNumbers → ℕ → Spelled → ℕ
 target_seen b seat (spelled.To amount) = amount
 target_seen b seat (spelled.Added amount) = amount_of b.bets seat + amount
 target_seen b seat (spelled.HandTotal amount) = amount - (amount_of b.puts seat - amount_of b.bets seat)
@@ -69,22 +69,22 @@ is_open_by reopen.Always limit moved least size owes = true
 is_open_by reopen.Full limit moved least size owes = not moved || is_reopened_by limit least size owes
 
 -- the seat may raise
-abbrev pub may_raise_seen : Limit → Table → ℕ → Bool
+abbrev pub may_raise_seen : Limit → RunningNumbers → ℕ → Bool
 may_raise_seen limit b seat =
     has_opponent_seen b seat && nat_lt (price_seen b) (all_in_seen b seat) && is_within_cap_by b.rules.caps b.raises b.street
     && is_open_by b.rules.reopen limit (flag_of b.moved seat) b.full_raise (unit b.setup b.street) (owed_seen b seat)
 
 -- the least raise that is not all-in, in no limit, where the street started at this price
-abbrev pub floor_by : Reopen → (start : ℕ) → Table → ℕ
+abbrev pub floor_by : Reopen → (start : ℕ) → RunningNumbers → ℕ
 floor_by reopen.Full start b = price_seen b + b.full_raise
 floor_by reopen.Always start b = max (start + b.setup.min_bet) b.doubled
 
 -- and where it started at the price of the rules
-abbrev pub floor_seen : Table → ℕ
+abbrev pub floor_seen : RunningNumbers → ℕ
 floor_seen b = floor_by b.rules.reopen (starting_price b.setup b.street) b
 
 -- the greatest raise of pot limit
-abbrev pub ceiling_seen : Table → ℕ → ℕ
+abbrev pub ceiling_seen : RunningNumbers → ℕ → ℕ
 ceiling_seen b seat = max (price_seen b + b.full_raise) (price_seen b + total_of b.puts + owed_seen b seat)
 
 -- the full raises of fixed limit
@@ -92,19 +92,19 @@ abbrev pub fulls_by : (price size full_bet : ℕ) → List ℕ
 fulls_by price size full_bet = if nat_lt price size then (size ∷ []) else ((price + size) ∷ above_price price (full_bet + size))
 
 -- those of the street
-abbrev pub fulls_seen : Table → List ℕ
+abbrev pub fulls_seen : RunningNumbers → List ℕ
 fulls_seen b = fulls_by (price_seen b) (unit b.setup b.street) b.full_bet
 
 -- a target of a seat is legal, where the floor is this
-abbrev pub is_legal_seen : Limit → Table → (floor seat target : ℕ) → Bool
+abbrev pub is_legal_seen : Limit → RunningNumbers → (floor seat target : ℕ) → Bool
 is_legal_seen limit b floor seat target = is_legal_by limit floor (price_seen b + b.full_raise) (all_in_seen b seat) (ceiling_seen b seat) (fulls_seen b) target
 
 -- the greatest legal target of a seat
-abbrev pub greatest_seen : Limit → Table → ℕ → ℕ
+abbrev pub greatest_seen : Limit → RunningNumbers → ℕ → ℕ
 greatest_seen limit b seat = greatest_by limit (all_in_seen b seat) (ceiling_seen b seat) (fulls_seen b)
 
 -- why a raise to a target is refused
-abbrev pub raise_to_why : Limit → Table → (floor mover target : ℕ) → Option Illegal
+abbrev pub raise_to_why : Limit → RunningNumbers → (floor mover target : ℕ) → Option Illegal
 raise_to_why limit b floor mover target =
     if not (may_raise_seen limit b mover) then Some reasons.RaiseClosed
     else if not (is_legal_seen limit b floor mover target) && nat_lt target (greatest_seen limit b mover) then Some reasons.RaiseTooSmall
@@ -112,7 +112,7 @@ raise_to_why limit b floor mover target =
     else None
 
 -- why a raise is refused, however it is spelled
-abbrev pub raise_why : Limit → Table → (floor : ℕ) → Option ℕ → Spelled → ℕ → Option Illegal
+abbrev pub raise_why : Limit → RunningNumbers → (floor : ℕ) → Option ℕ → Spelled → ℕ → Option Illegal
 raise_why limit b floor named amount mover =
     if is_another named mover then Some reasons.WrongSeat else raise_to_why limit b floor mover (target_seen b mover amount)
 
@@ -126,16 +126,16 @@ now_why at_move at_bring_in (dues.Draw street) = Some reasons.WrongKind
 now_why at_move at_bring_in dues.Show = Some reasons.WrongKind
 
 -- the seat that is named is not able
-abbrev pub is_unable : Table → Option ℕ → Bool
+abbrev pub is_unable : RunningNumbers → Option ℕ → Bool
 is_unable b None = false
 is_unable b (Some seat) = not (is_able_seen b seat)
 
 -- why a move is refused where it is not known whose turn it is
-abbrev pub unknown_why : Table → Option ℕ → Illegal
+abbrev pub unknown_why : RunningNumbers → Option ℕ → Illegal
 unknown_why b named = if is_unable b named then reasons.WrongSeat else reasons.UpCardUnknown
 
 -- where a bring-in goes
-abbrev pub bring_in_seen : Table → ℕ → ℕ
+abbrev pub bring_in_seen : RunningNumbers → ℕ → ℕ
 bring_in_seen b seat = min b.setup.bring_in (all_in_seen b seat)
 
 -- why a bring-in is refused

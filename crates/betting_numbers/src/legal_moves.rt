@@ -6,7 +6,7 @@ ghost use Rattle.betting_numbers.specs.LegalMoves.{IsRefused, IsAllowed, IsOfHan
 ghost use Rattle.betting_numbers.specs.Why.{is_unable, now_why, unknown_why};
 ghost use Rattle.chip_ledger.specs.SeatsSaid.{seat_said};
 
-use crate::table::Table;
+use crate::running::RunningNumbers;
 use chip_ledger::Seat;
 use play_event::{Act, Due, Illegal, Limit, Spelled};
 
@@ -33,7 +33,7 @@ pub fn not_now(due: Due, at_move: bool, at_bring_in: bool) -> Option<Illegal>
     }
 }
 
-impl Table {
+impl RunningNumbers {
     /// The fold that an event says, if it is legal.
     pub fn legal_fold(&self, turn: Option<Seat>, actor: Option<Seat>) -> Result<LegalMove, Illegal>
         requires in_hand { IfSome turn (λ seat. seat.number ≤ self.now.setup.stacks.seats) }

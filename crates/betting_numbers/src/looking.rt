@@ -4,10 +4,10 @@ ghost use Rattle.chip_ledger.specs.declared.rows.TheConstants.{MOST_AMOUNT};
 ghost use Rattle.play_event.specs.Streets.{is_stud};
 ghost use Rattle.betting_numbers.specs.Seen.{able_count_seen, is_able_seen, all_in_seen, is_bring_in_due_seen, left_seen, live_count_seen, has_opponent_seen, owed_seen, price_seen, has_to_move_seen};
 
-use crate::table::Table;
+use crate::running::RunningNumbers;
 use chip_ledger::Seat;
 
-impl Table {
+impl RunningNumbers {
     /// The price of the street.
     pub fn price(&self) -> u64
         ensures value { result ≡ price_seen self.now }

@@ -9,11 +9,11 @@ ghost use Rattle.betting_numbers.specs.Moving.{IsMoved, IsNextStreet, most_raise
 ghost use Rattle.betting_numbers.specs.Turn.{with_due, with_turn};
 ghost use Rattle.betting_numbers.specs.Seen.{all_in_seen};
 
-use crate::table::Table;
+use crate::running::RunningNumbers;
 use chip_ledger::{LiveRow, Seat, SeatRow};
 use play_event::{Act, Due};
 
-impl Table {
+impl RunningNumbers {
     /// A move of the seat to a target, where bets have this unit.
     pub fn make(&mut self, seat: Seat, act: Act, target: u64, unit: u64)
         requires in_hand { seat.number ≤ self.old.setup.stacks.seats }

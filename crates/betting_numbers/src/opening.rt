@@ -4,7 +4,7 @@ ghost use Rattle.chip_ledger.specs.declared.rows.TheConstants.{MOST_AMOUNT};
 ghost use Rattle.play_event.specs.Openers as openers;
 ghost use Rattle.play_event.specs.Price.{starting_price};
 
-use crate::table::Table;
+use crate::running::RunningNumbers;
 use chip_ledger::Seat;
 use play_event::Setup;
 
@@ -25,7 +25,7 @@ pub fn first_opener(setup: &Setup, last: u8) -> Seat
     }
 }
 
-impl Table {
+impl RunningNumbers {
     /// Who opens the street of a game with blinds.
     pub fn blinds_opener(&self) -> Seat
         ensures value { result.number ≡ openers.blinds_opener self.now.setup self.now.street }

@@ -9,11 +9,11 @@ ghost use Rattle.chip_ledger.specs.Greatest.{greatest};
 ghost use Rattle.chip_ledger.specs.SeatsSaid.{seat_said};
 ghost use Rattle.play_event.specs.Targets.{is_legal_by, greatest_by};
 
-use crate::table::Table;
+use crate::running::RunningNumbers;
 use chip_ledger::Seat;
 use play_event::{Illegal, Limit, Reopen, Spelled};
 
-impl Table {
+impl RunningNumbers {
     /// Why a fold is refused.
     pub fn against_fold(&self, named: Option<Seat>, mover: Seat) -> Option<Illegal>
         requires { mover.number ≤ self.now.setup.stacks.seats }

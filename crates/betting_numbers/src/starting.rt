@@ -10,7 +10,7 @@ ghost use Rattle.betting_numbers.specs.Standing.{StandsFor};
 
 use crate::caps::caps_fit;
 use crate::opening::first_opener;
-use crate::table::Table;
+use crate::running::RunningNumbers;
 use chip_ledger::{LiveRow, Seat, SeatRow};
 use play_event::{Due, Rules, Setup};
 
@@ -36,7 +36,7 @@ pub struct Posted {
 }
 
 /// The numbers before the first card, where bets have this size on the first street.
-pub fn start(setup: &Setup, rules: &Rules, size: u64) -> Table
+pub fn start(setup: &Setup, rules: &Rules, size: u64) -> RunningNumbers
     requires valid { IsValid setup.now }
     requires antes { setup.now.antes.seats ≡ setup.now.stacks.seats }
     requires blinds { setup.now.blinds.seats ≡ setup.now.stacks.seats }
@@ -52,7 +52,7 @@ pub fn start(setup: &Setup, rules: &Rules, size: u64) -> Table
     caps_fit(rules);
     let seats = setup.stacks.seats;
     let posted = post_all(setup);
-    Table {
+    RunningNumbers {
         setup: *setup,
         rules: *rules,
         first_price: posted.price,

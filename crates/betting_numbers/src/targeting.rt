@@ -12,7 +12,7 @@ ghost use Rattle.play_event.specs.Targets.{smallest};
 ghost use Rattle.betting_numbers.specs.Why.{fulls_list, greatest_seen, floor_seen};
 ghost use Rattle.chip_ledger.specs.SeatsSaid.{seat_said};
 
-use crate::table::Table;
+use crate::running::RunningNumbers;
 use chip_ledger::Seat;
 use play_event::Limit;
 
@@ -25,7 +25,7 @@ pub struct Targets {
     pub all_in: u64,
 }
 
-impl Table {
+impl RunningNumbers {
     /// Where the seat in turn may raise to, if it is known and may.
     pub fn targets_of(&self, turn: Option<Seat>, limit: Limit, size: u64) -> Option<Targets>
         requires in_hand { IfSome turn (λ seat. seat.number ≤ self.now.setup.stacks.seats) }

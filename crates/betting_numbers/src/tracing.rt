@@ -9,11 +9,11 @@ ghost use Rattle.betting_numbers.specs.LegalMoves.{move_of};
 ghost use Rattle.betting_numbers.specs.Traced.{is_closed_seen, traced_seen, unit_seen};
 
 use crate::moving::raises;
-use crate::table::Table;
+use crate::running::RunningNumbers;
 use chip_ledger::Seat;
 use play_event::{Act, Limit, Move, Spelled};
 
-impl Table {
+impl RunningNumbers {
     /// The move as the trace keeps it.
     pub fn traced(&self, limit: Limit, size: u64, seat: Seat, act: Act, target: u64) -> Move
         requires in_hand { seat.number ≤ self.now.setup.stacks.seats }

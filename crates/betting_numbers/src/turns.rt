@@ -6,10 +6,10 @@ ghost use Rattle.play_event.specs.Openers.{TheSeat, in_turn};
 ghost use Rattle.betting_numbers.specs.Seen.{after_last, last_seen, mover_seen, has_to_move_seen, is_move_due_seen};
 ghost use Rattle.chip_ledger.specs.SeatsSaid.{seat_said};
 
-use crate::table::Table;
+use crate::running::RunningNumbers;
 use chip_ledger::Seat;
 
-impl Table {
+impl RunningNumbers {
     /// Whose turn it is, where this seat opens: nobody's where no move is due.
     pub fn mover(&self, opener: Seat) -> Option<Seat>
         requires { opener.number ≤ self.now.setup.stacks.seats }

@@ -5,21 +5,21 @@ ghost use Rattle.play_event.specs.Openers.{in_turn};
 ghost use Rattle.betting_numbers.specs.UpSeen.{is_as_early_seen, is_before_seen, has_unknown_seen, known_opener_seen};
 ghost use Rattle.betting_numbers.specs.Seen.{first_behind_seen, is_able_seen};
 
-use crate::table::Table;
+use crate::running::RunningNumbers;
 use chip_ledger::Seat;
 use play_event::{Opener, UpRow};
 use up_card_order::{has_unknown, is_as_early, is_opener_before, known};
 
 /// Whose turn it is, if it is known, and who is behind.
 #[derive(Clone, Copy, Debug, PartialEq, Eq)]
-pub struct Turn {
+pub struct SeatInTurn {
     pub seat: Option<Seat>,
     /// The first able seat behind that one, going round, where it was looked for: the same seat
     /// where no other is able.
     pub behind: Option<Seat>,
 }
 
-impl Table {
+impl RunningNumbers {
     /// Who opens, where each up-card of an able seat is known: the first able seat before which no
     /// other opens. The walk goes from the last seat to the first, and keeps of the seats so far the
     /// leader, which opens before all that any of them opens before, and the first before which none
@@ -27,7 +27,7 @@ impl Table {
     ///
     /// The same walk finds who is behind the opener: the able seat that was walked last before it
     /// or, where none was able before it, the one that was walked last of all.
-    pub fn up_opener(&self, opener: Opener, up: &UpRow) -> Turn
+    pub fn up_opener(&self, opener: Opener, up: &UpRow) -> SeatInTurn
         requires row { up.now.seats ≡ self.now.setup.stacks.seats }
         ensures found { seat_said result.seat ≡ known_opener_seen opener self.now up.now }
         ensures behind { IfSome result.seat
@@ -46,7 +46,7 @@ impl Table {
                 number: seats - index,
             };
             if self.up_unknown(up, seat) {
-                return Turn {
+                return SeatInTurn {
                     seat: None,
                     behind: None,
                 };
@@ -61,7 +61,7 @@ impl Table {
             }
             lead = next.number;
         }
-        Turn {
+        SeatInTurn {
             seat: first,
             behind: behind.or(nearest),
         }

@@ -4,11 +4,11 @@ ghost use Rattle.chip_ledger.specs.SeatRow.{amount_of};
 ghost use Rattle.betting_numbers.specs.Seen.{has_able_seat_to_call_seen, left_seen, is_settled_seen};
 ghost use Rattle.play_event.specs.Due.{is_after_betting};
 
-use crate::table::Table;
+use crate::running::RunningNumbers;
 use chip_ledger::{Seat, SeatRow};
 use play_event::Due;
 
-impl Table {
+impl RunningNumbers {
     /// The chips that each seat has left.
     pub fn stacks_left(&self) -> SeatRow
         ensures seats { result.seats ≡ self.now.setup.stacks.seats }

@@ -19,7 +19,7 @@ use Rattle.play_event.specs.Table.{places_of}
 use Rattle.play_event.specs.Taken.{has_taken_card}
 use Rattle.list_laws.proofs.Tests.{false_true}
 use Rattle.play_event.proofs.ClashLaws.{IsOneOf}
-use Rattle.canonical_play.specs.CanonScript.{board_said}
+use Rattle.canon_script.specs.CanonScript.{board_said}
 use Rattle.canon_blocks.proofs.Runs.{Runs}
 use Rattle.canon_blocks.proofs.CardEvents.{HasCome, due_there, board_legal, board_placed}
 use Rattle.canon_blocks.proofs.CleanShow.{known_length}

@@ -15,7 +15,7 @@ use Rattle.play_event.specs.Places.{Place}
 use Rattle.play_event.specs.Table.{up_cards}
 use Rattle.play_event.specs.Reasons.{why, first_reason}
 use Rattle.play_event.specs.Scripts.{with_event, resolved_on, resolved_by}
-use Rattle.canonical_play.specs.CanonScript.{move_named}
+use Rattle.canon_script.specs.CanonScript.{move_named}
 use Rattle.play_laws.proofs.MoverUps.{SameUps, mover_same}
 use Rattle.play_event.proofs.ReasonLaws.{none_found}
 use Rattle.play_laws.proofs.MoveKinds.{IsMoveSaid, fold_said, call_said, raise_said, bring_said}

@@ -22,7 +22,7 @@ use Rattle.play_event.specs.Table.{places_of}
 use Rattle.play_event.specs.Taken.{has_taken_card}
 use Rattle.play_event.specs.CardReasons.{is_seat}
 use Rattle.play_event.specs.Reasons.{is_over, is_due_kind}
-use Rattle.canonical_play.specs.CanonScript.{deal_said}
+use Rattle.canon_script.specs.CanonScript.{deal_said}
 use Rattle.canon_blocks.proofs.Runs.{Runs}
 use Rattle.canon_blocks.proofs.CardEvents.{HasCome, due_there, still_there, deal_legal, deal_placed}
 use Rattle.list_laws.proofs.Any.{none_passes}

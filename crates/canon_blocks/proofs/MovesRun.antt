@@ -14,7 +14,7 @@ use Rattle.play_event.specs.Places.{Place, is_held_by, folded_place, after_fold,
 use Rattle.play_event.specs.Table.{places_of, up_cards}
 use Rattle.play_event.specs.Scripts.{past_of}
 use Rattle.play_event.specs.Laws.{AreLegal}
-use Rattle.canonical_play.specs.CanonScript.{move_named}
+use Rattle.canon_script.specs.CanonScript.{move_named}
 use Rattle.canon_blocks.proofs.Runs.{Runs, run_append, run_legal}
 use Rattle.canon_blocks.proofs.CardEvents.{HasCome}
 use Rattle.play_laws.proofs.SettledStreets.{deal_still, draw_still}

@@ -2,7 +2,7 @@
 use Rattle.std.proofs.Common.{◌≡◌, ℕ, Bool, true, false, List, [], ◌∷◌, map, filter, Option, refl, ap, if◌then◌else◌}
 use Rattle.play_event.specs.Places.{Place}
 use Rattle.play_event.specs.Trace.{TracedPlace, traced_place}
-use Rattle.canonical_play.specs.CanonScript.{dealt_slots, discarded_slots, is_dealt_to, is_discard_of}
+use Rattle.canon_script.specs.CanonScript.{dealt_slots, discarded_slots, is_dealt_to, is_discard_of}
 use Rattle.play_laws.proofs.PlaceGroups.{group_slots}
 use Rattle.canon_blocks.proofs.DrawRun.{out_slots}
 

@@ -19,7 +19,7 @@ use Rattle.play_event.specs.Table.{places_of}
 use Rattle.play_event.specs.Trace.{traced_places, streets_of, is_shown, is_contested, has_unknown_card}
 use Rattle.play_event.specs.Scripts.{past_of}
 use Rattle.play_event.specs.Laws.{AreLegal}
-use Rattle.canonical_play.specs.CanonScript.{street_said, showdown_said, showing_said, script_of, held_slots}
+use Rattle.canon_script.specs.CanonScript.{street_said, showdown_said, showing_said, script_of, held_slots}
 use Rattle.canon_blocks.proofs.Mirrors.{AreMirrored}
 use Rattle.canon_blocks.proofs.Runs.{Runs, run_append}
 use Rattle.play_laws.proofs.DueAtEvents.{turned_by}

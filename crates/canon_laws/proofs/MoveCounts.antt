@@ -8,10 +8,10 @@ use Rattle.play_event.specs.Said.{Said}
 use Rattle.play_event.specs.Scripts.{past_of, with_event}
 use Rattle.play_event.specs.declared.setup.Rules.{Rules}
 use Rattle.play_event.specs.declared.setup.Setup.{Setup}
-use Rattle.canonical_play.specs.PlayedScript.{IsPlayed, is_move}
-use Rattle.canonical_play.specs.Tidy.{IsTidy}
-use Rattle.canonical_play.specs.TraceCore.{core_after}
-use Rattle.canonical_play.specs.declared.limits.TheConstants.{MOST_MOVES}
+use Rattle.canon_script.specs.PlayedScript.{IsPlayed, is_move}
+use Rattle.canon_script.specs.Tidy.{IsTidy}
+use Rattle.canon_script.specs.TraceCore.{core_after}
+use Rattle.canon_script.specs.declared.limits.TheConstants.{MOST_MOVES}
 use Rattle.canon_laws.proofs.TidyTraces.{tidy_trace}
 
 -- the moves of events, the newest first

@@ -21,7 +21,7 @@ use Rattle.play_event.specs.Trace.{traced_places, places_on}
 use Rattle.play_event.specs.Scripts.{past_of}
 use Rattle.play_event.specs.Laws.{AreLegal, IsAmong}
 use Rattle.play_event.proofs.ClashLaws.{IsOneOf, among_append}
-use Rattle.canonical_play.specs.CanonScript.{deals_said, deal_said, board_said, dealt_slots}
+use Rattle.canon_script.specs.CanonScript.{deals_said, deal_said, board_said, dealt_slots}
 use Rattle.canon_blocks.proofs.Mirrors.{AreMirrored}
 use Rattle.play_laws.specs.LegalPlaces.{AreLawful}
 use Rattle.canon_blocks.proofs.Runs.{Runs, run_append}

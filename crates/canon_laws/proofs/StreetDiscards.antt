@@ -17,7 +17,7 @@ use Rattle.play_event.specs.Table.{places_of}
 use Rattle.play_event.specs.Trace.{traced_places}
 use Rattle.play_event.specs.Scripts.{past_of}
 use Rattle.play_event.specs.Laws.{AreLegal}
-use Rattle.canonical_play.specs.CanonScript.{discards_said, discarded_slots, drawing_seats, is_reached}
+use Rattle.canon_script.specs.CanonScript.{discards_said, discarded_slots, drawing_seats, is_reached}
 use Rattle.canon_blocks.proofs.Mirrors.{AreMirrored}
 use Rattle.canon_blocks.proofs.Runs.{Runs}
 use Rattle.canon_blocks.proofs.CardEvents.{HasCome}

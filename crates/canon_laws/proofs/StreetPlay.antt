@@ -18,7 +18,7 @@ use Rattle.play_event.specs.Table.{places_of}
 use Rattle.play_event.specs.Trace.{traced_places}
 use Rattle.play_event.specs.Scripts.{past_of}
 use Rattle.play_event.specs.Laws.{AreLegal}
-use Rattle.canonical_play.specs.CanonScript.{street_said, discards_said, deals_said, move_named}
+use Rattle.canon_script.specs.CanonScript.{street_said, discards_said, deals_said, move_named}
 use Rattle.canon_blocks.proofs.Mirrors.{Mirrors, AreMirrored}
 use Rattle.play_laws.specs.PastLaws.{DoneLaw}
 use Rattle.canon_blocks.proofs.Runs.{Runs, run_append}

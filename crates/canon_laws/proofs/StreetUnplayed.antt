@@ -16,7 +16,7 @@ use Rattle.play_event.specs.Table.{places_of}
 use Rattle.play_event.specs.Trace.{traced_places, places_on}
 use Rattle.play_event.specs.Scripts.{past_of}
 use Rattle.play_event.specs.Laws.{AreLegal, IsAmong}
-use Rattle.canonical_play.specs.CanonScript.{street_said, discards_said, deals_said, deal_said, board_said, dealt_slots, moves_named, move_named, is_reached, drawing_seats, discarded_slots}
+use Rattle.canon_script.specs.CanonScript.{street_said, discards_said, deals_said, deal_said, board_said, dealt_slots, moves_named, move_named, is_reached, drawing_seats, discarded_slots}
 use Rattle.canon_blocks.proofs.Mirrors.{AreMirrored}
 use Rattle.play_laws.specs.PastLaws.{is_played_on}
 use Rattle.canon_blocks.proofs.Runs.{Runs}

@@ -14,9 +14,9 @@ use Rattle.play_event.specs.ValidSetup.{IsValid}
 use Rattle.play_event.specs.declared.setup.Reopen.TheVariants as reopens
 use Rattle.play_event.specs.declared.setup.Rules.{Rules}
 use Rattle.play_event.specs.declared.setup.Setup.{Setup}
-use Rattle.canonical_play.specs.TraceCore.{core_after}
+use Rattle.canon_script.specs.TraceCore.{core_after}
 use Rattle.play_laws.proofs.OtherRules.{AreSuited, legal_by}
-use Rattle.canonical_play.specs.PlayedScript.{IsPlayed}
+use Rattle.canon_script.specs.PlayedScript.{IsPlayed}
 use Rattle.canon_laws.specs.OtherRules.{SuitsRules, is_free_fold}
 use Rattle.canon_laws.proofs.SameCore.{plain_again}
 

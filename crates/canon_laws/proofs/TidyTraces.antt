@@ -21,12 +21,12 @@ use Rattle.play_event.specs.Trace.{is_shown, TracedPlace, traced_place}
 use Rattle.play_event.specs.Scripts.{past_of, past_at_end}
 use Rattle.card_set.specs.Known.{is_unknown}
 use Rattle.play_event.specs.Laws.{AreLegal, IsAmong}
-use Rattle.canonical_play.specs.TraceCore.{TraceCore, core_of, core_after}
-use Rattle.canonical_play.specs.PlayedScript.{IsPlayed}
-use Rattle.canonical_play.specs.CanonScript.{dealt_slots, discarded_slots, held_slots}
+use Rattle.canon_script.specs.TraceCore.{TraceCore, core_of, core_after}
+use Rattle.canon_script.specs.PlayedScript.{IsPlayed}
+use Rattle.canon_script.specs.CanonScript.{dealt_slots, discarded_slots, held_slots}
 use Rattle.std.proofs.lemmas.Option.{same_Some}
 use Rattle.list_laws.proofs.Options.{some_is_none}
-use Rattle.canonical_play.specs.Tidy.{HasTidyCards, IsTidy}
+use Rattle.canon_script.specs.Tidy.{HasTidyCards, IsTidy}
 use Rattle.play_laws.proofs.LegalPlaces.{legal_past, group_count}
 use Rattle.play_laws.proofs.DonePasts.{legal_done}
 use Rattle.play_laws.proofs.PlayedStreets.{board_count}

@@ -17,8 +17,8 @@ use Rattle.play_event.specs.Streets.{has_draw}
 use Rattle.play_event.specs.Table.{places_of}
 use Rattle.play_event.specs.Trace.{is_shown}
 use Rattle.play_event.specs.Due.{is_unfinished, turn}
-use Rattle.canonical_play.specs.CanonScript.{dealt_slots, discarded_slots, held_slots}
-use Rattle.canonical_play.specs.TraceCore.{TraceCore, core_of}
+use Rattle.canon_script.specs.CanonScript.{dealt_slots, discarded_slots, held_slots}
+use Rattle.canon_script.specs.TraceCore.{TraceCore, core_of}
 use Rattle.play_laws.proofs.DiscardCounts.{is_out_of}
 use Rattle.play_laws.proofs.DonePasts.{legal_done}
 use Rattle.play_laws.proofs.HeldFew.{filter_less, held_most, is_held_at}

@@ -17,9 +17,9 @@ use Rattle.play_event.specs.Streets.{has_draw}
 use Rattle.play_event.specs.Trace.{streets_of}
 use Rattle.play_event.specs.ValidSetup.{IsValid}
 use Rattle.chip_ledger.specs.declared.numbers.TheConstants.{MOST_CHIPS}
-use Rattle.canonical_play.specs.CanonScript.{act_named, board_said, canon_of, canonical_script, deal_said, deals_said, dealt_slots, discards_said, discarded_slots, drawing_seats, held_slots, is_reached, move_named, moves_named, script_of, showdown_said, showing_said, street_said}
-use Rattle.canonical_play.specs.PlayedScript.{IsPlayed}
-use Rattle.canonical_play.specs.TraceCore.{TraceCore, core_after, core_of}
+use Rattle.canon_script.specs.CanonScript.{act_named, board_said, canon_of, canonical_script, deal_said, deals_said, dealt_slots, discards_said, discarded_slots, drawing_seats, held_slots, is_reached, move_named, moves_named, script_of, showdown_said, showing_said, street_said}
+use Rattle.canon_script.specs.PlayedScript.{IsPlayed}
+use Rattle.canon_script.specs.TraceCore.{TraceCore, core_after, core_of}
 use Rattle.canon_laws.proofs.SameCore.{plain_again}
 use Rattle.canon_laws.proofs.TidyTraces.{tidy_cards}
 use Rattle.canon_ranges.proofs.CardRanges.{board_few, board_known, discard_few, shown_whole}

@@ -11,11 +11,11 @@ use Rattle.play_event.specs.Said.{Discard, Said}
 use Rattle.play_event.specs.Seats.{all_seats, is_live, live_count}
 use Rattle.play_event.specs.Streets.{has_draw}
 use Rattle.play_event.specs.Trace.{TracedPlace, streets_of}
-use Rattle.canonical_play.specs.CanonScript.{act_named, board_said, canonical_script, deal_said, deals_said, dealt_slots, discarded_slots, discards_said, drawing_seats, is_reached, move_named, moves_named, plain_moves, showdown_said, showing_said, street_said}
-use Rattle.canonical_play.specs.PlayedScript.{is_move}
-use Rattle.canonical_play.specs.TraceCore.{TraceCore}
+use Rattle.canon_script.specs.CanonScript.{act_named, board_said, canonical_script, deal_said, deals_said, dealt_slots, discarded_slots, discards_said, drawing_seats, is_reached, move_named, moves_named, plain_moves, showdown_said, showing_said, street_said}
+use Rattle.canon_script.specs.PlayedScript.{is_move}
+use Rattle.canon_script.specs.TraceCore.{TraceCore}
 use Rattle.play_event.proofs.StreetLaws.{few_streets}
-use Rattle.canonical_play.proofs.Deals.{one_board, one_deal}
+use Rattle.canon_script.proofs.Deals.{one_board, one_deal}
 use Rattle.list_laws.proofs.Lists.{kept_few}
 use Rattle.list_laws.proofs.FlatMaps.{flat_few}
 

@@ -4,8 +4,8 @@ use Rattle.std.proofs.Common.{◌≡◌, ℕ, zero, suc, ◌+◌, ◌&&◌, if�
 use Rattle.std.specs.List.{flat_map, range_with_len}
 use Rattle.std.proofs.lemmas.List.{append-nil, map-append, reverse-append, reverse-reverse}
 use Rattle.card_set.specs.declared.card.Slot.{Slot}
-use Rattle.canonical_play.specs.CanonScript.{board_said, deal_said, dealt_slots, deals_said, discarded_slots, discards_said, drawing_seats, is_reached, move_named, moves_named, street_said}
-use Rattle.canonical_play.specs.PlayedScript.{is_move}
+use Rattle.canon_script.specs.CanonScript.{board_said, deal_said, dealt_slots, deals_said, discarded_slots, discards_said, drawing_seats, is_reached, move_named, moves_named, street_said}
+use Rattle.canon_script.specs.PlayedScript.{is_move}
 use Rattle.play_event.specs.Past.{Move, moves_before}
 use Rattle.play_event.specs.Said.{Discard, Said}
 use Rattle.play_event.specs.Seats.{all_seats}

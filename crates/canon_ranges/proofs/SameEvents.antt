@@ -1,7 +1,7 @@
 -- The same events in other words: legal where the events are, and leaving the same past, one event after the other.
 use Rattle.std.proofs.Common.{◌≡◌, false, List, ◌∷◌, None, refl, sym, ap, ◌∙◌, true≢false}
-use Rattle.canonical_play.specs.CanonScript.{act_named}
-use Rattle.canonical_play.specs.PlayedScript.{is_move}
+use Rattle.canon_script.specs.CanonScript.{act_named}
+use Rattle.canon_script.specs.PlayedScript.{is_move}
 use Rattle.play_event.specs.Chips.{street_chips}
 use Rattle.play_event.specs.Due.{turn}
 use Rattle.play_event.specs.Laws.{AreLegal}

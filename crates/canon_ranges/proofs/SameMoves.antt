@@ -6,10 +6,10 @@ use Rattle.play_event.specs.Said.{Said}
 use Rattle.play_event.specs.Scripts.{past_at_end}
 use Rattle.play_event.specs.declared.setup.Rules.{Rules}
 use Rattle.play_event.specs.declared.setup.Setup.{Setup}
-use Rattle.canonical_play.specs.CanonScript.{canon_of}
-use Rattle.canonical_play.specs.PlayedScript.{IsPlayed, IsWithinLimits, is_move}
-use Rattle.canonical_play.specs.TraceCore.{core_after}
-use Rattle.canonical_play.specs.declared.limits.TheConstants.{MOST_MOVES}
+use Rattle.canon_script.specs.CanonScript.{canon_of}
+use Rattle.canon_script.specs.PlayedScript.{IsPlayed, IsWithinLimits, is_move}
+use Rattle.canon_script.specs.TraceCore.{core_after}
+use Rattle.canon_script.specs.declared.limits.TheConstants.{MOST_MOVES}
 use Rattle.canon_laws.proofs.Confluent.{confluent}
 use Rattle.canon_laws.proofs.MoveCounts.{move_count}
 use Rattle.canon_ranges.proofs.OtherCounts.{few_others}

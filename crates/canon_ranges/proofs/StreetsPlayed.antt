@@ -8,7 +8,7 @@ use Rattle.canon_blocks.proofs.StreetLists.{IsUnplayed, unplayed}
 use Rattle.canon_blocks.proofs.TraceOrder.{IsOwner, a_seat, the_board}
 use Rattle.canon_laws.proofs.AllStreets.{legal_since, none_first}
 use Rattle.canon_laws.proofs.StreetDeals.{group_is}
-use Rattle.canonical_play.specs.CanonScript.{dealt_slots, is_dealt_to}
+use Rattle.canon_script.specs.CanonScript.{dealt_slots, is_dealt_to}
 use Rattle.card_set.specs.Known.{is_unknown}
 use Rattle.list_laws.proofs.Any.{list_any-filter, list_any-map}
 use Rattle.list_laws.proofs.Counting.{count_all}

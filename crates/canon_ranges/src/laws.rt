@@ -2,10 +2,10 @@
 //! contract is a law.
 ghost use Rattle.std.specs.Prelude.{◌≡◌, ◌≤◌, List, count_by};
 ghost use Rattle.std.specs.List.{AllByRecursion};
-ghost use Rattle.canonical_play.specs.CanonScript.{canon_of};
-ghost use Rattle.canonical_play.specs.PlayedScript.{IsPlayed, IsWithinLimits, is_move};
-ghost use Rattle.canonical_play.specs.TraceCore.{core_after};
-ghost use Rattle.canonical_play.specs.declared.limits.TheConstants.{MOST_MOVES};
+ghost use Rattle.canon_script.specs.CanonScript.{canon_of};
+ghost use Rattle.canon_script.specs.PlayedScript.{IsPlayed, IsWithinLimits, is_move};
+ghost use Rattle.canon_script.specs.TraceCore.{core_after};
+ghost use Rattle.canon_script.specs.declared.limits.TheConstants.{MOST_MOVES};
 ghost use Rattle.play_event.specs.Said.{Said};
 ghost use Rattle.play_event.specs.ValidSetup.{IsValid};
 ghost use Rattle.play_event.specs.declared.setup.Rules.{Rules};

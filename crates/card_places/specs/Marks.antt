@@ -8,7 +8,7 @@ use Rattle.play_event.specs.declared.street.Street.{Street}
 use Rattle.play_event.specs.Places.{Place}
 use Rattle.play_event.specs.Naming as naming
 use Rattle.play_event.specs.Naming.{discarded_now}
-use Rattle.card_places.specs.declared.finding.Found.{Found}
+use Rattle.card_places.specs.declared.finding.FoundPlace.{FoundPlace}
 use Rattle.card_places.specs.Plain.{place_of}
 
 -- a card that is discarded on a street is gone, after so many deals; one that is shown stays
@@ -17,7 +17,7 @@ mark_by (Some street) count place = discarded_now street count place
 mark_by None count place = place
 
 -- what was found in code is this
-pub record IsFound (code : Found) (found : naming.Found) (others : List Card) : Type 0 where
+pub record IsFound (code : FoundPlace) (found : naming.Found) (others : List Card) : Type 0 where
   pub place : place_of code.card ≡ found.place
   pub others_left : drop code.taken others ≡ found.others
   pub blanks : code.blanks ≡ found.blanks

@@ -9,7 +9,7 @@ ghost use Rattle.card_places.specs.Refusals as why;
 ghost use Rattle.street_laws.specs.Dues.{IsDueWithin};
 
 use crate::card_state::CardState;
-use crate::counting::Counts;
+use crate::counting::OwnerCounts;
 use crate::discarding::first_to_draw;
 use chip_ledger::{LiveRow, Seat};
 use play_event::Due;
@@ -24,7 +24,7 @@ pub fn done(state: &CardState, live: &LiveRow, due: Due) -> bool
 {
     match due {
         Due::Deal(on) => {
-            let dealt = Counts::on(&state.places, on);
+            let dealt = OwnerCounts::on(&state.places, on);
             !(some_lacks(state, live, on, &dealt) || board_lacks(state, on, dealt.of(None)))
         }
         Due::Draw(on) => {
@@ -39,7 +39,7 @@ pub fn done(state: &CardState, live: &LiveRow, due: Due) -> bool
 
 // Some seat lacks cards of the street's deal.
 #[tactic(auto, using(chip_ledger::proofs::SeatLists::any_more))]
-fn some_lacks(state: &CardState, live: &LiveRow, on: u8, dealt: &Counts) -> bool
+fn some_lacks(state: &CardState, live: &LiveRow, on: u8, dealt: &OwnerCounts) -> bool
     requires live { live.now.seats ≡ state.now.seats }
     requires ten { state.now.seats ≤ 10 }
     requires dealt { AreCounts dealt.now.numbers on (placed state.now.places) }
@@ -82,7 +82,7 @@ fn some_owed(state: &CardState, on: u8) -> bool
     requires ten { state.now.seats ≤ 10 }
     ensures { result ≡ list_any (why.is_owed_draw_in state.now on) (seats_of state.now.seats) }
 {
-    let dealt = Counts::on(&state.places, on);
+    let dealt = OwnerCounts::on(&state.places, on);
     let mut any = false;
     for index in 0..state.seats {
         let seat = Seat { number: index + 1 };

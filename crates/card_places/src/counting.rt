@@ -10,12 +10,12 @@ use chip_ledger::Seat;
 
 /// How many cards of one street each owner was dealt: first the board's count, then each seat's.
 #[derive(Clone, Copy)]
-pub struct Counts {
+pub struct OwnerCounts {
     pub numbers: [u8; 11],
     pub ghost full: { length numbers ≡ 11 },
 }
 
-impl Counts {
+impl OwnerCounts {
     /// Counts the cards of a street.
     pub fn on(places: &DealtCards, street: u8) -> Self
         ensures { AreCounts result.numbers street (placed places.now) }
@@ -26,7 +26,7 @@ impl Counts {
                 numbers[owner_index(card.owner)] += 1;
             }
         }
-        Counts { numbers }
+        OwnerCounts { numbers }
     }
 
     /// How many cards the owner was dealt.

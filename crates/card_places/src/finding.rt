@@ -11,7 +11,7 @@ use card_set::{CardRow, Slot};
 
 /// A place that was looked at, and how far the names went.
 #[derive(Clone, Copy)]
-pub struct Found {
+pub struct FoundPlace {
     pub card: DealtCard,
     /// How many of the other names are taken.
     pub taken: u8,
@@ -29,11 +29,11 @@ pub fn find(
     others: &CardRow,
     taken: u8,
     blanks: u8,
-) -> Found
+) -> FoundPlace
     ensures { IsFound result (found_by (mark_by street count) (cards_of names.now) card.slot
         (drop taken (cards_of others.now)) blanks (place_of card)) (cards_of others.now) }
 {
-    let same = Found {
+    let same = FoundPlace {
         card,
         taken,
         blanks,
@@ -41,7 +41,7 @@ pub fn find(
     match card.slot {
         Slot::Known(known) => {
             if is_named(known, names.as_slice()) {
-                Found {
+                FoundPlace {
                     card: marked(card, street, count),
                     ..same
                 }
@@ -52,13 +52,13 @@ pub fn find(
         Slot::Unknown => {
             if taken < others.len {
                 let slot = Slot::Known(others.cards[taken as usize]);
-                Found {
+                FoundPlace {
                     card: marked(DealtCard { slot, ..card }, street, count),
                     taken: taken + 1,
                     ..same
                 }
             } else if blanks > 0 {
-                Found {
+                FoundPlace {
                     card: marked(card, street, count),
                     blanks: blanks - 1,
                     ..same

@@ -15,7 +15,7 @@ ghost use Rattle.card_places.specs.Searches.{search_from};
 use crate::deal_table::DealTable;
 use crate::dealt_card::DealtCard;
 use crate::dealt_cards::DealtCards;
-use crate::finding::{Found, find};
+use crate::finding::{FoundPlace, find};
 use crate::names::without;
 use card_set::CardRow;
 use chip_ledger::Seat;
@@ -104,7 +104,13 @@ pub fn run(table: &DealTable, places: &mut DealtCards, search: &Search)
 
 /// What the names make of the next place, so many of the other names being taken and so many
 /// blanks left.
-pub fn look(table: &DealTable, search: &Search, card: DealtCard, taken: u8, blanks: u8) -> Found
+pub fn look(
+    table: &DealTable,
+    search: &Search,
+    card: DealtCard,
+    taken: u8,
+    blanks: u8,
+) -> FoundPlace
     ensures { (rest : List Place) → search_from table.now.code search.now taken blanks
         (place_of card ∷ rest)
         ≡ place_of result.card
@@ -121,7 +127,7 @@ pub fn look(table: &DealTable, search: &Search, card: DealtCard, taken: u8, blan
             blanks,
         )
     } else {
-        Found {
+        FoundPlace {
             card,
             taken,
             blanks,

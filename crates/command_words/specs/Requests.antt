@@ -5,8 +5,8 @@ use Rattle.clap.specs.Matches.{one_text}
 use Rattle.clap.specs.declared.parser.matches.Found.{Found}
 use Rattle.command_words.specs.Words as words
 use Rattle.command_words.specs.Words.{no_options, options_said}
-use Rattle.command_words.specs.declared.notation.Notation.{Notation}
-use Rattle.command_words.specs.declared.notation.Notation.TheVariants as notations
+use Rattle.command_words.specs.declared.notation.NotationName.{NotationName}
+use Rattle.command_words.specs.declared.notation.NotationName.TheVariants as notations
 use Rattle.command_words.specs.declared.options.Options.{Options}
 use Rattle.command_words.specs.declared.request.Request.{Request}
 use Rattle.command_words.specs.declared.request.Request.TheVariants as requests
@@ -23,7 +23,7 @@ options_in options = record {
 }
 
 -- a notation, with the name of its game's file
-abbrev pub notation_in : Notation → words.Notation
+abbrev pub notation_in : NotationName → words.NotationName
 notation_in notations.Phh = words.Phh
 notation_in notations.Ohh = words.Ohh
 notation_in notations.OhhTo = words.OhhTo

@@ -11,18 +11,18 @@ use Rattle.clap.specs.Lexer.{long_of, strip_byte}
 
 -- a notation of hands: the Poker Hand History format, Open Hand History in its two dialects, and the competition's logs; a
 -- log is read and written under the game of a file, which has this name
-pub data Notation : Type 0 where
-  Phh : Notation
-  Ohh : Notation
-  OhhTo : Notation
-  Acpc : (game : List ℕ) → Notation
+pub data NotationName : Type 0 where
+  Phh : NotationName
+  Ohh : NotationName
+  OhhTo : NotationName
+  Acpc : (game : List ℕ) → NotationName
 
 -- what is asked for: what a command prints of hands in a notation, the game file of the first of them, hands of one notation
 -- written in another with so many of their notes, the summary of so many hands that are made from a seed
 pub data Request : Type 0 where
-  Show : Command → Notation → Request
-  Game : Notation → Request
-  Convert : (from to : Notation) → Keep → Request
+  Show : Command → NotationName → Request
+  Game : NotationName → Request
+  Convert : (from to : NotationName) → Keep → Request
   Load : (seed hands : ℕ) → Request
 
 -- the values of the options that are given
@@ -89,7 +89,7 @@ options_said options (word ∷ value ∷ words) = option_and_then
     (with_word options (long_of word) (Some value))
 
 -- the notation of a name; logs are read and written under the game that is given
-abbrev pub notation_of_name : List ℕ → Option (List ℕ) → Option Notation
+abbrev pub notation_of_name : List ℕ → Option (List ℕ) → Option NotationName
 notation_of_name name game =
     if bytes_eq name (codes "phh") then Some Phh
     else if bytes_eq name (codes "ohh") then Some Ohh
@@ -98,12 +98,12 @@ notation_of_name name game =
     else None
 
 -- the notation that is named, if one is
-abbrev pub notation_named : Option (List ℕ) → Option (List ℕ) → Option Notation
+abbrev pub notation_named : Option (List ℕ) → Option (List ℕ) → Option NotationName
 notation_named None game = None
 notation_named (Some name) game = notation_of_name name game
 
 -- the notation is that of logs
-abbrev pub is_logs : Notation → Bool
+abbrev pub is_logs : NotationName → Bool
 is_logs (Acpc game) = true
 is_logs notation = false
 
@@ -126,17 +126,17 @@ abbrev pub has_number : Options → Bool
 has_number options = is_some options.seed || is_some options.hands
 
 -- the notation, where the game is given that it needs and no other
-abbrev pub under_game : Option (List ℕ) → Notation → Option Notation
+abbrev pub under_game : Option (List ℕ) → NotationName → Option NotationName
 under_game game notation = if is_game_right (is_logs notation) game then Some notation else None
 
 -- the notation of the hands of a command that prints of them: it has the options of what is read alone
-abbrev pub input_said : Options → Option Notation
+abbrev pub input_said : Options → Option NotationName
 input_said options =
     if has_output options || has_number options then None
     else option_and_then (under_game options.game) (notation_named options.from options.game)
 
 -- a game file is made of hands that have none
-abbrev pub game_asked : Notation → Option Request
+abbrev pub game_asked : NotationName → Option Request
 game_asked (Acpc game) = None
 game_asked notation = Some (Game notation)
 
@@ -145,7 +145,7 @@ abbrev pub keep_said : Bool → Keep
 keep_said drops_notes = if drops_notes then keeps.Spelled else keeps.All
 
 -- hands of one notation are written in another, in logs under the game that is given
-abbrev pub conversion : Options → Option Notation → Option Notation → Option Request
+abbrev pub conversion : Options → Option NotationName → Option NotationName → Option Request
 conversion options None to = None
 conversion options (Some from) None = None
 conversion options (Some from) (Some to) =

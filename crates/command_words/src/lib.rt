@@ -9,7 +9,7 @@ mod reading;
 mod request;
 
 pub use command::Command;
-pub use notation::Notation;
+pub use notation::NotationName;
 pub use numbers::HandCount;
 pub use reading::read_words;
 pub use request::{Keep, Request};

@@ -5,7 +5,7 @@ ghost use Rattle.command_words.specs.Words.{is_game_right as is_game_right_said,
 
 /// A notation of hands.
 #[derive(Clone, Copy, Debug, PartialEq, Eq)]
-pub enum Notation<'a> {
+pub enum NotationName<'a> {
     /// The Poker Hand History format.
     Phh,
     /// Open Hand History, where a raise states the chips that it adds.
@@ -16,20 +16,20 @@ pub enum Notation<'a> {
     Acpc { game: &'a str },
 }
 
-impl Notation<'_> {
+impl NotationName<'_> {
     /// Whether the notation is that of logs.
     pub(crate) fn is_logs(self) -> bool
         ensures { result ≡ is_logs_said (notation_in self.entry) }
     {
         match self {
-            Notation::Acpc { .. } => true,
+            NotationName::Acpc { .. } => true,
             _ => false,
         }
     }
 }
 
 /// The notation with this name, if there is one and the game that it needs.
-pub fn notation_named<'a>(name: Option<&'a str>, game: Option<&'a str>) -> Option<Notation<'a>>
+pub fn notation_named<'a>(name: Option<&'a str>, game: Option<&'a str>) -> Option<NotationName<'a>>
     ensures { option_map notation_in result ≡ notation_named_said
         (option_map (λ s. s.now) name.entry) (option_map (λ s. s.now) game.entry) }
 {
@@ -37,15 +37,15 @@ pub fn notation_named<'a>(name: Option<&'a str>, game: Option<&'a str>) -> Optio
 }
 
 // The notation of a name.
-fn notation_of_name<'a>(name: &str, game: Option<&'a str>) -> Option<Notation<'a>>
+fn notation_of_name<'a>(name: &str, game: Option<&'a str>) -> Option<NotationName<'a>>
     ensures { option_map notation_in result
         ≡ notation_of_name_said name.now (option_map (λ s. s.now) game.entry) }
 {
     match name {
-        "phh" => Some(Notation::Phh),
-        "ohh" => Some(Notation::Ohh),
-        "ohh-to" => Some(Notation::OhhTo),
-        "acpc" => Some(Notation::Acpc { game: game? }),
+        "phh" => Some(NotationName::Phh),
+        "ohh" => Some(NotationName::Ohh),
+        "ohh-to" => Some(NotationName::OhhTo),
+        "acpc" => Some(NotationName::Acpc { game: game? }),
         _ => None,
     }
 }

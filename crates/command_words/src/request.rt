@@ -4,7 +4,7 @@ ghost use Rattle.command_words.specs.Requests.{notation_in, options_in, request_
 ghost use Rattle.command_words.specs.Words.{conversion_said, game_asked, has_input as has_input_said, has_number as has_number_said, has_output as has_output_said, input_said, keep_said, load_said, request_by};
 
 use crate::command::Command;
-use crate::notation::{Notation, is_game_right, notation_named};
+use crate::notation::{NotationName, is_game_right, notation_named};
 use crate::numbers::{HandCount, read_count, read_seed};
 use crate::options::Options;
 
@@ -21,13 +21,13 @@ pub enum Keep {
 #[derive(Clone, Copy, Debug, PartialEq, Eq)]
 pub enum Request<'a> {
     /// What a command prints of hands in a notation.
-    Show(Command, Notation<'a>),
+    Show(Command, NotationName<'a>),
     /// The game file that fits the first of hands in a notation, which is not that of logs.
-    Game(Notation<'a>),
+    Game(NotationName<'a>),
     /// Hands of one notation in another, under the same game where both are logs.
     Convert {
-        from: Notation<'a>,
-        to: Notation<'a>,
+        from: NotationName<'a>,
+        to: NotationName<'a>,
         keep: Keep,
     },
     /// The summary of so many hands that are made from a seed.
@@ -53,7 +53,7 @@ pub fn request_of<'a>(word: &str, options: Options<'a>) -> Option<Request<'a>>
 }
 
 // The notation of the hands of a command that prints of them.
-fn input_of<'a>(options: Options<'a>) -> Option<Notation<'a>>
+fn input_of<'a>(options: Options<'a>) -> Option<NotationName<'a>>
     ensures { option_map notation_in result ≡ input_said (options_in options.entry) }
 {
     if has_output(options) || has_number(options) {
@@ -67,7 +67,7 @@ fn input_of<'a>(options: Options<'a>) -> Option<Notation<'a>>
 }
 
 // A game file is made of hands that have none.
-fn game_file<'a>(notation: Notation<'a>) -> Option<Request<'a>>
+fn game_file<'a>(notation: NotationName<'a>) -> Option<Request<'a>>
     ensures { option_map request_in result ≡ game_asked (notation_in notation.entry) }
 {
     if notation.is_logs() {

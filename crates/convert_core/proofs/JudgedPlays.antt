@@ -6,8 +6,8 @@ use Rattle.hand_records.specs.declared.record.Record.{Record}
 use Rattle.hand_records.specs.declared.trace.Play.{Play}
 use Rattle.hand_canon.specs.Sound.{IsSound}
 use Rattle.hand_records.specs.SoundRecord.{IsSoundRecord}
-use Rattle.convert_core.specs.declared.fault.PlaysFault.{PlaysFault}
-use Rattle.convert_core.specs.declared.fault.PlaysFault.TheVariants as plays_faults
+use Rattle.convert_core.specs.declared.refusal.PlaysFault.{PlaysFault}
+use Rattle.convert_core.specs.declared.refusal.PlaysFault.TheVariants as plays_faults
 use Rattle.hand_canon.specs.Judged.{IsJudged}
 use Rattle.convert_core.specs.Judged.{IsFaultAt, IsPlaysFaultOf}
 use Rattle.hand_records.specs.Plays.{hands_of}

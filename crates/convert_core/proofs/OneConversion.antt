@@ -12,10 +12,10 @@ use Rattle.convert_core.specs.Judged.{ArePlaysOf}
 use Rattle.convert_core.specs.SameRecords.{AllAlike, ArePlayedAlike, NoteTheSame}
 use Rattle.convert_core.specs.declared.convert_fault.ConvertFault.{ConvertFault}
 use Rattle.convert_core.specs.declared.convert_fault.ConvertFault.TheVariants as faults
-use Rattle.convert_core.specs.declared.fault.Refusal.{Refusal}
+use Rattle.convert_core.specs.declared.refusal.Refusal.{Refusal}
 use Rattle.convert_core.specs.declared.format_fault.FormatFault.{FormatFault}
 use Rattle.convert_core.proofs.OneOutcome.{AllTheSame, AllTraced, no_plays, same_refused, same_traces}
-use Rattle.hand_records.specs.Refusals.{refused_at, refusal_from, first_refusal}
+use Rattle.hand_records.specs.WriteRefusals.{refused_at, refusal_from, first_refusal}
 use Rattle.hand_records.specs.Plays.{hands_of}
 
 pub all_same : (records others : List Record) → AllAlike records others → AllTheSame records others

@@ -23,8 +23,8 @@ use Rattle.replay_core.specs.declared.fault.ReplayFault.TheVariants as faults
 use Rattle.replay_core.specs.Events.{said_by}
 use Rattle.replay_core.specs.Faults.{IsFaultOf}
 use Rattle.replay_core.proofs.OneFault.{no_fault, one_fault}
-use Rattle.convert_core.specs.declared.fault.Refusal.{Refusal}
-use Rattle.convert_core.specs.declared.fault.Refusal.TheVariants as refusals
+use Rattle.convert_core.specs.declared.refusal.Refusal.{Refusal}
+use Rattle.convert_core.specs.declared.refusal.Refusal.TheVariants as refusals
 use Rattle.hand_canon.specs.Judged.{IsJudged, IsTraceOfLegal}
 use Rattle.convert_core.specs.Judged.{ArePlaysOf, HasDifference, IsFirstRefused, IsRefusedFor, IsReplayFaultOf}
 use Rattle.convert_core.specs.SameRecords.{SayTheSame}

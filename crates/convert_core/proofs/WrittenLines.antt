@@ -8,7 +8,7 @@ use Rattle.hand_canon.specs.Judged.{IsJudged}
 use Rattle.hand_canon.specs.Sound.{IsSound}
 use Rattle.hand_records.specs.Moves.{moves_of}
 use Rattle.hand_records.specs.Plays.{hands_of}
-use Rattle.hand_records.specs.Refusals.{first_refusal, refusal_from, refused_at}
+use Rattle.hand_records.specs.WriteRefusals.{first_refusal, refusal_from, refused_at}
 use Rattle.hand_records.specs.SoundRecord.{IsSoundRecord}
 use Rattle.hand_records.specs.declared.record.Record.{Record}
 use Rattle.hand_records.specs.declared.trace.Play.{Play}
@@ -24,8 +24,8 @@ use Rattle.convert_core.specs.Records.{AreFew}
 use Rattle.list_laws.proofs.Sums.{sum_by-map}
 use Rattle.convert_core.specs.declared.convert_fault.ConvertFault.{ConvertFault}
 use Rattle.convert_core.specs.declared.convert_fault.ConvertFault.TheVariants as faults
-use Rattle.convert_core.specs.declared.fault.PlaysFault.TheVariants as plays_faults
-use Rattle.convert_core.specs.declared.fault.Refusal.{Refusal}
+use Rattle.convert_core.specs.declared.refusal.PlaysFault.TheVariants as plays_faults
+use Rattle.convert_core.specs.declared.refusal.Refusal.{Refusal}
 use Rattle.convert_core.specs.declared.format_fault.FormatFault.{FormatFault}
 use Rattle.convert_core.specs.declared.lines.Lines.{Lines}
 

@@ -7,9 +7,9 @@ use Rattle.hand_records.specs.declared.writing.WriteRefusal.TheVariants as refus
 use Rattle.convert_core.specs.Judged.{ArePlaysOf, IsFirstRefused}
 use Rattle.convert_core.specs.declared.convert_fault.ConvertFault.{ConvertFault}
 use Rattle.convert_core.specs.declared.convert_fault.ConvertFault.TheVariants as faults
-use Rattle.convert_core.specs.declared.fault.Refusal.{Refusal}
+use Rattle.convert_core.specs.declared.refusal.Refusal.{Refusal}
 use Rattle.convert_core.specs.declared.format_fault.FormatFault.{FormatFault}
-use Rattle.hand_records.specs.Refusals.{first_refusal}
+use Rattle.hand_records.specs.WriteRefusals.{first_refusal}
 
 -- Bytes, of which a notation tells what they say, read as hands that are all legal and agree with what is stated of them: these
 -- are their plays.

@@ -9,10 +9,10 @@ use Rattle.hand_canon.specs.Judged.{IsJudged, IsTraceOfLegal}
 use Rattle.replay_core.specs.declared.fault.ReplayFault.{ReplayFault}
 use Rattle.replay_core.specs.declared.fault.ReplayFault.TheVariants as faults
 use Rattle.replay_core.specs.Faults.{IsFaultOf}
-use Rattle.convert_core.specs.declared.fault.PlaysFault.{PlaysFault}
-use Rattle.convert_core.specs.declared.fault.PlaysFault.TheVariants as plays_faults
-use Rattle.convert_core.specs.declared.fault.Refusal.{Refusal}
-use Rattle.convert_core.specs.declared.fault.Refusal.TheVariants as refusals
+use Rattle.convert_core.specs.declared.refusal.PlaysFault.{PlaysFault}
+use Rattle.convert_core.specs.declared.refusal.PlaysFault.TheVariants as plays_faults
+use Rattle.convert_core.specs.declared.refusal.Refusal.{Refusal}
+use Rattle.convert_core.specs.declared.refusal.Refusal.TheVariants as refusals
 
 -- plays are those of records: as many, in their order, and each is judged
 pub record ArePlaysOf (records : List Record) (plays : List Play) : Type 0 where

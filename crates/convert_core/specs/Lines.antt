@@ -1,6 +1,6 @@
 -- The lines of plays, written one behind the other.
 use Rattle.std.specs.Prelude.{◌≡◌, ℕ, List, Option, None, length}
-use Rattle.hand_records.specs.Refusals.{first_refusal}
+use Rattle.hand_records.specs.WriteRefusals.{first_refusal}
 use Rattle.hand_records.specs.declared.record.Record.{Record}
 use Rattle.hand_records.specs.declared.trace.Play.{Play}
 use Rattle.hand_records.specs.declared.writing.Unspelled.{Unspelled}

@@ -1,18 +1,18 @@
 //! Logs of the competition, under a game.
 ghost use Rattle.std.specs.Prelude.{◌≡◌, ◌⊎◌, ◌≤◌, ◌++◌, [], ◌∷◌, true, List, length, None, Some, IfErr, IfOk, OnOk};
 ghost use Rattle.std.specs.List.{AllByRecursion};
-ghost use Rattle.acpc_format.specs.ReadBack.{KeepsNotes as KeepsNames};
-ghost use Rattle.acpc_line.specs.Spelled as facts;
+ghost use Rattle.acpc_format.specs.KeptNotes.{KeepsNotes as KeepsNames};
+ghost use Rattle.acpc_writing.specs.Spelled as facts;
 ghost use Rattle.acpc_reading.specs.RecordView.{rules_of as rules_of_game};
 ghost use Rattle.first_fault.specs.declared.limits.TheConstants.{MOST_HANDS};
 ghost use Rattle.hand_canon.specs.Sound.{IsSound};
 ghost use Rattle.hand_records.specs.declared.trace.Play.{Play as AnyPlay};
 ghost use Rattle.hand_records.specs.declared.writing.WriteRefusal.TheVariants as refusals;
 ghost use Rattle.convert_core.specs.Faults.{is_want_of_memory};
-ghost use Rattle.convert_core.specs.LogAlike as alike;
-ghost use Rattle.convert_core.specs.LogLaws as laws;
-ghost use Rattle.convert_core.specs.Logs as logs;
-ghost use Rattle.hand_records.specs.Refusals.{first_refusal};
+ghost use Rattle.convert_core.specs.AcpcAlike as alike;
+ghost use Rattle.convert_core.specs.AcpcLaws as laws;
+ghost use Rattle.convert_core.specs.Acpc as in_acpc;
+ghost use Rattle.hand_records.specs.WriteRefusals.{first_refusal};
 
 use crate::format_fault::FormatFault;
 use crate::notation::Notation;
@@ -28,10 +28,10 @@ pub struct Acpc {
 }
 
 // The records that bytes say under a game.
-fn read_log(alloc: Global, game: &Game, bytes: &[u8]) -> Result<Records, FormatFault>
-    ensures say { IfOk result (logs.Say game.now bytes.now) }
+fn read_acpc(alloc: Global, game: &Game, bytes: &[u8]) -> Result<Records, FormatFault>
+    ensures say { IfOk result (in_acpc.Say game.now bytes.now) }
     ensures fault { IfErr result (λ fault.
-        (is_want_of_memory fault ≡ true) ⊎ logs.HaveFault game.now bytes.now fault) }
+        (is_want_of_memory fault ≡ true) ⊎ in_acpc.HaveFault game.now bytes.now fault) }
 {
     match acpc_format::read(alloc, game, bytes) {
         Ok(records) => Ok(records),
@@ -40,7 +40,7 @@ fn read_log(alloc: Global, game: &Game, bytes: &[u8]) -> Result<Records, FormatF
 }
 
 // The spelling of plays.
-fn write_log(
+fn write_acpc(
     alloc: Global,
     game: &Game,
     plays: &[Play],
@@ -48,7 +48,7 @@ fn write_log(
 ) -> Result<Vec<u8>, WriteRefusal>
     requires few { length plays.now ≤ MOST_HANDS }
     requires sound { AllByRecursion IsSound plays.now }
-    ensures spell { IfOk result (λ bytes. logs.Spell game.now plays.now bytes.items) }
+    ensures spell { IfOk result (λ bytes. in_acpc.Spell game.now plays.now bytes.items) }
     ensures spelled { OnOk result (first_refusal (facts.unspelled game.now keep) plays.now ≡ None) }
     ensures refused { IfErr result (λ refusal. (refusal ≡ refusals.Memory)
         ⊎ (first_refusal (facts.unspelled game.now keep) plays.now ≡ Some refusal)) }
@@ -57,8 +57,8 @@ fn write_log(
 }
 
 // The line of a play behind those of the plays before it.
-#[tactic(auto, using(crate::specs::LogLaws::one_line_more))]
-fn push_log_line(
+#[tactic(auto, using(crate::specs::AcpcLaws::one_line_more))]
+fn push_acpc_line(
     alloc: Global,
     game: &Game,
     out: &mut Vec<u8>,
@@ -67,8 +67,8 @@ fn push_log_line(
 ) -> Result<(), AllocError>
     requires { IsSound play.now }
     ensures { (before : List AnyPlay)
-        → length before ≡ place → logs.Spell game.now before out.old.items
-        → OnOk result (logs.Spell game.now (before ++ play.now ∷ []) out.new.items) }
+        → length before ≡ place → in_acpc.Spell game.now before out.old.items
+        → OnOk result (in_acpc.Spell game.now (before ++ play.now ∷ []) out.new.items) }
 {
     acpc_format::push_line(alloc, out, game.no_limit, place, play)?;
     Ok(())
@@ -77,15 +77,15 @@ fn push_log_line(
 impl Notation for Acpc {
     ghost rules_of = { λ log. rules_of_game log.game };
 
-    ghost Say = { λ log bytes records. logs.Say log.game bytes records };
+    ghost Say = { λ log bytes records. in_acpc.Say log.game bytes records };
 
-    ghost HaveFault = { λ log bytes fault. logs.HaveFault log.game bytes fault };
+    ghost HaveFault = { λ log bytes fault. in_acpc.HaveFault log.game bytes fault };
 
     ghost unspelled = { λ log keep play. facts.unspelled log.game keep play };
 
     ghost is_lined = { λ _. true };
 
-    ghost Spell = { λ log plays bytes. logs.Spell log.game plays bytes };
+    ghost Spell = { λ log plays bytes. in_acpc.Spell log.game plays bytes };
 
     ghost KeepsNotes = { λ _ place seats notes again. KeepsNames place seats notes again };
 
@@ -117,7 +117,7 @@ impl Notation for Acpc {
     }
 
     fn read(&self, alloc: Global, bytes: &[u8]) -> Result<Records, FormatFault> {
-        read_log(alloc, &self.game, bytes)
+        read_acpc(alloc, &self.game, bytes)
     }
 
     fn spells(&self, play: &Play, keep: Keep) -> Option<Unspelled> {
@@ -125,7 +125,7 @@ impl Notation for Acpc {
     }
 
     fn write(&self, alloc: Global, plays: &[Play], keep: Keep) -> Result<Vec<u8>, WriteRefusal> {
-        write_log(alloc, &self.game, plays, keep)
+        write_acpc(alloc, &self.game, plays, keep)
     }
 
     fn has_lines(&self) -> bool {
@@ -139,6 +139,6 @@ impl Notation for Acpc {
         place: usize,
         play: &Play,
     ) -> Result<(), AllocError> {
-        push_log_line(alloc, &self.game, out, place, play)
+        push_acpc_line(alloc, &self.game, out, place, play)
     }
 }

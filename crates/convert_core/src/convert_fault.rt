@@ -1,7 +1,7 @@
 //! Why nothing is converted.
 
-use crate::fault::Refusal;
 use crate::format_fault::FormatFault;
+use crate::refusal::Refusal;
 use hand_records::Unspelled;
 
 /// Why bytes are not converted. Hands are counted from 1, in the order of reading.

@@ -7,10 +7,10 @@ ghost use Rattle.convert_core.specs.ReadBack.{ReadBack};
 ghost use Rattle.convert_core.specs.Records.{AreFew};
 
 use crate::convert_fault::ConvertFault;
-use crate::fault::PlaysFault;
 use crate::judging::plays_of;
 use crate::lines::write_records;
 use crate::notation::Notation;
+use crate::refusal::PlaysFault;
 use hand_records::{Keep, Play, Records, WriteRefusal};
 use std::alloc::Global;
 

@@ -4,9 +4,9 @@ ghost use Rattle.hand_canon.specs.Sound.{IsSound};
 ghost use Rattle.hand_records.specs.SoundRecord.{IsSoundRecord};
 ghost use Rattle.first_fault.specs.declared.limits.TheConstants.{MOST_HANDS};
 ghost use Rattle.convert_core.specs.Judged.{ArePlaysOf, IsFaultAt, IsOneMorePlay, IsPlaysFaultOf};
-ghost use Rattle.convert_core.specs.declared.fault.PlaysFault.TheVariants as plays_faults;
+ghost use Rattle.convert_core.specs.declared.refusal.PlaysFault.TheVariants as plays_faults;
 
-use crate::fault::{PlaysFault, Refusal};
+use crate::refusal::{PlaysFault, Refusal};
 use hand_canon::check_stated;
 use hand_records::{Play, Record, Records};
 use replay_core::{ReplayFault, replay};

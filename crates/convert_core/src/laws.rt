@@ -9,9 +9,9 @@ ghost use Rattle.convert_core.specs.Judged.{ArePlaysOf, IsFirstRefused};
 ghost use Rattle.convert_core.specs.ReadBack.{ReadBack};
 ghost use Rattle.hand_canon.specs.Sharp.{IsOther, is_sharp};
 ghost use Rattle.convert_core.specs.declared.convert_fault.ConvertFault.{ConvertFault};
-ghost use Rattle.convert_core.specs.declared.fault.Refusal.{Refusal};
+ghost use Rattle.convert_core.specs.declared.refusal.Refusal.{Refusal};
 ghost use Rattle.convert_core.specs.declared.format_fault.FormatFault.{FormatFault};
-ghost use Rattle.hand_records.specs.Refusals.{first_refusal};
+ghost use Rattle.hand_records.specs.WriteRefusals.{first_refusal};
 
 use crate::notation::Notation;
 use hand_records::Keep;

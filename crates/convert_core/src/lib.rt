@@ -5,7 +5,6 @@
 mod acpc;
 mod convert_fault;
 mod converting;
-mod fault;
 mod format_fault;
 mod judging;
 mod laws;
@@ -13,11 +12,11 @@ mod lines;
 mod notation;
 mod ohh;
 mod phh;
+mod refusal;
 
 pub use acpc::Acpc;
 pub use convert_fault::ConvertFault;
 pub use converting::{convert, plays};
-pub use fault::{PlaysFault, Refusal};
 pub use format_fault::FormatFault;
 pub use judging::plays_of;
 pub use laws::{
@@ -26,3 +25,4 @@ pub use laws::{
 pub use notation::Notation;
 pub use ohh::Ohh;
 pub use phh::Phh;
+pub use refusal::{PlaysFault, Refusal};

@@ -10,9 +10,9 @@ ghost use Rattle.convert_core.specs.Judged.{IsFaultAt};
 ghost use Rattle.convert_core.specs.Lines.{AreWritten};
 
 use crate::convert_fault::ConvertFault;
-use crate::fault::PlaysFault;
 use crate::judging::push_play;
 use crate::notation::Notation;
+use crate::refusal::PlaysFault;
 use hand_records::{Keep, Play, Record, Records, WriteRefusal};
 use std::alloc::{AllocError, Global};
 

@@ -17,7 +17,7 @@ ghost use Rattle.convert_core.specs.Records.{AreFew, AreOfFile};
 ghost use Rattle.convert_core.specs.SameRecords.{AllAlike, ArePlayedAlike};
 ghost use Rattle.hand_canon.specs.Sharp.{IsOther, is_sharp};
 ghost use Rattle.convert_core.specs.declared.format_fault.FormatFault.{FormatFault as AnyFault};
-ghost use Rattle.hand_records.specs.Refusals.{first_refusal};
+ghost use Rattle.hand_records.specs.WriteRefusals.{first_refusal};
 
 use crate::format_fault::FormatFault;
 use hand_records::{Keep, Play, Records, Unspelled, WriteRefusal};

@@ -5,14 +5,14 @@ ghost use Rattle.first_fault.specs.declared.limits.TheConstants.{MOST_HANDS};
 ghost use Rattle.hand_canon.specs.Sound.{IsSound};
 ghost use Rattle.hand_records.specs.declared.trace.Play.{Play as AnyPlay};
 ghost use Rattle.hand_records.specs.declared.writing.WriteRefusal.TheVariants as refusals;
-ghost use Rattle.ohh_format.specs.ReadBack.{KeepsNotes as KeepsSpelled};
-ghost use Rattle.ohh_line.specs.Spelled as facts;
+ghost use Rattle.ohh_format.specs.KeptNotes.{KeepsNotes as KeepsSpelled};
+ghost use Rattle.ohh_writing.specs.Spelled as facts;
 ghost use Rattle.play_event.specs.HistoryRules.{history_rules as rules_of_histories};
 ghost use Rattle.convert_core.specs.Faults.{is_want_of_memory};
-ghost use Rattle.convert_core.specs.TreeAlike as alike;
-ghost use Rattle.convert_core.specs.TreeLaws as laws;
-ghost use Rattle.convert_core.specs.Trees as trees;
-ghost use Rattle.hand_records.specs.Refusals.{first_refusal};
+ghost use Rattle.convert_core.specs.OhhAlike as alike;
+ghost use Rattle.convert_core.specs.OhhLaws as laws;
+ghost use Rattle.convert_core.specs.Ohh as in_ohh;
+ghost use Rattle.hand_records.specs.WriteRefusals.{first_refusal};
 
 use crate::format_fault::FormatFault;
 use crate::notation::Notation;
@@ -28,10 +28,10 @@ pub struct Ohh {
 }
 
 // The records that bytes say in a dialect.
-fn read_trees(alloc: Global, dialect: Dialect, bytes: &[u8]) -> Result<Records, FormatFault>
-    ensures say { IfOk result (trees.Say dialect bytes.now) }
+fn read_ohh(alloc: Global, dialect: Dialect, bytes: &[u8]) -> Result<Records, FormatFault>
+    ensures say { IfOk result (in_ohh.Say dialect bytes.now) }
     ensures fault { IfErr result (λ fault.
-        (is_want_of_memory fault ≡ true) ⊎ trees.HaveFault dialect bytes.now fault) }
+        (is_want_of_memory fault ≡ true) ⊎ in_ohh.HaveFault dialect bytes.now fault) }
 {
     match ohh_format::read(alloc, dialect, bytes) {
         Ok(records) => Ok(records),
@@ -40,7 +40,7 @@ fn read_trees(alloc: Global, dialect: Dialect, bytes: &[u8]) -> Result<Records, 
 }
 
 // The spelling of plays in a dialect.
-fn write_trees(
+fn write_ohh(
     alloc: Global,
     dialect: Dialect,
     plays: &[Play],
@@ -48,7 +48,7 @@ fn write_trees(
 ) -> Result<Vec<u8>, WriteRefusal>
     requires few { length plays.now ≤ MOST_HANDS }
     requires sound { AllByRecursion IsSound plays.now }
-    ensures spell { IfOk result (λ bytes. trees.Spell dialect plays.now bytes.items) }
+    ensures spell { IfOk result (λ bytes. in_ohh.Spell dialect plays.now bytes.items) }
     ensures spelled { OnOk result (first_refusal (facts.unspelled keep) plays.now ≡ None) }
     ensures refused { IfErr result (λ refusal. (refusal ≡ refusals.Memory)
         ⊎ (first_refusal (facts.unspelled keep) plays.now ≡ Some refusal)) }
@@ -57,7 +57,7 @@ fn write_trees(
 }
 
 // The line of a play behind those of the plays before it.
-fn push_tree_line(
+fn push_ohh_line(
     alloc: Global,
     dialect: Dialect,
     out: &mut Vec<u8>,
@@ -66,8 +66,8 @@ fn push_tree_line(
 ) -> Result<(), AllocError>
     requires { IsSound play.now }
     ensures { (before : List AnyPlay)
-        → length before ≡ place → trees.Spell dialect before out.old.items
-        → OnOk result (trees.Spell dialect (before ++ play.now ∷ []) out.new.items) }
+        → length before ≡ place → in_ohh.Spell dialect before out.old.items
+        → OnOk result (in_ohh.Spell dialect (before ++ play.now ∷ []) out.new.items) }
 {
     match ohh_format::push_line(alloc, out, dialect, place, play) {
         Ok(()) => Ok(()),
@@ -78,15 +78,15 @@ fn push_tree_line(
 impl Notation for Ohh {
     ghost rules_of = { λ _. rules_of_histories };
 
-    ghost Say = { λ tree bytes records. trees.Say tree.dialect bytes records };
+    ghost Say = { λ tree bytes records. in_ohh.Say tree.dialect bytes records };
 
-    ghost HaveFault = { λ tree bytes fault. trees.HaveFault tree.dialect bytes fault };
+    ghost HaveFault = { λ tree bytes fault. in_ohh.HaveFault tree.dialect bytes fault };
 
     ghost unspelled = { λ _ keep play. facts.unspelled keep play };
 
     ghost is_lined = { λ _. true };
 
-    ghost Spell = { λ tree plays bytes. trees.Spell tree.dialect plays bytes };
+    ghost Spell = { λ tree plays bytes. in_ohh.Spell tree.dialect plays bytes };
 
     ghost KeepsNotes = { λ _ place seats notes again. KeepsSpelled place seats notes again };
 
@@ -117,7 +117,7 @@ impl Notation for Ohh {
     }
 
     fn read(&self, alloc: Global, bytes: &[u8]) -> Result<Records, FormatFault> {
-        read_trees(alloc, self.dialect, bytes)
+        read_ohh(alloc, self.dialect, bytes)
     }
 
     fn spells(&self, play: &Play, keep: Keep) -> Option<Unspelled> {
@@ -125,7 +125,7 @@ impl Notation for Ohh {
     }
 
     fn write(&self, alloc: Global, plays: &[Play], keep: Keep) -> Result<Vec<u8>, WriteRefusal> {
-        write_trees(alloc, self.dialect, plays, keep)
+        write_ohh(alloc, self.dialect, plays, keep)
     }
 
     fn has_lines(&self) -> bool {
@@ -139,6 +139,6 @@ impl Notation for Ohh {
         place: usize,
         play: &Play,
     ) -> Result<(), AllocError> {
-        push_tree_line(alloc, self.dialect, out, place, play)
+        push_ohh_line(alloc, self.dialect, out, place, play)
     }
 }

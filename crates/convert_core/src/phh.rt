@@ -4,14 +4,14 @@ ghost use Rattle.std.specs.List.{AllByRecursion};
 ghost use Rattle.first_fault.specs.declared.limits.TheConstants.{MOST_HANDS};
 ghost use Rattle.hand_canon.specs.Sound.{IsSound};
 ghost use Rattle.hand_records.specs.declared.writing.WriteRefusal.TheVariants as refusals;
-ghost use Rattle.phh_format.specs.ReadBack.{KeepsNotes as KeepsAll};
-ghost use Rattle.phh_table.specs.Spelled as facts;
+ghost use Rattle.phh_format.specs.KeptNotes.{KeepsNotes as KeepsAll};
+ghost use Rattle.phh_writing.specs.Spelled as facts;
 ghost use Rattle.play_event.specs.HistoryRules.{history_rules as rules_of_histories};
 ghost use Rattle.convert_core.specs.Faults.{is_want_of_memory};
-ghost use Rattle.convert_core.specs.Histories as histories;
-ghost use Rattle.convert_core.specs.HistoryAlike as alike;
-ghost use Rattle.convert_core.specs.HistoryLaws as laws;
-ghost use Rattle.hand_records.specs.Refusals.{first_refusal};
+ghost use Rattle.convert_core.specs.Phh as in_phh;
+ghost use Rattle.convert_core.specs.PhhAlike as alike;
+ghost use Rattle.convert_core.specs.PhhLaws as laws;
+ghost use Rattle.hand_records.specs.WriteRefusals.{first_refusal};
 
 use crate::format_fault::FormatFault;
 use crate::notation::Notation;
@@ -24,10 +24,10 @@ use std::alloc::{AllocError, Global};
 pub struct Phh;
 
 // The records that bytes say.
-fn read_history(alloc: Global, bytes: &[u8]) -> Result<Records, FormatFault>
-    ensures say { IfOk result (histories.Say bytes.now) }
+fn read_phh(alloc: Global, bytes: &[u8]) -> Result<Records, FormatFault>
+    ensures say { IfOk result (in_phh.Say bytes.now) }
     ensures fault { IfErr result (λ fault.
-        (is_want_of_memory fault ≡ true) ⊎ histories.HaveFault bytes.now fault) }
+        (is_want_of_memory fault ≡ true) ⊎ in_phh.HaveFault bytes.now fault) }
 {
     match phh_format::read(alloc, bytes) {
         Ok(records) => Ok(records),
@@ -36,10 +36,10 @@ fn read_history(alloc: Global, bytes: &[u8]) -> Result<Records, FormatFault>
 }
 
 // The spelling of plays.
-fn write_history(alloc: Global, plays: &[Play], keep: Keep) -> Result<Vec<u8>, WriteRefusal>
+fn write_phh(alloc: Global, plays: &[Play], keep: Keep) -> Result<Vec<u8>, WriteRefusal>
     requires few { length plays.now ≤ MOST_HANDS }
     requires sound { AllByRecursion IsSound plays.now }
-    ensures spell { IfOk result (λ bytes. histories.Spell plays.now bytes.items) }
+    ensures spell { IfOk result (λ bytes. in_phh.Spell plays.now bytes.items) }
     ensures spelled { OnOk result (first_refusal facts.unspelled plays.now ≡ None) }
     ensures refused { IfErr result (λ refusal. (refusal ≡ refusals.Memory)
         ⊎ (first_refusal facts.unspelled plays.now ≡ Some refusal)) }
@@ -50,15 +50,15 @@ fn write_history(alloc: Global, plays: &[Play], keep: Keep) -> Result<Vec<u8>, W
 impl Notation for Phh {
     ghost rules_of = { λ _. rules_of_histories };
 
-    ghost Say = { λ _ bytes records. histories.Say bytes records };
+    ghost Say = { λ _ bytes records. in_phh.Say bytes records };
 
-    ghost HaveFault = { λ _ bytes fault. histories.HaveFault bytes fault };
+    ghost HaveFault = { λ _ bytes fault. in_phh.HaveFault bytes fault };
 
     ghost unspelled = { λ _ _ play. facts.unspelled play };
 
     ghost is_lined = { λ _. false };
 
-    ghost Spell = { λ _ plays bytes. histories.Spell plays bytes };
+    ghost Spell = { λ _ plays bytes. in_phh.Spell plays bytes };
 
     ghost KeepsNotes = { λ _ place seats notes again. KeepsAll place seats notes again };
 
@@ -88,7 +88,7 @@ impl Notation for Phh {
     }
 
     fn read(&self, alloc: Global, bytes: &[u8]) -> Result<Records, FormatFault> {
-        read_history(alloc, bytes)
+        read_phh(alloc, bytes)
     }
 
     fn spells(&self, play: &Play, keep: Keep) -> Option<Unspelled> {
@@ -96,7 +96,7 @@ impl Notation for Phh {
     }
 
     fn write(&self, alloc: Global, plays: &[Play], keep: Keep) -> Result<Vec<u8>, WriteRefusal> {
-        write_history(alloc, plays, keep)
+        write_phh(alloc, plays, keep)
     }
 
     fn has_lines(&self) -> bool {

@@ -16,7 +16,7 @@ use Rattle.play_event.specs.SeatSlots.{slots_of_hand}
 use Rattle.play_event.specs.Seats.{all_seats, is_live, live_count}
 use Rattle.play_event.specs.Streets.{has_draw}
 use Rattle.play_event.specs.Trace.{TracedPlace}
-use Rattle.canonical_play.specs.CanonScript.{board_said, deal_said, deals_said, dealt_slots, discarded_slots, discards_said, held_slots, showdown_said, showing_said}
+use Rattle.canon_script.specs.CanonScript.{board_said, deal_said, deals_said, dealt_slots, discarded_slots, discards_said, held_slots, showdown_said, showing_said}
 use Rattle.hand_canon.specs.RowTests.{discards_from, showings_from, unfolded_count}
 use Rattle.hand_canon.proofs.OneByOne.{flat_agree}
 use Rattle.hand_canon.proofs.MoveRows.{AreFolded, live_are}

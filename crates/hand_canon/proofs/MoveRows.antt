@@ -12,7 +12,7 @@ use Rattle.play_event.specs.Past.{Move, moves_before}
 use Rattle.play_event.specs.Played.{move_said}
 use Rattle.play_event.specs.Seats as moved
 use Rattle.play_event.specs.Seats.{is_live, live_count}
-use Rattle.canonical_play.specs.CanonScript.{plain_move, plain_moves, moves_named, move_named}
+use Rattle.canon_script.specs.CanonScript.{plain_move, plain_moves, moves_named, move_named}
 use Rattle.hand_canon.specs.RowTests.{is_fold_before, is_fold_of, said_on, unfolded_count}
 use Rattle.list_laws.proofs.FlatMaps.{flat_map-map, kept_flat}
 use Rattle.list_laws.proofs.Reversed.{filter-reverse, list_any-reverse}

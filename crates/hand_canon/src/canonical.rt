@@ -6,11 +6,11 @@ ghost use Rattle.play_event.specs.Said.{kind_said, said_of};
 ghost use Rattle.play_event.specs.SeatSlots.{slots_of_hand};
 ghost use Rattle.card_set.specs.Row.{slots_of};
 ghost use Rattle.chip_ledger.specs.Seat.{seats_of};
-ghost use Rattle.canonical_play.specs.CanonScript.{board_said, canonical_script, deal_said, deals_said, discards_said, move_named, plain_move, plain_moves, showdown_said, street_said};
+ghost use Rattle.canon_script.specs.CanonScript.{board_said, canonical_script, deal_said, deals_said, discards_said, move_named, plain_move, plain_moves, showdown_said, street_said};
 ghost use Rattle.hand_canon.specs.RowTests.{discards_from, said_on, showings_from};
-ghost use Rattle.canonical_play.specs.Tidy.{HasTidyCards, IsTidy};
+ghost use Rattle.canon_script.specs.Tidy.{HasTidyCards, IsTidy};
 ghost use Rattle.hand_records.specs.TraceRows.{core_said};
-ghost use Rattle.hand_canon.specs.Words.{words_of};
+ghost use Rattle.hand_canon.specs.SaidSoFar.{words_of};
 
 use crate::folds::{count_unfolded, folds, folds_before};
 use crate::gathered::{dealt_to_board, dealt_to_seats, discarded_by_seats};

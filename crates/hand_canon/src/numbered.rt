@@ -16,7 +16,7 @@ pub(crate) struct Numbered {
 }
 
 impl Numbered {
-    ghost use Rattle.hand_canon.specs.Words.{words_of};
+    ghost use Rattle.hand_canon.specs.SaidSoFar.{words_of};
 
     /// No events.
     pub(crate) fn new(alloc: Global) -> Self

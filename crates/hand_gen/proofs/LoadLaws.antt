@@ -6,8 +6,8 @@ use Rattle.std.proofs.lemmas.List.Sums.{sum_by_push}
 use Rattle.hand_canon.specs.Sound.{IsSound}
 use Rattle.hand_records.specs.declared.record.Record.{Record}
 use Rattle.hand_records.specs.declared.trace.Play.{Play}
-use Rattle.hand_gen.specs.declared.numbers.Counts.{Counts}
-use Rattle.hand_gen.specs.declared.numbers.Summary.{Summary}
+use Rattle.hand_gen.specs.declared.summary.PlayCounts.{PlayCounts}
+use Rattle.hand_gen.specs.declared.summary.Summary.{Summary}
 use Rattle.hand_gen.specs.Load.{AreCountsOf, IsLoadTo, IsSummaryOf}
 use Rattle.hand_gen.specs.Loaded.{IsWithCounts}
 use Rattle.hand_gen.specs.Made.{AreMadeFrom, IsMade, number_behind, number_behind_all}
@@ -16,23 +16,23 @@ use Rattle.list_laws.proofs.Entries.{zip_push}
 use Rattle.hand_records.specs.Plays.{hands_of}
 
 -- one more summand
-one_sum : (f : Counts → ℕ) (counts : List Counts) (more : Counts) (before after : ℕ) → before ≡ sum_by f counts → after ≡ before + f more → after ≡ sum_by f (counts ++ more ∷ [])
+one_sum : (f : PlayCounts → ℕ) (counts : List PlayCounts) (more : PlayCounts) (before after : ℕ) → before ≡ sum_by f counts → after ≡ before + f more → after ≡ sum_by f (counts ++ more ∷ [])
 one_sum f counts more before after is step = omega (arith, is, step, sum_by_push f counts more)
 
 -- the summary of one play more
-summary_more : (plays : List Play) (play : Play) (before after : Summary) (more : Counts) → IsSummaryOf plays before → AreCountsOf play more → IsWithCounts before more after → IsSummaryOf (plays ++ play ∷ []) after
+summary_more : (plays : List Play) (play : Play) (before after : Summary) (more : PlayCounts) → IsSummaryOf plays before → AreCountsOf play more → IsWithCounts before more after → IsSummaryOf (plays ++ play ∷ []) after
 summary_more plays play before after more is counted step =
     record {
       counts = is.counts ++ more ∷ [];
       counted = zip_push AreCountsOf plays is.counts play more is.counted counted;
       hands = omega (arith, is.hands, step.hands, length-append plays (play ∷ []));
-      moves = one_sum (λ (c : Counts). c.moves) is.counts more before.moves after.moves is.moves step.moves;
-      pots = one_sum (λ (c : Counts). c.pots) is.counts more before.pots after.pots is.pots step.pots;
-      phh = one_sum (λ (c : Counts). c.phh) is.counts more before.phh after.phh is.phh step.phh;
-      ohh = one_sum (λ (c : Counts). c.ohh.hands) is.counts more before.ohh after.ohh is.ohh step.ohh;
-      ohh_bytes = one_sum (λ (c : Counts). c.ohh.bytes) is.counts more before.ohh_bytes after.ohh_bytes is.ohh_bytes step.ohh_bytes;
-      acpc = one_sum (λ (c : Counts). c.acpc.hands) is.counts more before.acpc after.acpc is.acpc step.acpc;
-      acpc_bytes = one_sum (λ (c : Counts). c.acpc.bytes) is.counts more before.acpc_bytes after.acpc_bytes is.acpc_bytes step.acpc_bytes;
+      moves = one_sum (λ (c : PlayCounts). c.moves) is.counts more before.moves after.moves is.moves step.moves;
+      pots = one_sum (λ (c : PlayCounts). c.pots) is.counts more before.pots after.pots is.pots step.pots;
+      phh = one_sum (λ (c : PlayCounts). c.phh) is.counts more before.phh after.phh is.phh step.phh;
+      ohh = one_sum (λ (c : PlayCounts). c.ohh.hands) is.counts more before.ohh after.ohh is.ohh step.ohh;
+      ohh_bytes = one_sum (λ (c : PlayCounts). c.ohh.bytes) is.counts more before.ohh_bytes after.ohh_bytes is.ohh_bytes step.ohh_bytes;
+      acpc = one_sum (λ (c : PlayCounts). c.acpc.hands) is.counts more before.acpc after.acpc is.acpc step.acpc;
+      acpc_bytes = one_sum (λ (c : PlayCounts). c.acpc.bytes) is.counts more before.acpc_bytes after.acpc_bytes is.acpc_bytes step.acpc_bytes;
     }
 
 -- how many plays were counted
@@ -40,7 +40,7 @@ pub count_is : (seed number : ℕ) (summary : Summary) (loaded : IsLoadTo seed n
 count_is seed number summary loaded count is = sym loaded.sums.hands ∙ is
 
 -- one hand more is loaded
-pub one_play_more : (seed number : ℕ) (before after : Summary) (play : Play) (more : Counts) (place next : ℕ) → IsLoadTo seed number before → before.hands ≡ place → IsMade place number play.hand → next ≡ number_behind number play.hand → IsSound play → AreCountsOf play more → IsWithCounts before more after → IsLoadTo seed next after
+pub one_play_more : (seed number : ℕ) (before after : Summary) (play : Play) (more : PlayCounts) (place next : ℕ) → IsLoadTo seed number before → before.hands ≡ place → IsMade place number play.hand → next ≡ number_behind number play.hand → IsSound play → AreCountsOf play more → IsWithCounts before more after → IsLoadTo seed next after
 one_play_more seed number before after play more place next loaded count made behind sound counted step =
     let hands : List Record = hands_of loaded.plays in
     let long : length hands ≡ length loaded.plays = length-map loaded.plays (λ (p : Play). p.hand) in

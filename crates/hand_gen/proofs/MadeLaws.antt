@@ -2,7 +2,7 @@
 use Rattle.std.proofs.Common.{◌≡◌, ℕ, suc, ◌+◌, List, [], ◌∷◌, ◌++◌, length, map, reverse, Option, Some, None, sym, refl, subst, ap, ◌∙◌, arith, length-append}
 use Rattle.std.specs.List.{range_with_len}
 use Rattle.std.proofs.lemmas.List.{map-append, reverse-append}
-use Rattle.betting_numbers.specs.declared.table.Table.{Table}
+use Rattle.betting_numbers.specs.declared.running.RunningNumbers.{RunningNumbers}
 use Rattle.card_places.specs.declared.card_state.CardState.{CardState}
 use Rattle.play_event.specs.declared.event.Event.{Event}
 use Rattle.play_event.specs.declared.reason.Due.{Due}
@@ -32,7 +32,7 @@ longer_by_one : (script : List Event) (event : Event) → suc (length script) �
 longer_by_one script event = omega (arith, length-append script (event ∷ []))
 
 -- one event more is made
-pub one_event_more : (setup : Setup) (start : Stock) (b next : Table) (t after : CardState) (script : List Event) (event : Event) (stock left : Stock)
+pub one_event_more : (setup : Setup) (start : Stock) (b next : RunningNumbers) (t after : CardState) (script : List Event) (event : Event) (stock left : Stock)
     → IsMadeTo setup start b t script stock
     → Some (said_of event) ≡ (coming b.setup b.rules (past_of setup (backward script)) stock).event
     → left ≡ (coming b.setup b.rules (past_of setup (backward script)) stock).left
@@ -93,7 +93,7 @@ unfolding coming
 none_taken setup rules past stock is = some_at setup rules past stock (turn setup past).0 (turn setup past).1 is
 
 -- nothing comes behind a whole script, and nothing is taken
-pub nothing_more : (setup : Setup) (start : Stock) (b : Table) (t : CardState) (script : List Event) (stock left : Stock)
+pub nothing_more : (setup : Setup) (start : Stock) (b : RunningNumbers) (t : CardState) (script : List Event) (stock left : Stock)
     → IsMadeTo setup start b t script stock
     → None ≡ (coming b.setup b.rules (past_of setup (backward script)) stock).event
     → left ≡ (coming b.setup b.rules (past_of setup (backward script)) stock).left

@@ -1,7 +1,7 @@
 -- A script that is counted is within the limits; and what states and notes nothing is sound.
 use Rattle.std.proofs.Common.{◌≡◌, ℕ, ◌-◌, ◌≤◌, List, ◌++◌, length, map, find, count_by, slice_index_or, None, ap, ◌∙◌, arith}
 use Rattle.std.proofs.lemmas.List.{length-map}
-use Rattle.canonical_play.specs.PlayedScript.{IsWithinLimits, is_move}
+use Rattle.canon_script.specs.PlayedScript.{IsWithinLimits, is_move}
 use Rattle.card_set.specs.declared.card.Card.{Card}
 use Rattle.chip_ledger.specs.declared.rows.TheConstants.{MOST_AMOUNT}
 use Rattle.chip_ledger.specs.Fillers.{index-replicate}

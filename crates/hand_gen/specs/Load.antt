@@ -4,21 +4,21 @@ use Rattle.std.specs.Fmt.{decimal}
 use Rattle.std.specs.List.{AllZip}
 use Rattle.acpc_game.specs.declared.game.Game.{Game}
 use Rattle.acpc_game.specs.GameView.{game_in}
-use Rattle.acpc_line.specs.GameOf.{game_of}
-use Rattle.acpc_line.specs.Line.{log_text}
-use Rattle.acpc_line.specs.Spelled as logs
+use Rattle.acpc_writing.specs.GameOf.{game_of}
+use Rattle.acpc_writing.specs.Line.{log_text}
+use Rattle.acpc_writing.specs.Spelled as logs
 use Rattle.hand_canon.specs.Agreement.{pot_total_of}
 use Rattle.hand_canon.specs.Sound.{IsSound}
 use Rattle.hand_records.specs.declared.trace.Play.{Play}
 use Rattle.hand_records.specs.declared.writing.Keep.TheVariants as keeps
 use Rattle.hand_records.specs.declared.writing.Unspelled.{Unspelled}
-use Rattle.ohh_line.specs.Lines.{lines}
-use Rattle.ohh_line.specs.Spelled as ohh
+use Rattle.ohh_writing.specs.Lines.{lines}
+use Rattle.ohh_writing.specs.Spelled as ohh
 use Rattle.ohh_members.specs.declared.dialect.Dialect.TheVariants as dialects
-use Rattle.phh_table.specs.Spelled as phh
-use Rattle.hand_gen.specs.declared.numbers.Counts.{Counts}
-use Rattle.hand_gen.specs.declared.numbers.Spelled.{Spelled}
-use Rattle.hand_gen.specs.declared.numbers.Summary.{Summary}
+use Rattle.phh_writing.specs.Spelled as phh
+use Rattle.hand_gen.specs.declared.summary.PlayCounts.{PlayCounts}
+use Rattle.hand_gen.specs.declared.summary.SpelledSize.{SpelledSize}
+use Rattle.hand_gen.specs.declared.summary.Summary.{Summary}
 use Rattle.hand_gen.specs.Made.{AreMadeFrom, number_behind_all}
 use Rattle.hand_records.specs.Plays.{hands_of}
 
@@ -33,17 +33,17 @@ bytes_spelled None bytes = bytes
 bytes_spelled (Some fact) bytes = 0
 
 -- whether a hand is spelled, and in how many bytes, by its first fact without a spelling and the bytes that it would have
-pub record IsSpelled (fact : Option Unspelled) (bytes : ℕ) (spelled : Spelled) : Type 0 where
+pub record IsSpelled (fact : Option Unspelled) (bytes : ℕ) (spelled : SpelledSize) : Type 0 where
   pub hands_are : spelled.hands ≡ hands_spelled fact
   pub bytes_are : spelled.bytes ≡ bytes_spelled fact bytes
 
 -- what Open Hand History spells of a play: the play is a file of its own
-abbrev pub IsInHistories : Play → Spelled → Type 0
+abbrev pub IsInHistories : Play → SpelledSize → Type 0
 IsInHistories play spelled =
     IsSpelled (ohh.unspelled keeps.All play) (length (lines dialects.Added (play ∷ []))) spelled
 
 -- what the logs of the game that a play fits spell of it; a play that fits no game is in none
-pub data IsInLogs (play : Play) (spelled : Spelled) : Type 0 where
+pub data IsInLogs (play : Play) (spelled : SpelledSize) : Type 0 where
   fits_none : (fact : Unspelled) → game_of play.trace.setup ≡ Err fact → spelled.hands ≡ 0 → spelled.bytes ≡ 0
       → IsInLogs play spelled
   fits : (game : Game) → game_of play.trace.setup ≡ Ok (game_in game)
@@ -51,7 +51,7 @@ pub data IsInLogs (play : Play) (spelled : Spelled) : Type 0 where
       → IsInLogs play spelled
 
 -- the numbers of a play: its moves, its pots, and what each format spells of it
-pub record AreCountsOf (play : Play) (counts : Counts) : Type 0 where
+pub record AreCountsOf (play : Play) (counts : PlayCounts) : Type 0 where
   pub moves : counts.moves ≡ length play.trace.moves
   pub pots : counts.pots ≡ pot_total_of play.trace
   pub phh_hands : counts.phh ≡ hands_spelled (phh.unspelled play)
@@ -60,16 +60,16 @@ pub record AreCountsOf (play : Play) (counts : Counts) : Type 0 where
 
 -- a summary has the numbers of plays together
 pub record IsSummaryOf (plays : List Play) (summary : Summary) : Type 0 where
-  pub counts : List Counts
+  pub counts : List PlayCounts
   pub counted : AllZip AreCountsOf plays counts
   pub hands : summary.hands ≡ length plays
-  pub moves : summary.moves ≡ sum_by (λ (c : Counts). c.moves) counts
-  pub pots : summary.pots ≡ sum_by (λ (c : Counts). c.pots) counts
-  pub phh : summary.phh ≡ sum_by (λ (c : Counts). c.phh) counts
-  pub ohh : summary.ohh ≡ sum_by (λ (c : Counts). c.ohh.hands) counts
-  pub ohh_bytes : summary.ohh_bytes ≡ sum_by (λ (c : Counts). c.ohh.bytes) counts
-  pub acpc : summary.acpc ≡ sum_by (λ (c : Counts). c.acpc.hands) counts
-  pub acpc_bytes : summary.acpc_bytes ≡ sum_by (λ (c : Counts). c.acpc.bytes) counts
+  pub moves : summary.moves ≡ sum_by (λ (c : PlayCounts). c.moves) counts
+  pub pots : summary.pots ≡ sum_by (λ (c : PlayCounts). c.pots) counts
+  pub phh : summary.phh ≡ sum_by (λ (c : PlayCounts). c.phh) counts
+  pub ohh : summary.ohh ≡ sum_by (λ (c : PlayCounts). c.ohh.hands) counts
+  pub ohh_bytes : summary.ohh_bytes ≡ sum_by (λ (c : PlayCounts). c.ohh.bytes) counts
+  pub acpc : summary.acpc ≡ sum_by (λ (c : PlayCounts). c.acpc.hands) counts
+  pub acpc_bytes : summary.acpc_bytes ≡ sum_by (λ (c : PlayCounts). c.acpc.bytes) counts
 
 -- a summary is that of the made hands from a seed, up to the number that comes behind them: each has its play, and these are counted
 pub record IsLoadTo (seed number : ℕ) (summary : Summary) : Type 0 where

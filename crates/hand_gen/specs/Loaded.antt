@@ -1,10 +1,10 @@
 -- One play more in a summary, and how great the numbers of so many plays may be.
 use Rattle.std.specs.Prelude.{◌≡◌, ◌≤◌, ℕ, ◌+◌, ◌*◌, ◌^◌}
-use Rattle.hand_gen.specs.declared.numbers.Counts.{Counts}
-use Rattle.hand_gen.specs.declared.numbers.Summary.{Summary}
+use Rattle.hand_gen.specs.declared.summary.PlayCounts.{PlayCounts}
+use Rattle.hand_gen.specs.declared.summary.Summary.{Summary}
 
 -- a summary has the numbers of one play more than another
-pub record IsWithCounts (before : Summary) (counts : Counts) (after : Summary) : Type 0 where
+pub record IsWithCounts (before : Summary) (counts : PlayCounts) (after : Summary) : Type 0 where
   pub hands : after.hands ≡ before.hands + 1
   pub moves : after.moves ≡ before.moves + counts.moves
   pub pots : after.pots ≡ before.pots + counts.pots

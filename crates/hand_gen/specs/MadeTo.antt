@@ -1,7 +1,7 @@
 -- A hand that is being made: its script so far, and betting and cards behind it.
 use Rattle.std.specs.Prelude.{◌≡◌, ◌+◌, List, ◌∷◌, length, map, Option, Some, None}
 use Rattle.std.specs.List.{range_with_len}
-use Rattle.betting_numbers.specs.declared.table.Table.{Table}
+use Rattle.betting_numbers.specs.declared.running.RunningNumbers.{RunningNumbers}
 use Rattle.card_places.specs.declared.card_state.CardState.{CardState}
 use Rattle.play_event.specs.declared.event.Event.{Event}
 use Rattle.play_event.specs.declared.event.Kind.{Kind}
@@ -14,7 +14,7 @@ use Rattle.hand_gen.specs.Made.{HaveCome, backward, next_event, stock_behind}
 use Rattle.hand_gen.specs.Stock.{Stock}
 
 -- so far a hand is made: each event of its script has come, and betting, cards and stock stand behind the last one
-pub record IsMadeTo (setup : Setup) (start : Stock) (b : Table) (t : CardState) (script : List Event) (stock : Stock) : Type 0 where
+pub record IsMadeTo (setup : Setup) (start : Stock) (b : RunningNumbers) (t : CardState) (script : List Event) (stock : Stock) : Type 0 where
   pub come : HaveCome setup history_rules start (backward script)
   pub left : stock ≡ stock_behind setup history_rules start (backward script)
   pub stands : StandTogether b t (past_of setup (backward script))
@@ -28,12 +28,12 @@ pub record IsWhole (setup : Setup) (start : Stock) (script : List Event) (stock 
   pub left : stock ≡ stock_behind setup history_rules start (backward script)
 
 -- one event more, where one comes
-pub record IsLonger (setup : Setup) (start : Stock) (before : List Event) (b : Table) (t : CardState) (script : List Event) (stock : Stock) (kind : Kind) : Type 0 where
+pub record IsLonger (setup : Setup) (start : Stock) (before : List Event) (b : RunningNumbers) (t : CardState) (script : List Event) (stock : Stock) (kind : Kind) : Type 0 where
   pub made : IsMadeTo setup start b t script stock
   pub said : backward script ≡ kind_said kind ∷ backward before
   pub longer : length script ≡ length before + 1
 
 -- what one step makes of a script: one event more, or nothing where it is whole
-abbrev pub IsStep : Setup → Stock → List Event → Table → CardState → List Event → Stock → Option Kind → Type 0
+abbrev pub IsStep : Setup → Stock → List Event → RunningNumbers → CardState → List Event → Stock → Option Kind → Type 0
 IsStep setup start before b t script stock (Some kind) = IsLonger setup start before b t script stock kind
 IsStep setup start before b t script stock None = (script ≡ before) × IsWhole setup start script stock

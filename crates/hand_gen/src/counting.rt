@@ -2,23 +2,23 @@
 ghost use Rattle.std.specs.Prelude.{◌≡◌, ◌≤◌, ◌*◌, ◌^◌, ◌∷◌, [], Ok, IfOk, length};
 ghost use Rattle.std.specs.List.{AllByRecursion};
 ghost use Rattle.acpc_game.specs.GameView.{game_in};
-ghost use Rattle.acpc_line.specs.GameOf as games;
+ghost use Rattle.acpc_writing.specs.GameOf as games;
 ghost use Rattle.hand_canon.specs.Agreement.{pot_total_of};
 ghost use Rattle.hand_canon.specs.Sound.{IsSound};
 ghost use Rattle.hand_records.specs.declared.trace.Play.{Play as PlayNow};
-ghost use Rattle.phh_table.specs.Spelled as phh;
+ghost use Rattle.phh_writing.specs.Spelled as phh;
 ghost use Rattle.hand_gen.specs.Load.{AreCountsOf, IsInHistories, IsInLogs, hands_spelled};
 
-use crate::numbers::{Counts, Spelled};
+use crate::summary::{PlayCounts, SpelledSize};
 use acpc_game::Game;
-use acpc_line::game_of;
+use acpc_writing::game_of;
 use card_set::Memory;
 use hand_records::{Keep, Play, Trace, WriteRefusal};
 use ohh_members::Dialect;
 use std::alloc::Global;
 
 /// The numbers of the only play of a file.
-pub fn counts_of(alloc: Global, file: &[Play]) -> Result<Counts, Memory>
+pub fn counts_of(alloc: Global, file: &[Play]) -> Result<PlayCounts, Memory>
     requires sound { AllByRecursion IsSound file.now }
     requires one { length file.now ≡ 1 }
     ensures { (play : PlayNow) → file.now ≡ play ∷ [] → IfOk result (AreCountsOf play) }
@@ -32,7 +32,7 @@ pub fn counts_of(alloc: Global, file: &[Play]) -> Result<Counts, Memory>
         Ok(acpc) => acpc,
         Err(memory) => return Err(memory),
     };
-    Ok(Counts {
+    Ok(PlayCounts {
         moves: play.trace.moves.len() as u128,
         pots: pot_total(&play.trace),
         phh: in_tables(play),
@@ -42,12 +42,12 @@ pub fn counts_of(alloc: Global, file: &[Play]) -> Result<Counts, Memory>
 }
 
 // What Open Hand History spells of a play, which is a file of its own.
-fn in_histories(alloc: Global, file: &[Play]) -> Result<Spelled, Memory>
+fn in_histories(alloc: Global, file: &[Play]) -> Result<SpelledSize, Memory>
     requires sound { AllByRecursion IsSound file.now }
     requires one { length file.now ≤ 1 }
     ensures { (play : PlayNow) → file.now ≡ play ∷ [] → IfOk result (IsInHistories play) }
 {
-    match ohh_line::write(alloc, Dialect::Added, file, Keep::All) {
+    match ohh_writing::write(alloc, Dialect::Added, file, Keep::All) {
         Ok(bytes) => Ok(spelled_in(bytes.len())),
         Err(WriteRefusal::Memory) => Err(Memory),
         Err(WriteRefusal::Unspelled { hand: _, fact: _ }) => Ok(not_spelled()),
@@ -55,7 +55,7 @@ fn in_histories(alloc: Global, file: &[Play]) -> Result<Spelled, Memory>
 }
 
 // What the logs of the game that a play fits spell of it.
-fn in_logs(alloc: Global, play: &Play, file: &[Play]) -> Result<Spelled, Memory>
+fn in_logs(alloc: Global, play: &Play, file: &[Play]) -> Result<SpelledSize, Memory>
     requires sound { AllByRecursion IsSound file.now }
     requires one { file.now ≡ play.now ∷ [] }
     ensures { IfOk result (IsInLogs play.now) }
@@ -67,13 +67,13 @@ fn in_logs(alloc: Global, play: &Play, file: &[Play]) -> Result<Spelled, Memory>
 }
 
 // What the logs of a game spell of a play, which is a file of its own.
-fn in_logs_of(alloc: Global, game: &Game, file: &[Play]) -> Result<Spelled, Memory>
+fn in_logs_of(alloc: Global, game: &Game, file: &[Play]) -> Result<SpelledSize, Memory>
     requires sound { AllByRecursion IsSound file.now }
     requires one { length file.now ≤ 1 }
     ensures { (play : PlayNow) → file.now ≡ play ∷ []
         → games.game_of play.trace.setup ≡ Ok (game_in game.now) → IfOk result (IsInLogs play) }
 {
-    match acpc_line::write(alloc, game, file, Keep::All) {
+    match acpc_writing::write(alloc, game, file, Keep::All) {
         Ok(bytes) => Ok(spelled_in(bytes.len())),
         Err(WriteRefusal::Memory) => Err(Memory),
         Err(WriteRefusal::Unspelled { hand: _, fact: _ }) => Ok(not_spelled()),
@@ -81,22 +81,22 @@ fn in_logs_of(alloc: Global, game: &Game, file: &[Play]) -> Result<Spelled, Memo
 }
 
 // A hand that is spelled in so many bytes.
-fn spelled_in(bytes: usize) -> Spelled
+fn spelled_in(bytes: usize) -> SpelledSize
     ensures hands { result.hands ≡ 1 }
     ensures bytes { result.bytes ≡ bytes }
 {
-    Spelled {
+    SpelledSize {
         hands: 1,
         bytes: bytes as u128,
     }
 }
 
 // A hand that is not spelled.
-fn not_spelled() -> Spelled
+fn not_spelled() -> SpelledSize
     ensures hands { result.hands ≡ 0 }
     ensures bytes { result.bytes ≡ 0 }
 {
-    Spelled { hands: 0, bytes: 0 }
+    SpelledSize { hands: 0, bytes: 0 }
 }
 
 // All pots of a trace together.
@@ -116,7 +116,7 @@ fn in_tables(play: &Play) -> u128
     ensures hands { result ≡ hands_spelled (phh.unspelled play.now) }
     ensures one { result ≤ 1 }
 {
-    match phh_table::spells(play, Keep::All) {
+    match phh_writing::spells(play, Keep::All) {
         Some(_) => 0,
         None => 1,
     }

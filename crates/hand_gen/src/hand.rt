@@ -1,7 +1,7 @@
 //! The script of a made hand, event by event.
 ghost use Rattle.std.specs.Prelude.{◌≡◌, ◌≤◌, ◌<◌, ◌+◌, ◌^◌, cond, length, map, IfOk};
-ghost use Rattle.canonical_play.specs.PlayedScript as played;
-ghost use Rattle.canonical_play.specs.PlayedScript.{IsWithinLimits};
+ghost use Rattle.canon_script.specs.PlayedScript as played;
+ghost use Rattle.canon_script.specs.PlayedScript.{IsWithinLimits};
 ghost use Rattle.play_event.specs.declared.setup.Setup.{Setup as SetupNow};
 ghost use Rattle.play_event.specs.HistoryRules as histories;
 ghost use Rattle.play_event.specs.Said.{kind_said, said_of};
@@ -12,7 +12,7 @@ ghost use Rattle.hand_gen.specs.Stock as stocks;
 
 use crate::coming::next;
 use crate::stock::Stock;
-use canonical_play::{MOST_MOVES, MOST_OTHER_EVENTS};
+use canon_script::{MOST_MOVES, MOST_OTHER_EVENTS};
 use card_set::Memory;
 use play_event::{Event, Kind, Reopen, Rules, Script, Setup};
 use replay_core::HandInPlay;

@@ -9,11 +9,11 @@ mod hand;
 mod loading;
 mod making;
 mod moving;
-mod numbers;
 mod owed;
 mod setups;
 mod stock;
+mod summary;
 
 pub use loading::{load, summary_text};
 pub use making::{Made, make, make_play};
-pub use numbers::Summary;
+pub use summary::Summary;

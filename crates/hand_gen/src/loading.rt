@@ -9,7 +9,7 @@ ghost use Rattle.hand_gen.specs.Loaded.{IsFewIn, IsWithCounts};
 
 use crate::counting::counts_of;
 use crate::making::make_play;
-use crate::numbers::{Counts, Summary};
+use crate::summary::{PlayCounts, Summary};
 use card_set::Memory;
 use std::alloc::Global;
 
@@ -61,7 +61,7 @@ fn no_hands() -> Summary
 }
 
 // The summary with the numbers of one play more. `before` is how many were counted.
-fn with_counts(summary: Summary, counts: Counts, before: u32) -> Summary
+fn with_counts(summary: Summary, counts: PlayCounts, before: u32) -> Summary
     requires { IsFewIn before summary }
     ensures sums { IsWithCounts summary counts result }
     ensures few { IsFewIn (before + 1) result }

@@ -13,7 +13,7 @@ use Rattle.hand_order.specs.declared.straights.LowStraight.{LowStraight}
 use Rattle.hand_order.specs.Choices.{choices, IsAmong, AreHeld}
 use Rattle.hand_order.specs.Digits.{class_above, with_digits, AreDigits}
 use Rattle.hand_order.specs.Ladder.{flush_class, ladder_points, leveled}
-use Rattle.hand_order.specs.Picks.{Fits, IsPicked, IsPattern, pattern, IsBestPattern}
+use Rattle.hand_order.specs.Patterns.{Fits, IsPicked, IsPattern, pattern, IsBestPattern}
 use Rattle.hand_order.specs.Points.{greatest}
 use Rattle.hand_order.specs.StraightRanks.{HasStraight, topped}
 use Rattle.hand_order.specs.Straights.{is_straight, straight_top}

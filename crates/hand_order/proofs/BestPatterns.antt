@@ -13,7 +13,7 @@ use Rattle.hand_order.proofs.FittingChoices.{without_of_ranks, sum_without}
 use Rattle.hand_order.proofs.OwnRanks.{InRange-high_ace}
 use Rattle.hand_order.proofs.PlainHands.{pattern_cases, four_and_one, three_and_two, three_alone, two_and_two, two_alone, ones_alone}
 use Rattle.hand_order.proofs.ShownRanks.{top_shown, tops_picked}
-use Rattle.hand_order.specs.Picks.{without, Fits, IsPicked, OfRanks, AreSome, pattern, IsPattern, IsBestPattern, AreCounts}
+use Rattle.hand_order.specs.Patterns.{without, Fits, IsPicked, OfRanks, AreSome, pattern, IsPattern, IsBestPattern, AreCounts}
 use Rattle.list_laws.proofs.Numbers.{positive}
 use Rattle.list_laws.proofs.Sums.{once_sum, some_sum}
 use Rattle.list_laws.proofs.Tests.{passes_or_not}

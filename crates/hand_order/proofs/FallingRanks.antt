@@ -10,7 +10,7 @@ use Rattle.hand_order.proofs.Fits.{fits-within}
 use Rattle.hand_order.proofs.FittingChoices.{times_of_ranks, without_of_ranks, sum_without, total-le}
 use Rattle.hand_order.proofs.OwnRanks.{several}
 use Rattle.hand_order.proofs.PlainHands.{class_of, hand_picked}
-use Rattle.hand_order.specs.Picks.{without, Fits, IsPicked, OfRanks, total, AreSome, pattern}
+use Rattle.hand_order.specs.Patterns.{without, Fits, IsPicked, OfRanks, total, AreSome, pattern}
 
 -- heights below a bound, each below the one before
 abbrev pub FallingFrom : ℕ → List ℕ → Type 0

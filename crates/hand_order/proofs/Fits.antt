@@ -4,7 +4,7 @@ use Rattle.std.proofs.lemmas.Bool.{cases_lt}
 use Rattle.card_set.specs.Classes.{IsLower}
 use Rattle.hand_order.specs.Digits.{with_digits}
 use Rattle.hand_order.proofs.Digits.{AreDigits, same_before}
-use Rattle.hand_order.specs.Picks.{without, Within, Fits, IsPicked}
+use Rattle.hand_order.specs.Patterns.{without, Within, Fits, IsPicked}
 
 without-within : (T U : ℕ → ℕ) (h : ℕ) → Within T U → Within (without T h) (without U h)
 without-within T U h within k = by_test (h == k)

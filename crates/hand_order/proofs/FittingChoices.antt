@@ -9,7 +9,7 @@ use Rattle.card_set.proofs.Counted.{IsHeight, times-none, times-cons}
 use Rattle.hand_order.specs.Choices.{choices, IsAmong}
 use Rattle.hand_order.proofs.Fits.{needs, fits_needs, needs_fit, fits-within}
 use Rattle.hand_order.proofs.Wanted.{wanted_chosen}
-use Rattle.hand_order.specs.Picks.{without, Fits, IsOfRank, OfRanks, total, AreSome, among_numbers}
+use Rattle.hand_order.specs.Patterns.{without, Fits, IsOfRank, OfRanks, total, AreSome, among_numbers}
 use Rattle.list_laws.proofs.Counting.{count-le-sum}
 use Rattle.list_laws.proofs.Sums.{sum_by-at, sum_by-none, sum_by-plus, sum_by-same}
 use Rattle.list_laws.proofs.Tests.{passes_or_not}

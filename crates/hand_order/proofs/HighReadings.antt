@@ -24,7 +24,7 @@ use Rattle.hand_order.proofs.FittingChoices.{fitting}
 use Rattle.hand_order.proofs.PlainHands.{class_of, plain_points, plain_reached, ones_alone, fits_class}
 use Rattle.hand_order.proofs.SuitedHands.{of_suit, suited_reached}
 use Rattle.hand_order.proofs.FallingRanks.{FallingFrom, ranks_exactly}
-use Rattle.hand_order.specs.Picks.{Fits, plain_class, pattern, IsBestPattern}
+use Rattle.hand_order.specs.Patterns.{Fits, plain_class, pattern, IsBestPattern}
 
 -- what a hand counts as, by whether it is a straight and a flush
 abbrev pub reading : FlushPlace → Bool → Bool → List Card → ℕ

@@ -8,7 +8,7 @@ use Rattle.card_set.specs.Different.{AllDifferent}
 use Rattle.card_set.specs.Ranks.{falling_heights, times, occurring, ranks_of, ranks_occurring, high_ace}
 use Rattle.card_set.proofs.Counted.{IsHeight, few_times}
 use Rattle.hand_order.proofs.FittingChoices.{times_of_ranks}
-use Rattle.hand_order.specs.Picks.{without, IsPicked}
+use Rattle.hand_order.specs.Patterns.{without, IsPicked}
 
 -- a number several times
 abbrev pub several : ℕ → ℕ → List ℕ

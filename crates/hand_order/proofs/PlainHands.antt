@@ -21,7 +21,7 @@ use Rattle.hand_order.proofs.Shapes.{by_shape}
 use Rattle.hand_order.proofs.Fits.{fits-within, picked_fits, picked_number}
 use Rattle.hand_order.proofs.FittingChoices.{times_of_ranks, fitting, fits_counts}
 use Rattle.hand_order.proofs.OwnRanks.{several, InRange-high_ace, own_picked}
-use Rattle.hand_order.specs.Picks.{without, Within, Fits, IsPicked, among_numbers, plain_class, pattern, IsPattern, IsBestPattern}
+use Rattle.hand_order.specs.Patterns.{without, Within, Fits, IsPicked, among_numbers, plain_class, pattern, IsPattern, IsBestPattern}
 
 -- the points of a hand without straights and flushes
 abbrev pub plain_points : FlushPlace → List Card → ℕ

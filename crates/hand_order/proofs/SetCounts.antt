@@ -16,7 +16,7 @@ use Rattle.card_set.proofs.DeckLaws.{is_same_card-true}
 use Rattle.card_set.specs.declared.set.CardSet.{CardSet}
 use Rattle.card_set.specs.CardSet.{is_in, is_one_of, IsListing}
 use Rattle.card_set.proofs.Listing.{lacks_one_of}
-use Rattle.hand_order.specs.Picks.{AreCounts}
+use Rattle.hand_order.specs.Patterns.{AreCounts}
 use Rattle.hand_order.proofs.FittingChoices.{times_of_ranks}
 use Rattle.hand_order.specs.Tops.{Shows}
 use Rattle.hand_order.proofs.OwnRanks.{InRange-high_ace}

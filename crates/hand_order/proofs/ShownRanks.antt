@@ -10,7 +10,7 @@ use Rattle.card_set.proofs.Counted.{IsHeight}
 use Rattle.hand_order.specs.Tops.{highest, lowered, tops, Shows}
 use Rattle.hand_order.proofs.FittingChoices.{without_of_ranks, sum_without}
 use Rattle.hand_order.proofs.OwnRanks.{several}
-use Rattle.hand_order.specs.Picks.{without, IsPicked, IsOfRank, OfRanks}
+use Rattle.hand_order.specs.Patterns.{without, IsPicked, IsOfRank, OfRanks}
 use Rattle.list_laws.proofs.Bits.{cleared, top_highest, top_set}
 use Rattle.list_laws.proofs.Numbers.{one_less}
 use Rattle.list_laws.proofs.Sums.{sum_by-same, none_occur}

@@ -5,7 +5,7 @@ use Rattle.std.proofs.lemmas.Bool.{cases_lt, and_parts, or_cases, ne_eqb}
 use Rattle.std.proofs.lemmas.Nat.Bits.{bit_at_and, bit_at-lt}
 use Rattle.hand_order.specs.declared.straights.LowStraight.{LowStraight}
 use Rattle.hand_order.specs.declared.straights.LowStraight.TheVariants as straights
-use Rattle.hand_order.specs.Picks.{without, Fits, pattern}
+use Rattle.hand_order.specs.Patterns.{without, Fits, pattern}
 use Rattle.hand_order.specs.StraightRanks.{HasLow, HasRun, HasStraight, IsRunFrom, has_ace_and_four}
 use Rattle.hand_order.specs.Straights.{is_run, is_low_straight, straight_top}
 use Rattle.hand_order.specs.Tops.{Shows}

@@ -11,7 +11,7 @@ use Rattle.hand_order.specs.declared.straights.LowStraight.{LowStraight}
 use Rattle.hand_order.specs.declared.straights.LowStraight.TheVariants as straights
 use Rattle.hand_order.specs.Digits.{class_above, with_digits, AreDigits}
 use Rattle.hand_order.specs.Ladder.{flush_class}
-use Rattle.hand_order.specs.Picks.{without, Fits, IsPicked, OfRanks, pattern}
+use Rattle.hand_order.specs.Patterns.{without, Fits, IsPicked, OfRanks, pattern}
 use Rattle.hand_order.specs.StraightRanks.{HasStraight, topped}
 use Rattle.hand_order.specs.SuitBest.{IsBestOfSuit}
 use Rattle.hand_order.specs.Tops.{highest, lowered, tops, Shows}

@@ -15,7 +15,7 @@ use Rattle.hand_order.proofs.Alike.{Passes, all_every, every_all}
 use Rattle.hand_order.proofs.SameChoices.{none_chosen, with_first, without_first}
 use Rattle.hand_order.proofs.FittingChoices.{fitting}
 use Rattle.hand_order.proofs.PlainHands.{class_of, plain_least, ones_alone}
-use Rattle.hand_order.specs.Picks.{without, Fits, plain_class, pattern}
+use Rattle.hand_order.specs.Patterns.{without, Fits, plain_class, pattern}
 
 -- a choice of cards that pass is a choice of the cards
 pub filter_chosen : (p : Card → Bool) (n : ℕ) (cards choice : List Card) → IsAmong choice (choices n (filter p cards)) → IsAmong choice (choices n cards)

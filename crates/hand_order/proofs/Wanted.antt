@@ -8,7 +8,7 @@ use Rattle.card_set.specs.Ranks.{falling_heights, times}
 use Rattle.card_set.proofs.Counted.{IsHeight, times-none, times-cons}
 use Rattle.hand_order.specs.Choices.{choices, IsAmong}
 use Rattle.hand_order.proofs.SameChoices.{none_chosen, with_first, without_first}
-use Rattle.hand_order.specs.Picks.{Within}
+use Rattle.hand_order.specs.Patterns.{Within}
 use Rattle.list_laws.proofs.Sums.{sum_by-zero}
 
 -- a choice of so many cards that has exactly the wanted heights

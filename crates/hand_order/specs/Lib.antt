@@ -7,7 +7,7 @@ pub mod Heights
 pub mod Ladder
 pub mod Lowest
 pub mod Order
-pub mod Picks
+pub mod Patterns
 pub mod Points
 pub mod StraightRanks
 pub mod Straights

@@ -2,7 +2,7 @@
 use Rattle.std.specs.Prelude.{◌≡◌, ◌≤◌, ◌⊎◌, ℕ, List, [], ◌∷◌}
 use Rattle.hand_order.specs.Digits.{class_above, AreDigits}
 use Rattle.hand_order.specs.Ladder.{flush_class}
-use Rattle.hand_order.specs.Picks.{Fits, pattern}
+use Rattle.hand_order.specs.Patterns.{Fits, pattern}
 use Rattle.hand_order.specs.StraightRanks.{HasStraight}
 use Rattle.hand_order.specs.declared.ladder.FlushPlace.{FlushPlace}
 use Rattle.hand_order.specs.declared.straights.LowStraight.{LowStraight}

@@ -7,7 +7,7 @@ ghost use Rattle.card_set.specs.Row.{cards_of};
 ghost use Rattle.hand_order.specs.Choices.{AreHeld, choices};
 ghost use Rattle.hand_order.specs.Digits.{class_above};
 ghost use Rattle.hand_order.specs.Ladder.{ladder_points};
-ghost use Rattle.hand_order.specs.Picks.{OfRanks};
+ghost use Rattle.hand_order.specs.Patterns.{OfRanks};
 ghost use Rattle.hand_order.specs.Points.{greatest};
 ghost use Rattle.hand_order.specs.StraightRanks.{topped};
 ghost use Rattle.hand_order.specs.SuitBest.{IsBestOfSuit};

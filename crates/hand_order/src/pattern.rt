@@ -2,20 +2,20 @@
 ghost use Rattle.std.specs.Prelude.{ℕ};
 ghost use Rattle.hand_order.specs.Heights.{heights_of};
 ghost use Rattle.hand_order.specs.Tops.{Shows};
-ghost use Rattle.hand_order.specs.Picks.{AreCounts, IsBestPattern};
+ghost use Rattle.hand_order.specs.Patterns.{AreCounts, IsBestPattern};
 
 use crate::mask::{clear, top, with_tops};
 use crate::row::RankRow;
 
 /// A class and the ranks that decide within it.
 #[derive(Clone, Copy, Debug)]
-pub struct Found {
+pub struct RankPattern {
     pub class: u32,
     pub ranks: RankRow,
 }
 
 /// The best pattern, by the masks of the ranks that occur at least once, twice, three and four times.
-pub fn best_pattern(all: u16, two: u16, three: u16, four: u16) -> Found
+pub fn best_pattern(all: u16, two: u16, three: u16, four: u16) -> RankPattern
     ensures { (T : ℕ → ℕ) → AreCounts T
         → Shows all 1 T → Shows two 2 T → Shows three 3 T → Shows four 4 T
         → IsBestPattern T result.class (heights_of result.ranks) }
@@ -24,7 +24,7 @@ pub fn best_pattern(all: u16, two: u16, three: u16, four: u16) -> Found
     if four != 0 {
         let first = top(four);
         ranks.push(first as u8 + 2);
-        return Found {
+        return RankPattern {
             class: 7,
             ranks: with_tops(ranks, clear(all, first), 1),
         };
@@ -35,9 +35,9 @@ pub fn best_pattern(all: u16, two: u16, three: u16, four: u16) -> Found
         let more = clear(two, first);
         if more != 0 {
             ranks.push(top(more) as u8 + 2);
-            return Found { class: 6, ranks };
+            return RankPattern { class: 6, ranks };
         }
-        return Found {
+        return RankPattern {
             class: 3,
             ranks: with_tops(ranks, clear(all, first), 2),
         };
@@ -49,17 +49,17 @@ pub fn best_pattern(all: u16, two: u16, three: u16, four: u16) -> Found
         if more != 0 {
             let second = top(more);
             ranks.push(second as u8 + 2);
-            return Found {
+            return RankPattern {
                 class: 2,
                 ranks: with_tops(ranks, clear(clear(all, first), second), 1),
             };
         }
-        return Found {
+        return RankPattern {
             class: 1,
             ranks: with_tops(ranks, clear(all, first), 3),
         };
     }
-    Found {
+    RankPattern {
         class: 0,
         ranks: with_tops(ranks, all, 5),
     }

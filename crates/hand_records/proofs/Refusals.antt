@@ -1,5 +1,5 @@
 -- The first refusal of plays: where it is none, no fact is refused, and none behind it.
-use Rattle.hand_records.specs.Refusals.{refused_at}
+use Rattle.hand_records.specs.WriteRefusals.{refused_at}
 use Rattle.hand_records.specs.declared.writing.Unspelled.{Unspelled}
 use Rattle.hand_records.specs.declared.writing.WriteRefusal.{WriteRefusal}
 use Rattle.std.proofs.Common.{None, Option, Some, refl, ℕ, ◌≡◌}

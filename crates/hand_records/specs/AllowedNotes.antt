@@ -1,5 +1,5 @@
 -- Which notes may stand in a record: texts that are not too long, numbers in their range, a civil date, and no defaults.
-use Rattle.std.specs.Prelude.{◌≡◌, ◌≢◌, ℕ, ◌-◌, ◌%◌, ◌≤◌, ◌==◌, ◌&&◌, ◌||◌, Bool, not, if◌then◌else◌, List, ◌++◌, length, replicate, slice_index, slice_index_or, None, IfSome, Option, Some, bytes_eq, unwrap_or}
+use Rattle.std.specs.Prelude.{◌≡◌, ◌≢◌, ℕ, ◌-◌, ◌%◌, ◌≤◌, ◌==◌, ◌&&◌, ◌||◌, Bool, not, if◌then◌else◌, List, length, take, slice_index, slice_index_or, None, IfSome, Option, Some, bytes_eq, unwrap_or}
 use Rattle.std.specs.List.{range_with_len}
 use Rattle.first_fault.specs.declared.limits.TheConstants.{MOST_TEXT_BYTES}
 use Rattle.hand_records.specs.declared.notes.Clock.{Clock}
@@ -19,15 +19,11 @@ pub record IsName (seat : ℕ) (name : List ℕ) : Type 0 where
   pub text : IsNoteText name
   pub said : name ≢ default_name seat
 
--- the numbers of so many seats where none are said: 1, 2 and so on, and 0 past the last seat
-abbrev pub default_numbers : ℕ → List ℕ
-default_numbers count = range_with_len 1 count ++ replicate (10 - count) 0
-
--- the numbers of so many seats at the table
+-- the numbers of so many seats at the table; they are not 1, 2 and so on, which is the default
 pub record AreSeatNumbers (count : ℕ) (numbers : List ℕ) : Type 0 where
   pub each : (seat : ℕ) → 1 ≤ seat → seat ≤ count → IsWithin 1 255 (slice_index numbers (seat - 1))
   pub no_more : (index : ℕ) → count ≤ index → slice_index numbers index ≡ 0
-  pub said : numbers ≢ default_numbers count
+  pub said : take count numbers ≢ range_with_len 1 count
 
 -- how many seats the table of a hand with so many seats has
 pub record IsSeatCount (count number : ℕ) : Type 0 where

@@ -4,7 +4,7 @@ pub mod TraceRows
 pub mod AllowedNotes
 pub mod SoundRecord
 pub mod Moves
-pub mod Refusals
+pub mod WriteRefusals
 pub mod Histories
 pub mod Plays
 pub mod StatedFacts

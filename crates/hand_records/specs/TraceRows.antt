@@ -8,7 +8,7 @@ use Rattle.play_event.specs.Played.{move_said}
 use Rattle.play_event.specs.Seats.{all_seats}
 use Rattle.play_event.specs.Trace.{TracedPlace}
 use Rattle.hand_records.specs.declared.trace.Trace.{Trace}
-use Rattle.canonical_play.specs.TraceCore.{TraceCore}
+use Rattle.canon_script.specs.TraceCore.{TraceCore}
 
 -- where a card lies
 abbrev pub place_said : Place → TracedPlace

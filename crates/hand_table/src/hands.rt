@@ -1,6 +1,6 @@
 //! The hand of a row: its setup and rules, and behind a colon its events, each numbered as its action.
 ghost use Rattle.std.specs.Prelude.{◌≤◌, IsTrue};
-ghost use Rattle.canonical_play.specs.PlayedScript.{IsWithinLimits};
+ghost use Rattle.canon_script.specs.PlayedScript.{IsWithinLimits};
 ghost use Rattle.replay_core.specs.Events.{said_by};
 
 use hand_rows::{kind_of, setup_of};

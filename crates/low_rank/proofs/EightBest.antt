@@ -13,7 +13,7 @@ use Rattle.card_set.proofs.Counted.{IsHeight-low_ace, all_times, counted, few_ti
 use Rattle.hand_order.specs.Choices.{choices, AreHeld, IsAmong}
 use Rattle.hand_order.specs.Digits.{class_above, with_digits}
 use Rattle.hand_order.specs.Lowest.{lowest}
-use Rattle.hand_order.specs.Picks.{Fits, IsPicked, Within, pattern}
+use Rattle.hand_order.specs.Patterns.{Fits, IsPicked, Within, pattern}
 use Rattle.hand_order.specs.Points.{greatest}
 use Rattle.hand_order.proofs.Alike.{Passes, all_every, every_all}
 use Rattle.hand_order.proofs.Digits.{number_below}

@@ -14,7 +14,7 @@ use Rattle.card_set.specs.UpCards.{low_class}
 use Rattle.card_set.proofs.Counted.{IsHeight-low_ace, counted, few_times}
 use Rattle.hand_order.specs.Choices.{choices, AreHeld, IsAmong}
 use Rattle.hand_order.specs.Digits.{class_above, with_digits}
-use Rattle.hand_order.specs.Picks.{Within}
+use Rattle.hand_order.specs.Patterns.{Within}
 use Rattle.hand_order.specs.Points.{greatest}
 use Rattle.hand_order.proofs.Digits.{number_below}
 use Rattle.hand_order.proofs.FallingRanks.{FallingFrom}

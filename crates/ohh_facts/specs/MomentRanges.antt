@@ -1,10 +1,10 @@
 -- The ranges of a moment.
 use Rattle.hand_records.specs.AllowedNotes.{IsDayOf, IsTime, IsWithin}
-use Rattle.ohh_facts.specs.declared.moment.Day.{Day}
+use Rattle.ohh_facts.specs.declared.moment.CivilDate.{CivilDate}
 use Rattle.ohh_facts.specs.declared.moment.Moment.{Moment}
 
 -- a day of the calendar
-pub record IsDay (day : Day) : Type 0 where
+pub record IsDay (day : CivilDate) : Type 0 where
   pub year : IsWithin 1 9999 day.year
   pub month : IsWithin 1 12 day.month
   pub day_of_month : IsWithin 1 31 day.day

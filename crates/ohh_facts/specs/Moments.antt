@@ -8,15 +8,15 @@ use Rattle.hand_records.specs.declared.notes.Clock.{Clock}
 use Rattle.hand_records.specs.AllowedNotes.{days_in_month}
 use Rattle.first_fault.specs.Digits.{are_digits}
 use Rattle.first_fault.specs.Reading.{◌>>=◌}
-use Rattle.ohh_facts.specs.declared.moment.Day.{Day}
+use Rattle.ohh_facts.specs.declared.moment.CivilDate.{CivilDate}
 use Rattle.ohh_facts.specs.declared.moment.Moment.{Moment}
-use Rattle.ohh_members.specs.declared.fault.What.TheVariants as whats
+use Rattle.ohh_members.specs.declared.fault.MemberFaultKind.TheVariants as whats
 use Rattle.ohh_members.specs.declared.fault.Path.TheVariants as paths
-use Rattle.ohh_members.specs.declared.fault.Fault.{Fault}
+use Rattle.ohh_members.specs.declared.fault.MemberFault.{MemberFault}
 use Rattle.ohh_members.specs.Values.{wrong, text_said}
 
 -- the text says no moment
-abbrev pub no_moment : {A : Type 0} → Result A Fault
+abbrev pub no_moment : {A : Type 0} → Result A MemberFault
 no_moment = wrong whats.WrongType paths.StartDate
 
 -- so many signs of a text, from this place on
@@ -24,7 +24,7 @@ abbrev pub part : ℕ → ℕ → List ℕ → List ℕ
 part from count text = take count (drop from text)
 
 -- a number from least to most, in decimal digits
-unfoldable pub digits_said : ℕ → ℕ → List ℕ → Result ℕ Fault
+unfoldable pub digits_said : ℕ → ℕ → List ℕ → Result ℕ MemberFault
 digits_said least most digits =
     if are_digits digits && (nat_le least (digits_value 10 digits) && nat_le (digits_value 10 digits) most)
     then Ok (digits_value 10 digits)
@@ -39,7 +39,7 @@ has_signs text =
     && ((slice_index text 13 == 58) && (slice_index text 16 == 58))))
 
 -- the day, which the calendar has
-unfoldable pub day_said : List ℕ → Result Day Fault
+unfoldable pub day_said : List ℕ → Result CivilDate MemberFault
 day_said text = do
   year ← digits_said 1 9999 (part 0 4 text)
   month ← digits_said 1 12 (part 5 2 text)
@@ -47,7 +47,7 @@ day_said text = do
   if nat_le day (days_in_month year month) then Ok (record { year = year; month = month; day = day }) else no_moment
 
 -- the time of the day, with these nanoseconds
-unfoldable pub clock_said : ℕ → List ℕ → Result Clock Fault
+unfoldable pub clock_said : ℕ → List ℕ → Result Clock MemberFault
 clock_said nano text = do
   hour ← digits_said 0 23 (part 11 2 text)
   minute ← digits_said 0 59 (part 14 2 text)
@@ -67,11 +67,11 @@ abbrev pub is_universal : List ℕ → Bool
 is_universal zone = (length zone == 0) || (bytes_eq zone (codes "Z") || bytes_eq zone (codes "+00:00"))
 
 -- these nanoseconds, and the zone behind them
-unfoldable pub zoned : ℕ → List ℕ → Result ℕ Fault
+unfoldable pub zoned : ℕ → List ℕ → Result ℕ MemberFault
 zoned nano zone = if is_universal zone then Ok nano else no_moment
 
 -- one to nine digits of a fraction of a second, in nanoseconds, and the zone behind them
-unfoldable pub fraction_of : ℕ → List ℕ → Result ℕ Fault
+unfoldable pub fraction_of : ℕ → List ℕ → Result ℕ MemberFault
 fraction_of count text =
     if nat_le 1 count && nat_le count 9
     then (digits_said 0 999999999 (nine_of (take count text)) >>= λ nano. zoned nano (drop count text))
@@ -82,11 +82,11 @@ abbrev pub has_point : List ℕ → Bool
 has_point text = nat_lt 0 (length text) && (slice_index text 0 == 46)
 
 -- what stands behind the seconds: a point and a fraction, or not, and the zone
-unfoldable pub fraction_said : List ℕ → Result ℕ Fault
+unfoldable pub fraction_said : List ℕ → Result ℕ MemberFault
 fraction_said text = if has_point text then fraction_of (digits_in_front (drop 1 text)) (drop 1 text) else zoned 0 text
 
 -- the moment of a text with its signs
-unfoldable pub parts_said : List ℕ → Result Moment Fault
+unfoldable pub parts_said : List ℕ → Result Moment MemberFault
 parts_said text = do
   day ← day_said text
   nano ← fraction_said (drop 19 text)
@@ -94,9 +94,9 @@ parts_said text = do
   Ok (record { day = day; time = time })
 
 -- the moment that a text says
-unfoldable pub moment_in : List ℕ → Result Moment Fault
+unfoldable pub moment_in : List ℕ → Result Moment MemberFault
 moment_in text = if has_signs text then parts_said text else no_moment
 
 -- the moment at which a hand began
-abbrev pub moment_said : Data → Result Moment Fault
+abbrev pub moment_said : Data → Result Moment MemberFault
 moment_said value = text_said paths.StartDate value >>= moment_in

@@ -8,10 +8,10 @@ use Rattle.hand_records.specs.declared.notes.Clock.{Clock}
 use Rattle.hand_records.specs.declared.notes.Notes.{Notes}
 use Rattle.hand_records.specs.AllowedNotes.{noted, unless_usual}
 use Rattle.first_fault.specs.Reading.{◌>>=◌, read_if, or_none}
-use Rattle.ohh_members.specs.declared.fault.What.TheVariants as whats
+use Rattle.ohh_members.specs.declared.fault.MemberFaultKind.TheVariants as whats
 use Rattle.ohh_members.specs.declared.fault.Path.{Path}
 use Rattle.ohh_members.specs.declared.fault.Path.TheVariants as paths
-use Rattle.ohh_members.specs.declared.fault.Fault.{Fault}
+use Rattle.ohh_members.specs.declared.fault.MemberFault.{MemberFault}
 use Rattle.ohh_facts.specs.declared.labels.Labels.{Labels}
 use Rattle.ohh_facts.specs.declared.moment.Moment.{Moment}
 use Rattle.ohh_facts.specs.Moments.{moment_said}
@@ -20,21 +20,21 @@ use Rattle.ohh_members.specs.Values.{wrong, field, integer_said, number_said, te
 use Rattle.chip_ledger.specs.SeatsSaid.{default_name}
 
 -- the text of a note with this default; it is of at most 255 bytes
-unfoldable pub note_said : List ℕ → Path → List ℕ → Result (Option (List ℕ)) Fault
+unfoldable pub note_said : List ℕ → Path → List ℕ → Result (Option (List ℕ)) MemberFault
 note_said default path text =
     if nat_le (length text) MOST_TEXT_BYTES then Ok (noted default text) else wrong (whats.TooMany quantities.TextBytes) path
 
 -- a text with this default
-unfoldable pub text_note_said : List ℕ → Path → Data → Result (Option (List ℕ)) Fault
+unfoldable pub text_note_said : List ℕ → Path → Data → Result (Option (List ℕ)) MemberFault
 text_note_said default path value = text_said path value >>= note_said default path
 
 -- a text with this default, or a whole number that stands for its decimal text
-unfoldable pub label_said : List ℕ → Path → Data → Result (Option (List ℕ)) Fault
+unfoldable pub label_said : List ℕ → Path → Data → Result (Option (List ℕ)) MemberFault
 label_said default path (string text) = note_said default path text
 label_said default path value = integer_said path value >>= λ number. note_said default path (signed_decimal number)
 
 -- how many seats the table of a hand with so many seats has
-unfoldable pub seat_count_said : ℕ → Data → Result (Option ℕ) Fault
+unfoldable pub seat_count_said : ℕ → Data → Result (Option ℕ) MemberFault
 seat_count_said count value = number_said 1 255 paths.TableSize value >>= λ number. Ok (if number == count then None else Some number)
 
 -- where and when a hand was played
@@ -52,7 +52,7 @@ plain_labels labels =
     record { hand = labels.hand; table = labels.table; seat_count = labels.seat_count; moment = labels.moment; currency = labels.currency; venue = labels.venue }
 
 -- the labels of a hand with so many seats, at this place of its file, from 0
-unfoldable pub labels_said : ℕ → ℕ → Data → Result PlainLabels Fault
+unfoldable pub labels_said : ℕ → ℕ → Data → Result PlainLabels MemberFault
 labels_said place count ohh = do
   hand ← or_none (label_said (decimal place) paths.GameNumber) (field paths.GameNumber ohh)
   table ← or_none (text_note_said [] paths.TableName) (field paths.TableName ohh)
@@ -119,5 +119,5 @@ notes_of players labels =
     }
 
 -- the notes
-unfoldable pub notes_said : ℕ → List PlainPlayer → Data → Result PlainNotes Fault
+unfoldable pub notes_said : ℕ → List PlainPlayer → Data → Result PlainNotes MemberFault
 notes_said place players ohh = labels_said place (length players) ohh >>= λ labels. Ok (notes_of players labels)

@@ -10,20 +10,20 @@ use Rattle.ohh_members.specs.declared.fault.PotMember.{PotMember}
 use Rattle.ohh_members.specs.declared.fault.PotMember.TheVariants as members
 use Rattle.ohh_members.specs.declared.fault.WinMember.{WinMember}
 use Rattle.ohh_members.specs.declared.fault.WinMember.TheVariants as wins
-use Rattle.ohh_members.specs.declared.fault.What.TheVariants as whats
+use Rattle.ohh_members.specs.declared.fault.MemberFaultKind.TheVariants as whats
 use Rattle.ohh_members.specs.declared.fault.Path.{Path}
 use Rattle.ohh_members.specs.declared.fault.Path.TheVariants as paths
-use Rattle.ohh_members.specs.declared.fault.Fault.{Fault}
-use Rattle.ohh_facts.specs.declared.found.Found.{Found}
-use Rattle.ohh_facts.specs.declared.found.Paid.{Paid}
-use Rattle.ohh_facts.specs.PotSums.{PlainPot, plain_pot, all_of, rakes_said}
+use Rattle.ohh_members.specs.declared.fault.MemberFault.{MemberFault}
+use Rattle.ohh_facts.specs.declared.listed_pots.ListedPots.{ListedPots}
+use Rattle.ohh_facts.specs.declared.listed_pots.Paid.{Paid}
+use Rattle.ohh_facts.specs.PotSums.{PlainListedPot, plain_listed_pot, all_of, rakes_said}
 use Rattle.ohh_members.specs.Values.{wrong, field, needed, object_said, list_said, number_said, player_said, added_from}
 use Rattle.ohh_facts.specs.Won.{PlainWin, plain_win, won_by}
 use Rattle.chip_ledger.specs.SeatRow.{amounts_in}
 
 -- pots, and what is won of them, in the order in which they are listed
 pub record PlainPots : Type 0 where
-  pub pots : List PlainPot
+  pub pots : List PlainListedPot
   pub wins : List PlainWin
 
 -- no pots
@@ -31,8 +31,8 @@ abbrev pub no_pots : PlainPots
 no_pots = record { pots = []; wins = [] }
 
 -- what was found says
-abbrev pub plain_found : Found → PlainPots
-plain_found found = record { pots = map plain_pot found.pots.items; wins = map plain_win found.won.list.items }
+abbrev pub plain_found : ListedPots → PlainPots
+plain_found found = record { pots = map plain_listed_pot found.pots.items; wins = map plain_win found.won.list.items }
 
 -- the path of a member of the pot with this index
 abbrev pub of_pot : ℕ → PotMember → Path
@@ -43,11 +43,11 @@ abbrev pub of_win : ℕ → ℕ → WinMember → Path
 of_win pot index part = paths.Pot pot (members.Win index part)
 
 -- a number which, with what it is added to, is no more than may be stated
-unfoldable pub summed : ℕ → Path → ℕ → Result ℕ Fault
+unfoldable pub summed : ℕ → Path → ℕ → Result ℕ MemberFault
 summed before path number = if nat_le (before + number) MOST_AMOUNT then Ok number else wrong whats.AmountLimit path
 
 -- what a player wins of the pot with this index, after what was won before
-unfoldable pub win_said : List ℤ → ℕ → List PlainWin → ℕ → Data → Result PlainWin Fault
+unfoldable pub win_said : List ℤ → ℕ → List PlainWin → ℕ → Data → Result PlainWin MemberFault
 win_said ids pot earlier index value = do
   win ← object_said (of_win pot index wins.Itself) value
   seat ← needed (of_win pot index wins.PlayerId) win >>= player_said ids (of_win pot index wins.PlayerId)
@@ -56,29 +56,29 @@ win_said ids pot earlier index value = do
   Ok (record { seat = seat; chips = within })
 
 -- what was won, with one more
-unfoldable pub win_added : List ℤ → ℕ → List PlainWin → ℕ → Data → Result (List PlainWin) Fault
+unfoldable pub win_added : List ℤ → ℕ → List PlainWin → ℕ → Data → Result (List PlainWin) MemberFault
 win_added ids pot earlier index value = win_said ids pot earlier index value >>= λ win. Ok (earlier ++ win ∷ [])
 
 -- the amount of a pot, after the pots before it
-unfoldable pub amount_said : List PlainPot → ℕ → Data → Result ℕ Fault
+unfoldable pub amount_said : List PlainListedPot → ℕ → Data → Result ℕ MemberFault
 amount_said earlier index pot = do
   amount ← needed (of_pot index members.Amount) pot >>= number_said 0 MOST_AMOUNT (of_pot index members.Amount)
   summed (all_of earlier) (of_pot index members.Amount) amount
 
 -- the rake of a pot; a hand has eleven pots at most, so that nothing is taken after the eleventh
-unfoldable pub rake_said : ℕ → Data → Result ℕ Fault
+unfoldable pub rake_said : ℕ → Data → Result ℕ MemberFault
 rake_said index pot = do
   rake ← read_if (number_said 0 MOST_AMOUNT (of_pot index members.Rake)) (field (of_pot index members.Rake) pot)
   if nat_le 11 index && nat_lt 0 (unwrap_or rake 0) then wrong whats.RakePlace (of_pot index members.Rake) else Ok (unwrap_or rake 0)
 
 -- what is won of a pot, after what was won before
-unfoldable pub wins_said : List ℤ → ℕ → List PlainWin → Data → Result (List PlainWin) Fault
+unfoldable pub wins_said : List ℤ → ℕ → List PlainWin → Data → Result (List PlainWin) MemberFault
 wins_said ids index earlier pot = do
   items ← needed (of_pot index members.PlayerWins) pot >>= list_said (of_pot index members.PlayerWins)
   added_from (win_added ids index) earlier 0 items
 
 -- the pots with one more, and what is won of it
-unfoldable pub pot_added : List ℤ → PlainPots → ℕ → Data → Result PlainPots Fault
+unfoldable pub pot_added : List ℤ → PlainPots → ℕ → Data → Result PlainPots MemberFault
 pot_added ids earlier index value = do
   pot ← object_said (of_pot index members.Itself) value
   amount ← amount_said earlier.pots index pot
@@ -116,12 +116,12 @@ abbrev pub none_paid : PlainPaid
 none_paid = record { wins = None; total = None; rakes = rakes_said [] }
 
 -- what a list of pots states
-unfoldable pub listed_paid : List ℤ → Data → Result PlainPaid Fault
+unfoldable pub listed_paid : List ℤ → Data → Result PlainPaid MemberFault
 listed_paid ids value = do
   items ← list_said paths.Pots value
   found ← added_from (pot_added ids) no_pots 0 items
   Ok (paid_of (length ids) found)
 
 -- what is stated of the pots, where they are listed
-unfoldable pub pots_said : List ℤ → Data → Result PlainPaid Fault
+unfoldable pub pots_said : List ℤ → Data → Result PlainPaid MemberFault
 pots_said ids ohh = elim (field paths.Pots ohh) [ Some value ↦ listed_paid ids value | None ↦ Ok none_paid ]

@@ -13,7 +13,7 @@ ghost use Rattle.ohh_members.specs.Values.{field as field_said};
 use crate::moment::{Moment, read_moment};
 use crate::texts::{label_at, text_at};
 use first_fault::{Stop, Text};
-use ohh_members::fault::{Fault, Path};
+use ohh_members::fault::{MemberFault, Path};
 use ohh_members::values::{field, read_number};
 use serde_json::Value;
 use std::alloc::Global;
@@ -31,7 +31,12 @@ pub struct Labels {
 
 /// The labels of a hand with so many seats, at this place of its file, from 0.
 #[tactic(auto, unfolding(crate::specs::Notes::labels_said))]
-pub fn read_labels(alloc: Global, ohh: &Value, place: u32, seats: u8) -> Result<Labels, Stop<Fault>>
+pub fn read_labels(
+    alloc: Global,
+    ohh: &Value,
+    place: u32,
+    seats: u8,
+) -> Result<Labels, Stop<MemberFault>>
     ensures said { Gives plain_labels result (labels_said place seats (view ohh.now)) }
     ensures fit { IfOk result (AreLabels seats) }
 {
@@ -53,7 +58,7 @@ pub fn read_labels(alloc: Global, ohh: &Value, place: u32, seats: u8) -> Result<
 }
 
 // How many seats the table has, if that is said.
-fn seat_count_at(ohh: &Value, seats: u8) -> Result<Option<u8>, Stop<Fault>>
+fn seat_count_at(ohh: &Value, seats: u8) -> Result<Option<u8>, Stop<MemberFault>>
     ensures said { Gives (λ count. count) result
         (or_none (seat_count_said seats) (field_said paths.TableSize (view ohh.now))) }
     ensures allowed { IfOk result (λ count. IfSome count (IsSeatCount seats)) }
@@ -66,7 +71,7 @@ fn seat_count_at(ohh: &Value, seats: u8) -> Result<Option<u8>, Stop<Fault>>
 
 // How many seats the table has.
 #[tactic(auto, unfolding(crate::specs::Notes::seat_count_said))]
-fn read_seat_count(value: &Value, seats: u8) -> Result<Option<u8>, Stop<Fault>>
+fn read_seat_count(value: &Value, seats: u8) -> Result<Option<u8>, Stop<MemberFault>>
     ensures said { Gives (λ count. count) result (seat_count_said seats (view value.now)) }
     ensures allowed { IfOk result (λ count. IfSome count (IsSeatCount seats)) }
 {
@@ -79,7 +84,7 @@ fn read_seat_count(value: &Value, seats: u8) -> Result<Option<u8>, Stop<Fault>>
 }
 
 // The moment at which the hand began, if it is said.
-fn moment_at(ohh: &Value) -> Result<Option<Moment>, Stop<Fault>>
+fn moment_at(ohh: &Value) -> Result<Option<Moment>, Stop<MemberFault>>
     ensures said { Gives (λ moment. moment) result
         (read_if moment_said (field_said paths.StartDate (view ohh.now))) }
     ensures moment { IfOk result (λ moment. IfSome moment IsMoment) }

@@ -8,13 +8,13 @@ ghost use Rattle.ohh_facts.specs.Moments.{clock_said, day_said, digits_in_front 
 
 use first_fault::{Stop, are_digits, read_digits};
 use hand_records::{Clock, has_day};
-use ohh_members::fault::{Fault, Path, What};
+use ohh_members::fault::{MemberFault, MemberFaultKind, Path};
 use ohh_members::values::{read_text, wrong};
 use serde_json::Value;
 
 /// A day of the calendar.
 #[derive(Clone, Copy, Debug, PartialEq, Eq)]
-pub struct Day {
+pub struct CivilDate {
     pub year: u16,
     pub month: u8,
     pub day: u8,
@@ -23,12 +23,12 @@ pub struct Day {
 /// A moment in universal time.
 #[derive(Clone, Copy, Debug, PartialEq, Eq)]
 pub struct Moment {
-    pub day: Day,
+    pub day: CivilDate,
     pub time: Clock,
 }
 
 /// The moment at which a hand began.
-pub fn read_moment(value: &Value) -> Result<Moment, Stop<Fault>>
+pub fn read_moment(value: &Value) -> Result<Moment, Stop<MemberFault>>
     ensures said { Gives (λ moment. moment) result (moment_said (view value.now)) }
     ensures moment { IfOk result IsMoment }
 {
@@ -38,7 +38,7 @@ pub fn read_moment(value: &Value) -> Result<Moment, Stop<Fault>>
 
 // The moment that a text says.
 #[tactic(auto, unfolding(crate::specs::Moments::moment_in))]
-fn moment_of(text: &[u8]) -> Result<Moment, Stop<Fault>>
+fn moment_of(text: &[u8]) -> Result<Moment, Stop<MemberFault>>
     ensures said { Gives (λ moment. moment) result (moment_in text.now) }
     ensures moment { IfOk result IsMoment }
 {
@@ -60,7 +60,7 @@ fn has_signs(text: &[u8]) -> bool
 
 // The moment of a text with its signs.
 #[tactic(auto, unfolding(crate::specs::Moments::parts_said))]
-fn read_parts(text: &[u8]) -> Result<Moment, Stop<Fault>>
+fn read_parts(text: &[u8]) -> Result<Moment, Stop<MemberFault>>
     requires { 19 ≤ length text.now }
     ensures said { Gives (λ moment. moment) result (parts_said text.now) }
     ensures moment { IfOk result IsMoment }
@@ -74,7 +74,7 @@ fn read_parts(text: &[u8]) -> Result<Moment, Stop<Fault>>
 
 // The day of a text of 19 signs or more.
 #[tactic(auto, unfolding(crate::specs::Moments::day_said))]
-fn read_day(text: &[u8]) -> Result<Day, Stop<Fault>>
+fn read_day(text: &[u8]) -> Result<CivilDate, Stop<MemberFault>>
     requires { 19 ≤ length text.now }
     ensures said { Gives (λ day. day) result (day_said text.now) }
     ensures day { IfOk result IsDay }
@@ -83,7 +83,7 @@ fn read_day(text: &[u8]) -> Result<Day, Stop<Fault>>
     let month = number_in(part(text, 5, 2), 1, 12)? as u8;
     let day = number_in(part(text, 8, 2), 1, 31)? as u8;
     if has_day(year, month, day) {
-        Ok(Day { year, month, day })
+        Ok(CivilDate { year, month, day })
     } else {
         Err(no_moment())
     }
@@ -91,7 +91,7 @@ fn read_day(text: &[u8]) -> Result<Day, Stop<Fault>>
 
 // What stands behind the seconds: a point and a fraction, or not, and the zone.
 #[tactic(auto, unfolding(crate::specs::Moments::fraction_said))]
-fn read_fraction(text: &[u8]) -> Result<u32, Stop<Fault>>
+fn read_fraction(text: &[u8]) -> Result<u32, Stop<MemberFault>>
     ensures said { Gives (λ nano. nano) result (fraction_said text.now) }
     ensures most { IfOk result (λ nano. nano ≤ 999999999) }
 {
@@ -111,7 +111,7 @@ fn has_point(text: &[u8]) -> bool
 
 // One to nine digits in front of a text, in nanoseconds, where the zone stands behind them.
 #[tactic(auto, unfolding(crate::specs::Moments::fraction_of))]
-fn read_digits_of_fraction(count: usize, text: &[u8]) -> Result<u32, Stop<Fault>>
+fn read_digits_of_fraction(count: usize, text: &[u8]) -> Result<u32, Stop<MemberFault>>
     requires { count ≤ length text.now }
     ensures said { Gives (λ nano. nano) result (fraction_of count text.now) }
     ensures most { IfOk result (λ nano. nano ≤ 999999999) }
@@ -139,7 +139,7 @@ fn nine(digits: &[u8]) -> [u8; 9]
 
 // These nanoseconds, where the zone behind them is that of universal time.
 #[tactic(auto, unfolding(crate::specs::Moments::zoned))]
-fn read_zone(nano: u32, zone: &[u8]) -> Result<u32, Stop<Fault>>
+fn read_zone(nano: u32, zone: &[u8]) -> Result<u32, Stop<MemberFault>>
     ensures said { Gives (λ nano. nano) result (zoned nano zone.now) }
     ensures same { IfOk result (λ found. found ≡ nano) }
 {
@@ -171,7 +171,7 @@ fn digits_in_front(text: &[u8]) -> usize
 
 // The time of a text of 19 signs or more, with these nanoseconds.
 #[tactic(auto, unfolding(crate::specs::Moments::clock_said))]
-fn read_clock(text: &[u8], nano: u32) -> Result<Clock, Stop<Fault>>
+fn read_clock(text: &[u8], nano: u32) -> Result<Clock, Stop<MemberFault>>
     requires long { 19 ≤ length text.now }
     requires nano { nano ≤ 999999999 }
     ensures said { Gives (λ clock. clock) result (clock_said nano text.now) }
@@ -190,7 +190,7 @@ fn read_clock(text: &[u8], nano: u32) -> Result<Clock, Stop<Fault>>
 
 // A number from `least` to `most`, in decimal digits.
 #[tactic(auto, unfolding(crate::specs::Moments::digits_said, first_fault::specs::Digits::number_of))]
-fn number_in(digits: &[u8], least: u64, most: u64) -> Result<u64, Stop<Fault>>
+fn number_in(digits: &[u8], least: u64, most: u64) -> Result<u64, Stop<MemberFault>>
     requires { most ≤ 1000000000000000000 }
     ensures said { Gives (λ number. number) result (digits_said least most digits.now) }
     ensures within { IfOk result (IsWithin least most) }
@@ -211,10 +211,10 @@ fn number_in(digits: &[u8], least: u64, most: u64) -> Result<u64, Stop<Fault>>
 }
 
 // The text says no moment.
-fn no_moment() -> Stop<Fault>
-    ensures { result ≡ Stop.At (record { what = What.WrongType; path = Path.StartDate }) }
+fn no_moment() -> Stop<MemberFault>
+    ensures { result ≡ Stop.At (record { what = MemberFaultKind.WrongType; path = Path.StartDate }) }
 {
-    wrong(What::WrongType, Path::StartDate)
+    wrong(MemberFaultKind::WrongType, Path::StartDate)
 }
 
 // So many signs of a text, from this place on.

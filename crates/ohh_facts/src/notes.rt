@@ -16,7 +16,7 @@ use crate::texts::keep_short;
 use card_set::Memory;
 use first_fault::{Stop, Text};
 use hand_records::{Clock, Notes};
-use ohh_members::fault::Fault;
+use ohh_members::fault::MemberFault;
 use ohh_members::player::Player;
 use serde_json::Value;
 use std::alloc::Global;
@@ -31,7 +31,7 @@ pub fn read_notes(
     ohh: &Value,
     place: u32,
     players: &[Player],
-) -> Result<Notes, Stop<Fault>>
+) -> Result<Notes, Stop<MemberFault>>
     requires { length players.now ≤ 10 }
     ensures said { Gives (plain_notes (length players.now)) result
         (notes_said place (map plain_player players.now) (view ohh.now)) }

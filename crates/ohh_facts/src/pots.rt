@@ -5,24 +5,24 @@ ghost use Rattle.serde_json.specs.View.{view};
 ghost use Rattle.chip_ledger.specs.SeatRow.{amount_of};
 ghost use Rattle.chip_ledger.specs.declared.rows.TheConstants.{MOST_AMOUNT};
 ghost use Rattle.first_fault.specs.Reading.{Gives, read_if};
-ghost use Rattle.ohh_facts.specs.PotSums.{plain_pot};
+ghost use Rattle.ohh_facts.specs.PotSums.{plain_listed_pot};
 ghost use Rattle.ohh_facts.specs.Won.{plain_win};
 ghost use Rattle.ohh_facts.specs.Pots.{IsPaid, amount_said, listed_paid, no_pots, plain_found, plain_paid, pot_added, pots_said, rake_said, summed, win_added, win_said, wins_said};
 ghost use Rattle.ohh_members.specs.Values.{added_from, field as field_said, number_said};
 
-use crate::found::{Found, Paid};
-use crate::pot::Pot;
+use crate::listed_pot::ListedPot;
+use crate::listed_pots::{ListedPots, Paid};
 use crate::won::{Win, Won};
 use chip_ledger::MOST_AMOUNT;
 use first_fault::Stop;
-use ohh_members::fault::{Fault, Path, PotMember, What, WinMember};
+use ohh_members::fault::{MemberFault, MemberFaultKind, Path, PotMember, WinMember};
 use ohh_members::values::{field, needed, read_list, read_number, read_object, read_player, wrong};
 use serde_json::Value;
 use std::alloc::Global;
 
 /// What is stated of the pots of a hand, where the ids are those of its players by their seats.
 #[tactic(auto, unfolding(crate::specs::Pots::pots_said))]
-pub fn read_pots(alloc: Global, ids: &[i128], ohh: &Value) -> Result<Paid, Stop<Fault>>
+pub fn read_pots(alloc: Global, ids: &[i128], ohh: &Value) -> Result<Paid, Stop<MemberFault>>
     requires some { 2 ≤ length ids.now }
     requires few { length ids.now ≤ 10 }
     ensures said { Gives plain_paid result (pots_said ids.now (view ohh.now)) }
@@ -36,7 +36,7 @@ pub fn read_pots(alloc: Global, ids: &[i128], ohh: &Value) -> Result<Paid, Stop<
 
 // What a list of pots states.
 #[tactic(auto, unfolding(crate::specs::Pots::listed_paid))]
-fn read_listed(alloc: Global, ids: &[i128], value: &Value) -> Result<Paid, Stop<Fault>>
+fn read_listed(alloc: Global, ids: &[i128], value: &Value) -> Result<Paid, Stop<MemberFault>>
     requires some { 2 ≤ length ids.now }
     requires few { length ids.now ≤ 10 }
     ensures said { Gives plain_paid result (listed_paid ids.now (view value.now)) }
@@ -48,14 +48,14 @@ fn read_listed(alloc: Global, ids: &[i128], value: &Value) -> Result<Paid, Stop<
 }
 
 // The pots of a list, and what is won of them.
-fn add_pots(alloc: Global, ids: &[i128], values: &[Value]) -> Result<Found, Stop<Fault>>
+fn add_pots(alloc: Global, ids: &[i128], values: &[Value]) -> Result<ListedPots, Stop<MemberFault>>
     requires some { 2 ≤ length ids.now }
     requires few { length ids.now ≤ 10 }
     ensures said { Gives plain_found result
         (added_from (pot_added ids.now) no_pots 0 (map view values.now)) }
     ensures seats { IfOk result (λ found. found.won.sums.seats ≡ length ids.now) }
 {
-    let mut found = Found::new(alloc, ids.len() as u8);
+    let mut found = ListedPots::new(alloc, ids.len() as u8);
     for (index, value) in values.iter().enumerate() {
         found = add_pot(ids, found, index as u64, value)?;
     }
@@ -64,7 +64,12 @@ fn add_pots(alloc: Global, ids: &[i128], values: &[Value]) -> Result<Found, Stop
 
 // The pots with one more, and what is won of it.
 #[tactic(auto, unfolding(crate::specs::Pots::pot_added))]
-fn add_pot(ids: &[i128], found: Found, index: u64, value: &Value) -> Result<Found, Stop<Fault>>
+fn add_pot(
+    ids: &[i128],
+    found: ListedPots,
+    index: u64,
+    value: &Value,
+) -> Result<ListedPots, Stop<MemberFault>>
     requires ids { length ids.now ≡ found.won.sums.seats }
     ensures said { Gives plain_found result
         (pot_added ids.now (plain_found found) index (view value.now)) }
@@ -77,17 +82,17 @@ fn add_pot(ids: &[i128], found: Found, index: u64, value: &Value) -> Result<Foun
     let pot = read_object(value, itself)?;
     let amount = read_amount(&found, index, pot)?;
     let rake = read_rake(index, pot)?;
-    let after = found.with_pot(Pot { amount, rake })?;
-    let Found { pots, total, won } = after;
+    let after = found.with_pot(ListedPot { amount, rake })?;
+    let ListedPots { pots, total, won } = after;
     let won = read_wins(ids, index, won, pot)?;
-    Ok(Found { pots, total, won })
+    Ok(ListedPots { pots, total, won })
 }
 
 // The amount of a pot, after pots that are so much together.
 #[tactic(auto, unfolding(crate::specs::Pots::amount_said))]
-fn read_amount(found: &Found, index: u64, pot: &Value) -> Result<u64, Stop<Fault>>
+fn read_amount(found: &ListedPots, index: u64, pot: &Value) -> Result<u64, Stop<MemberFault>>
     ensures said { Gives (λ amount. amount) result
-        (amount_said (map plain_pot found.now.pots.items) index (view pot.now)) }
+        (amount_said (map plain_listed_pot found.now.pots.items) index (view pot.now)) }
     ensures within { IfOk result (λ amount. found.now.total + amount ≤ MOST_AMOUNT) }
 {
     let path = Path::Pot {
@@ -100,7 +105,7 @@ fn read_amount(found: &Found, index: u64, pot: &Value) -> Result<u64, Stop<Fault
 
 // The rake of a pot; nothing is taken after the eleventh.
 #[tactic(auto, unfolding(crate::specs::Pots::rake_said))]
-fn read_rake(index: u64, pot: &Value) -> Result<u64, Stop<Fault>>
+fn read_rake(index: u64, pot: &Value) -> Result<u64, Stop<MemberFault>>
     ensures said { Gives (λ rake. rake) result (rake_said index (view pot.now)) }
     ensures most { IfOk result (λ rake. rake ≤ MOST_AMOUNT) }
 {
@@ -110,7 +115,7 @@ fn read_rake(index: u64, pot: &Value) -> Result<u64, Stop<Fault>>
     };
     let rake = or_zero(number_or_none(pot, path)?);
     if index >= 11 && rake > 0 {
-        return Err(wrong(What::RakePlace, path));
+        return Err(wrong(MemberFaultKind::RakePlace, path));
     }
     Ok(rake)
 }
@@ -127,7 +132,7 @@ fn or_zero(number: Option<u64>) -> u64
 }
 
 // The number at a path, or 0.
-fn number_or_none(pot: &Value, path: Path) -> Result<Option<u64>, Stop<Fault>>
+fn number_or_none(pot: &Value, path: Path) -> Result<Option<u64>, Stop<MemberFault>>
     ensures said { Gives (λ number. number) result
         (read_if (number_said 0 MOST_AMOUNT path) (field_said path (view pot.now))) }
     ensures most { IfOk result (λ number. ForSome number (λ number. number ≤ MOST_AMOUNT)) }
@@ -143,7 +148,7 @@ fn number_or_none(pot: &Value, path: Path) -> Result<Option<u64>, Stop<Fault>>
 
 // What is won of a pot, after what was won before.
 #[tactic(auto, unfolding(crate::specs::Pots::wins_said))]
-fn read_wins(ids: &[i128], index: u64, won: Won, pot: &Value) -> Result<Won, Stop<Fault>>
+fn read_wins(ids: &[i128], index: u64, won: Won, pot: &Value) -> Result<Won, Stop<MemberFault>>
     requires ids { length ids.now ≡ won.sums.seats }
     ensures said { Gives (λ after. map plain_win after.list.items) result
         (wins_said ids.now index (map plain_win won.list.items) (view pot.now)) }
@@ -158,7 +163,7 @@ fn read_wins(ids: &[i128], index: u64, won: Won, pot: &Value) -> Result<Won, Sto
 }
 
 // What is won of the pot with this index, after what was won before.
-fn add_wins(ids: &[i128], pot: u64, won: Won, values: &[Value]) -> Result<Won, Stop<Fault>>
+fn add_wins(ids: &[i128], pot: u64, won: Won, values: &[Value]) -> Result<Won, Stop<MemberFault>>
     requires ids { length ids.now ≡ won.sums.seats }
     ensures said { Gives (λ after. map plain_win after.list.items) result
         (added_from (win_added ids.now pot) (map plain_win won.list.items) 0
@@ -174,7 +179,13 @@ fn add_wins(ids: &[i128], pot: u64, won: Won, values: &[Value]) -> Result<Won, S
 
 // What was won, with one more.
 #[tactic(auto, unfolding(crate::specs::Pots::win_added))]
-fn add_win(ids: &[i128], pot: u64, won: Won, index: u64, value: &Value) -> Result<Won, Stop<Fault>>
+fn add_win(
+    ids: &[i128],
+    pot: u64,
+    won: Won,
+    index: u64,
+    value: &Value,
+) -> Result<Won, Stop<MemberFault>>
     requires ids { length ids.now ≡ won.sums.seats }
     ensures said { Gives (λ after. map plain_win after.list.items) result
         (win_added ids.now pot (map plain_win won.list.items) index (view value.now)) }
@@ -193,7 +204,7 @@ fn read_win(
     won: &Won,
     index: u64,
     value: &Value,
-) -> Result<Win, Stop<Fault>>
+) -> Result<Win, Stop<MemberFault>>
     requires ids { length ids.now ≡ won.now.sums.seats }
     ensures said { Gives plain_win result
         (win_said ids.now pot (map plain_win won.now.list.items) index (view value.now)) }
@@ -231,14 +242,14 @@ fn read_win(
 
 // A number which, with what it is added to, is no more than may be stated.
 #[tactic(auto, unfolding(crate::specs::Pots::summed))]
-fn within_sum(before: u64, path: Path, number: u64) -> Result<u64, Stop<Fault>>
+fn within_sum(before: u64, path: Path, number: u64) -> Result<u64, Stop<MemberFault>>
     requires before { before ≤ MOST_AMOUNT }
     requires number { number ≤ MOST_AMOUNT }
     ensures said { Gives (λ number. number) result (summed before path number) }
     ensures within { IfOk result (λ number. before + number ≤ MOST_AMOUNT) }
 {
     if before + number > MOST_AMOUNT {
-        return Err(wrong(What::AmountLimit, path));
+        return Err(wrong(MemberFaultKind::AmountLimit, path));
     }
     Ok(number)
 }

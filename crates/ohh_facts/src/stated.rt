@@ -2,17 +2,17 @@
 ghost use Rattle.std.specs.Prelude.{◌≡◌, ◌≤◌, ◌+◌, ◌++◌, ◌∷◌, [], ℕ, map, IfOk};
 ghost use Rattle.chip_ledger.specs.RakeRow.{rake_of};
 ghost use Rattle.chip_ledger.specs.declared.rows.TheConstants.{MOST_AMOUNT};
-ghost use Rattle.ohh_facts.specs.PotSums.{plain_pot, rake_at as rake_at_said, rakes_said};
+ghost use Rattle.ohh_facts.specs.PotSums.{plain_listed_pot, rake_at as rake_at_said, rakes_said};
 ghost use Rattle.ohh_facts.specs.Pots.{IsPaid, no_pots, none_paid, paid_of, plain_found, plain_paid};
 
-use crate::found::{Found, Paid};
-use crate::pot::Pot;
+use crate::listed_pot::ListedPot;
+use crate::listed_pots::{ListedPots, Paid};
 use crate::won::Won;
 use card_set::Memory;
 use chip_ledger::RakeRow;
 use std::alloc::Global;
 
-impl Found {
+impl ListedPots {
     /// No pots, of a hand with so many seats.
     pub fn new(alloc: Global, seats: u8) -> Self
         requires some { 2 ≤ seats }
@@ -20,7 +20,7 @@ impl Found {
         ensures none { plain_found result ≡ no_pots }
         ensures seats { result.won.sums.seats ≡ seats }
     {
-        Found {
+        ListedPots {
             pots: Vec::new(alloc),
             total: 0,
             won: Won::new(alloc, seats),
@@ -28,19 +28,19 @@ impl Found {
     }
 
     /// The same, and one more pot.
-    pub fn with_pot(self, pot: Pot) -> Result<Self, Memory>
+    pub fn with_pot(self, pot: ListedPot) -> Result<Self, Memory>
         requires { self.total + pot.amount ≤ MOST_AMOUNT }
-        ensures pots { IfOk result (λ after. map plain_pot after.pots.items
-            ≡ map plain_pot self.pots.items ++ plain_pot pot ∷ []) }
+        ensures pots { IfOk result (λ after. map plain_listed_pot after.pots.items
+            ≡ map plain_listed_pot self.pots.items ++ plain_listed_pot pot ∷ []) }
         ensures won { IfOk result (λ after. after.won ≡ self.won) }
     {
-        let Found {
+        let ListedPots {
             mut pots,
             total,
             won,
         } = self;
         pots.push(pot)?;
-        Ok(Found {
+        Ok(ListedPots {
             pots,
             total: total + pot.amount,
             won,
@@ -75,8 +75,8 @@ impl Paid {
 }
 
 // The rakes of the first eleven pots.
-fn rakes_of(pots: &[Pot]) -> RakeRow
-    ensures said { result.rakes ≡ rakes_said (map plain_pot pots.now) }
+fn rakes_of(pots: &[ListedPot]) -> RakeRow
+    ensures said { result.rakes ≡ rakes_said (map plain_listed_pot pots.now) }
     ensures most { (pot : ℕ) → rake_of result pot ≤ MOST_AMOUNT }
 {
     let rakes = [
@@ -96,8 +96,8 @@ fn rakes_of(pots: &[Pot]) -> RakeRow
 }
 
 // The rake of the pot with this index, or 0 where there is none.
-fn rake_at(pots: &[Pot], index: usize) -> u64
-    ensures said { result ≡ rake_at_said (map plain_pot pots.now) index }
+fn rake_at(pots: &[ListedPot], index: usize) -> u64
+    ensures said { result ≡ rake_at_said (map plain_listed_pot pots.now) index }
     ensures most { result ≤ MOST_AMOUNT }
 {
     match pots.get(index) {

@@ -10,7 +10,7 @@ ghost use Rattle.ohh_members.specs.Values.{field as field_said};
 
 use card_set::Memory;
 use first_fault::{MOST_TEXT_BYTES, Quantity, Stop, Text};
-use ohh_members::fault::{Fault, Path, What};
+use ohh_members::fault::{MemberFault, MemberFaultKind, Path};
 use ohh_members::values::{field, read_integer, read_text, wrong};
 use serde_json::Value;
 use std::alloc::Global;
@@ -29,7 +29,7 @@ pub fn keep_short(alloc: Global, text: &str, default: &str) -> Result<Option<Tex
 }
 
 /// The text of a member, if there is one that is not empty.
-pub fn text_at(alloc: Global, ohh: &Value, path: Path) -> Result<Option<Text>, Stop<Fault>>
+pub fn text_at(alloc: Global, ohh: &Value, path: Path) -> Result<Option<Text>, Stop<MemberFault>>
     ensures said { Gives (λ note. note) result
         (or_none (text_note_said [] path) (field_said path (view ohh.now))) }
     ensures allowed { IfOk result (λ note. IfSome note IsNoteText) }
@@ -47,7 +47,7 @@ fn read_text_note(
     value: &Value,
     default: &str,
     path: Path,
-) -> Result<Option<Text>, Stop<Fault>>
+) -> Result<Option<Text>, Stop<MemberFault>>
     ensures said { Gives (λ note. note) result
         (text_note_said default.now path (view value.now)) }
     ensures allowed { IfOk result (λ note. IfSome note IsNoteText) }
@@ -61,7 +61,7 @@ pub fn label_at(
     ohh: &Value,
     path: Path,
     default: &str,
-) -> Result<Option<Text>, Stop<Fault>>
+) -> Result<Option<Text>, Stop<MemberFault>>
     ensures said { Gives (λ note. note) result
         (or_none (label_said default.now path) (field_said path (view ohh.now))) }
     ensures allowed { IfOk result (λ note. IfSome note IsNoteText) }
@@ -79,7 +79,7 @@ fn read_label(
     value: &Value,
     default: &str,
     path: Path,
-) -> Result<Option<Text>, Stop<Fault>>
+) -> Result<Option<Text>, Stop<MemberFault>>
     ensures said { Gives (λ note. note) result (label_said default.now path (view value.now)) }
     ensures allowed { IfOk result (λ note. IfSome note IsNoteText) }
 {
@@ -100,13 +100,13 @@ fn keep_text(
     text: &str,
     default: &str,
     path: Path,
-) -> Result<Option<Text>, Stop<Fault>>
+) -> Result<Option<Text>, Stop<MemberFault>>
     ensures said { Gives (λ note. note) result (note_said default.now path text.now) }
     ensures allowed { IfOk result (λ note. IfSome note IsNoteText) }
 {
     if text.len() > MOST_TEXT_BYTES {
         let quantity = Quantity::TextBytes;
-        return Err(wrong(What::TooMany { quantity }, path));
+        return Err(wrong(MemberFaultKind::TooMany { quantity }, path));
     }
     if text.is_empty() || text == default {
         return Ok(None);

@@ -5,9 +5,9 @@ use Rattle.std.proofs.lemmas.Bool.{and_parts, eq-eqb}
 use Rattle.std.proofs.lemmas.List.Splits.{slice_split_at}
 use Rattle.hand_records.specs.declared.trace.Play.{Play}
 use Rattle.ohh_members.specs.declared.dialect.Dialect.{Dialect}
-use Rattle.ohh_line.specs.Lines.{hand_text, lines_from}
-use Rattle.ohh_line.specs.Tree.{hand_tree}
-use Rattle.ohh_line.proofs.Clean.{hand_clean}
+use Rattle.ohh_writing.specs.Lines.{hand_text, lines_from}
+use Rattle.ohh_writing.specs.Tree.{hand_tree}
+use Rattle.ohh_writing.proofs.Clean.{hand_clean}
 use Rattle.ohh_reading.specs.Blocks.{blocks_from, blocks_of, is_blank, lines_of}
 
 -- the texts of plays, of which the first is at this place

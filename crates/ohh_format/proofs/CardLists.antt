@@ -14,7 +14,7 @@ use Rattle.first_fault.specs.Reading.{each_from}
 use Rattle.ohh_members.specs.declared.fault.Path.{Path}
 use Rattle.ohh_members.specs.Paths.{card_path}
 use Rattle.ohh_members.specs.Values.{card_said, cards_said, few_said, list_said, listed, slot_in, slot_said, slots_said, text_said}
-use Rattle.ohh_line.specs.Tree.{cards_tree}
+use Rattle.ohh_writing.specs.Tree.{cards_tree}
 
 -- the items of a list that was made of them
 pub listed_again : (items : List Data) → listed (items_of items) ≡ items

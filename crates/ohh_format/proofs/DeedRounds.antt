@@ -2,14 +2,14 @@
 use Rattle.std.proofs.Common.{◌≡◌, ℕ, ◌+◌, List, [], ◌∷◌, ◌++◌, length, map, Option, Some, None, Result, Ok, refl, sym, ap, ap₂, ◌∙◌}
 use Rattle.std.proofs.lemmas.List.{map-append}
 use Rattle.card_set.specs.declared.card.Slot.{Slot}
-use Rattle.canonical_play.specs.CanonScript.{dealt_slots}
+use Rattle.canon_script.specs.CanonScript.{dealt_slots}
 use Rattle.hand_records.specs.TraceRows.{core_said}
 use Rattle.hand_records.specs.declared.trace.Trace.{Trace}
 use Rattle.ohh_members.specs.declared.dialect.Dialect.{Dialect}
-use Rattle.ohh_members.specs.declared.fault.Fault.{Fault}
-use Rattle.ohh_line.specs.Actions.{PlainAction, showings}
-use Rattle.ohh_line.specs.Rounds.{PlainRound, board_round, board_round_on, first_actions, hand_rounds, moves_on, round, showdown_round}
-use Rattle.ohh_line.specs.Tree.{round_trees}
+use Rattle.ohh_members.specs.declared.fault.MemberFault.{MemberFault}
+use Rattle.ohh_writing.specs.Actions.{PlainAction, showings}
+use Rattle.ohh_writing.specs.Rounds.{PlainRound, board_round, board_round_on, first_actions, hand_rounds, moves_on, round, showdown_round}
+use Rattle.ohh_writing.specs.Tree.{round_trees}
 use Rattle.ohh_rounds.specs.Rounds.{SoFar, added_from, round_said}
 use Rattle.ohh_rounds.specs.Setting.{PlainSetting}
 use Rattle.ohh_rounds.specs.Steps.{PlainStep}
@@ -17,12 +17,12 @@ use Rattle.ohh_format.proofs.Deeds.{Deed, action_of, deal_deeds, deals_are, move
 use Rattle.ohh_format.proofs.RoundsAgain.{FitsRound, round_read, with_board}
 use Rattle.ohh_format.proofs.StepsAgain.{steps_of}
 use Rattle.play_event.specs.Seats.{all_seats}
-use Rattle.ohh_members.specs.declared.street.Street.{Street}
-use Rattle.ohh_members.specs.declared.street.Street.TheVariants as streets
+use Rattle.ohh_members.specs.declared.street.StreetName.{StreetName}
+use Rattle.ohh_members.specs.declared.street.StreetName.TheVariants as streets
 
 -- a round: its street, the cards that it deals to the board, and what is done
 pub record DeedRound : Type 0 where
-  pub street : Street
+  pub street : StreetName
   pub cards : List Slot
   pub deeds : List Deed
 
@@ -30,7 +30,7 @@ pub record DeedRound : Type 0 where
 abbrev pub round_of : DeedRound → PlainRound
 round_of one = round one.street one.cards (map action_of one.deeds)
 
-abbrev pub deed_round : Street → List Slot → List Deed → DeedRound
+abbrev pub deed_round : StreetName → List Slot → List Deed → DeedRound
 deed_round street cards deeds = record { street = street; cards = cards; deeds = deeds }
 
 -- ---- what is read of rounds
@@ -42,22 +42,22 @@ steps_after dialect earlier n index (one ∷ rest) =
     steps_after dialect (with_board earlier one.cards ++ steps_of dialect n index 0 one.deeds) (n + length one.deeds) (index + 1) rest
 
 -- the last street of rounds
-abbrev pub last_street : Option Street → List DeedRound → Option Street
+abbrev pub last_street : Option StreetName → List DeedRound → Option StreetName
 last_street last [] = last
 last_street last (one ∷ rest) = last_street (Some one.street) rest
 
 module _ (setting : PlainSetting) where
   -- each round fits, after those before it
-  abbrev pub FitRounds : Option Street → List PlainStep → ℕ → ℕ → List DeedRound → Type 0
+  abbrev pub FitRounds : Option StreetName → List PlainStep → ℕ → ℕ → List DeedRound → Type 0
   FitRounds last earlier n index [] = Unit {0}
   FitRounds last earlier n index (one ∷ rest) =
       FitsRound setting last earlier n index one.street one.cards one.deeds
       × FitRounds (Some one.street) (with_board earlier one.cards ++ steps_of setting.dialect n index 0 one.deeds) (n + length one.deeds) (index + 1) rest
 
-  so_far : Option Street → List PlainStep → Result SoFar Fault
+  so_far : Option StreetName → List PlainStep → Result SoFar MemberFault
   so_far last steps = Ok (last, steps)
 
-  pub rounds_read : (last : Option Street) (earlier : List PlainStep) (n m index : ℕ) (rounds : List DeedRound) → FitRounds last earlier n index rounds
+  pub rounds_read : (last : Option StreetName) (earlier : List PlainStep) (n m index : ℕ) (rounds : List DeedRound) → FitRounds last earlier n index rounds
       → added_from (round_said setting) (last, earlier) index (round_trees m (map round_of rounds)) ≡ Ok (last_street last rounds, steps_after setting.dialect earlier n index rounds)
   unfolding added_from
   rounds_read last earlier n m index [] fit = refl
@@ -76,7 +76,7 @@ abbrev pub first_deeds : Dialect → Trace → List Deed
 first_deeds dialect trace = post_deeds trace.setup ++ (deal_deeds (core_said trace).places (all_seats trace.setup) ++ deeds_on dialect trace 1)
 
 -- the round of a street whose cards were dealt to the board
-abbrev pub board_deeds : Street → List Slot → List Deed → List DeedRound
+abbrev pub board_deeds : StreetName → List Slot → List Deed → List DeedRound
 board_deeds street [] deeds = []
 board_deeds street (slot ∷ rest) deeds = deed_round street (slot ∷ rest) deeds ∷ []
 
@@ -84,7 +84,7 @@ abbrev pub showdown_deeds : List Deed → List DeedRound
 showdown_deeds [] = []
 showdown_deeds (deed ∷ rest) = deed_round streets.Showdown [] (deed ∷ rest) ∷ []
 
-abbrev pub board_deeds_on : Dialect → Trace → Street → ℕ → List DeedRound
+abbrev pub board_deeds_on : Dialect → Trace → StreetName → ℕ → List DeedRound
 board_deeds_on dialect trace street number = board_deeds street (dealt_slots (core_said trace).places None number) (deeds_on dialect trace number)
 
 abbrev pub later_rounds : Dialect → Trace → List DeedRound
@@ -97,7 +97,7 @@ later_rounds dialect trace =
 abbrev pub rounds_of : Dialect → Trace → List DeedRound
 rounds_of dialect trace = deed_round streets.Preflop [] (first_deeds dialect trace) ∷ later_rounds dialect trace
 
-board_is : (street : Street) (cards : List Slot) (actions : List PlainAction) (deeds : List Deed) → actions ≡ map action_of deeds → board_round street cards actions ≡ map round_of (board_deeds street cards deeds)
+board_is : (street : StreetName) (cards : List Slot) (actions : List PlainAction) (deeds : List Deed) → actions ≡ map action_of deeds → board_round street cards actions ≡ map round_of (board_deeds street cards deeds)
 board_is street [] actions deeds is = refl
 board_is street (slot ∷ rest) actions deeds is = ap (λ (l : List PlainAction). round street (slot ∷ rest) l ∷ []) is
 
@@ -123,7 +123,7 @@ module _ (dialect : Dialect) (trace : Trace) where
       (ap₂ (λ (a b : List PlainAction). a ++ b) (deals_are trace.setup placed) (moves_here 1) ∙ sym (map-append action_of holes (deeds_on dialect trace 1)))
       ∙ sym (map-append action_of (post_deeds trace.setup) (holes ++ deeds_on dialect trace 1))
 
-  board_here : (street : Street) (number : ℕ) → board_round_on dialect trace street number ≡ map round_of (board_deeds_on dialect trace street number)
+  board_here : (street : StreetName) (number : ℕ) → board_round_on dialect trace street number ≡ map round_of (board_deeds_on dialect trace street number)
   board_here street number = board_is street (dealt_slots (core_said trace).places None number) (moves_on dialect trace number) (deeds_on dialect trace number) (moves_here number)
 
   pub rounds_are : hand_rounds dialect trace ≡ map round_of (rounds_of dialect trace)

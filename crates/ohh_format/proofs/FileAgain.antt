@@ -8,12 +8,12 @@ use Rattle.first_fault.specs.Reading.{◌>>=◌, thread_from}
 use Rattle.first_fault.specs.declared.limits.TheConstants.{MOST_FILE_MOVES, MOST_HANDS}
 use Rattle.hand_records.specs.declared.trace.Play.{Play}
 use Rattle.ohh_members.specs.declared.dialect.Dialect.{Dialect}
-use Rattle.ohh_line.specs.Lines.{AreRead, IsTextOf, Spells, hand_text}
-use Rattle.ohh_line.specs.Tree.{hand_tree}
+use Rattle.ohh_writing.specs.Lines.{AreRead, IsTextOf, Spells, hand_text}
+use Rattle.ohh_writing.specs.Tree.{hand_tree}
 use Rattle.ohh_reading.specs.Hand.{PlainHand}
 use Rattle.ohh_reading.specs.Reading.{found_said, hands_said, numbered_hand, reading, told, tree_of, tree_said}
 use Rattle.ohh_reading.specs.Blocks.{blocks_of}
-use Rattle.ohh_reading.specs.declared.fault.HandFault.{HandFault}
+use Rattle.ohh_reading.specs.declared.fault.OhhHandFault.{OhhHandFault}
 use Rattle.ohh_rounds.specs.Steps.{moves_in}
 use Rattle.ohh_format.specs.Again.{hand_again, hands_again}
 use Rattle.ohh_format.proofs.BlocksAgain.{blocks_again, texts}
@@ -41,14 +41,14 @@ module _ (dialect : Dialect) (place : ℕ) (play : Play) (is : IsReadable play) 
       rw (in_limit, text_again dialect place play text, at, tree_again within) refl
 
 -- hands and the moves of the file, without these moves
-abbrev hands_found : Result (List PlainHand × ℕ) HandFault → Result (List PlainHand) HandFault
+abbrev hands_found : Result (List PlainHand × ℕ) OhhHandFault → Result (List PlainHand) OhhHandFault
 hands_found found = found >>= λ both. Ok both.0
 
-with_first : (hand : PlainHand) (rest : List PlainHand) (others : Result (List PlainHand × ℕ) HandFault) → hands_found others ≡ Ok rest → hands_found (others >>= λ (more : List PlainHand × ℕ). Ok (hand ∷ [] ++ more.0, more.1)) ≡ Ok (hand ∷ rest)
+with_first : (hand : PlainHand) (rest : List PlainHand) (others : Result (List PlainHand × ℕ) OhhHandFault) → hands_found others ≡ Ok rest → hands_found (others >>= λ (more : List PlainHand × ℕ). Ok (hand ∷ [] ++ more.0, more.1)) ≡ Ok (hand ∷ rest)
 with_first hand rest others is = by_others others is
   where
-    by_others : (others : Result (List PlainHand × ℕ) HandFault) → hands_found others ≡ Ok rest → hands_found (others >>= λ (more : List PlainHand × ℕ). Ok (hand ∷ [] ++ more.0, more.1)) ≡ Ok (hand ∷ rest)
-    by_others (Ok found) is = ap (λ (found : Result (List PlainHand) HandFault). found >>= λ hands. Ok (hand ∷ hands)) is
+    by_others : (others : Result (List PlainHand × ℕ) OhhHandFault) → hands_found others ≡ Ok rest → hands_found (others >>= λ (more : List PlainHand × ℕ). Ok (hand ∷ [] ++ more.0, more.1)) ≡ Ok (hand ∷ rest)
+    by_others (Ok found) is = ap (λ (found : Result (List PlainHand) OhhHandFault). found >>= λ hands. Ok (hand ∷ hands)) is
     by_others (Err fault) is = absurd (cc (is))
 
 -- the texts of plays
@@ -65,7 +65,7 @@ hands_read dialect file_moves place (play ∷ rest) few each moves read =
     (with_first (hand_again dialect place play) (hands_again dialect (place + 1) rest) (thread_from (numbered_hand dialect) next (place + 1 + 1) (texts dialect (place + 1) rest))
     (hands_read dialect next (place + 1) rest (omega (arith, few)) each.1 (omega (arith, moves, sum, counted_here)) read.1))
 
-told_again : (found : Result (List PlainHand × ℕ) HandFault) (hands : List PlainHand) → hands_found found ≡ Ok hands → told found ≡ Ok hands
+told_again : (found : Result (List PlainHand × ℕ) OhhHandFault) (hands : List PlainHand) → hands_found found ≡ Ok hands → told found ≡ Ok hands
 told_again (Ok found) hands is = let same : found.0 ≡ hands = cc in ap (λ (l : List PlainHand). Ok l) same
 told_again (Err fault) hands is = absurd (cc (is))
 

@@ -8,7 +8,7 @@ use Rattle.play_event.specs.declared.street.Size.{Size}
 use Rattle.play_event.specs.declared.street.Size.TheVariants as sizes
 use Rattle.play_event.specs.Games.{board_cards_on, flop_streets, game_of, hole_cards_on, street_count}
 use Rattle.play_event.specs.Streets.{has_draw}
-use Rattle.ohh_line.specs.Games.{is_spelled_game}
+use Rattle.ohh_writing.specs.Games.{is_spelled_game}
 
 -- hole cards and no board first; then three, one and one cards of the board; and no draws
 pub record IsFlopGame (code : Code) : Type 0 where

@@ -19,11 +19,11 @@ use Rattle.ohh_members.specs.declared.fault.Path.TheVariants as paths
 use Rattle.ohh_members.specs.Blinds.{blinds_said, fitting}
 use Rattle.ohh_members.specs.Front.{ids_of, stacks_of}
 use Rattle.ohh_members.specs.Values.{field, needed, number_said}
-use Rattle.ohh_line.specs.Actions.{big_blind_seat, small_blind_seat}
-use Rattle.ohh_line.specs.Games.{is_spelled_game}
-use Rattle.ohh_line.specs.Spelled.{big_blind, greatest_ante, has_no_ante, has_spelled_antes, has_spelled_blinds, has_spelled_sizes, has_spelled_straddles, has_two_blinds, is_covered_straddle, is_whole_ante}
-use Rattle.ohh_line.specs.Tree.{whole}
-use Rattle.ohh_posts.specs.Table.{PlainTable}
+use Rattle.ohh_writing.specs.Actions.{big_blind_seat, small_blind_seat}
+use Rattle.ohh_writing.specs.Games.{is_spelled_game}
+use Rattle.ohh_writing.specs.Spelled.{big_blind, greatest_ante, has_no_ante, has_spelled_antes, has_spelled_blinds, has_spelled_sizes, has_spelled_straddles, has_two_blinds, is_covered_straddle, is_whole_ante}
+use Rattle.ohh_writing.specs.Tree.{whole}
+use Rattle.ohh_posts.specs.NamedBlinds.{PlainNamedBlinds}
 use Rattle.ohh_posts.proofs.Stacks.{seats_in}
 use Rattle.ohh_reading.specs.Sizes.{sizes_of}
 use Rattle.ohh_format.proofs.PostsAgain.{IsTableOf}
@@ -158,7 +158,7 @@ module _ (setup : Setup) (valid : IsValid setup) (is : IsSpelledSetup setup) whe
           rw (e, no_bring_in, small, big, eqb-true setup.min_bet (big_blind setup) (sizes_fixed false e)) refl
 
   -- the table with which the posts are compared
-  abbrev pub table_of : PlainTable
+  abbrev pub table_of : PlainNamedBlinds
   table_of = record { stacks = amounts_in setup.stacks; small_blind = (blinds_of setup).small; big_blind = (blinds_of setup).big }
 
   antes_by : (dead : Bool) → setup.dead_antes ≡ dead → (if dead then list_any (has_no_ante setup) (all_seats setup) else list_all (is_whole_ante setup) (all_seats setup)) ≡ true

@@ -8,8 +8,8 @@ use Rattle.hand_records.specs.declared.trace.Trace.{Trace}
 use Rattle.ohh_members.specs.declared.dialect.Dialect.{Dialect}
 use Rattle.ohh_members.specs.Game.{game_named, game_said}
 use Rattle.ohh_members.specs.Values.{needed, object_said, text_said}
-use Rattle.ohh_line.specs.Games.{bet_word, game_word, is_spelled_game}
-use Rattle.ohh_line.specs.Tree.{hand_members}
+use Rattle.ohh_writing.specs.Games.{bet_word, game_word, is_spelled_game}
+use Rattle.ohh_writing.specs.Tree.{hand_members}
 
 game_words_again : (code : Code) → is_spelled_game code ≡ true → game_named (game_word code) (bet_word code) ≡ Some code
 game_words_again games.FT is = refl

@@ -6,7 +6,7 @@ use Rattle.std.proofs.lemmas.List.{length-map}
 use Rattle.std.proofs.lemmas.List.FromFn.{length-range_with_len}
 use Rattle.serde_json.specs.Data.{Data, object, string}
 use Rattle.chip_ledger.specs.Seat.{seats_of}
-use Rattle.canonical_play.specs.CanonScript.{plain_moves, showdown_said}
+use Rattle.canon_script.specs.CanonScript.{plain_moves, showdown_said}
 use Rattle.first_fault.specs.declared.limits.TheConstants.{MOST_FILE_MOVES, MOST_HANDS}
 use Rattle.hand_records.specs.AllowedNotes.{AreAllowed, AreSeatNumbers}
 use Rattle.hand_records.specs.TraceRows.{core_said}
@@ -22,18 +22,18 @@ use Rattle.ohh_members.specs.declared.fault.Path.TheVariants as paths
 use Rattle.ohh_members.specs.Front.{PlainFront, front_said}
 use Rattle.ohh_members.specs.Players.{PlainPlayer, seated_said}
 use Rattle.ohh_members.specs.Values.{field, list_said, needed}
-use Rattle.ohh_line.specs.declared.moment.Moment.{Moment}
-use Rattle.ohh_line.specs.Moment.{moment_of}
-use Rattle.ohh_line.specs.Rounds.{hand_rounds}
-use Rattle.ohh_line.specs.Seating.{is_circular, number_among, numbers_spelled}
-use Rattle.ohh_line.specs.Tree.{hand_members, round_trees, whole}
-use Rattle.ohh_posts.specs.Stakes.{PlainStakes}
+use Rattle.ohh_writing.specs.declared.moment.Moment.{Moment}
+use Rattle.ohh_writing.specs.Moment.{moment_of}
+use Rattle.ohh_writing.specs.Rounds.{hand_rounds}
+use Rattle.ohh_writing.specs.Seating.{is_circular, number_among, numbers_spelled}
+use Rattle.ohh_writing.specs.Tree.{hand_members, round_trees, whole}
+use Rattle.ohh_posts.specs.AntesAndBlinds.{PlainAntesAndBlinds}
 use Rattle.ohh_rounds.specs.Play.{rounds_said}
 use Rattle.ohh_rounds.specs.Rounds.{rounds_listed, steps_said}
 use Rattle.ohh_rounds.specs.Setting.{PlainSetting}
 use Rattle.ohh_rounds.specs.Steps.{PlainStep, moves_in}
 use Rattle.ohh_reading.specs.Hand.{hand_said, setting_of}
-use Rattle.ohh_line.specs.Actions.{posts}
+use Rattle.ohh_writing.specs.Actions.{posts}
 use Rattle.ohh_format.specs.Again.{hand_again, numbered_from, script_again}
 use Rattle.ohh_format.proofs.CardLists.{listed_again}
 use Rattle.ohh_format.proofs.Circle.{IsCircle, long, said_circle, usual_circle}
@@ -172,7 +172,7 @@ module _ (dialect : Dialect) (place : ℕ) (play : Play) (is : IsReadable play) 
     unfolding steps_said
     steps_read = rw (listed_rounds, rounds_read setting None [] 1 1 0 (rounds_of dialect trace) (rounds_fit setting trace can)) refl
 
-    stakes : PlainStakes
+    stakes : PlainAntesAndBlinds
     stakes = record { antes = amounts_in setup.antes; dead_antes = setup.dead_antes; blinds = amounts_in setup.blinds }
 
     play_read : rounds_said setting ohh ≡ Ok (record { stakes = stakes; script = numbered_from (length (posts setup) + 1) (script_again dialect trace); file_moves = file_moves + moves_in hand_steps })

@@ -11,8 +11,8 @@ use Rattle.first_fault.specs.Digits.{are_digits}
 use Rattle.hand_records.specs.AllowedNotes.{IsDayOf, IsTime, IsWithin, days_in_month}
 use Rattle.ohh_facts.specs.declared.moment.Moment as read
 use Rattle.ohh_facts.specs.Moments.{clock_said, day_said, digits_in_front, digits_said, fraction_of, fraction_said, moment_in, nine_of, parts_said, zoned}
-use Rattle.ohh_line.specs.declared.moment.Moment.{Moment}
-use Rattle.ohh_line.specs.Moment.{by_digits, moment_text}
+use Rattle.ohh_writing.specs.declared.moment.Moment.{Moment}
+use Rattle.ohh_writing.specs.Moment.{by_digits, moment_text}
 use Rattle.list_laws.proofs.Digits.{digit_good, digit_is, value_more}
 use Rattle.list_laws.proofs.Lists.{take_front}
 

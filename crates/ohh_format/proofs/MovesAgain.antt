@@ -4,7 +4,7 @@ use Rattle.std.specs.List.{AllByRecursion}
 use Rattle.std.proofs.lemmas.Bool.{eqb-true, ne_eqb}
 use Rattle.std.proofs.lemmas.List.{length-append}
 use Rattle.chip_ledger.specs.declared.numbers.TheConstants.{MOST_CHIPS}
-use Rattle.canonical_play.specs.CanonScript.{plain_move}
+use Rattle.canon_script.specs.CanonScript.{plain_move}
 use Rattle.play_event.specs.Chips.{chips_left}
 use Rattle.play_event.specs.Past.{Act, BroughtIn, Called, Folded, Move, Raised, is_fold}
 use Rattle.play_event.specs.Said as said
@@ -16,7 +16,7 @@ use Rattle.play_event.specs.declared.setup.Setup.{Setup}
 use Rattle.ohh_members.specs.Values.{seat_of}
 use Rattle.ohh_members.specs.declared.dialect.Dialect.{Dialect}
 use Rattle.ohh_members.specs.declared.dialect.Dialect.TheVariants as dialects
-use Rattle.ohh_line.specs.Actions.{raise_amount}
+use Rattle.ohh_writing.specs.Actions.{raise_amount}
 use Rattle.ohh_rounds.specs.Actions.{raise_by}
 use Rattle.ohh_rounds.specs.Setting.{PlainSetting}
 use Rattle.ohh_format.specs.Again.{is_told, move_again, move_on, moves_again, numbered_from, raise_again, raise_by_dialect}

@@ -14,7 +14,7 @@ use Rattle.first_fault.specs.declared.limits.TheConstants.{MOST_HANDS, MOST_TEXT
 use Rattle.hand_records.specs.AllowedNotes.{AreAllowed, IsDayOf, IsName, IsNoteText, IsSeatCount, IsTime, IsWithin, noted, unless_usual}
 use Rattle.hand_records.specs.declared.notes.Clock.{Clock}
 use Rattle.hand_records.specs.declared.notes.Notes.{Notes}
-use Rattle.ohh_members.specs.declared.fault.Fault.{Fault}
+use Rattle.ohh_members.specs.declared.fault.MemberFault.{MemberFault}
 use Rattle.ohh_members.specs.declared.fault.Path.{Path}
 use Rattle.ohh_members.specs.declared.fault.Path.TheVariants as paths
 use Rattle.ohh_members.specs.Players.{PlainPlayer}
@@ -22,10 +22,10 @@ use Rattle.ohh_members.specs.Values.{field, number_said, text_said}
 use Rattle.ohh_facts.specs.declared.moment.Moment as read
 use Rattle.ohh_facts.specs.Moments as moments
 use Rattle.ohh_facts.specs.Notes.{PlainNotes, label_said, labels_said, names_from, note_said, notes_said, seat_count_said, text_note_said}
-use Rattle.ohh_line.specs.declared.moment.Moment.{Moment}
-use Rattle.ohh_line.specs.Moment.{moment_of, moment_said, moment_text}
-use Rattle.ohh_line.specs.Seating.{number_among, numbers_spelled}
-use Rattle.ohh_line.specs.Tree.{whole}
+use Rattle.ohh_writing.specs.declared.moment.Moment.{Moment}
+use Rattle.ohh_writing.specs.Moment.{moment_of, moment_said, moment_text}
+use Rattle.ohh_writing.specs.Seating.{number_among, numbers_spelled}
+use Rattle.ohh_writing.specs.Tree.{whole}
 use Rattle.ohh_format.specs.Again.{notes_again}
 use Rattle.ohh_format.proofs.MomentAgain.{IsGood, moment_again, moment_read}
 use Rattle.ohh_format.proofs.SeatingAgain.{players_from}
@@ -59,7 +59,7 @@ label_again place path None few is =
     rw (le-leb (length (decimal place)) MOST_TEXT_BYTES (omega (arith, short))) (ap (λ (found : Option (List ℕ)). Ok found) (same_none (decimal place) (decimal place) (same_bytes (decimal place))))
 label_again place path (Some text) few is = rw (le-leb (length text) MOST_TEXT_BYTES is.1) (by_usual (bytes_eq text (decimal place)) refl)
   where
-    found : Option (List ℕ) → Result (Option (List ℕ)) Fault
+    found : Option (List ℕ) → Result (Option (List ℕ)) MemberFault
     found said = Ok said
 
     by_usual : (usual : Bool) → bytes_eq text (decimal place) ≡ usual → found (noted (decimal place) text) ≡ found (cond usual None (Some text))
@@ -185,7 +185,7 @@ module _ (place count : ℕ) (stacks : SeatRow) (notes : Notes) (ohh : Data) (fe
   notes_read long many at counted =
       rw (counted ∙ at, labels_again, names_again 1 count (omega arith) (omega arith), seats_again numbers long) (by_moment (moment_of notes))
     where
-      found : Option ℕ → Option ℕ → Option ℕ → Option Clock → Option (List ℕ) → Result PlainNotes Fault
+      found : Option ℕ → Option ℕ → Option ℕ → Option Clock → Option (List ℕ) → Result PlainNotes MemberFault
       found year month day time zone =
           Ok (record {
             names = map (λ seat. get_or notes.names (seat - 1) None) (seats_of count);

@@ -6,8 +6,8 @@ use Rattle.list_laws.proofs.Finding.{list_any-push}
 use Rattle.card_set.specs.Known.{is_unknown}
 use Rattle.card_set.specs.declared.card.Slot.{Slot}
 use Rattle.chip_ledger.specs.LiveRow.{flag_of}
-use Rattle.canonical_play.specs.CanonScript.{dealt_slots, held_slots}
-use Rattle.canonical_play.specs.declared.limits.TheConstants.{MOST_MOVES}
+use Rattle.canon_script.specs.CanonScript.{dealt_slots, held_slots}
+use Rattle.canon_script.specs.declared.limits.TheConstants.{MOST_MOVES}
 use Rattle.first_fault.specs.declared.limits.TheConstants.{MOST_FILE_MOVES}
 use Rattle.hand_records.specs.TraceRows.{core_said}
 use Rattle.hand_records.specs.declared.trace.Trace.{Trace}
@@ -15,8 +15,8 @@ use Rattle.play_event.specs.Seats.{all_seats}
 use Rattle.play_event.specs.Trace.{TracedMove, TracedPlace}
 use Rattle.ohh_members.specs.Values.{seat_of}
 use Rattle.ohh_members.specs.declared.dialect.Dialect.{Dialect}
-use Rattle.ohh_line.specs.Actions.{has_known}
-use Rattle.ohh_posts.specs.Table.{seat_count}
+use Rattle.ohh_writing.specs.Actions.{has_known}
+use Rattle.ohh_posts.specs.NamedBlinds.{seat_count}
 use Rattle.ohh_rounds.specs.Setting.{PlainSetting}
 use Rattle.ohh_rounds.specs.Steps.{PlainStep, has_folded, is_action, is_fold_of, is_move_deed, is_other_deed, moves_in, others_in}
 use Rattle.ohh_rounds.specs.Streets.{has_board_cards, street_after}
@@ -28,8 +28,8 @@ use Rattle.ohh_format.proofs.RoundsAgain.{board_step, with_board}
 use Rattle.ohh_format.proofs.StepsAgain.{AllTold, steps_of}
 use Rattle.ohh_format.proofs.ToldDeeds.{IsGoodMove, IsGoodPost, IsGoodShow, actions_of_steps, counts_both, deals_told, moves_among, moves_of_steps, moves_told, others_among, others_of_steps, posts_told, shows_told, told_both}
 use Rattle.ohh_members.specs.Streets.{street_name}
-use Rattle.ohh_members.specs.declared.street.Street.{Street}
-use Rattle.ohh_members.specs.declared.street.Street.TheVariants as streets
+use Rattle.ohh_members.specs.declared.street.StreetName.{StreetName}
+use Rattle.ohh_members.specs.declared.street.StreetName.TheVariants as streets
 
 -- the play of a hand can be written and read
 pub record CanBePlayed (setting : PlainSetting) (trace : Trace) : Type 0 where
@@ -58,7 +58,7 @@ all_weaker P Q weaker [] all = tt
 all_weaker P Q weaker (deed ∷ rest) all = (weaker deed all.0, all_weaker P Q weaker rest all.1)
 
 module _ (setting : PlainSetting) where
-  pub fit_both : (last : Option Street) (earlier : List PlainStep) (n index : ℕ) (xs ys : List DeedRound) → FitRounds setting last earlier n index xs
+  pub fit_both : (last : Option StreetName) (earlier : List PlainStep) (n index : ℕ) (xs ys : List DeedRound) → FitRounds setting last earlier n index xs
       → FitRounds setting (last_street last xs) (steps_after setting.dialect earlier n index xs) (n + deeds_in xs) (index + length xs) ys → FitRounds setting last earlier n index (xs ++ ys)
   fit_both last earlier n index [] ys one other =
       let no_more_n : n + 0 ≡ n = omega arith in
@@ -67,7 +67,7 @@ module _ (setting : PlainSetting) where
   fit_both last earlier n index (x ∷ xs) ys one other =
       let steps : List PlainStep = with_board earlier x.cards ++ steps_of setting.dialect n index 0 x.deeds in
       let after : List PlainStep = steps_after setting.dialect steps (n + length x.deeds) (index + 1) xs in
-      let last_one : Option Street = last_street (Some x.street) xs in
+      let last_one : Option StreetName = last_street (Some x.street) xs in
       let same_n : n + (length x.deeds + deeds_in xs) ≡ n + length x.deeds + deeds_in xs = omega arith in
       let same_index : index + length (x ∷ xs) ≡ index + 1 + length xs = omega arith in (
         one.0,
@@ -158,7 +158,7 @@ moves_counts setting round (Shows seat cards ∷ rest) all = absurd all.0
 moves_counts setting round (Mucks seat ∷ rest) all = absurd all.0
 
 -- the streets that may stand before the showdown
-abbrev IsOpen : Option Street → Type 0
+abbrev IsOpen : Option StreetName → Type 0
 IsOpen None = ⊥
 IsOpen (Some streets.Preflop) = Unit {0}
 IsOpen (Some streets.Flop) = Unit {0}
@@ -166,7 +166,7 @@ IsOpen (Some streets.Turn) = Unit {0}
 IsOpen (Some streets.River) = Unit {0}
 IsOpen (Some streets.Showdown) = ⊥
 
-showdown_follows : (last : Option Street) → IsOpen last → street_after last (street_name streets.Showdown) ≡ Some streets.Showdown
+showdown_follows : (last : Option StreetName) → IsOpen last → street_after last (street_name streets.Showdown) ≡ Some streets.Showdown
 unfolding street_after
 showdown_follows None is = absurd is
 showdown_follows (Some streets.Preflop) is = refl
@@ -236,7 +236,7 @@ module _ (setting : PlainSetting) (trace : Trace) (is : CanBePlayed setting trac
 
   -- ---- a round of a board street
 
-  module _ (street : Street) (number : ℕ) (deals : has_board_cards street ≡ true) where
+  module _ (street : StreetName) (number : ℕ) (deals : has_board_cards street ≡ true) where
     abbrev cards : List Slot
     cards = dealt_slots placed None number
 
@@ -246,7 +246,7 @@ module _ (setting : PlainSetting) (trace : Trace) (is : CanBePlayed setting trac
     good : (round : ℕ) → AllByRecursion (IsGoodMove setting round) deeds
     good round = moves_good setting trace.setup round number [] moves is.moves
 
-    board_fits : (last : Option Street) (earlier : List PlainStep) (n index done boards : ℕ) (c : List Slot) → length c ≤ 7 → list_any is_unknown c ≡ false
+    board_fits : (last : Option StreetName) (earlier : List PlainStep) (n index done boards : ℕ) (c : List Slot) → length c ≤ 7 → list_any is_unknown c ≡ false
         → State earlier n done boards → boards ≤ 3 → done + length deeds ≤ length moves → (1 ≤ length c → street_after last (street_name street) ≡ Some street)
         → FitRounds setting last earlier n index (board_deeds street c deeds)
     board_fits last earlier n index done boards [] few known state three room follows = tt
@@ -275,7 +275,7 @@ module _ (setting : PlainSetting) (trace : Trace) (is : CanBePlayed setting trac
         (λ seat folded. moves_no_folds setting trace.setup seat number [] moves folded) in
         record { numbered = omega (arith, next.numbered); moves_done = next.moves_done; others_done = next.others_done; live = next.live }
 
-    board_open : (last : Option Street) (c : List Slot) → IsOpen last → IsOpen (Some street) → IsOpen (last_street last (board_deeds street c deeds))
+    board_open : (last : Option StreetName) (c : List Slot) → IsOpen last → IsOpen (Some street) → IsOpen (last_street last (board_deeds street c deeds))
     board_open last [] open_last open_next = open_last
     board_open last (slot ∷ rest) open_last open_next = open_next
 
@@ -370,7 +370,7 @@ module _ (setting : PlainSetting) (trace : Trace) (is : CanBePlayed setting trac
       by_flags false true rest = omega (arith, rest)
       by_flags false false rest = omega (arith, rest)
 
-  showdown_fits : (last : Option Street) (earlier : List PlainStep) (n index done : ℕ) (deeds : List Deed) → IsOpen last → State earlier n done 3 → length deeds ≤ seats → AllByRecursion (IsGoodShow setting index earlier) deeds
+  showdown_fits : (last : Option StreetName) (earlier : List PlainStep) (n index done : ℕ) (deeds : List Deed) → IsOpen last → State earlier n done 3 → length deeds ≤ seats → AllByRecursion (IsGoodShow setting index earlier) deeds
       → FitRounds setting last earlier n index (showdown_deeds deeds)
   showdown_fits last earlier n index done [] open_last state few all = tt
   showdown_fits last earlier n index done (deed ∷ rest) open_last state few all = (
@@ -410,7 +410,7 @@ module _ (setting : PlainSetting) (trace : Trace) (is : CanBePlayed setting trac
   last_flop [] done some = absurd (some refl)
   last_flop (slot ∷ rest) done some = refl
 
-  last_turn : (last : Option Street) (cards : List Slot) (done : List Deed) → (cards ≡ [] → ⊥) → last_street last (board_deeds streets.Turn cards done) ≡ Some streets.Turn
+  last_turn : (last : Option StreetName) (cards : List Slot) (done : List Deed) → (cards ≡ [] → ⊥) → last_street last (board_deeds streets.Turn cards done) ≡ Some streets.Turn
   last_turn last [] done some = absurd (some refl)
   last_turn last (slot ∷ rest) done some = refl
 
@@ -424,7 +424,7 @@ module _ (setting : PlainSetting) (trace : Trace) (is : CanBePlayed setting trac
   abbrev number_first : ℕ
   number_first = 1 + length (first_deeds dialect trace)
 
-  abbrev street_flop : Option Street
+  abbrev street_flop : Option StreetName
   street_flop = last_street (Some streets.Preflop) flop
 
   abbrev steps_flop : List PlainStep
@@ -436,7 +436,7 @@ module _ (setting : PlainSetting) (trace : Trace) (is : CanBePlayed setting trac
   abbrev index_flop : ℕ
   index_flop = 0 + 1 + length flop
 
-  abbrev street_turn : Option Street
+  abbrev street_turn : Option StreetName
   street_turn = last_street street_flop turn
 
   abbrev steps_turn : List PlainStep
@@ -448,7 +448,7 @@ module _ (setting : PlainSetting) (trace : Trace) (is : CanBePlayed setting trac
   abbrev index_turn : ℕ
   index_turn = index_flop + length turn
 
-  abbrev street_river : Option Street
+  abbrev street_river : Option StreetName
   street_river = last_street street_turn river
 
   abbrev steps_river : List PlainStep
@@ -481,14 +481,14 @@ module _ (setting : PlainSetting) (trace : Trace) (is : CanBePlayed setting trac
   river_here =
       fit_both setting street_turn steps_turn number_turn index_turn river showdown
       (board_fits streets.River 4 refl street_turn steps_turn number_turn index_turn (length opening + length (deeds_on dialect trace 2) + length (deeds_on dialect trace 3)) (0 + 1 + 1) (board 4) (is.boards_few 4) (is.known 4) state_turn (omega arith) (omega (arith, few_on))
-      (λ some. ap (λ (last : Option Street). street_after last (street_name streets.River)) (last_turn street_flop (board 3) (deeds_on dialect trace 3) (λ none. no_slots (board 4) some (is.river_follows none))) ∙ river_follows))
+      (λ some. ap (λ (last : Option StreetName). street_after last (street_name streets.River)) (last_turn street_flop (board 3) (deeds_on dialect trace 3) (λ none. no_slots (board 4) some (is.river_follows none))) ∙ river_follows))
       showdown_here
 
   turn_here : FitRounds setting street_flop steps_flop number_flop index_flop (turn ++ (river ++ showdown))
   turn_here =
       fit_both setting street_flop steps_flop number_flop index_flop turn (river ++ showdown)
       (board_fits streets.Turn 3 refl street_flop steps_flop number_flop index_flop (length opening + length (deeds_on dialect trace 2)) (0 + 1) (board 3) (is.boards_few 3) (is.known 3) state_flop (omega arith) (omega (arith, few_on))
-      (λ some. ap (λ (last : Option Street). street_after last (street_name streets.Turn)) (last_flop (board 2) (deeds_on dialect trace 2) (λ none. no_slots (board 3) some (is.turn_follows none))) ∙ turn_follows))
+      (λ some. ap (λ (last : Option StreetName). street_after last (street_name streets.Turn)) (last_flop (board 2) (deeds_on dialect trace 2) (λ none. no_slots (board 3) some (is.turn_follows none))) ∙ turn_follows))
       river_here
 
   later_here : FitRounds setting (Some streets.Preflop) steps_first number_first (0 + 1) (later_rounds dialect trace)

@@ -13,8 +13,8 @@ use Rattle.chip_ledger.specs.SeatRow.{amount_of, amounts_in}
 use Rattle.play_event.specs.Chips.{blind_posted}
 use Rattle.play_event.specs.Seats.{all_seats}
 use Rattle.play_event.specs.declared.setup.Setup.{Setup}
-use Rattle.ohh_line.specs.Actions.{big_blind_seat, small_blind_seat}
-use Rattle.ohh_line.specs.Spelled.{greatest_ante}
+use Rattle.ohh_writing.specs.Actions.{big_blind_seat, small_blind_seat}
+use Rattle.ohh_writing.specs.Spelled.{greatest_ante}
 use Rattle.ohh_posts.specs.declared.checking.Condition.{Condition}
 use Rattle.ohh_posts.specs.declared.checking.Condition.TheVariants as conditions
 use Rattle.ohh_posts.specs.declared.post.PostKind.{PostKind}
@@ -22,9 +22,9 @@ use Rattle.ohh_posts.specs.declared.post.PostKind.TheVariants as kinds
 use Rattle.ohh_posts.specs.Conditions as conditions_of
 use Rattle.ohh_posts.specs.Conditions.{at_first, first_breaking, has_all_antes, holds, is_breaking, posts_checked}
 use Rattle.ohh_posts.specs.Posts.{PlainPost, ante_of, first_ante, first_straddle, has_big_blind, has_small_blind, is_ante, is_big_blind, is_small_blind, is_straddle}
-use Rattle.ohh_posts.specs.Stakes.{are_dead, held_ante, named_blind, stakes_said}
-use Rattle.ohh_posts.specs.Table as tables
-use Rattle.ohh_posts.specs.Table.{PlainTable, seat_count, stack_of}
+use Rattle.ohh_posts.specs.AntesAndBlinds.{antes_and_blinds_said, are_dead, held_ante, named_blind}
+use Rattle.ohh_posts.specs.NamedBlinds as tables
+use Rattle.ohh_posts.specs.NamedBlinds.{PlainNamedBlinds, seat_count, stack_of}
 use Rattle.ohh_format.proofs.PutsAgain.{Put, first_both, first_is, first_put, has_both, has_is, has_no, has_put, no_kind, of_seat, other_put, post_at, posts_at, posts_both, puts_of}
 use Rattle.list_laws.proofs.Options.{or_nothing}
 use Rattle.chip_ledger.proofs.RowLists.{row_listed}
@@ -54,7 +54,7 @@ puts setup =
     ∷ straddles_put setup (all_seats setup))
 
 -- a table is that of a setup whose antes and blinds have a spelling
-pub record IsTableOf (setup : Setup) (table : PlainTable) : Type 0 where
+pub record IsTableOf (setup : Setup) (table : PlainNamedBlinds) : Type 0 where
   pub count : seat_count table ≡ setup.stacks.seats
   pub stacks : (seat : ℕ) → stack_of table seat ≡ amount_of setup.stacks seat
   pub small : table.small_blind ≡ amount_of setup.blinds (small_blind_seat setup)
@@ -78,7 +78,7 @@ not_all p first (suc count) number from within fails = by_first (p first) refl (
     by_first true is true e behind = absurd (true≢false (sym is ∙ ap p (eqb-true first number e) ∙ fails))
     by_first true is false e behind = behind (grind (arith, nat_tests, from))
 
-module _ (setup : Setup) (table : PlainTable) (is : IsTableOf setup table) where
+module _ (setup : Setup) (table : PlainNamedBlinds) (is : IsTableOf setup table) where
   abbrev count : ℕ
   count = setup.stacks.seats
 
@@ -447,8 +447,8 @@ module _ (setup : Setup) (table : PlainTable) (is : IsTableOf setup table) where
       by_small false e false f = straddle_named seat (past (count == 2) refl e f) high
 
   -- the antes and blinds
-  pub stakes_again : stakes_said table posts ≡ record { antes = amounts_in setup.antes; dead_antes = setup.dead_antes; blinds = amounts_in setup.blinds }
-  unfolding stakes_said
+  pub stakes_again : antes_and_blinds_said table posts ≡ record { antes = amounts_in setup.antes; dead_antes = setup.dead_antes; blinds = amounts_in setup.blinds }
+  unfolding antes_and_blinds_said
   stakes_again =
       let antes : map (held_ante table posts) (seats_of (seat_count table)) ≡ amounts_in setup.antes =
       ap (λ (n : ℕ). map (held_ante table posts) (seats_of n)) is.count

@@ -19,14 +19,14 @@ use Rattle.chip_ledger.specs.declared.rows.SeatRow.{SeatRow}
 use Rattle.chip_ledger.specs.declared.rows.TheConstants.{MOST_AMOUNT}
 use Rattle.hand_canon.specs.Agreement.{pot_total_of, win_of}
 use Rattle.hand_records.specs.declared.trace.Trace.{Trace}
-use Rattle.ohh_members.specs.declared.fault.Fault.{Fault}
+use Rattle.ohh_members.specs.declared.fault.MemberFault.{MemberFault}
 use Rattle.ohh_members.specs.declared.fault.Path.TheVariants as paths
 use Rattle.ohh_members.specs.Values.{added_from, field, list_said, needed, number_said, object_said}
-use Rattle.ohh_facts.specs.PotSums.{PlainPot, all_of, rake_at, rakes_said}
+use Rattle.ohh_facts.specs.PotSums.{PlainListedPot, all_of, rake_at, rakes_said}
 use Rattle.ohh_facts.specs.Pots.{PlainPaid, PlainPots, amount_said, listed_paid, no_pots, none_paid, pot_added, pots_said, rake_said, summed, wins_said}
 use Rattle.ohh_facts.specs.Won.{PlainWin, won_by}
-use Rattle.ohh_line.specs.Tree.{pot_tree, pot_trees, share_at, win_tree}
-use Rattle.ohh_line.specs.Tree as tree
+use Rattle.ohh_writing.specs.Tree.{pot_tree, pot_trees, share_at, win_tree}
+use Rattle.ohh_writing.specs.Tree as tree
 use Rattle.ohh_format.proofs.CardLists.{listed_again}
 use Rattle.ohh_format.proofs.WinsAgain.{ids_written, wins_again, wins_plain}
 
@@ -88,10 +88,10 @@ module _ (share : SeatRow) where
 -- ---- pots
 
 -- what is read of a pot at a place
-abbrev pub pot_plain : Trace → ℕ → Pot → PlainPot
+abbrev pub pot_plain : Trace → ℕ → Pot → PlainListedPot
 pot_plain trace place pot = record { amount = pot.chips; rake = rake_of trace.setup.rakes (place + 1) }
 
-abbrev pub pots_plain : Trace → ℕ → List Pot → List PlainPot
+abbrev pub pots_plain : Trace → ℕ → List Pot → List PlainListedPot
 pots_plain trace place [] = []
 pots_plain trace place (pot ∷ rest) = pot_plain trace place pot ∷ pots_plain trace (place + 1) rest
 
@@ -133,7 +133,7 @@ module _ (trace : Trace) where
   rake_again place pot few rakes =
       rw (le-leb 0 (rake_of trace.setup.rakes (place + 1)) (omega arith), le-leb (rake_of trace.setup.rakes (place + 1)) MOST_AMOUNT (rakes (place + 1)), lt-leb 11 place few) refl
 
-  amount_again : (place : ℕ) (pot : Pot) (earlier : List PlainPot) → all_of earlier + pot.chips ≤ MOST_AMOUNT → amount_said earlier place (pot_tree trace place pot) ≡ Ok pot.chips
+  amount_again : (place : ℕ) (pot : Pot) (earlier : List PlainListedPot) → all_of earlier + pot.chips ≤ MOST_AMOUNT → amount_said earlier place (pot_tree trace place pot) ≡ Ok pot.chips
   unfolding amount_said needed number_said summed
   amount_again place pot earlier few =
       rw (le-leb 0 pot.chips (omega arith), le-leb pot.chips MOST_AMOUNT (omega (arith, few)), le-leb (all_of earlier + pot.chips) MOST_AMOUNT few) refl
@@ -152,13 +152,13 @@ module _ (trace : Trace) where
   one_pot place pot earlier few rakes total wins = rw (amount_again place pot earlier.pots total, rake_again place pot few rakes, won_again place pot earlier.wins wins) refl
 
   abbrev Found : Type 0
-  Found = Result PlainPots Fault
+  Found = Result PlainPots MemberFault
 
-  found : List PlainPot → List PlainWin → Found
+  found : List PlainListedPot → List PlainWin → Found
   found pots wins = Ok (record { pots = pots; wins = wins })
 
-  all_both : (some more : List PlainPot) → all_of (some ++ more) ≡ all_of some + all_of more
-  all_both some more = sum_by-append (λ (pot : PlainPot). pot.amount) some more
+  all_both : (some more : List PlainListedPot) → all_of (some ++ more) ≡ all_of some + all_of more
+  all_both some more = sum_by-append (λ (pot : PlainListedPot). pot.amount) some more
 
   each_pot : (place : ℕ) (pots : List Pot) (earlier : PlainPots) → place + length pots ≤ 11 → ((pot : ℕ) → rake_of trace.setup.rakes pot ≤ MOST_AMOUNT) → all_of earlier.pots + chips_of pots ≤ MOST_AMOUNT
       → SharesFit trace place pots → ((seat : ℕ) → won_by seat earlier.wins ≤ all_of earlier.pots)
@@ -167,9 +167,9 @@ module _ (trace : Trace) where
   each_pot place [] earlier few rakes total fit less = rw (append-nil earlier.pots, append-nil earlier.wins) refl
   each_pot place (pot ∷ rest) earlier few rakes total fit less =
       let split = sum_by-cons (λ (pot : Pot). pot.chips) pot rest in
-      let plain : PlainPot = pot_plain trace place pot in
+      let plain : PlainListedPot = pot_plain trace place pot in
       let wins : List PlainWin = wins_plain (share_at trace place) (seats_of count) in
-      let more : all_of (earlier.pots ++ plain ∷ []) ≡ all_of earlier.pots + pot.chips = all_both earlier.pots (plain ∷ []) ∙ ap (λ (n : ℕ). all_of earlier.pots + n) (sum_by-cons (λ (pot : PlainPot). pot.amount) plain [] ∙ omega arith) in
+      let more : all_of (earlier.pots ++ plain ∷ []) ≡ all_of earlier.pots + pot.chips = all_both earlier.pots (plain ∷ []) ∙ ap (λ (n : ℕ). all_of earlier.pots + n) (sum_by-cons (λ (pot : PlainListedPot). pot.amount) plain [] ∙ omega arith) in
       rw (one_pot place pot earlier (omega (arith, few)) rakes (omega (arith, total, split)) (λ seat. omega (arith, less seat, fit.0 seat, total, split)))
       (each_pot (place + 1) rest (record { pots = earlier.pots ++ plain ∷ []; wins = earlier.wins ++ wins }) (omega (arith, few)) rakes (omega (arith, more, total, split)) fit.1
       (λ seat. omega (arith, more, won_both seat earlier.wins wins, less seat, won_most (share_at trace place) seat count, fit.0 seat))
@@ -180,7 +180,7 @@ module _ (trace : Trace) where
   total_again : (place : ℕ) (pots : List Pot) → all_of (pots_plain trace place pots) ≡ chips_of pots
   total_again place [] = refl
   total_again place (pot ∷ rest) =
-      sum_by-cons (λ (pot : PlainPot). pot.amount) (pot_plain trace place pot) (pots_plain trace (place + 1) rest)
+      sum_by-cons (λ (pot : PlainListedPot). pot.amount) (pot_plain trace place pot) (pots_plain trace (place + 1) rest)
       ∙ ap (λ (n : ℕ). pot.chips + n) (total_again (place + 1) rest)
       ∙ sym (sum_by-cons (λ (pot : Pot). pot.chips) pot rest)
 
@@ -238,7 +238,7 @@ module _ (trace : Trace) where
         ∙ shares_are seat 0 pots (omega (arith, pot_count, trace.pots.most))
         ∙ ap (λ (n : ℕ). sum_by (λ (share : SeatRow). amount_of share seat) (take n trace.shares.shares)) (pot_count ∙ sym has.same_count)
 
-    paid_found : Option Data → Result PlainPaid Fault
+    paid_found : Option Data → Result PlainPaid MemberFault
     paid_found (Some value) = listed_paid ids value
     paid_found None = Ok none_paid
 

@@ -9,8 +9,8 @@ use Rattle.play_event.specs.Said.{Numbered, Said}
 use Rattle.play_event.specs.Scripts.{past_at_end}
 use Rattle.play_event.specs.declared.setup.Rules.{Rules}
 use Rattle.play_event.specs.declared.setup.Setup.{Setup}
-use Rattle.canonical_play.specs.PlayedScript.{IsPlayed}
-use Rattle.canonical_play.specs.TraceCore.{TraceCore, core_after}
+use Rattle.canon_script.specs.PlayedScript.{IsPlayed}
+use Rattle.canon_script.specs.TraceCore.{TraceCore, core_after}
 use Rattle.canon_laws.specs.Confluence.{HasTraceOf}
 use Rattle.canon_laws.specs.OtherRules.{SuitsRules}
 use Rattle.canon_laws.proofs.SuitedMoves.{played_by}
@@ -25,14 +25,14 @@ use Rattle.hand_canon.specs.Sound.{IsSound}
 use Rattle.hand_canon.specs.WholeTrace.{IsTraceOf}
 use Rattle.ohh_members.specs.declared.dialect.Dialect.{Dialect}
 use Rattle.ohh_facts.specs.Notes.{plain_notes}
-use Rattle.ohh_line.specs.Games.{is_spelled_game}
-use Rattle.ohh_line.specs.Lines.{Spells}
-use Rattle.ohh_line.specs.Spelled.{first_unspelled, has_closed, has_spelled_antes, has_spelled_blinds, has_spelled_sizes, kept_facts, trace_facts, unspelled}
+use Rattle.ohh_writing.specs.Games.{is_spelled_game}
+use Rattle.ohh_writing.specs.Lines.{Spells}
+use Rattle.ohh_writing.specs.Spelled.{first_unspelled, has_closed, has_spelled_antes, has_spelled_blinds, has_spelled_sizes, kept_facts, trace_facts, unspelled}
 use Rattle.ohh_reading.specs.Hand.{PlainHand, plain}
 use Rattle.ohh_reading.specs.Reading.{reading}
 use Rattle.ohh_format.specs.Again.{hand_again, hands_again, is_told, notes_again, numbered_from, script_again}
 use Rattle.hand_canon.specs.ReadAgain.{AreAgain, IsAgain}
-use Rattle.ohh_format.specs.ReadBack.{KeepsNotes}
+use Rattle.ohh_format.specs.KeptNotes.{KeepsNotes}
 use Rattle.ohh_format.proofs.FlopGames.{flop_game}
 use Rattle.ohh_format.proofs.FrontAgain.{no_stud}
 use Rattle.ohh_format.proofs.SameSetups.{setups_same}
@@ -43,7 +43,7 @@ use Rattle.first_fault.specs.Numbers.{kept_number}
 use Rattle.hand_records.specs.Moves.{moves_played}
 use Rattle.hand_records.proofs.Refusals.{none_refused}
 use Rattle.play_event.proofs.ScriptLaws.{said_numbered}
-use Rattle.hand_records.specs.Refusals.{refusal_from, first_refusal}
+use Rattle.hand_records.specs.WriteRefusals.{refusal_from, first_refusal}
 use Rattle.hand_canon.proofs.SameTraces.{whole_same}
 
 -- a play that the format spells has no closed raise
@@ -62,7 +62,7 @@ spelled_open keep play none =
 -- ---- the play
 
 -- a spelled play, under the rules of hand histories, in words
-play_again : (dialect : Dialect) (keep : Keep) (play : Play) → IsSound play → unspelled keep play ≡ None → HasTraceOf play.hand.setup history_rules (script_said play.hand) (script_again dialect play.trace)
+pub play_again : (dialect : Dialect) (keep : Keep) (play : Play) → IsSound play → unspelled keep play ≡ None → HasTraceOf play.hand.setup history_rules (script_said play.hand) (script_again dialect play.trace)
 play_again dialect keep play sound none =
     let setup = play.hand.setup in
     let script = script_said play.hand in
@@ -84,7 +84,7 @@ play_again dialect keep play sound none =
 -- ---- the hand
 
 -- what numbered events say
-events_said : (n : ℕ) (script : List Said) → map (λ (event : Numbered). event.1) (numbered_from n script) ≡ script
+pub events_said : (n : ℕ) (script : List Said) → map (λ (event : Numbered). event.1) (numbered_from n script) ≡ script
 events_said n [] = refl
 events_said n (event ∷ rest) = by_action (is_told event) (events_said (n + 1) rest) (events_said n rest)
   where

@@ -6,13 +6,13 @@ use Rattle.list_laws.proofs.Counting.{count_by-push}
 use Rattle.card_set.specs.Known.{is_unknown, known_cards}
 use Rattle.card_set.specs.declared.card.Slot.{Slot}
 use Rattle.card_set.specs.declared.card.Slot.TheVariants as slots
-use Rattle.canonical_play.specs.declared.limits.TheConstants.{MOST_OTHER_EVENTS}
+use Rattle.canon_script.specs.declared.limits.TheConstants.{MOST_OTHER_EVENTS}
 use Rattle.play_event.specs.Said as said
 use Rattle.ohh_members.specs.declared.fault.RoundMember.TheVariants as members
 use Rattle.ohh_members.specs.Values.{list_said, needed, object_said, text_said}
-use Rattle.ohh_line.specs.Rounds.{round}
-use Rattle.ohh_line.specs.Tree.{action_trees, round_tree}
-use Rattle.ohh_posts.specs.Table.{seat_count}
+use Rattle.ohh_writing.specs.Rounds.{round}
+use Rattle.ohh_writing.specs.Tree.{action_trees, round_tree}
+use Rattle.ohh_posts.specs.NamedBlinds.{seat_count}
 use Rattle.ohh_rounds.specs.Actions.{event_counted}
 use Rattle.ohh_rounds.specs.Rounds.{at_round, board_dealt, board_said, no_cards, opening_said, round_said, street_said}
 use Rattle.ohh_rounds.specs.Setting.{PlainSetting}
@@ -22,7 +22,7 @@ use Rattle.ohh_format.proofs.CardLists.{cards_again, listed_again}
 use Rattle.ohh_format.proofs.Deeds.{Deed, action_of}
 use Rattle.ohh_format.proofs.StepsAgain.{AllTold, actions_read, steps_of}
 use Rattle.ohh_members.specs.Streets.{street_name}
-use Rattle.ohh_members.specs.declared.street.Street.{Street}
+use Rattle.ohh_members.specs.declared.street.StreetName.{StreetName}
 
 -- the step of a board that was dealt
 abbrev pub board_step : List Slot → PlainStep
@@ -35,7 +35,7 @@ with_board earlier (slot ∷ rest) = earlier ++ board_step (slot ∷ rest) ∷ [
 
 module _ (setting : PlainSetting) where
   -- the cards of a round
-  board_again : (street : Street) (index n : ℕ) (cards : List Slot) (word : Street) (deeds : List Deed) → length cards ≤ 7 → list_any is_unknown cards ≡ false → (deals : Bool) → has_board_cards street ≡ deals → (deals ≡ false → cards ≡ [])
+  board_again : (street : StreetName) (index n : ℕ) (cards : List Slot) (word : StreetName) (deeds : List Deed) → length cards ≤ 7 → list_any is_unknown cards ≡ false → (deals : Bool) → has_board_cards street ≡ deals → (deals ≡ false → cards ≡ [])
       → board_said street index (round_tree n (round word cards (map action_of deeds))) ≡ Ok (known_cards cards)
   unfolding board_said no_cards list_said
   board_again street index n cards word deeds few known true is none = rw (is, cards_again (at_round index members.Cards) cards few known) refl
@@ -53,7 +53,7 @@ module _ (setting : PlainSetting) where
   board_counts earlier (slot ∷ rest) = omega (arith, count_by-push is_action earlier (board_step (slot ∷ rest)))
 
   -- what a round has to have after these steps
-  pub record FitsRound (last : Option Street) (earlier : List PlainStep) (n index : ℕ) (street : Street) (cards : List Slot) (deeds : List Deed) : Type 0 where
+  pub record FitsRound (last : Option StreetName) (earlier : List PlainStep) (n index : ℕ) (street : StreetName) (cards : List Slot) (deeds : List Deed) : Type 0 where
     pub follows : street_after last (street_name street) ≡ Some street
     pub few : length cards ≤ 7
     pub known : list_any is_unknown cards ≡ false
@@ -62,7 +62,7 @@ module _ (setting : PlainSetting) where
     pub numbered : count_by is_action earlier + 1 ≡ n
     pub told : AllTold setting index n 0 (with_board earlier cards) deeds
 
-  pub round_read : (last : Option Street) (earlier : List PlainStep) (n m index : ℕ) (street : Street) (cards : List Slot) (deeds : List Deed)
+  pub round_read : (last : Option StreetName) (earlier : List PlainStep) (n m index : ℕ) (street : StreetName) (cards : List Slot) (deeds : List Deed)
       → FitsRound last earlier n index street cards deeds
       → round_said setting (last, earlier) index (round_tree m (round street cards (map action_of deeds))) ≡ Ok (Some street, with_board earlier cards ++ steps_of setting.dialect n index 0 deeds)
   unfolding round_said opening_said street_said object_said needed text_said list_said

@@ -8,7 +8,7 @@ use Rattle.card_set.specs.declared.card.Slot.{Slot}
 use Rattle.chip_ledger.specs.LiveRow.{flag_of}
 use Rattle.chip_ledger.specs.Seat.{seats_of}
 use Rattle.chip_ledger.specs.SeatRow.{amount_of}
-use Rattle.canonical_play.specs.CanonScript.{board_said, deal_said, deals_said, dealt_slots, held_slots, plain_moves, showdown_said}
+use Rattle.canon_script.specs.CanonScript.{board_said, deal_said, deals_said, dealt_slots, held_slots, plain_moves, showdown_said}
 use Rattle.hand_records.specs.TraceRows.{core_said}
 use Rattle.hand_records.specs.declared.trace.Trace.{Trace}
 use Rattle.list_laws.proofs.NumbersOfRange.{flat_none}
@@ -19,7 +19,7 @@ use Rattle.play_event.specs.Seats.{all_seats}
 use Rattle.play_event.specs.Trace.{TracedMove, TracedPlace}
 use Rattle.play_event.specs.declared.setup.Setup.{Setup}
 use Rattle.ohh_members.specs.declared.dialect.Dialect.{Dialect}
-use Rattle.ohh_line.specs.Actions.{big_blind_seat, has_known, posts, small_blind_seat}
+use Rattle.ohh_writing.specs.Actions.{big_blind_seat, has_known, posts, small_blind_seat}
 use Rattle.ohh_posts.specs.Posts.{PlainPost}
 use Rattle.ohh_posts.specs.declared.post.PostKind.TheVariants as kinds
 use Rattle.ohh_rounds.specs.Play.{events_in, hole_deal, posts_in, script_said}
@@ -34,8 +34,8 @@ use Rattle.ohh_format.proofs.PlayAgain.{CanBePlayed, all_posts, all_weaker, post
 use Rattle.ohh_format.proofs.PostsAgain.{antes_put, posts_ante, posts_straddle, puts, straddles_put}
 use Rattle.ohh_format.proofs.PutsAgain.{Put, posts_at}
 use Rattle.ohh_format.proofs.StepsAgain.{steps_both, steps_of}
-use Rattle.ohh_members.specs.declared.street.Street.{Street}
-use Rattle.ohh_members.specs.declared.street.Street.TheVariants as streets
+use Rattle.ohh_members.specs.declared.street.StreetName.{StreetName}
+use Rattle.ohh_members.specs.declared.street.StreetName.TheVariants as streets
 
 -- ---- the posts of a setup
 
@@ -86,7 +86,7 @@ rounds_both : (P : Deed → Type 0) (some more : List DeedRound) → AllRounds P
 rounds_both P [] more one other = other
 rounds_both P (x ∷ some) more one other = (one.0, rounds_both P some more one.1 other)
 
-of_board : (P : Deed → Type 0) (street : Street) (cards : List Slot) (deeds : List Deed) → AllByRecursion P deeds → AllRounds P (board_deeds street cards deeds)
+of_board : (P : Deed → Type 0) (street : StreetName) (cards : List Slot) (deeds : List Deed) → AllByRecursion P deeds → AllRounds P (board_deeds street cards deeds)
 of_board P street [] deeds all = tt
 of_board P street (slot ∷ rest) deeds all = (all, tt)
 
@@ -189,7 +189,7 @@ both_said dialect xs ys some more one other n =
     ∙ ap₂ (λ (a b : List Numbered). a ++ b) (one.same n) (ap (λ (k : ℕ). numbered_from (n + k) ys) one.count ∙ other (n + deeds_in some))
     ∙ sym (round_events_both dialect n some more)
 
-board_same : (dialect : Dialect) (street : Street) (cards : List Slot) (events : List Said) (deeds : List Deed) → ((n : ℕ) → numbered_deeds dialect n deeds ≡ numbered_from n events) → length deeds ≡ told_in events → (cards ≡ [] → events ≡ [])
+board_same : (dialect : Dialect) (street : StreetName) (cards : List Slot) (events : List Said) (deeds : List Deed) → ((n : ℕ) → numbered_deeds dialect n deeds ≡ numbered_from n events) → length deeds ≡ told_in events → (cards ≡ [] → events ≡ [])
     → AreSaid dialect (board_said cards ++ events) (board_deeds street cards deeds)
 board_same dialect street [] events deeds same count quiet = record { same = λ n. ap (numbered_from n) (quiet refl); count = ap told_in (quiet refl) }
 board_same dialect street (slot ∷ rest) events deeds same count quiet =
@@ -229,7 +229,7 @@ module _ (setting : PlainSetting) (trace : Trace) (is : CanBePlayed setting trac
   abbrev street_events : ℕ → List Said
   street_events number = street_again dialect trace.setup placed moves number
 
-  street_same : (street : Street) (number : ℕ) → 2 ≤ number → number ≤ 4 → AreSaid dialect (street_events number) (board_deeds street (dealt_slots placed None number) (deeds_on dialect trace number))
+  street_same : (street : StreetName) (number : ℕ) → 2 ≤ number → number ≤ 4 → AreSaid dialect (street_events number) (board_deeds street (dealt_slots placed None number) (deeds_on dialect trace number))
   street_same street number low high =
       let none : flat_map (λ seat. deal_said seat (dealt_slots placed (Some seat) number)) (all_seats trace.setup) ≡ [] =
       flat_none (λ seat. deal_said seat (dealt_slots placed (Some seat) number)) 1 seats (λ seat from within. ap (deal_said seat) (is.no_more seat number from (omega (arith, within)) low high)) in

@@ -19,8 +19,8 @@ use Rattle.hand_records.specs.declared.notes.Notes.{Notes}
 use Rattle.ohh_members.specs.declared.fault.Path.TheVariants as paths
 use Rattle.ohh_members.specs.Players.{PlainPlayer, above, button_said, has_id, has_seat, id_said, lower, lowest, next_player, player_added, player_at, player_said, players_said, round_from, seat_said, seated, seated_said, short_text_said, stack_said}
 use Rattle.ohh_members.specs.Values.{added_from, field, integer_said, list_said, listed, needed, number_said, object_said, text_said}
-use Rattle.ohh_line.specs.Seating.{number_among}
-use Rattle.ohh_line.specs.Tree.{player_tree, players, whole}
+use Rattle.ohh_writing.specs.Seating.{number_among}
+use Rattle.ohh_writing.specs.Tree.{player_tree, players, whole}
 use Rattle.ohh_format.proofs.CardLists.{listed_again}
 use Rattle.ohh_format.proofs.SameNumbers.{other_number}
 use Rattle.ohh_format.proofs.Circle.{IsCircle, after_top, next_higher, one_seat, top_is}

@@ -6,7 +6,7 @@ use Rattle.list_laws.proofs.Any.{list_any-map}
 use Rattle.play_event.specs.HistoryRules.{history_rules}
 use Rattle.play_event.specs.Played.{move_said}
 use Rattle.play_event.specs.declared.setup.Setup.{Setup}
-use Rattle.canonical_play.specs.TraceCore.{TraceCore}
+use Rattle.canon_script.specs.TraceCore.{TraceCore}
 use Rattle.canon_ranges.proofs.SuitedRules.{suits_own}
 use Rattle.hand_canon.specs.Judged.{IsTraceOfLegal}
 use Rattle.hand_records.specs.SoundRecord.{script_said}
@@ -18,15 +18,15 @@ use Rattle.hand_records.specs.declared.writing.Keep.TheVariants as keeps
 use Rattle.hand_records.specs.declared.writing.Unspelled.{Unspelled}
 use Rattle.hand_records.specs.declared.writing.Unspelled.TheVariants as facts
 use Rattle.ohh_members.specs.declared.dialect.Dialect.{Dialect}
-use Rattle.ohh_line.specs.Games.{is_spelled_game}
-use Rattle.ohh_line.specs.Spelled.{Tried, first_unspelled, has_closed, has_spelled_antes, has_spelled_blinds, has_spelled_sizes, kept_facts, note_facts, trace_facts, unspelled}
+use Rattle.ohh_writing.specs.Games.{is_spelled_game}
+use Rattle.ohh_writing.specs.Spelled.{Tried, first_unspelled, has_closed, has_spelled_antes, has_spelled_blinds, has_spelled_sizes, kept_facts, note_facts, trace_facts, unspelled}
 use Rattle.ohh_reading.specs.Hand.{plain}
 use Rattle.ohh_reading.specs.Reading.{reading}
 use Rattle.ohh_format.specs.Sharp.{is_sharp}
 use Rattle.ohh_format.proofs.ToldHands.{IsToldHand, reading_told}
 use Rattle.ohh_format.proofs.ToldSetups.{antes_spelled, blinds_spelled, sizes_spelled}
 use Rattle.hand_canon.specs.Sharp.{IsOther}
-use Rattle.hand_records.specs.Refusals.{or_behind}
+use Rattle.hand_records.specs.WriteRefusals.{or_behind}
 
 -- no raise of a legal hand is closed under the rules of hand histories
 none_closed : (trace : Trace) (hand : Record) → hand.rules ≡ history_rules → IsTraceOfLegal hand trace → has_closed trace ≡ false

@@ -5,11 +5,11 @@ use Rattle.std.proofs.lemmas.List.Sums.{sum_by-cons}
 use Rattle.canon_laws.proofs.MoveCounts.{move_count, tidy_within}
 use Rattle.canon_ranges.proofs.MoveRanges.{moves_in_range}
 use Rattle.card_set.specs.Known.{is_unknown}
-use Rattle.canonical_play.specs.CanonScript.{dealt_slots, held_slots}
-use Rattle.canonical_play.specs.PlayedScript.{IsPlayed, is_move}
-use Rattle.canonical_play.specs.Tidy.{IsTidy}
-use Rattle.canonical_play.specs.TraceCore.{TraceCore, core_of}
-use Rattle.canonical_play.specs.declared.limits.TheConstants.{MOST_MOVES}
+use Rattle.canon_script.specs.CanonScript.{dealt_slots, held_slots}
+use Rattle.canon_script.specs.PlayedScript.{IsPlayed, is_move}
+use Rattle.canon_script.specs.Tidy.{IsTidy}
+use Rattle.canon_script.specs.TraceCore.{TraceCore, core_of}
+use Rattle.canon_script.specs.declared.limits.TheConstants.{MOST_MOVES}
 use Rattle.chip_ledger.specs.LiveRow.{flag_of}
 use Rattle.chip_ledger.specs.SeatRow.{amount_of}
 use Rattle.chip_ledger.specs.declared.numbers.TheConstants.{MOST_CHIPS}
@@ -40,10 +40,10 @@ use Rattle.play_laws.proofs.FittingPasts.{legal_moves}
 use Rattle.showdown_split.proofs.Flagged.{is_flagged-flag}
 use Rattle.ohh_members.specs.Values.{seat_of}
 use Rattle.ohh_members.specs.declared.dialect.Dialect.{Dialect}
-use Rattle.ohh_line.specs.Actions.{big_blind_seat, small_blind_seat}
-use Rattle.ohh_line.specs.Games.{is_spelled_game}
-use Rattle.ohh_line.specs.Lines.{Spells}
-use Rattle.ohh_line.specs.Spelled.{first_unspelled, has_spelled_antes, has_spelled_blinds, has_spelled_sizes, kept_facts, trace_facts, unspelled}
+use Rattle.ohh_writing.specs.Actions.{big_blind_seat, small_blind_seat}
+use Rattle.ohh_writing.specs.Games.{is_spelled_game}
+use Rattle.ohh_writing.specs.Lines.{Spells}
+use Rattle.ohh_writing.specs.Spelled.{first_unspelled, has_spelled_antes, has_spelled_blinds, has_spelled_sizes, kept_facts, trace_facts, unspelled}
 use Rattle.ohh_posts.proofs.Stacks.{seats_in}
 use Rattle.ohh_posts.specs.declared.post.PostKind.TheVariants as kinds
 use Rattle.ohh_reading.specs.Reading.{reading}
@@ -66,7 +66,7 @@ use Rattle.ohh_format.proofs.WinsAgain.{seat_again}
 use Rattle.list_laws.proofs.Lists.{none_from_length}
 use Rattle.list_laws.proofs.Options.{from_some_none}
 use Rattle.hand_records.specs.Moves.{moves_played}
-use Rattle.hand_records.specs.Refusals.{or_behind, refusal_from, first_refusal}
+use Rattle.hand_records.specs.WriteRefusals.{or_behind, refusal_from, first_refusal}
 use Rattle.hand_records.proofs.Refusals.{none_refused}
 use Rattle.play_event.proofs.ScriptLaws.{at_end}
 use Rattle.hand_records.specs.Plays.{moves_written}

@@ -17,7 +17,7 @@ use Rattle.chip_ledger.specs.declared.pots.Pot.{Pot}
 use Rattle.chip_ledger.specs.declared.rakes.RakeRow.{RakeRow}
 use Rattle.chip_ledger.specs.declared.rows.SeatRow.{SeatRow}
 use Rattle.chip_ledger.specs.declared.rows.TheConstants.{MOST_AMOUNT}
-use Rattle.canonical_play.specs.TraceCore.{core_of}
+use Rattle.canon_script.specs.TraceCore.{core_of}
 use Rattle.hand_canon.specs.LegalHand.{IsShareable, showdown_in}
 use Rattle.hand_canon.specs.WholeTrace.{IsTraceOf}
 use Rattle.hand_records.specs.declared.trace.Trace.{Trace}
@@ -31,7 +31,7 @@ use Rattle.play_event.specs.declared.setup.Setup.{Setup}
 use Rattle.trace_laws.proofs.ShareBounds.{shares_and_rakes}
 use Rattle.trace_laws.proofs.TraceChips.{pots_and_returns}
 use Rattle.variant_table.specs.Shares.{AllShared, Showdown}
-use Rattle.ohh_line.specs.Tree.{share_at}
+use Rattle.ohh_writing.specs.Tree.{share_at}
 use Rattle.ohh_format.proofs.PotsAgain.{HasPots, SharesFit, chips_of}
 use Rattle.list_laws.proofs.Entries.{taken_at, there}
 use Rattle.chip_ledger.proofs.PlainPots.{no_chips_past}

@@ -5,8 +5,8 @@ use Rattle.list_laws.proofs.FlatMaps.{kept_flat}
 use Rattle.list_laws.proofs.NumbersOfRange.{flat_none, flat_same, is_in}
 use Rattle.card_set.specs.Known.{known_cards}
 use Rattle.canon_laws.proofs.SameCore.{plain_again}
-use Rattle.canonical_play.specs.CanonScript.{held_slots, plain_moves, showdown_said, showing_said}
-use Rattle.canonical_play.specs.TraceCore.{TraceCore}
+use Rattle.canon_script.specs.CanonScript.{held_slots, plain_moves, showdown_said, showing_said}
+use Rattle.canon_script.specs.TraceCore.{TraceCore}
 use Rattle.chip_ledger.specs.LiveRow.{flag_of, flagged}
 use Rattle.chip_ledger.specs.declared.rows.LiveRow.{LiveRow}
 use Rattle.hand_canon.specs.WholeTrace.{IsTraceOf}

@@ -9,8 +9,8 @@ use Rattle.card_set.specs.Known.{is_unknown, known_cards}
 use Rattle.card_set.specs.Spelling.{slot_spelling}
 use Rattle.card_set.specs.declared.card.Slot.{Slot}
 use Rattle.chip_ledger.specs.declared.numbers.TheConstants.{MOST_CHIPS}
-use Rattle.canonical_play.specs.PlayedScript.{is_move}
-use Rattle.canonical_play.specs.declared.limits.TheConstants.{MOST_MOVES, MOST_OTHER_EVENTS}
+use Rattle.canon_script.specs.PlayedScript.{is_move}
+use Rattle.canon_script.specs.declared.limits.TheConstants.{MOST_MOVES, MOST_OTHER_EVENTS}
 use Rattle.first_fault.specs.declared.limits.TheConstants.{MOST_FILE_MOVES}
 use Rattle.first_fault.specs.Reading.{◌>>=◌}
 use Rattle.play_event.specs.declared.event.Spelled.TheVariants as spelled
@@ -18,15 +18,15 @@ use Rattle.play_event.specs.Said as said
 use Rattle.play_event.specs.Said.{Said}
 use Rattle.ohh_members.specs.declared.dialect.Dialect.{Dialect}
 use Rattle.ohh_members.specs.declared.fault.ActionMember.TheVariants as members
-use Rattle.ohh_members.specs.declared.fault.Fault.{Fault}
+use Rattle.ohh_members.specs.declared.fault.MemberFault.{MemberFault}
 use Rattle.ohh_members.specs.declared.fault.Path.{Path}
 use Rattle.ohh_members.specs.Values.{integer_said, needed, number_said, object_said, player_said, seat_of, text_said}
-use Rattle.ohh_line.specs.Actions.{PlainAction}
-use Rattle.ohh_line.specs.Tree.{action_tree, action_trees}
+use Rattle.ohh_writing.specs.Actions.{PlainAction}
+use Rattle.ohh_writing.specs.Tree.{action_tree, action_trees}
 use Rattle.ohh_posts.specs.declared.post.ActionPlace.{ActionPlace}
 use Rattle.ohh_posts.specs.declared.post.PostKind.{PostKind}
 use Rattle.ohh_posts.specs.declared.post.PostKind.TheVariants as kinds
-use Rattle.ohh_posts.specs.Table.{seat_count}
+use Rattle.ohh_posts.specs.NamedBlinds.{seat_count}
 use Rattle.ohh_rounds.specs.Actions.{at_action, called, chips_said, dealt_cards, deed_said, event_counted, listed_cards, members_said, posted, raise_by, raised, seat_said, shown, step_said, word_said}
 use Rattle.ohh_rounds.specs.Rounds.{action_added, added_from}
 use Rattle.ohh_rounds.specs.Setting.{PlainSetting}
@@ -215,7 +215,7 @@ module _ (setting : PlainSetting) (round : ℕ) where
       (actions_read (earlier ++ step ∷ []) (n + 1) (index + 1) (m + 1) rest (counted_action earlier n step.deed at) all.1
       ∙ ap Ok (append_assoc earlier (step ∷ []) (steps_of setting.dialect (n + 1) round (index + 1) rest)))
 
-  first_behind : (index : ℕ) (x : Data) (xs ys : List Data) (found : Result (List PlainStep) Fault)
+  first_behind : (index : ℕ) (x : Data) (xs ys : List Data) (found : Result (List PlainStep) MemberFault)
       → ((after : List PlainStep) → added_from (action_added setting round) after (index + 1) (xs ++ ys) ≡ (added_from (action_added setting round) after (index + 1) xs >>= λ mid. added_from (action_added setting round) mid (index + 1 + length xs) ys))
       → (found >>= λ after. added_from (action_added setting round) after (index + 1) (xs ++ ys)) ≡ ((found >>= λ after. added_from (action_added setting round) after (index + 1) xs) >>= λ mid. added_from (action_added setting round) mid (index + length (x ∷ xs)) ys)
   first_behind index x xs ys (Err fault) later = refl
@@ -231,7 +231,7 @@ module _ (setting : PlainSetting) (round : ℕ) where
       → added_from (action_added setting round) middle (index + length xs) ys ≡ Ok after
       → added_from (action_added setting round) earlier index (xs ++ ys) ≡ Ok after
   added_both earlier middle after index xs ys one two =
-      behind earlier index xs ys ∙ ap (λ (found : Result (List PlainStep) Fault). found >>= λ mid. added_from (action_added setting round) mid (index + length xs) ys) one ∙ two
+      behind earlier index xs ys ∙ ap (λ (found : Result (List PlainStep) MemberFault). found >>= λ mid. added_from (action_added setting round) mid (index + length xs) ys) one ∙ two
 
 -- the trees of actions behind others
 pub trees_both : (m : ℕ) (some more : List PlainAction) → action_trees m (some ++ more) ≡ action_trees m some ++ action_trees (m + length some) more

@@ -9,11 +9,11 @@ use Rattle.list_laws.proofs.Counting.{count_by-cons, count_by-push}
 use Rattle.card_set.specs.Known.{is_unknown}
 use Rattle.card_set.specs.declared.card.Slot.{Slot}
 use Rattle.chip_ledger.specs.declared.numbers.TheConstants.{MOST_CHIPS}
-use Rattle.canonical_play.specs.declared.limits.TheConstants.{MOST_MOVES, MOST_OTHER_EVENTS}
+use Rattle.canon_script.specs.declared.limits.TheConstants.{MOST_MOVES, MOST_OTHER_EVENTS}
 use Rattle.first_fault.specs.declared.limits.TheConstants.{MOST_FILE_MOVES}
 use Rattle.ohh_members.specs.declared.dialect.Dialect.{Dialect}
 use Rattle.ohh_members.specs.Values.{seat_of}
-use Rattle.ohh_posts.specs.Table.{seat_count}
+use Rattle.ohh_posts.specs.NamedBlinds.{seat_count}
 use Rattle.ohh_posts.specs.declared.post.ActionPlace.{ActionPlace}
 use Rattle.ohh_rounds.specs.Setting.{PlainSetting}
 use Rattle.ohh_rounds.specs.Steps.{PlainStep, dealt_in, dealt_to, has_folded, is_action, is_fold_of, is_move_deed, is_other_deed, moves_in, others_in}

@@ -22,16 +22,16 @@ use Rattle.ohh_rounds.specs.Rounds.{steps_said}
 use Rattle.ohh_members.specs.Values.{field, needed, number_said, object_said, or_wrong, text_said, wrong}
 use Rattle.ohh_members.specs.declared.blinds.Blinds.{Blinds}
 use Rattle.ohh_members.specs.declared.dialect.Dialect.{Dialect}
-use Rattle.ohh_members.specs.declared.fault.Fault.{Fault}
+use Rattle.ohh_members.specs.declared.fault.MemberFault.{MemberFault}
 use Rattle.ohh_members.specs.declared.fault.Path.{Path}
 use Rattle.ohh_members.specs.declared.fault.Path.TheVariants as paths
-use Rattle.ohh_members.specs.declared.fault.What.{What}
-use Rattle.ohh_members.specs.declared.fault.What.TheVariants as whats
-use Rattle.ohh_line.specs.Games.{is_spelled_game}
+use Rattle.ohh_members.specs.declared.fault.MemberFaultKind.{MemberFaultKind}
+use Rattle.ohh_members.specs.declared.fault.MemberFaultKind.TheVariants as whats
+use Rattle.ohh_writing.specs.Games.{is_spelled_game}
 use Rattle.ohh_posts.specs.Conditions.{posts_checked}
 use Rattle.ohh_posts.specs.Posts.{PlainPost}
-use Rattle.ohh_posts.specs.Stakes.{PlainStakes, stakes_said}
-use Rattle.ohh_posts.specs.Table.{PlainTable, seat_count}
+use Rattle.ohh_posts.specs.AntesAndBlinds.{PlainAntesAndBlinds, antes_and_blinds_said}
+use Rattle.ohh_posts.specs.NamedBlinds.{PlainNamedBlinds, seat_count}
 use Rattle.ohh_posts.specs.declared.post.PostFault.{PostFault}
 use Rattle.ohh_posts.specs.declared.post.PostFault.TheVariants as post_faults
 use Rattle.ohh_rounds.specs.Play.{PlainPlay, at_posts, posts_in, rounds_said, script_said}
@@ -41,8 +41,8 @@ use Rattle.ohh_reading.specs.Blocks.{blocks_of}
 use Rattle.ohh_reading.specs.Hand.{PlainHand, PlainSetup, hand_said, setting_of}
 use Rattle.ohh_reading.specs.Reading.{found_said, hands_said, in_hand, numbered_hand, object_of, of_hand, past_hands, reading, told, tree_of, tree_said}
 use Rattle.ohh_reading.specs.Sizes.{sizes_of}
-use Rattle.ohh_reading.specs.declared.fault.HandFault.{HandFault}
-use Rattle.ohh_reading.specs.declared.fault.Wrongness.TheVariants as wrongness
+use Rattle.ohh_reading.specs.declared.fault.OhhHandFault.{OhhHandFault}
+use Rattle.ohh_reading.specs.declared.fault.HandFaultKind.TheVariants as wrongness
 use Rattle.first_fault.proofs.Thread.{bound}
 
 -- the same, by what holds of what comes first
@@ -52,7 +52,7 @@ bound_by P Q (Err fault) next is each = tt
 
 -- ---- the front
 
-named_told : (what : What) (path : Path) (first second third fourth : Bool)
+named_told : (what : MemberFaultKind) (path : Path) (first second third fourth : Bool)
     → IfOk (or_wrong what path (if first then Some games.FT else if second then Some games.NT else if third then Some games.PO else if fourth then Some games.FO8 else None)) (λ code. is_spelled_game code ≡ true)
 named_told what path true second third fourth = refl
 named_told what path false true third fourth = refl
@@ -128,13 +128,13 @@ front_told ohh =
 -- ---- the rounds
 
 -- antes and blinds are those of posts that meet their conditions
-pub record HasPosts (table : PlainTable) (stakes : PlainStakes) : Type 0 where
+pub record HasPosts (table : PlainNamedBlinds) (stakes : PlainAntesAndBlinds) : Type 0 where
   pub posts : List PlainPost
-  pub are : stakes ≡ stakes_said table posts
+  pub are : stakes ≡ antes_and_blinds_said table posts
   pub checked : posts_checked table posts ≡ Ok tt
 
 checked_told : (setting : PlainSetting) (steps : List PlainStep) (checked : Result ⊤ PostFault) → posts_checked setting.table (posts_in steps) ≡ checked
-    → IfOk (at_posts checked >>= λ met. Ok (record { stakes = stakes_said setting.table (posts_in steps); script = script_said (seat_count setting.table) setting.hole_cards steps; file_moves = setting.file_moves + moves_in steps })) (λ (play : PlainPlay). HasPosts setting.table play.stakes)
+    → IfOk (at_posts checked >>= λ met. Ok (record { stakes = antes_and_blinds_said setting.table (posts_in steps); script = script_said (seat_count setting.table) setting.hole_cards steps; file_moves = setting.file_moves + moves_in steps })) (λ (play : PlainPlay). HasPosts setting.table play.stakes)
 checked_told setting steps (Ok met) is = record { posts = posts_in steps; are = refl; checked = is }
 checked_told setting steps (Err post_faults.MissingBlind) is = tt
 checked_told setting steps (Err (post_faults.At place)) is = tt
@@ -147,7 +147,7 @@ play_told setting ohh = bound (λ (play : PlainPlay). HasPosts setting.table pla
 
 -- a setup is told by blinds as they are named, and by posts
 pub record IsToldSetup (setup : PlainSetup) : Type 0 where
-  pub table : PlainTable
+  pub table : PlainNamedBlinds
   pub game : is_spelled_game setup.code ≡ true
   pub small : 1 ≤ table.small_blind
   pub order : table.small_blind ≤ table.big_blind
@@ -163,7 +163,7 @@ pub record IsToldHand (hand : PlainHand) : Type 0 where
 abbrev IsFoundTold : PlainHand × ℕ → Type 0
 IsFoundTold found = IsToldHand found.0
 
-abbrev table_of : PlainFront → PlainTable
+abbrev table_of : PlainFront → PlainNamedBlinds
 table_of front = record { stacks = stacks_of front.players; small_blind = front.blinds.small; big_blind = front.blinds.big }
 
 hand_told : (dialect : Dialect) (file_moves place : ℕ) (ohh : Data) → IfOk (hand_said dialect file_moves place ohh) IsFoundTold
@@ -184,7 +184,7 @@ tree_told : (dialect : Dialect) (file_moves place : ℕ) (tree : Data) → IfOk 
 unfolding tree_said
 tree_told dialect file_moves place tree = bound IsFoundTold (object_of (field paths.Ohh tree)) _ (λ ohh. hand_told dialect file_moves place ohh)
 
-one_told : (number : ℕ) (read : Result (PlainHand × ℕ) Fault) → IfOk read IsFoundTold → IfOk (in_hand number read) IsFoundTold
+one_told : (number : ℕ) (read : Result (PlainHand × ℕ) MemberFault) → IfOk read IsFoundTold → IfOk (in_hand number read) IsFoundTold
 one_told number (Ok found) is = is
 one_told number (Err fault) is = tt
 
@@ -202,7 +202,7 @@ numbered_told dialect file_moves number block =
     by_limit (found_said dialect file_moves number (tree_of block) >>= λ found. Ok (found.0 ∷ [], found.1)) (nat_lt MOST_HANDS number)
     (bound_by IsFoundTold AreTold (found_said dialect file_moves number (tree_of block)) _ (found_told dialect file_moves number (tree_of block)) (λ found is. (is, tt)))
   where
-    by_limit : (here : Result (List PlainHand × ℕ) HandFault) (late : Bool) → IfOk here AreTold → IfOk (if late then of_hand number (wrongness.Member past_hands) else here) AreTold
+    by_limit : (here : Result (List PlainHand × ℕ) OhhHandFault) (late : Bool) → IfOk here AreTold → IfOk (if late then of_hand number (wrongness.Member past_hands) else here) AreTold
     by_limit here true is = tt
     by_limit here false is = is
 
@@ -210,7 +210,7 @@ both_told : (some more : List PlainHand) → AllByRecursion IsToldHand some → 
 both_told [] more each others = others
 both_told (hand ∷ some) more each others = (each.0, both_told some more each.1 others)
 
-then_told : (found : List PlainHand × ℕ) (others : Result (List PlainHand × ℕ) HandFault) → AreTold found → IfOk others AreTold → IfOk (others >>= λ rest. Ok (found.0 ++ rest.0, rest.1)) AreTold
+then_told : (found : List PlainHand × ℕ) (others : Result (List PlainHand × ℕ) OhhHandFault) → AreTold found → IfOk others AreTold → IfOk (others >>= λ rest. Ok (found.0 ++ rest.0, rest.1)) AreTold
 then_told found (Ok rest) is all = both_told found.0 rest.0 is all
 then_told found (Err fault) is all = tt
 
@@ -220,12 +220,12 @@ threaded dialect file_moves number [] = tt
 threaded dialect file_moves number (block ∷ rest) =
     by_first (numbered_hand dialect file_moves number block) (numbered_told dialect file_moves number block) (λ counts. threaded dialect counts (number + 1) rest)
   where
-    by_first : (first : Result (List PlainHand × ℕ) HandFault) → IfOk first AreTold → ((counts : ℕ) → IfOk (thread_from (numbered_hand dialect) counts (number + 1) rest) AreTold)
+    by_first : (first : Result (List PlainHand × ℕ) OhhHandFault) → IfOk first AreTold → ((counts : ℕ) → IfOk (thread_from (numbered_hand dialect) counts (number + 1) rest) AreTold)
         → IfOk (first >>= λ found. thread_from (numbered_hand dialect) found.1 (number + 1) rest >>= λ others. Ok (found.0 ++ others.0, others.1)) AreTold
     by_first (Ok found) is later = then_told found (thread_from (numbered_hand dialect) found.1 (number + 1) rest) is (later found.1)
     by_first (Err fault) is later = tt
 
-all_told : (found : Result (List PlainHand × ℕ) HandFault) → IfOk found AreTold → IfOk (told found) (AllByRecursion IsToldHand)
+all_told : (found : Result (List PlainHand × ℕ) OhhHandFault) → IfOk found AreTold → IfOk (told found) (AllByRecursion IsToldHand)
 all_told (Ok found) is = is
 all_told (Err fault) is = tt
 

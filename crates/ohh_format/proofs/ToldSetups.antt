@@ -12,13 +12,13 @@ use Rattle.play_event.specs.Seats.{all_seats}
 use Rattle.play_event.specs.Streets.{limit_of}
 use Rattle.play_event.specs.ValidSetup.{is_fixed}
 use Rattle.play_event.specs.declared.setup.Setup.{Setup}
-use Rattle.ohh_line.specs.Spelled.{big_blind, greatest_ante, has_no_ante, has_spelled_antes, has_spelled_blinds, has_spelled_sizes, has_spelled_straddles, has_two_blinds, is_covered_straddle, is_whole_ante}
+use Rattle.ohh_writing.specs.Spelled.{big_blind, greatest_ante, has_no_ante, has_spelled_antes, has_spelled_blinds, has_spelled_sizes, has_spelled_straddles, has_two_blinds, is_covered_straddle, is_whole_ante}
 use Rattle.ohh_posts.proofs.Stacks.{seats_in}
 use Rattle.ohh_posts.specs.Conditions as conditions_of
 use Rattle.ohh_posts.specs.Conditions.{has_all_antes}
 use Rattle.ohh_posts.specs.Posts.{PlainPost, ante_of, first_ante, first_straddle}
-use Rattle.ohh_posts.specs.Stakes.{PlainStakes, are_dead, held_ante, named_blind, stakes_said}
-use Rattle.ohh_posts.specs.Table.{PlainTable, seat_count, stack_of}
+use Rattle.ohh_posts.specs.AntesAndBlinds.{PlainAntesAndBlinds, antes_and_blinds_said, are_dead, held_ante, named_blind}
+use Rattle.ohh_posts.specs.NamedBlinds.{PlainNamedBlinds, seat_count, stack_of}
 use Rattle.ohh_reading.specs.Hand.{plain_setup}
 use Rattle.ohh_reading.specs.declared.sizes.Sizes.{Sizes}
 use Rattle.ohh_format.proofs.ToldHands.{IsToldSetup}
@@ -54,7 +54,7 @@ module _ (setup : Setup) (is : IsToldSetup (plain_setup setup)) where
   abbrev count : ℕ
   count = setup.stacks.seats
 
-  abbrev table : PlainTable
+  abbrev table : PlainNamedBlinds
   table = is.table
 
   abbrev posts : List PlainPost
@@ -67,20 +67,20 @@ module _ (setup : Setup) (is : IsToldSetup (plain_setup setup)) where
   stack_is seat = ap (λ (l : List ℕ). slice_index l (seat - 1)) (sym is.stacks) ∙ at_taken setup.stacks.amounts count (seat - 1) setup.stacks.filler
 
   held_is : (seat : ℕ) → 1 ≤ seat → seat ≤ count → amount_of setup.antes seat ≡ held_ante table posts seat
-  unfolding stakes_said
+  unfolding antes_and_blinds_said
   held_is =
       row_at setup.antes (held_ante table posts) count
-      (ap (λ (stakes : PlainStakes). stakes.antes) is.stakes.are ∙ ap (λ n. map (held_ante table posts) (seats_of n)) count_is)
+      (ap (λ (stakes : PlainAntesAndBlinds). stakes.antes) is.stakes.are ∙ ap (λ n. map (held_ante table posts) (seats_of n)) count_is)
 
   blind_is : (seat : ℕ) → 1 ≤ seat → seat ≤ count → amount_of setup.blinds seat ≡ named_blind table posts seat
-  unfolding stakes_said
+  unfolding antes_and_blinds_said
   blind_is =
       row_at setup.blinds (named_blind table posts) count
-      (ap (λ (stakes : PlainStakes). stakes.blinds) is.stakes.are ∙ ap (λ n. map (named_blind table posts) (seats_of n)) count_is)
+      (ap (λ (stakes : PlainAntesAndBlinds). stakes.blinds) is.stakes.are ∙ ap (λ n. map (named_blind table posts) (seats_of n)) count_is)
 
   dead_is : setup.dead_antes ≡ are_dead table posts
-  unfolding stakes_said
-  dead_is = ap (λ (stakes : PlainStakes). stakes.dead_antes) is.stakes.are
+  unfolding antes_and_blinds_said
+  dead_is = ap (λ (stakes : PlainAntesAndBlinds). stakes.dead_antes) is.stakes.are
 
   ante_is : (seat : ℕ) → 1 ≤ seat → seat ≤ count → amount_of setup.antes seat ≡ ante_of posts seat
   ante_is seat low high = omega (arith, held_is seat low high, ante_within table posts is.stakes.checked seat)

@@ -3,8 +3,8 @@
 use Rattle.std.proofs.Common.{◌≡◌, ℕ, ◌-◌, ◌≤◌, Bool, true, false, ◌&&◌, ◌||◌, ◌==◌, not, if◌then◌else◌, List, [], ◌∷◌, ◌++◌, Option, Some, None, refl, sym, ap, ◌∙◌, arith, true≢false}
 use Rattle.std.specs.List.{AllByRecursion}
 use Rattle.std.proofs.lemmas.Bool.{eq-eqb, not_from_true}
-use Rattle.canonical_play.specs.CanonScript.{act_named, move_named, plain_move}
-use Rattle.canonical_play.specs.PlayedScript.{is_move}
+use Rattle.canon_script.specs.CanonScript.{act_named, move_named, plain_move}
+use Rattle.canon_script.specs.PlayedScript.{is_move}
 use Rattle.play_event.specs.Amounts.{call_target, raise_target}
 use Rattle.play_event.specs.Chips.{street_chips}
 use Rattle.play_event.specs.Due.{turn}

@@ -4,8 +4,8 @@ use Rattle.std.specs.List.{flat_map, list_any, range_with_len}
 use Rattle.std.proofs.lemmas.Bool.{eqb-true, ltb-true, ne_eqb}
 use Rattle.std.proofs.lemmas.List.{append-nil, flat_map_more, reverse-append}
 use Rattle.card_set.specs.Known.{known_cards}
-use Rattle.canonical_play.specs.CanonScript.{held_slots, move_named, plain_move, showdown_said, showing_said, street_said}
-use Rattle.canonical_play.specs.PlayedScript.{is_move}
+use Rattle.canon_script.specs.CanonScript.{held_slots, move_named, plain_move, showdown_said, showing_said, street_said}
+use Rattle.canon_script.specs.PlayedScript.{is_move}
 use Rattle.play_event.specs.Past.{Act, BroughtIn, Called, Folded, Move, Raised, moves_before}
 use Rattle.play_event.specs.Said.{Muck, Said, Show}
 use Rattle.play_event.specs.Seats.{all_seats, is_live, live_count}

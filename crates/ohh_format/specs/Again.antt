@@ -12,7 +12,7 @@ use Rattle.play_event.specs.Said as said
 use Rattle.play_event.specs.Said.{Numbered, Said}
 use Rattle.play_event.specs.Seats.{all_seats}
 use Rattle.play_event.specs.Trace.{TracedMove, TracedPlace}
-use Rattle.canonical_play.specs.CanonScript.{deals_said, plain_moves, showdown_said}
+use Rattle.canon_script.specs.CanonScript.{deals_said, plain_moves, showdown_said}
 use Rattle.hand_canon.specs.Agreement.{pot_total_of, win_of}
 use Rattle.hand_records.specs.TraceRows.{core_said}
 use Rattle.hand_records.specs.declared.notes.Notes.{Notes}
@@ -21,9 +21,9 @@ use Rattle.hand_records.specs.declared.trace.Trace.{Trace}
 use Rattle.ohh_members.specs.declared.dialect.Dialect.{Dialect}
 use Rattle.ohh_members.specs.declared.dialect.Dialect.TheVariants as dialects
 use Rattle.ohh_facts.specs.Notes.{PlainNotes}
-use Rattle.ohh_line.specs.Actions.{has_known, posts}
-use Rattle.ohh_line.specs.Moment.{moment_of}
-use Rattle.ohh_line.specs.Seating.{numbers_spelled}
+use Rattle.ohh_writing.specs.Actions.{has_known, posts}
+use Rattle.ohh_writing.specs.Moment.{moment_of}
+use Rattle.ohh_writing.specs.Seating.{numbers_spelled}
 use Rattle.ohh_reading.specs.Hand.{PlainHand, plain_setup}
 use Rattle.first_fault.specs.Numbers.{kept_number}
 use Rattle.hand_canon.specs.ReadAgain.{kept_label}

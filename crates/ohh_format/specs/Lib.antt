@@ -1,4 +1,4 @@
 -- What is read again of plays that were written.
 pub mod Again
-pub mod ReadBack
+pub mod KeptNotes
 pub mod Sharp

@@ -5,6 +5,6 @@
 mod laws;
 
 pub use laws::{law_of_reading_again, law_of_reading_back, law_of_sharpness};
-pub use ohh_line::{push_line, spells, write};
 pub use ohh_members::Dialect;
 pub use ohh_reading::{OhhFault, read};
+pub use ohh_writing::{push_line, spells, write};

@@ -4,16 +4,16 @@ use Rattle.std.proofs.lemmas.List.{drop_more, drop_all}
 use Rattle.first_fault.specs.declared.stop.Stop.{Stop}
 use Rattle.first_fault.specs.declared.stop.Stop.TheVariants as stops
 use Rattle.first_fault.specs.Reading.{Fails}
-use Rattle.ohh_members.specs.declared.fault.Fault.{Fault}
+use Rattle.ohh_members.specs.declared.fault.MemberFault.{MemberFault}
 use Rattle.ohh_members.specs.Values.{added_from}
 
 -- the items from an index on are added
-abbrev pub add_left : {V D S : Type 0} → (V → D) → (S → ℕ → D → Result S Fault) → S → ℕ → List V → Result S Fault
+abbrev pub add_left : {V D S : Type 0} → (V → D) → (S → ℕ → D → Result S MemberFault) → S → ℕ → List V → Result S MemberFault
 add_left seen form before index values = added_from form before index (map seen (drop index values))
 
-module _ {V D S : Type 0} (seen : V → D) (form : S → ℕ → D → Result S Fault) where
+module _ {V D S : Type 0} (seen : V → D) (form : S → ℕ → D → Result S MemberFault) where
   -- one more item was added
-  pub added : (before after : S) (values : List V) (index : ℕ) (value : V) (whole : Result S Fault)
+  pub added : (before after : S) (values : List V) (index : ℕ) (value : V) (whole : Result S MemberFault)
       → index < length values → get_or values index value ≡ value → form before index (seen value) ≡ Ok after
       → add_left seen form before index values ≡ whole
       → add_left seen form after (index + 1) values ≡ whole
@@ -24,7 +24,7 @@ module _ {V D S : Type 0} (seen : V → D) (form : S → ℕ → D → Result S 
       sym one ∙ so_far
 
   -- an item was refused
-  pub not_added : (stop : Stop Fault) (before : S) (values : List V) (index : ℕ) (value : V) (whole : Result S Fault)
+  pub not_added : (stop : Stop MemberFault) (before : S) (values : List V) (index : ℕ) (value : V) (whole : Result S MemberFault)
       → index < length values → get_or values index value ≡ value → Fails stop (form before index (seen value))
       → add_left seen form before index values ≡ whole
       → Fails stop whole
@@ -36,7 +36,7 @@ module _ {V D S : Type 0} (seen : V → D) (form : S → ℕ → D → Result S 
       sym so_far ∙ one
 
   -- no item is left
-  pub all_added : (before : S) (values : List V) (index : ℕ) (whole : Result S Fault) → length values ≤ index
+  pub all_added : (before : S) (values : List V) (index : ℕ) (whole : Result S MemberFault) → length values ≤ index
       → add_left seen form before index values ≡ whole → whole ≡ Ok before
   unfolding added_from
   all_added before values index whole le so_far =

@@ -7,10 +7,10 @@ use Rattle.play_event.specs.Streets.{limit_of}
 use Rattle.play_event.specs.ValidSetup.{is_fixed}
 use Rattle.first_fault.specs.Reading.{◌>>=◌, read_if}
 use Rattle.ohh_members.specs.declared.blinds.Blinds.{Blinds}
-use Rattle.ohh_members.specs.declared.fault.What.TheVariants as whats
+use Rattle.ohh_members.specs.declared.fault.MemberFaultKind.TheVariants as whats
 use Rattle.ohh_members.specs.declared.fault.Path.{Path}
 use Rattle.ohh_members.specs.declared.fault.Path.TheVariants as paths
-use Rattle.ohh_members.specs.declared.fault.Fault.{Fault}
+use Rattle.ohh_members.specs.declared.fault.MemberFault.{MemberFault}
 use Rattle.ohh_members.specs.Values.{wrong, field, needed, number_said}
 
 -- the limit of the game is fixed
@@ -18,18 +18,18 @@ abbrev pub is_fixed_game : Code → Bool
 is_fixed_game code = is_fixed (limit_of code)
 
 -- the small blind is at most the big one, and in fixed limit the big bet, twice the big blind, is an amount
-unfoldable pub fitting : Code → ℕ → ℕ → Result Blinds Fault
+unfoldable pub fitting : Code → ℕ → ℕ → Result Blinds MemberFault
 fitting code small big =
     if nat_lt big small then wrong whats.BadPost paths.SmallBlindAmount
     else if is_fixed_game code && nat_lt MOST_CHIPS (2 * big) then wrong whats.AmountLimit paths.BigBlindAmount
     else Ok (record { small = small; big = big })
 
 -- a blind of at least 1
-abbrev pub blind_said : Path → Data → Result ℕ Fault
+abbrev pub blind_said : Path → Data → Result ℕ MemberFault
 blind_said path ohh = needed path ohh >>= number_said 1 MOST_CHIPS path
 
 -- the blinds; the ante is examined for its form alone
-unfoldable pub blinds_said : Code → Data → Result Blinds Fault
+unfoldable pub blinds_said : Code → Data → Result Blinds MemberFault
 blinds_said code ohh = do
   ante ← read_if (number_said 0 MOST_CHIPS paths.AnteAmount) (field paths.AnteAmount ohh)
   small ← blind_said paths.SmallBlindAmount ohh

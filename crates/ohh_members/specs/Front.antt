@@ -5,7 +5,7 @@ use Rattle.chip_ledger.specs.declared.numbers.TheConstants.{MOST_CHIPS}
 use Rattle.play_event.specs.declared.code.Code.{Code}
 use Rattle.first_fault.specs.Reading.{◌>>=◌}
 use Rattle.ohh_members.specs.declared.blinds.Blinds.{Blinds}
-use Rattle.ohh_members.specs.declared.fault.Fault.{Fault}
+use Rattle.ohh_members.specs.declared.fault.MemberFault.{MemberFault}
 use Rattle.ohh_members.specs.declared.front.Front.{Front}
 use Rattle.ohh_members.specs.Game.{IsReadGame, game_said}
 use Rattle.ohh_members.specs.Players.{PlainPlayer, plain_player, seated_said}
@@ -32,7 +32,7 @@ pub record IsFront (front : Front) : Type 0 where
   pub fixed : is_fixed_game front.code ≡ true → 2 * front.blinds.big ≤ MOST_CHIPS
 
 -- the front
-unfoldable pub front_said : Data → Result PlainFront Fault
+unfoldable pub front_said : Data → Result PlainFront MemberFault
 front_said ohh = do
   code ← game_said ohh
   players ← seated_said ohh

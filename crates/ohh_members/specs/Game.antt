@@ -6,10 +6,10 @@ use Rattle.play_event.specs.declared.code.Code.TheVariants as games
 use Rattle.play_event.specs.Games.{game_of}
 use Rattle.play_event.specs.Streets.{is_stud}
 use Rattle.first_fault.specs.Reading.{◌>>=◌}
-use Rattle.ohh_members.specs.declared.fault.What.TheVariants as whats
+use Rattle.ohh_members.specs.declared.fault.MemberFaultKind.TheVariants as whats
 use Rattle.ohh_members.specs.declared.fault.Path.{Path}
 use Rattle.ohh_members.specs.declared.fault.Path.TheVariants as paths
-use Rattle.ohh_members.specs.declared.fault.Fault.{Fault}
+use Rattle.ohh_members.specs.declared.fault.MemberFault.{MemberFault}
 use Rattle.ohh_members.specs.Values.{or_wrong, needed, text_said, object_said}
 
 -- the four games that are read: a type and a limit
@@ -27,15 +27,15 @@ pub record IsReadGame (code : Code) : Type 0 where
   pub blinds : is_stud code ≡ false
 
 -- the text of a member that is needed
-abbrev pub word_said : Path → Data → Result (List ℕ) Fault
+abbrev pub word_said : Path → Data → Result (List ℕ) MemberFault
 word_said path value = needed path value >>= text_said path
 
 -- the object that says the limit
-abbrev pub limits_said : Data → Result Data Fault
+abbrev pub limits_said : Data → Result Data MemberFault
 limits_said ohh = needed paths.BetLimit ohh >>= object_said paths.BetLimit
 
 -- the game
-unfoldable pub game_said : Data → Result Code Fault
+unfoldable pub game_said : Data → Result Code MemberFault
 game_said ohh = do
   game ← word_said paths.GameType ohh
   limits ← limits_said ohh

@@ -9,10 +9,10 @@ use Rattle.first_fault.specs.declared.limits.Quantity.TheVariants as quantities
 use Rattle.first_fault.specs.Reading.{◌>>=◌, read_if}
 use Rattle.ohh_members.specs.declared.fault.PlayerMember.{PlayerMember}
 use Rattle.ohh_members.specs.declared.fault.PlayerMember.TheVariants as members
-use Rattle.ohh_members.specs.declared.fault.What.TheVariants as whats
+use Rattle.ohh_members.specs.declared.fault.MemberFaultKind.TheVariants as whats
 use Rattle.ohh_members.specs.declared.fault.Path.{Path}
 use Rattle.ohh_members.specs.declared.fault.Path.TheVariants as paths
-use Rattle.ohh_members.specs.declared.fault.Fault.{Fault}
+use Rattle.ohh_members.specs.declared.fault.MemberFault.{MemberFault}
 use Rattle.ohh_members.specs.declared.player.Player.{Player}
 use Rattle.ohh_members.specs.Values.{wrong, or_wrong, field, needed, text_said, object_said, list_said, number_said, integer_said, added_from}
 
@@ -40,33 +40,33 @@ abbrev pub has_seat : ℕ → List PlainPlayer → Bool
 has_seat seat players = list_any (λ player. seat == player.seat) players
 
 -- the id of a player, which no player before it has
-unfoldable pub id_said : List PlainPlayer → ℕ → Data → Result ℤ Fault
+unfoldable pub id_said : List PlainPlayer → ℕ → Data → Result ℤ MemberFault
 id_said earlier index player = do
   id ← needed (of_player index members.Id) player >>= integer_said (of_player index members.Id)
   if has_id id earlier then wrong whats.BadPlayer (of_player index members.Id) else Ok id
 
 -- the seat of a player, which no player before it has
-unfoldable pub seat_said : List PlainPlayer → ℕ → Data → Result ℕ Fault
+unfoldable pub seat_said : List PlainPlayer → ℕ → Data → Result ℕ MemberFault
 seat_said earlier index player = do
   seat ← needed (of_player index members.Seat) player >>= number_said 1 255 (of_player index members.Seat)
   if has_seat seat earlier then wrong whats.BadPlayer (of_player index members.Seat) else Ok seat
 
 -- a text of at most 255 bytes
-unfoldable pub short_text_said : Path → Data → Result (List ℕ) Fault
+unfoldable pub short_text_said : Path → Data → Result (List ℕ) MemberFault
 short_text_said path value = do
   text ← text_said path value
   if nat_le (length text) MOST_TEXT_BYTES then Ok text else wrong (whats.TooMany quantities.TextBytes) path
 
 -- the name of a player, if it has one
-abbrev pub name_said : ℕ → Data → Result (Option (List ℕ)) Fault
+abbrev pub name_said : ℕ → Data → Result (Option (List ℕ)) MemberFault
 name_said index player = read_if (short_text_said (of_player index members.Name)) (field (of_player index members.Name) player)
 
 -- the starting stack of a player
-unfoldable pub stack_said : ℕ → Data → Result ℕ Fault
+unfoldable pub stack_said : ℕ → Data → Result ℕ MemberFault
 stack_said index player = needed (of_player index members.StartingStack) player >>= number_said 1 MOST_CHIPS (of_player index members.StartingStack)
 
 -- a player, after those before it
-unfoldable pub player_said : List PlainPlayer → ℕ → Data → Result PlainPlayer Fault
+unfoldable pub player_said : List PlainPlayer → ℕ → Data → Result PlainPlayer MemberFault
 player_said earlier index value = do
   player ← object_said (of_player index members.Itself) value
   id ← id_said earlier index player
@@ -76,11 +76,11 @@ player_said earlier index value = do
   Ok (record { id = id; seat = seat; name = name; stack = stack })
 
 -- the players with one more
-unfoldable pub player_added : List PlainPlayer → ℕ → Data → Result (List PlainPlayer) Fault
+unfoldable pub player_added : List PlainPlayer → ℕ → Data → Result (List PlainPlayer) MemberFault
 player_added earlier index value = player_said earlier index value >>= λ player. Ok (earlier ++ player ∷ [])
 
 -- the players in the order in which they are listed: two to ten of them
-unfoldable pub players_said : Data → Result (List PlainPlayer) Fault
+unfoldable pub players_said : Data → Result (List PlainPlayer) MemberFault
 players_said ohh = do
   items ← needed paths.Players ohh >>= list_said paths.Players
   if nat_le 2 (length items) && nat_le (length items) 10 then added_from player_added [] 0 items else wrong whats.BadPlayer paths.Players
@@ -90,7 +90,7 @@ abbrev pub player_at : ℤ → List PlainPlayer → Option PlainPlayer
 player_at seat players = find (λ player. int_eq (pos player.seat) seat) players
 
 -- the player on the button
-unfoldable pub button_said : List PlainPlayer → Data → Result PlainPlayer Fault
+unfoldable pub button_said : List PlainPlayer → Data → Result PlainPlayer MemberFault
 button_said players ohh = do
   seat ← needed paths.DealerSeat ohh >>= integer_said paths.DealerSeat
   or_wrong whats.BadPlayer paths.DealerSeat (player_at seat players)
@@ -122,7 +122,7 @@ abbrev pub seated : List PlainPlayer → PlainPlayer → List PlainPlayer
 seated players button = round_from players button (length players)
 
 -- the players by their seats in the hand, as they are read
-unfoldable pub seated_said : Data → Result (List PlainPlayer) Fault
+unfoldable pub seated_said : Data → Result (List PlainPlayer) MemberFault
 seated_said ohh = do
   players ← players_said ohh
   button ← button_said players ohh

@@ -1,10 +1,10 @@
 -- The names of the streets of a hand.
 use Rattle.std.specs.Prelude.{ℕ, List, codes}
-use Rattle.ohh_members.specs.declared.street.Street.{Street}
-use Rattle.ohh_members.specs.declared.street.Street.TheVariants as streets
+use Rattle.ohh_members.specs.declared.street.StreetName.{StreetName}
+use Rattle.ohh_members.specs.declared.street.StreetName.TheVariants as streets
 
 -- the name of a street
-abbrev pub street_name : Street → List ℕ
+abbrev pub street_name : StreetName → List ℕ
 street_name streets.Preflop = codes "Preflop"
 street_name streets.Flop = codes "Flop"
 street_name streets.Turn = codes "Turn"

@@ -7,7 +7,7 @@ ghost use Rattle.ohh_members.specs.declared.fault.Path.TheVariants as paths;
 ghost use Rattle.ohh_members.specs.Blinds.{blind_said, blinds_said, fitting, is_fixed_game as is_fixed_game_said};
 ghost use Rattle.ohh_members.specs.Values.{field as field_said, number_said};
 
-use crate::fault::{Fault, Path, What};
+use crate::fault::{MemberFault, MemberFaultKind, Path};
 use crate::values::{field, needed, read_number, wrong};
 use chip_ledger::MOST_CHIPS;
 use first_fault::Stop;
@@ -23,7 +23,7 @@ pub struct Blinds {
 
 /// The blinds of a hand. The ante is examined for its form alone: what is posted counts.
 #[tactic(auto, unfolding(crate::specs::Blinds::blinds_said))]
-pub fn read_blinds(ohh: &Value, code: Code) -> Result<Blinds, Stop<Fault>>
+pub fn read_blinds(ohh: &Value, code: Code) -> Result<Blinds, Stop<MemberFault>>
     ensures said { Gives (λ blinds. blinds) result (blinds_said code (view ohh.now)) }
     ensures least { IfOk result (λ blinds. 1 ≤ blinds.small) }
     ensures order { IfOk result (λ blinds. blinds.small ≤ blinds.big) }
@@ -38,7 +38,7 @@ pub fn read_blinds(ohh: &Value, code: Code) -> Result<Blinds, Stop<Fault>>
 }
 
 // The ante, if it is said.
-fn read_ante(ohh: &Value) -> Result<Option<u64>, Stop<Fault>>
+fn read_ante(ohh: &Value) -> Result<Option<u64>, Stop<MemberFault>>
     ensures { Gives (λ ante. ante) result
         (read_if (number_said 0 MOST_CHIPS paths.AnteAmount)
         (field_said paths.AnteAmount (view ohh.now))) }
@@ -50,7 +50,7 @@ fn read_ante(ohh: &Value) -> Result<Option<u64>, Stop<Fault>>
 }
 
 // A blind, of at least 1.
-fn read_blind(ohh: &Value, path: Path) -> Result<u64, Stop<Fault>>
+fn read_blind(ohh: &Value, path: Path) -> Result<u64, Stop<MemberFault>>
     ensures said { Gives (λ blind. blind) result (blind_said path (view ohh.now)) }
     ensures within { IfOk result (λ blind. (1 ≤ blind) × (blind ≤ MOST_CHIPS)) }
 {
@@ -59,7 +59,7 @@ fn read_blind(ohh: &Value, path: Path) -> Result<u64, Stop<Fault>>
 
 // The blinds, where the small one is at most the big one, and twice the big one is a bet that may be made.
 #[tactic(auto, unfolding(crate::specs::Blinds::fitting))]
-fn fit(code: Code, small: u64, big: u64) -> Result<Blinds, Stop<Fault>>
+fn fit(code: Code, small: u64, big: u64) -> Result<Blinds, Stop<MemberFault>>
     requires { big ≤ MOST_CHIPS }
     ensures said { Gives (λ blinds. blinds) result (fitting code small big) }
     ensures values { IfOk result (λ blinds. (blinds.small ≡ small) × (blinds.big ≡ big)) }
@@ -68,10 +68,10 @@ fn fit(code: Code, small: u64, big: u64) -> Result<Blinds, Stop<Fault>>
         → 2 * blinds.big ≤ MOST_CHIPS) }
 {
     if small > big {
-        return Err(wrong(What::BadPost, Path::SmallBlindAmount));
+        return Err(wrong(MemberFaultKind::BadPost, Path::SmallBlindAmount));
     }
     if is_fixed_game(code) && 2 * big > MOST_CHIPS {
-        return Err(wrong(What::AmountLimit, Path::BigBlindAmount));
+        return Err(wrong(MemberFaultKind::AmountLimit, Path::BigBlindAmount));
     }
     Ok(Blinds { small, big })
 }

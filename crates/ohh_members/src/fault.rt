@@ -9,7 +9,7 @@ use std::alloc::{AllocError, Global};
 
 /// What is wrong.
 #[derive(Clone, Copy, Debug, PartialEq, Eq)]
-pub enum What {
+pub enum MemberFaultKind {
     /// A member that is needed lacks.
     MissingMember,
     /// A member is of another kind, or a text says no card or no date.
@@ -117,8 +117,8 @@ pub enum Path {
 
 /// A fault of a hand.
 #[derive(Clone, Copy, Debug, PartialEq, Eq)]
-pub struct Fault {
-    pub what: What,
+pub struct MemberFault {
+    pub what: MemberFaultKind,
     pub path: Path,
 }
 

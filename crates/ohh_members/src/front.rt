@@ -5,7 +5,7 @@ ghost use Rattle.first_fault.specs.Reading.{Gives};
 ghost use Rattle.ohh_members.specs.Front.{IsFront, front_said, plain_front};
 
 use crate::blinds::{Blinds, read_blinds};
-use crate::fault::Fault;
+use crate::fault::MemberFault;
 use crate::game::read_game;
 use crate::player::Player;
 use crate::seating::read_players;
@@ -26,7 +26,7 @@ pub struct Front<'a> {
 
 /// What stands in front of the rounds of a hand.
 #[tactic(auto, unfolding(crate::specs::Front::front_said))]
-pub fn read_front<'a>(alloc: Global, ohh: &'a Value) -> Result<Front<'a>, Stop<Fault>>
+pub fn read_front<'a>(alloc: Global, ohh: &'a Value) -> Result<Front<'a>, Stop<MemberFault>>
     ensures said { Gives plain_front result (front_said (view ohh.now)) }
     ensures fits { IfOk result IsFront }
 {

@@ -4,7 +4,7 @@ ghost use Rattle.serde_json.specs.View.{view};
 ghost use Rattle.first_fault.specs.Reading.{Gives};
 ghost use Rattle.ohh_members.specs.Game.{IsReadGame, game_named as game_named_said, game_said, limits_said, word_said};
 
-use crate::fault::{Fault, Path, What};
+use crate::fault::{MemberFault, MemberFaultKind, Path};
 use crate::values::{needed, read_object, read_text, wrong};
 use first_fault::Stop;
 use play_event::Code;
@@ -12,7 +12,7 @@ use serde_json::Value;
 
 /// The game of a hand: hold'em in fixed limit or no limit, Omaha in pot limit, or Omaha eight-or-better in fixed limit.
 #[tactic(auto, unfolding(crate::specs::Game::game_said))]
-pub fn read_game(ohh: &Value) -> Result<Code, Stop<Fault>>
+pub fn read_game(ohh: &Value) -> Result<Code, Stop<MemberFault>>
     ensures said { Gives (λ code. code) result (game_said (view ohh.now)) }
     ensures read { IfOk result IsReadGame }
 {
@@ -21,19 +21,19 @@ pub fn read_game(ohh: &Value) -> Result<Code, Stop<Fault>>
     let limit = read_word(limits, Path::BetType)?;
     match game_named(game, limit) {
         Some(code) => Ok(code),
-        None => Err(wrong(What::UnsupportedGame, Path::GameType)),
+        None => Err(wrong(MemberFaultKind::UnsupportedGame, Path::GameType)),
     }
 }
 
 // The object that says the limit.
-fn read_limits(ohh: &Value) -> Result<&Value, Stop<Fault>>
+fn read_limits(ohh: &Value) -> Result<&Value, Stop<MemberFault>>
     ensures { Gives (λ found. view found.now) result (limits_said (view ohh.now)) }
 {
     read_object(needed(ohh, Path::BetLimit)?, Path::BetLimit)
 }
 
 // The text of a member that is needed.
-fn read_word(value: &Value, path: Path) -> Result<&str, Stop<Fault>>
+fn read_word(value: &Value, path: Path) -> Result<&str, Stop<MemberFault>>
     ensures { Gives (λ text. text.now) result (word_said path (view value.now)) }
 {
     read_text(needed(value, path)?, path)

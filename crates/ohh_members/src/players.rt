@@ -8,7 +8,7 @@ ghost use Rattle.first_fault.specs.Reading.{Gives};
 ghost use Rattle.ohh_members.specs.Players.{has_id as has_id_said, has_seat as has_seat_said, id_said, name_said, plain_player, player_added, player_said, players_said, seat_said, short_text_said, stack_said};
 ghost use Rattle.ohh_members.specs.Values.{added_from};
 
-use crate::fault::{Fault, Path, PlayerMember, What};
+use crate::fault::{MemberFault, MemberFaultKind, Path, PlayerMember};
 use crate::player::Player;
 use crate::values::{
     field, has_count, needed, read_integer, read_list, read_number, read_object, read_text, wrong,
@@ -20,7 +20,7 @@ use std::alloc::Global;
 
 /// Two to ten players, in the order in which they are listed.
 #[tactic(auto, unfolding(crate::specs::Players::players_said))]
-pub fn list_players<'a>(alloc: Global, ohh: &'a Value) -> Result<Vec<Player<'a>>, Stop<Fault>>
+pub fn list_players<'a>(alloc: Global, ohh: &'a Value) -> Result<Vec<Player<'a>>, Stop<MemberFault>>
     ensures said { Gives (λ found. map plain_player found.items) result
         (players_said (view ohh.now)) }
     ensures some { IfOk result (λ found. 2 ≤ length found.items) }
@@ -28,13 +28,13 @@ pub fn list_players<'a>(alloc: Global, ohh: &'a Value) -> Result<Vec<Player<'a>>
 {
     let values = read_list(needed(ohh, Path::Players)?, Path::Players)?;
     if !has_count(values, 2, 10) {
-        return Err(wrong(What::BadPlayer, Path::Players));
+        return Err(wrong(MemberFaultKind::BadPlayer, Path::Players));
     }
     add_players(alloc, values)
 }
 
 // The players of a list.
-fn add_players<'a>(alloc: Global, values: &'a [Value]) -> Result<Vec<Player<'a>>, Stop<Fault>>
+fn add_players<'a>(alloc: Global, values: &'a [Value]) -> Result<Vec<Player<'a>>, Stop<MemberFault>>
     ensures said { Gives (λ found. map plain_player found.items) result
         (added_from player_added [] 0 (map view values.now)) }
     ensures count { IfOk result (λ found. length found.items ≡ length values.now) }
@@ -52,7 +52,7 @@ fn add_player<'a>(
     players: &mut Vec<Player<'a>>,
     index: u64,
     value: &'a Value,
-) -> Result<(), Stop<Fault>>
+) -> Result<(), Stop<MemberFault>>
     ensures said { Gives (λ x. map plain_player players.new.items) result
         (player_added (map plain_player players.old.items) index (view value.now)) }
     ensures count { IfOk result (λ x. length players.new.items ≡ length players.old.items + 1) }
@@ -68,7 +68,7 @@ fn read_player<'a>(
     earlier: &[Player],
     index: u64,
     value: &'a Value,
-) -> Result<Player<'a>, Stop<Fault>>
+) -> Result<Player<'a>, Stop<MemberFault>>
     ensures { Gives plain_player result
         (player_said (map plain_player earlier.now) index (view value.now)) }
 {
@@ -91,7 +91,7 @@ fn read_player<'a>(
 
 // The id of a player, which no player before it has.
 #[tactic(auto, unfolding(crate::specs::Players::id_said))]
-fn read_id(earlier: &[Player], index: u64, player: &Value) -> Result<i128, Stop<Fault>>
+fn read_id(earlier: &[Player], index: u64, player: &Value) -> Result<i128, Stop<MemberFault>>
     ensures { Gives (λ id. id) result
         (id_said (map plain_player earlier.now) index (view player.now)) }
 {
@@ -101,7 +101,7 @@ fn read_id(earlier: &[Player], index: u64, player: &Value) -> Result<i128, Stop<
     };
     let id = read_integer(needed(player, path)?, path)?;
     if has_id(id, earlier) {
-        return Err(wrong(What::BadPlayer, path));
+        return Err(wrong(MemberFaultKind::BadPlayer, path));
     }
     Ok(id)
 }
@@ -120,7 +120,7 @@ fn has_id(id: i128, players: &[Player]) -> bool
 
 // The seat of a player, which no player before it has.
 #[tactic(auto, unfolding(crate::specs::Players::seat_said))]
-fn read_seat(earlier: &[Player], index: u64, player: &Value) -> Result<u8, Stop<Fault>>
+fn read_seat(earlier: &[Player], index: u64, player: &Value) -> Result<u8, Stop<MemberFault>>
     ensures said { Gives (λ seat. seat) result
         (seat_said (map plain_player earlier.now) index (view player.now)) }
     ensures first { IfOk result (λ seat. 1 ≤ seat) }
@@ -131,7 +131,7 @@ fn read_seat(earlier: &[Player], index: u64, player: &Value) -> Result<u8, Stop<
     };
     let seat = read_number(needed(player, path)?, 1, 255, path)? as u8;
     if has_seat(seat, earlier) {
-        return Err(wrong(What::BadPlayer, path));
+        return Err(wrong(MemberFaultKind::BadPlayer, path));
     }
     Ok(seat)
 }
@@ -149,7 +149,7 @@ fn has_seat(seat: u8, players: &[Player]) -> bool
 }
 
 // The name of a player, if it has one.
-fn read_name(index: u64, player: &Value) -> Result<Option<&str>, Stop<Fault>>
+fn read_name(index: u64, player: &Value) -> Result<Option<&str>, Stop<MemberFault>>
     ensures said { Gives (option_map (λ name. name.now)) result
         (name_said index (view player.now)) }
     ensures short { IfOk result (λ name. ForSome name (λ text.
@@ -170,21 +170,21 @@ fn read_name(index: u64, player: &Value) -> Result<Option<&str>, Stop<Fault>>
 
 /// A text of at most 255 bytes.
 #[tactic(auto, unfolding(crate::specs::Players::short_text_said))]
-pub fn read_short_text(value: &Value, path: Path) -> Result<&str, Stop<Fault>>
+pub fn read_short_text(value: &Value, path: Path) -> Result<&str, Stop<MemberFault>>
     ensures said { Gives (λ text. text.now) result (short_text_said path (view value.now)) }
     ensures short { IfOk result (λ text. length text.now ≤ MOST_TEXT_BYTES) }
 {
     let text = read_text(value, path)?;
     if text.len() > MOST_TEXT_BYTES {
         let quantity = Quantity::TextBytes;
-        return Err(wrong(What::TooMany { quantity }, path));
+        return Err(wrong(MemberFaultKind::TooMany { quantity }, path));
     }
     Ok(text)
 }
 
 // The starting stack of a player.
 #[tactic(auto, unfolding(crate::specs::Players::stack_said))]
-fn read_stack(index: u64, player: &Value) -> Result<u64, Stop<Fault>>
+fn read_stack(index: u64, player: &Value) -> Result<u64, Stop<MemberFault>>
     ensures said { Gives (λ stack. stack) result (stack_said index (view player.now)) }
     ensures within { IfOk result (λ stack. (1 ≤ stack) × (stack ≤ MOST_CHIPS)) }
 {

@@ -4,7 +4,7 @@ ghost use Rattle.serde_json.specs.View.{view};
 ghost use Rattle.first_fault.specs.Reading.{Gives};
 ghost use Rattle.ohh_members.specs.Players.{PlainPlayer, above, button_said, lower as lower_said, lowest, next_player as next_player_said, plain_player, player_at as player_at_said, seated, seated_said};
 
-use crate::fault::{Fault, Path, What};
+use crate::fault::{MemberFault, MemberFaultKind, Path};
 use crate::player::Player;
 use crate::players::list_players;
 use crate::values::{needed, read_integer, wrong};
@@ -15,7 +15,7 @@ use std::alloc::Global;
 
 /// The players of a hand by their seats in it: the first sits after the button, and the last is on it.
 #[tactic(auto, unfolding(crate::specs::Players::seated_said))]
-pub fn read_players<'a>(alloc: Global, ohh: &'a Value) -> Result<Vec<Player<'a>>, Stop<Fault>>
+pub fn read_players<'a>(alloc: Global, ohh: &'a Value) -> Result<Vec<Player<'a>>, Stop<MemberFault>>
     ensures said { Gives (λ found. map plain_player found.items) result
         (seated_said (view ohh.now)) }
     ensures some { IfOk result (λ found. 2 ≤ length found.items) }
@@ -29,14 +29,14 @@ pub fn read_players<'a>(alloc: Global, ohh: &'a Value) -> Result<Vec<Player<'a>>
 
 // The player on the button.
 #[tactic(auto, unfolding(crate::specs::Players::button_said))]
-fn read_button<'a>(players: &[Player<'a>], ohh: &Value) -> Result<Player<'a>, Stop<Fault>>
+fn read_button<'a>(players: &[Player<'a>], ohh: &Value) -> Result<Player<'a>, Stop<MemberFault>>
     ensures { Gives plain_player result
         (button_said (map plain_player players.now) (view ohh.now)) }
 {
     let seat = read_integer(needed(ohh, Path::DealerSeat)?, Path::DealerSeat)?;
     match player_at(seat, players) {
         Some(player) => Ok(player),
-        None => Err(wrong(What::BadPlayer, Path::DealerSeat)),
+        None => Err(wrong(MemberFaultKind::BadPlayer, Path::DealerSeat)),
     }
 }
 

@@ -4,7 +4,7 @@ ghost use Rattle.ohh_members.specs.Streets.{street_name};
 
 /// A street. The showdown is written as a street of its own.
 #[derive(Clone, Copy, Debug, PartialEq, Eq)]
-pub enum Street {
+pub enum StreetName {
     Preflop,
     Flop,
     Turn,
@@ -13,14 +13,14 @@ pub enum Street {
 }
 
 /// The name of a street.
-pub fn name_of(street: Street) -> &'static str
+pub fn name_of(street: StreetName) -> &'static str
     ensures { result.now ≡ street_name street }
 {
     match street {
-        Street::Preflop => "Preflop",
-        Street::Flop => "Flop",
-        Street::Turn => "Turn",
-        Street::River => "River",
-        Street::Showdown => "Showdown",
+        StreetName::Preflop => "Preflop",
+        StreetName::Flop => "Flop",
+        StreetName::Turn => "Turn",
+        StreetName::River => "River",
+        StreetName::Showdown => "Showdown",
     }
 }

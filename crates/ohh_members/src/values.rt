@@ -6,7 +6,7 @@ ghost use Rattle.card_set.specs.Row.{cards_of, slots_of};
 ghost use Rattle.first_fault.specs.Reading.{Gives};
 ghost use Rattle.ohh_members.specs.Values.{cards_from, cards_said, card_said, few_said, field as field_said, integer_said, known_in as known_in_said, listed, list_said, needed as needed_said, number_said, object_said, one_slot, player_said, seat_of as seat_of_said, slot_in as slot_in_said, slot_said, slots_from, slots_said, text_said};
 
-use crate::fault::{Fault, Path, What};
+use crate::fault::{MemberFault, MemberFaultKind, Path};
 use card_set::{Card, CardRow, Slot, SlotRow};
 use chip_ledger::Seat;
 use first_fault::Stop;
@@ -14,12 +14,12 @@ use serde_json::Value;
 
 /// The value of a member that is needed.
 #[tactic(auto, unfolding(crate::specs::Values::needed))]
-pub fn needed<'a>(value: &'a Value, path: Path) -> Result<&'a Value, Stop<Fault>>
+pub fn needed<'a>(value: &'a Value, path: Path) -> Result<&'a Value, Stop<MemberFault>>
     ensures { Gives (λ found. view found.now) result (needed_said path (view value.now)) }
 {
     match field(value, path) {
         Some(found) => Ok(found),
-        None => Err(wrong(What::MissingMember, path)),
+        None => Err(wrong(MemberFaultKind::MissingMember, path)),
     }
 }
 
@@ -39,12 +39,12 @@ fn find_member<'a>(value: &'a Value, name: &str) -> Option<&'a Value>
 
 /// An object.
 #[tactic(auto, unfolding(crate::specs::Values::object_said))]
-pub fn read_object(value: &Value, path: Path) -> Result<&Value, Stop<Fault>>
+pub fn read_object(value: &Value, path: Path) -> Result<&Value, Stop<MemberFault>>
     ensures { Gives (λ found. view found.now) result (object_said path (view value.now)) }
 {
     match value {
         Value::Object(_) => Ok(value),
-        _ => Err(wrong(What::WrongType, path)),
+        _ => Err(wrong(MemberFaultKind::WrongType, path)),
     }
 }
 
@@ -58,7 +58,12 @@ pub fn has_count(values: &[Value], least: usize, most: usize) -> bool
 
 /// A whole number from `least` to `most`.
 #[tactic(auto, unfolding(crate::specs::Values::number_said))]
-pub fn read_number(value: &Value, least: u64, most: u64, path: Path) -> Result<u64, Stop<Fault>>
+pub fn read_number(
+    value: &Value,
+    least: u64,
+    most: u64,
+    path: Path,
+) -> Result<u64, Stop<MemberFault>>
     ensures within { IfOk result (λ number. (least ≤ number) × (number ≤ most)) }
     ensures said { Gives (λ number. number) result
         (number_said least most path (view value.now)) }
@@ -69,20 +74,20 @@ pub fn read_number(value: &Value, least: u64, most: u64, path: Path) -> Result<u
                 if least <= number && number <= most {
                     return Ok(number);
                 }
-                return Err(wrong(What::AmountLimit, path));
+                return Err(wrong(MemberFaultKind::AmountLimit, path));
             }
             if number.is_f64() {
-                return Err(wrong(What::AmountNotWhole, path));
+                return Err(wrong(MemberFaultKind::AmountNotWhole, path));
             }
-            Err(wrong(What::AmountLimit, path))
+            Err(wrong(MemberFaultKind::AmountLimit, path))
         }
-        _ => Err(wrong(What::WrongType, path)),
+        _ => Err(wrong(MemberFaultKind::WrongType, path)),
     }
 }
 
 /// The seat of a player who is named by the id.
 #[tactic(auto, unfolding(crate::specs::Values::player_said))]
-pub fn read_player(value: &Value, ids: &[i128], path: Path) -> Result<Seat, Stop<Fault>>
+pub fn read_player(value: &Value, ids: &[i128], path: Path) -> Result<Seat, Stop<MemberFault>>
     requires { length ids.now ≤ 10 }
     ensures said { Gives (λ seat. seat.number) result
         (player_said ids.now path (view value.now)) }
@@ -90,7 +95,7 @@ pub fn read_player(value: &Value, ids: &[i128], path: Path) -> Result<Seat, Stop
 {
     match seat_of(ids, read_integer(value, path)?) {
         Some(seat) => Ok(seat),
-        None => Err(wrong(What::BadPlayer, path)),
+        None => Err(wrong(MemberFaultKind::BadPlayer, path)),
     }
 }
 
@@ -110,7 +115,7 @@ pub fn seat_of(ids: &[i128], id: i128) -> Option<Seat>
 
 /// Any whole number that a tree holds.
 #[tactic(auto, unfolding(crate::specs::Values::integer_said))]
-pub fn read_integer(value: &Value, path: Path) -> Result<i128, Stop<Fault>>
+pub fn read_integer(value: &Value, path: Path) -> Result<i128, Stop<MemberFault>>
     ensures { Gives (λ number. number) result (integer_said path (view value.now)) }
 {
     match value {
@@ -121,15 +126,15 @@ pub fn read_integer(value: &Value, path: Path) -> Result<i128, Stop<Fault>>
             if let Some(number) = number.as_i64() {
                 return Ok(number as i128);
             }
-            Err(wrong(What::AmountNotWhole, path))
+            Err(wrong(MemberFaultKind::AmountNotWhole, path))
         }
-        _ => Err(wrong(What::WrongType, path)),
+        _ => Err(wrong(MemberFaultKind::WrongType, path)),
     }
 }
 
 /// At most seven known cards.
 #[tactic(auto, unfolding(crate::specs::Values::cards_said))]
-pub fn read_cards(value: &Value, path: Path) -> Result<CardRow, Stop<Fault>>
+pub fn read_cards(value: &Value, path: Path) -> Result<CardRow, Stop<MemberFault>>
     ensures { Gives cards_of result (cards_said path (view value.now)) }
 {
     let values = read_few(value, path)?;
@@ -137,7 +142,7 @@ pub fn read_cards(value: &Value, path: Path) -> Result<CardRow, Stop<Fault>>
 }
 
 // The known cards of a list.
-fn fill_cards(values: &[Value], path: Path) -> Result<CardRow, Stop<Fault>>
+fn fill_cards(values: &[Value], path: Path) -> Result<CardRow, Stop<MemberFault>>
     requires { length values.now ≤ 7 }
     ensures { Gives cards_of result (cards_from path (map view values.now)) }
 {
@@ -151,12 +156,12 @@ fn fill_cards(values: &[Value], path: Path) -> Result<CardRow, Stop<Fault>>
 
 /// A known card.
 #[tactic(auto, unfolding(crate::specs::Values::card_said))]
-pub fn read_card(value: &Value, path: Path) -> Result<Card, Stop<Fault>>
+pub fn read_card(value: &Value, path: Path) -> Result<Card, Stop<MemberFault>>
     ensures { Gives (λ card. card) result (card_said path (view value.now)) }
 {
     match known_in(read_slot(value, path)?) {
         Some(card) => Ok(card),
-        None => Err(wrong(What::WrongType, path)),
+        None => Err(wrong(MemberFaultKind::WrongType, path)),
     }
 }
 
@@ -172,7 +177,7 @@ fn known_in(slot: Slot) -> Option<Card>
 
 /// At most seven cards, each known or unknown.
 #[tactic(auto, unfolding(crate::specs::Values::slots_said))]
-pub fn read_slots(value: &Value, path: Path) -> Result<SlotRow, Stop<Fault>>
+pub fn read_slots(value: &Value, path: Path) -> Result<SlotRow, Stop<MemberFault>>
     ensures { Gives slots_of result (slots_said path (view value.now)) }
 {
     let values = read_few(value, path)?;
@@ -180,7 +185,7 @@ pub fn read_slots(value: &Value, path: Path) -> Result<SlotRow, Stop<Fault>>
 }
 
 // The cards of a list, each known or unknown.
-fn fill_slots(values: &[Value], path: Path) -> Result<SlotRow, Stop<Fault>>
+fn fill_slots(values: &[Value], path: Path) -> Result<SlotRow, Stop<MemberFault>>
     requires { length values.now ≤ 7 }
     ensures { Gives slots_of result (slots_from path (map view values.now)) }
 {
@@ -194,12 +199,12 @@ fn fill_slots(values: &[Value], path: Path) -> Result<SlotRow, Stop<Fault>>
 
 /// A card, or two question marks for an unknown one.
 #[tactic(auto, unfolding(crate::specs::Values::slot_said))]
-pub fn read_slot(value: &Value, path: Path) -> Result<Slot, Stop<Fault>>
+pub fn read_slot(value: &Value, path: Path) -> Result<Slot, Stop<MemberFault>>
     ensures { Gives (λ slot. slot) result (slot_said path (view value.now)) }
 {
     match slot_in(read_text(value, path)?) {
         Some(slot) => Ok(slot),
-        None => Err(wrong(What::WrongType, path)),
+        None => Err(wrong(MemberFaultKind::WrongType, path)),
     }
 }
 
@@ -225,20 +230,20 @@ fn only(slots: &[Slot]) -> Option<Slot>
 
 /// The values of a list of at most seven cards.
 #[tactic(auto, unfolding(crate::specs::Values::few_said))]
-pub fn read_few(value: &Value, path: Path) -> Result<&[Value], Stop<Fault>>
+pub fn read_few(value: &Value, path: Path) -> Result<&[Value], Stop<MemberFault>>
     ensures said { Gives (λ values. map view values.now) result (few_said path (view value.now)) }
     ensures few { IfOk result (λ values. length values.now ≤ 7) }
 {
     let values = read_list(value, path)?;
     if values.len() > 7 {
-        return Err(wrong(What::WrongType, path));
+        return Err(wrong(MemberFaultKind::WrongType, path));
     }
     Ok(values)
 }
 
 /// The values of a list.
 #[tactic(auto, using(crate::proofs::Lists::listed_view))]
-pub fn read_list(value: &Value, path: Path) -> Result<&[Value], Stop<Fault>>
+pub fn read_list(value: &Value, path: Path) -> Result<&[Value], Stop<MemberFault>>
     ensures { Gives (λ values. map view values.now) result (list_said path (view value.now)) }
 {
     let values = read_array(value, path)?;
@@ -247,30 +252,30 @@ pub fn read_list(value: &Value, path: Path) -> Result<&[Value], Stop<Fault>>
 
 // A list.
 #[tactic(auto, unfolding(crate::specs::Values::list_said))]
-fn read_array(value: &Value, path: Path) -> Result<&[Value], Stop<Fault>>
+fn read_array(value: &Value, path: Path) -> Result<&[Value], Stop<MemberFault>>
     ensures { Gives (λ values. listed (items_view values.now)) result
         (list_said path (view value.now)) }
 {
     match value {
         Value::Array(values) => Ok(values.as_slice()),
-        _ => Err(wrong(What::WrongType, path)),
+        _ => Err(wrong(MemberFaultKind::WrongType, path)),
     }
 }
 
 /// A text.
 #[tactic(auto, unfolding(crate::specs::Values::text_said))]
-pub fn read_text(value: &Value, path: Path) -> Result<&str, Stop<Fault>>
+pub fn read_text(value: &Value, path: Path) -> Result<&str, Stop<MemberFault>>
     ensures { Gives (λ text. text.now) result (text_said path (view value.now)) }
 {
     match value {
         Value::String(text) => Ok(text.as_str()),
-        _ => Err(wrong(What::WrongType, path)),
+        _ => Err(wrong(MemberFaultKind::WrongType, path)),
     }
 }
 
 /// A fault at the path.
-pub fn wrong(what: What, path: Path) -> Stop<Fault>
+pub fn wrong(what: MemberFaultKind, path: Path) -> Stop<MemberFault>
     ensures { result ≡ Stop.At (record { what = what; path = path }) }
 {
-    Stop::At(Fault { what, path })
+    Stop::At(MemberFault { what, path })
 }

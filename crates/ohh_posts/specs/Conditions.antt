@@ -10,19 +10,19 @@ use Rattle.ohh_posts.specs.declared.post.PostFault.TheVariants as faults
 use Rattle.ohh_posts.specs.declared.checking.Facts.{Facts}
 use Rattle.ohh_posts.specs.declared.checking.Condition.{Condition}
 use Rattle.ohh_posts.specs.declared.checking.Condition.TheVariants as conditions
-use Rattle.ohh_posts.specs.Table.{PlainTable, big_blind_seat, plain_table, seat_count, small_blind_seat, stack_of}
+use Rattle.ohh_posts.specs.NamedBlinds.{PlainNamedBlinds, big_blind_seat, plain_named_blinds, seat_count, small_blind_seat, stack_of}
 use Rattle.ohh_posts.specs.Posts.{AreFirst, PlainPost, ante_of, first_ante, first_straddle, has_big_blind, has_small_blind, is_ante, is_big_blind, is_small_blind, is_straddle}
 
 -- the stack of a seat less its ante, and 0 where the ante is above the stack
-abbrev pub left_of : PlainTable → List PlainPost → ℕ → ℕ
+abbrev pub left_of : PlainNamedBlinds → List PlainPost → ℕ → ℕ
 left_of table posts seat = stack_of table seat - ante_of posts seat
 
 -- every seat posts an ante
-abbrev pub has_all_antes : PlainTable → List PlainPost → Bool
+abbrev pub has_all_antes : PlainNamedBlinds → List PlainPost → Bool
 has_all_antes table posts = list_all (λ seat. is_some (first_ante seat posts)) (seats_of (seat_count table))
 
 -- the greatest ante of a seat
-abbrev pub greatest_ante : PlainTable → List PlainPost → ℕ
+abbrev pub greatest_ante : PlainNamedBlinds → List PlainPost → ℕ
 greatest_ante table posts = greatest (map (ante_of posts) (seats_of (seat_count table)))
 
 -- the post is a second small blind, or a second big blind
@@ -30,33 +30,33 @@ abbrev pub is_second_blind : List PlainPost → PlainPost → Bool
 is_second_blind before post = (is_small_blind post.kind && has_small_blind before) || (is_big_blind post.kind && has_big_blind before)
 
 -- the post is a blind of another seat than its own
-abbrev pub is_misplaced_blind : PlainTable → PlainPost → Bool
+abbrev pub is_misplaced_blind : PlainNamedBlinds → PlainPost → Bool
 is_misplaced_blind table post =
     (is_small_blind post.kind && not (post.seat == small_blind_seat table)) || (is_big_blind post.kind && not (post.seat == big_blind_seat table))
 
 -- the post is a blind that is not the lesser of the blind as it is named and the stack less the ante
-abbrev pub is_wrong_blind : PlainTable → List PlainPost → PlainPost → Bool
+abbrev pub is_wrong_blind : PlainNamedBlinds → List PlainPost → PlainPost → Bool
 is_wrong_blind table posts post =
     (is_small_blind post.kind && not (post.amount == min table.small_blind (left_of table posts post.seat)))
     || (is_big_blind post.kind && not (post.amount == min table.big_blind (left_of table posts post.seat)))
 
 -- the post is a straddle of p1 or p2, of no chips, a second one of its player, or above the stack less the ante
-abbrev pub is_wrong_straddle : PlainTable → List PlainPost → List PlainPost → PlainPost → Bool
+abbrev pub is_wrong_straddle : PlainNamedBlinds → List PlainPost → List PlainPost → PlainPost → Bool
 is_wrong_straddle table posts before post =
     is_straddle post.kind && (nat_le post.seat 2 || ((post.amount == 0) || (is_some (first_straddle post.seat before) || nat_lt (left_of table posts post.seat) post.amount)))
 
 -- the post is an ante above the stack, of no chips, or a second one of its player
-abbrev pub is_wrong_ante : PlainTable → List PlainPost → PlainPost → Bool
+abbrev pub is_wrong_ante : PlainNamedBlinds → List PlainPost → PlainPost → Bool
 is_wrong_ante table before post =
     is_ante post.kind && (nat_lt (stack_of table post.seat) post.amount || ((post.amount == 0) || is_some (first_ante post.seat before)))
 
 -- every player posts an ante, and the post is one that is not the lesser of the greatest ante and the stack
-abbrev pub is_uneven_ante : PlainTable → List PlainPost → PlainPost → Bool
+abbrev pub is_uneven_ante : PlainNamedBlinds → List PlainPost → PlainPost → Bool
 is_uneven_ante table posts post =
     is_ante post.kind && (has_all_antes table posts && not (post.amount == min (greatest_ante table posts) (stack_of table post.seat)))
 
 -- a post breaks a condition, among all posts and after those before it
-unfoldable pub is_breaking : Condition → PlainTable → List PlainPost → List PlainPost → PlainPost → Bool
+unfoldable pub is_breaking : Condition → PlainNamedBlinds → List PlainPost → List PlainPost → PlainPost → Bool
 is_breaking conditions.Early table posts before post = not post.early
 is_breaking conditions.OneOfEachBlind table posts before post = is_second_blind before post
 is_breaking conditions.BlindSeats table posts before post = is_misplaced_blind table post
@@ -66,7 +66,7 @@ is_breaking conditions.Antes table posts before post = is_wrong_ante table befor
 is_breaking conditions.EvenAntes table posts before post = is_uneven_ante table posts post
 
 -- where the first post of these stands that breaks a condition, among all posts and after those before it
-abbrev pub first_breaking : Condition → PlainTable → List PlainPost → List PlainPost → List PlainPost → Option ActionPlace
+abbrev pub first_breaking : Condition → PlainNamedBlinds → List PlainPost → List PlainPost → List PlainPost → Option ActionPlace
 first_breaking condition table posts before [] = None
 first_breaking condition table posts before (post ∷ rest) =
     if is_breaking condition table posts before post then Some post.place else first_breaking condition table posts (before ++ post ∷ []) rest
@@ -77,7 +77,7 @@ at_first None = Ok tt
 at_first (Some place) = Err (faults.At place)
 
 -- the condition holds of all posts
-abbrev pub holds : Condition → PlainTable → List PlainPost → Result ⊤ PostFault
+abbrev pub holds : Condition → PlainNamedBlinds → List PlainPost → Result ⊤ PostFault
 holds condition table posts = at_first (first_breaking condition table posts [] posts)
 
 -- both blinds are posted
@@ -85,7 +85,7 @@ abbrev pub has_blinds : List PlainPost → Result ⊤ PostFault
 has_blinds posts = if has_small_blind posts && has_big_blind posts then Ok tt else Err faults.MissingBlind
 
 -- the conditions, one after the other
-unfoldable pub posts_checked : PlainTable → List PlainPost → Result ⊤ PostFault
+unfoldable pub posts_checked : PlainNamedBlinds → List PlainPost → Result ⊤ PostFault
 posts_checked table posts = do
   early ← holds conditions.Early table posts
   blinds ← has_blinds posts
@@ -99,5 +99,5 @@ posts_checked table posts = do
 -- what is known of all posts is that of these
 pub record AreFacts (posts : List PlainPost) (facts : Facts) : Type 0 where
   pub firsts : AreFirst posts facts.firsts
-  pub all_post : facts.all_post ≡ has_all_antes (plain_table facts.table) posts
-  pub greatest : facts.greatest_ante ≡ greatest_ante (plain_table facts.table) posts
+  pub all_post : facts.all_post ≡ has_all_antes (plain_named_blinds facts.table) posts
+  pub greatest : facts.greatest_ante ≡ greatest_ante (plain_named_blinds facts.table) posts

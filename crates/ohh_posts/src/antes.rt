@@ -2,16 +2,16 @@
 ghost use Rattle.std.specs.Prelude.{◌≡◌, List, min};
 ghost use Rattle.ohh_posts.specs.Conditions.{greatest_ante, has_all_antes};
 ghost use Rattle.ohh_posts.specs.Posts.{AreFirst, PlainPost, ante_of};
-ghost use Rattle.ohh_posts.specs.Table.{plain_table};
+ghost use Rattle.ohh_posts.specs.NamedBlinds.{plain_named_blinds};
 
 use crate::firsts::FirstPosts;
-use crate::table::Table;
+use crate::named_blinds::NamedBlinds;
 use chip_ledger::Seat;
 
 /// Whether each of the first so many seats posts an ante.
-pub fn all_post(table: &Table, firsts: &FirstPosts) -> bool
+pub fn all_post(table: &NamedBlinds, firsts: &FirstPosts) -> bool
     ensures { (posts : List PlainPost) → AreFirst posts firsts.now
-        → result ≡ has_all_antes (plain_table table.now) posts }
+        → result ≡ has_all_antes (plain_named_blinds table.now) posts }
 {
     for index in 0..table.stacks.seats {
         if firsts.ante(Seat { number: index + 1 }).is_none() {
@@ -22,9 +22,9 @@ pub fn all_post(table: &Table, firsts: &FirstPosts) -> bool
 }
 
 /// The greatest ante of the first so many seats.
-pub fn greatest(table: &Table, firsts: &FirstPosts) -> u64
+pub fn greatest(table: &NamedBlinds, firsts: &FirstPosts) -> u64
     ensures { (posts : List PlainPost) → AreFirst posts firsts.now
-        → result ≡ greatest_ante (plain_table table.now) posts }
+        → result ≡ greatest_ante (plain_named_blinds table.now) posts }
 {
     let mut greatest = 0;
     for index in 0..table.stacks.seats {

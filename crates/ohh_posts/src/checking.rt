@@ -3,12 +3,12 @@ ghost use Rattle.std.specs.Prelude.{◌≡◌, List, [], map};
 ghost use Rattle.ohh_posts.specs.Conditions as conditions;
 ghost use Rattle.ohh_posts.specs.Conditions.{AreFacts, first_breaking, has_blinds, holds, left_of, posts_checked};
 ghost use Rattle.ohh_posts.specs.Posts.{AreFirst, PlainPost, ante_of, plain_post};
-ghost use Rattle.ohh_posts.specs.Table.{plain_table};
+ghost use Rattle.ohh_posts.specs.NamedBlinds.{plain_named_blinds};
 
 use crate::antes::{all_post, ante_or_zero, greatest, lesser};
 use crate::firsts::FirstPosts;
+use crate::named_blinds::NamedBlinds;
 use crate::post::{ActionPlace, Post, PostFault, PostKind};
-use crate::table::Table;
 use chip_ledger::Seat;
 
 /// A condition that each post of a hand meets.
@@ -33,7 +33,7 @@ pub enum Condition {
 /// What is known of all posts of a hand.
 #[derive(Clone, Copy, Debug, PartialEq, Eq)]
 pub struct Facts {
-    pub table: Table,
+    pub table: NamedBlinds,
     pub firsts: FirstPosts,
     /// Whether each seat posts an ante.
     pub all_post: bool,
@@ -44,7 +44,7 @@ impl Facts {
     // The stack of a seat less its ante.
     fn left(&self, seat: Seat) -> u64
         ensures { (posts : List PlainPost) → AreFacts posts self.now
-            → result ≡ left_of (plain_table self.now.table) posts seat.number }
+            → result ≡ left_of (plain_named_blinds self.now.table) posts seat.number }
     {
         self.table.stack(seat).saturating_sub(self.ante(seat))
     }
@@ -61,8 +61,8 @@ impl Facts {
 /// Tries the conditions of the posts of a hand, one after the other, or names the first post that breaks the first
 /// condition that is broken.
 #[tactic(auto, unfolding(crate::specs::Conditions::posts_checked))]
-pub fn check_posts(table: &Table, posts: &[Post]) -> Result<(), PostFault>
-    ensures { result ≡ posts_checked (plain_table table.now) (map plain_post posts.now) }
+pub fn check_posts(table: &NamedBlinds, posts: &[Post]) -> Result<(), PostFault>
+    ensures { result ≡ posts_checked (plain_named_blinds table.now) (map plain_post posts.now) }
 {
     let facts = facts_of(table, posts);
     hold(Condition::Early, &facts, posts)?;
@@ -76,7 +76,7 @@ pub fn check_posts(table: &Table, posts: &[Post]) -> Result<(), PostFault>
 }
 
 // What is known of all posts.
-fn facts_of(table: &Table, posts: &[Post]) -> Facts
+fn facts_of(table: &NamedBlinds, posts: &[Post]) -> Facts
     ensures facts { AreFacts (map plain_post posts.now) result }
     ensures table { result.table ≡ table.now }
 {
@@ -92,7 +92,7 @@ fn facts_of(table: &Table, posts: &[Post]) -> Facts
 // A condition holds of all posts, or the first that breaks it is named.
 fn hold(condition: Condition, facts: &Facts, posts: &[Post]) -> Result<(), PostFault>
     requires { AreFacts (map plain_post posts.now) facts.now }
-    ensures { result ≡ holds condition (plain_table facts.now.table) (map plain_post posts.now) }
+    ensures { result ≡ holds condition (plain_named_blinds facts.now.table) (map plain_post posts.now) }
 {
     match first_break(condition, facts, posts) {
         Some(place) => Err(PostFault::At(place)),
@@ -103,7 +103,7 @@ fn hold(condition: Condition, facts: &Facts, posts: &[Post]) -> Result<(), PostF
 // Where the first post stands that breaks a condition.
 fn first_break(condition: Condition, facts: &Facts, posts: &[Post]) -> Option<ActionPlace>
     requires { AreFacts (map plain_post posts.now) facts.now }
-    ensures { result ≡ first_breaking condition (plain_table facts.now.table)
+    ensures { result ≡ first_breaking condition (plain_named_blinds facts.now.table)
         (map plain_post posts.now) [] (map plain_post posts.now) }
 {
     let mut before = FirstPosts::none();
@@ -121,7 +121,7 @@ fn first_break(condition: Condition, facts: &Facts, posts: &[Post]) -> Option<Ac
 fn is_breaking(condition: Condition, facts: &Facts, before: &FirstPosts, post: &Post) -> bool
     ensures { (posts earlier : List PlainPost) → AreFacts posts facts.now
         → AreFirst earlier before.now
-        → result ≡ conditions.is_breaking condition (plain_table facts.now.table) posts earlier
+        → result ≡ conditions.is_breaking condition (plain_named_blinds facts.now.table) posts earlier
         (plain_post post.now) }
 {
     match condition {
@@ -148,8 +148,8 @@ fn is_second_blind(before: &FirstPosts, post: &Post) -> bool
 }
 
 // Whether a post is a blind of another seat than its own.
-fn is_misplaced_blind(table: &Table, post: &Post) -> bool
-    ensures { result ≡ conditions.is_misplaced_blind (plain_table table.now) (plain_post post.now) }
+fn is_misplaced_blind(table: &NamedBlinds, post: &Post) -> bool
+    ensures { result ≡ conditions.is_misplaced_blind (plain_named_blinds table.now) (plain_post post.now) }
 {
     match post.kind {
         PostKind::SmallBlind => post.seat.number != table.small_blind_seat(),
@@ -161,7 +161,7 @@ fn is_misplaced_blind(table: &Table, post: &Post) -> bool
 // Whether a post is a blind that is not the lesser of the blind as it is named and the stack less the ante.
 fn is_wrong_blind(facts: &Facts, post: &Post) -> bool
     ensures { (posts : List PlainPost) → AreFacts posts facts.now
-        → result ≡ conditions.is_wrong_blind (plain_table facts.now.table) posts
+        → result ≡ conditions.is_wrong_blind (plain_named_blinds facts.now.table) posts
         (plain_post post.now) }
 {
     let left = facts.left(post.seat);
@@ -176,7 +176,7 @@ fn is_wrong_blind(facts: &Facts, post: &Post) -> bool
 fn is_wrong_straddle(facts: &Facts, before: &FirstPosts, post: &Post) -> bool
     ensures { (posts earlier : List PlainPost) → AreFacts posts facts.now
         → AreFirst earlier before.now
-        → result ≡ conditions.is_wrong_straddle (plain_table facts.now.table) posts earlier
+        → result ≡ conditions.is_wrong_straddle (plain_named_blinds facts.now.table) posts earlier
         (plain_post post.now) }
 {
     let left = facts.left(post.seat);
@@ -191,9 +191,9 @@ fn is_wrong_straddle(facts: &Facts, before: &FirstPosts, post: &Post) -> bool
 }
 
 // Whether a post is an ante above the stack, of no chips, or a second one of its seat.
-fn is_wrong_ante(table: &Table, before: &FirstPosts, post: &Post) -> bool
+fn is_wrong_ante(table: &NamedBlinds, before: &FirstPosts, post: &Post) -> bool
     ensures { (earlier : List PlainPost) → AreFirst earlier before.now
-        → result ≡ conditions.is_wrong_ante (plain_table table.now) earlier (plain_post post.now) }
+        → result ≡ conditions.is_wrong_ante (plain_named_blinds table.now) earlier (plain_post post.now) }
 {
     let stack = table.stack(post.seat);
     let again = before.ante(post.seat).is_some();
@@ -209,7 +209,7 @@ fn is_wrong_ante(table: &Table, before: &FirstPosts, post: &Post) -> bool
 // Whether every seat posts an ante, and the post is one that is not the lesser of the greatest ante and the stack.
 fn is_uneven_ante(facts: &Facts, post: &Post) -> bool
     ensures { (posts : List PlainPost) → AreFacts posts facts.now
-        → result ≡ conditions.is_uneven_ante (plain_table facts.now.table) posts
+        → result ≡ conditions.is_uneven_ante (plain_named_blinds facts.now.table) posts
         (plain_post post.now) }
 {
     let whole = lesser(facts.greatest_ante, facts.table.stack(post.seat));

@@ -3,13 +3,13 @@
 #![tactic(auto)]
 
 mod antes;
+mod antes_and_blinds;
 mod checking;
 mod firsts;
+mod named_blinds;
 mod post;
-mod stakes;
-mod table;
 
+pub use antes_and_blinds::AntesAndBlinds;
 pub use checking::check_posts;
+pub use named_blinds::NamedBlinds;
 pub use post::{ActionPlace, Post, PostFault, PostKind};
-pub use stakes::Stakes;
-pub use table::Table;

@@ -11,11 +11,11 @@ use Rattle.play_event.specs.Games.{game_of}
 use Rattle.play_event.specs.Said.{Numbered, numbered}
 use Rattle.first_fault.specs.Reading.{◌>>=◌}
 use Rattle.ohh_members.specs.declared.dialect.Dialect.{Dialect}
-use Rattle.ohh_members.specs.declared.fault.Fault.{Fault}
+use Rattle.ohh_members.specs.declared.fault.MemberFault.{MemberFault}
 use Rattle.ohh_members.specs.Front.{PlainFront, front_said, ids_of, stacks_of}
 use Rattle.ohh_facts.specs.Notes.{PlainNotes, notes_said, plain_notes}
 use Rattle.ohh_facts.specs.Pots.{PlainPaid, pots_said}
-use Rattle.ohh_posts.specs.Stakes.{PlainStakes}
+use Rattle.ohh_posts.specs.AntesAndBlinds.{PlainAntesAndBlinds}
 use Rattle.ohh_rounds.specs.Play.{PlainPlay, rounds_said}
 use Rattle.ohh_rounds.specs.Setting.{PlainSetting}
 use Rattle.ohh_reading.specs.declared.sizes.Sizes.{Sizes}
@@ -26,7 +26,7 @@ use Rattle.chip_ledger.specs.SeatRow.{amounts_in}
 pub record PlainSetup : Type 0 where
   pub code : Code
   pub stacks : List ℕ
-  pub stakes : PlainStakes
+  pub stakes : PlainAntesAndBlinds
   pub sizes : Sizes
   pub rakes : List ℕ
 
@@ -90,7 +90,7 @@ hand_of front play paid notes =
     }
 
 -- the hand at this place of its file, from 0, after so many moves of the file; and the moves of the file after it
-unfoldable pub hand_said : Dialect → ℕ → ℕ → Data → Result (PlainHand × ℕ) Fault
+unfoldable pub hand_said : Dialect → ℕ → ℕ → Data → Result (PlainHand × ℕ) MemberFault
 hand_said dialect file_moves place ohh = do
   front ← front_said ohh
   play ← rounds_said (setting_of dialect file_moves front) ohh

@@ -8,35 +8,35 @@ use Rattle.first_fault.specs.declared.limits.TheConstants.{MOST_HANDS}
 use Rattle.hand_records.specs.declared.record.Record.{Record}
 use Rattle.first_fault.specs.Reading.{◌>>=◌, thread_from}
 use Rattle.ohh_members.specs.declared.dialect.Dialect.{Dialect}
-use Rattle.ohh_members.specs.declared.fault.Fault.{Fault}
+use Rattle.ohh_members.specs.declared.fault.MemberFault.{MemberFault}
 use Rattle.ohh_members.specs.declared.fault.Path.TheVariants as paths
-use Rattle.ohh_members.specs.declared.fault.What.{What}
-use Rattle.ohh_members.specs.declared.fault.What.TheVariants as whats
+use Rattle.ohh_members.specs.declared.fault.MemberFaultKind.{MemberFaultKind}
+use Rattle.ohh_members.specs.declared.fault.MemberFaultKind.TheVariants as whats
 use Rattle.ohh_members.specs.Paths.{path_text}
 use Rattle.ohh_members.specs.Values.{wrong, field}
-use Rattle.ohh_reading.specs.declared.fault.HandFault.{HandFault}
-use Rattle.ohh_reading.specs.declared.fault.Wrongness.{Wrongness}
-use Rattle.ohh_reading.specs.declared.fault.Wrongness.TheVariants as wrongness
+use Rattle.ohh_reading.specs.declared.fault.OhhHandFault.{OhhHandFault}
+use Rattle.ohh_reading.specs.declared.fault.HandFaultKind.{HandFaultKind}
+use Rattle.ohh_reading.specs.declared.fault.HandFaultKind.TheVariants as wrongness
 use Rattle.ohh_reading.specs.declared.fault.OhhFault.{OhhFault}
 use Rattle.ohh_reading.specs.declared.fault.OhhFault.TheVariants as faults
 use Rattle.ohh_reading.specs.Blocks.{blocks_of}
 use Rattle.ohh_reading.specs.Hand.{PlainHand, plain, hand_said}
 
 -- the object of the hand in a tree
-abbrev pub object_of : Option Data → Result Data Fault
+abbrev pub object_of : Option Data → Result Data MemberFault
 object_of (Some (object members)) = Ok (object members)
 object_of _ = wrong whats.MissingMember paths.Ohh
 
 -- the hand of a tree
-unfoldable pub tree_said : Dialect → ℕ → ℕ → Data → Result (PlainHand × ℕ) Fault
+unfoldable pub tree_said : Dialect → ℕ → ℕ → Data → Result (PlainHand × ℕ) MemberFault
 tree_said dialect file_moves place tree = object_of (field paths.Ohh tree) >>= hand_said dialect file_moves place
 
 -- what is wrong with the hand that has this number: it is no tree, or has a fault at a member
-abbrev pub of_hand : {A : Type 0} → ℕ → Wrongness → Result A HandFault
+abbrev pub of_hand : {A : Type 0} → ℕ → HandFaultKind → Result A OhhHandFault
 of_hand number what = Err (record { hand = number; what = what })
 
 -- a fault of the hand with this number
-abbrev pub in_hand : {A : Type 0} → ℕ → Result A Fault → Result A HandFault
+abbrev pub in_hand : {A : Type 0} → ℕ → Result A MemberFault → Result A OhhHandFault
 in_hand number (Ok x) = Ok x
 in_hand number (Err fault) = of_hand number (wrongness.Member fault)
 
@@ -45,36 +45,36 @@ abbrev pub tree_of : List ℕ → Option Data
 tree_of block = if is_utf8 block then read block else None
 
 -- the hand of what is a tree or is none
-unfoldable pub found_said : Dialect → ℕ → ℕ → Option Data → Result (PlainHand × ℕ) HandFault
+unfoldable pub found_said : Dialect → ℕ → ℕ → Option Data → Result (PlainHand × ℕ) OhhHandFault
 found_said dialect file_moves number None = of_hand number wrongness.Text
 found_said dialect file_moves number (Some tree) = in_hand number (tree_said dialect file_moves (number - 1) tree)
 
 -- there are too many hands
-abbrev pub past_hands : Fault
+abbrev pub past_hands : MemberFault
 past_hands = record { what = whats.TooMany quantities.Hands; path = paths.Ohh }
 
 -- the hand with this number, from 1, after so many moves of the file; and the moves of the file after it
-unfoldable pub numbered_hand : Dialect → ℕ → ℕ → List ℕ → Result (List PlainHand × ℕ) HandFault
+unfoldable pub numbered_hand : Dialect → ℕ → ℕ → List ℕ → Result (List PlainHand × ℕ) OhhHandFault
 numbered_hand dialect file_moves number block =
     if nat_lt MOST_HANDS number then of_hand number (wrongness.Member past_hands)
     else (found_said dialect file_moves number (tree_of block) >>= λ found. Ok (found.0 ∷ [], found.1))
 
 -- the hands of blocks, in order, and the moves of the file after them
-abbrev pub hands_said : Dialect → List (List ℕ) → Result (List PlainHand × ℕ) HandFault
+abbrev pub hands_said : Dialect → List (List ℕ) → Result (List PlainHand × ℕ) OhhHandFault
 hands_said dialect blocks = thread_from (numbered_hand dialect) 0 1 blocks
 
 -- what is wrong with bytes: a hand is no tree, or has a fault at a member
 pub data Wrong : Type 0 where
   NoText : ℕ → Wrong
-  InHand : ℕ → List ℕ → What → Wrong
+  InHand : ℕ → List ℕ → MemberFaultKind → Wrong
 
 -- a fault with its path as it is spelled
-abbrev pub spelled : ℕ → Wrongness → Wrong
+abbrev pub spelled : ℕ → HandFaultKind → Wrong
 spelled hand wrongness.Text = NoText hand
 spelled hand (wrongness.Member fault) = InHand hand (path_text fault.path) fault.what
 
 -- the records, or the fault as it is spelled
-abbrev pub told : Result (List PlainHand × ℕ) HandFault → Result (List PlainHand) Wrong
+abbrev pub told : Result (List PlainHand × ℕ) OhhHandFault → Result (List PlainHand) Wrong
 told (Ok found) = Ok found.0
 told (Err fault) = Err (spelled fault.hand fault.what)
 

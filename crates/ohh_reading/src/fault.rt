@@ -1,6 +1,6 @@
 //! Why bytes are no hands in Open Hand History: their first fault, with its hand and the path of its member.
 use first_fault::{Quantity, Text};
-use ohh_members::fault::Fault;
+use ohh_members::fault::MemberFault;
 
 /// The first fault of bytes, in the order in which members are examined. `hand` counts from 1 in the order of reading.
 /// `path` is the path of the member, as `ohh.rounds[0].actions[4].amount`.
@@ -72,15 +72,15 @@ pub enum OhhFault {
 
 /// What is wrong with a hand: its block is no JSON, or a member has a fault.
 #[derive(Clone, Copy, Debug, PartialEq, Eq)]
-pub enum Wrongness {
+pub enum HandFaultKind {
     Text,
-    Member(Fault),
+    Member(MemberFault),
 }
 
 /// A fault of a hand of a file.
 #[derive(Clone, Copy, Debug, PartialEq, Eq)]
-pub struct HandFault {
+pub struct OhhHandFault {
     /// The number of the hand, from 1 in the order of reading.
     pub hand: u32,
-    pub what: Wrongness,
+    pub what: HandFaultKind,
 }

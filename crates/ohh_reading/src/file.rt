@@ -13,13 +13,13 @@ ghost use Rattle.hand_records.specs.Histories.{IsHistory};
 ghost use Rattle.hand_records.specs.Moves.{moves_of};
 
 use crate::blocks::cut_blocks;
-use crate::fault::{HandFault, Wrongness};
+use crate::fault::{HandFaultKind, OhhHandFault};
 use crate::hand::read_hand;
 use card_set::Memory;
 use first_fault::{MOST_HANDS, Quantity, Stop};
 use hand_records::{Record, Records};
 use ohh_members::Dialect;
-use ohh_members::fault::{Fault, Path, What};
+use ohh_members::fault::{MemberFault, MemberFaultKind, Path};
 use ohh_members::values::{field, wrong};
 use serde_json::Value;
 use std::alloc::Global;
@@ -29,7 +29,7 @@ pub fn read_file(
     alloc: Global,
     dialect: Dialect,
     bytes: &[u8],
-) -> Result<(Records, usize), Stop<HandFault>>
+) -> Result<(Records, usize), Stop<OhhHandFault>>
     ensures said { Gives (λ found. (map plain found.0, found.1)) result
         (hands_said dialect (blocks_of bytes.now)) }
     ensures sound { IfOk result (λ found. AllByRecursion IsHistory found.0) }
@@ -46,7 +46,7 @@ fn read_blocks(
     alloc: Global,
     dialect: Dialect,
     blocks: &[Vec<u8>],
-) -> Result<(Records, usize), Stop<HandFault>>
+) -> Result<(Records, usize), Stop<OhhHandFault>>
     ensures said { Gives (λ found. (map plain found.0, found.1)) result
         (hands_said dialect (map (λ block. block.items) blocks.now)) }
     ensures sound { IfOk result (λ found. AllByRecursion IsHistory found.0) }
@@ -73,7 +73,7 @@ fn read_numbered(
     block: &[u8],
     number: u32,
     file_moves: usize,
-) -> Result<(Record, usize), Stop<HandFault>>
+) -> Result<(Record, usize), Stop<OhhHandFault>>
     requires first { 1 ≤ number }
     requires few { file_moves ≤ MOST_FILE_MOVES }
     ensures said { Gives (λ found. (plain found.0 ∷ [], found.1)) result
@@ -85,13 +85,13 @@ fn read_numbered(
 {
     if number as usize > MOST_HANDS {
         let quantity = Quantity::Hands;
-        let fault = Fault {
-            what: What::TooMany { quantity },
+        let fault = MemberFault {
+            what: MemberFaultKind::TooMany { quantity },
             path: Path::Ohh,
         };
-        return Err(Stop::At(HandFault {
+        return Err(Stop::At(OhhHandFault {
             hand: number,
-            what: Wrongness::Member(fault),
+            what: HandFaultKind::Member(fault),
         }));
     }
     read_block(alloc, dialect, block, number, file_moves)
@@ -105,7 +105,7 @@ fn read_block(
     block: &[u8],
     number: u32,
     file_moves: usize,
-) -> Result<(Record, usize), Stop<HandFault>>
+) -> Result<(Record, usize), Stop<OhhHandFault>>
     requires first { 1 ≤ number }
     requires few { file_moves ≤ MOST_FILE_MOVES }
     ensures said { Gives (λ found. (plain found.0, found.1)) result
@@ -116,9 +116,9 @@ fn read_block(
 {
     match parse(alloc, block)? {
         Some(tree) => read_found(alloc, dialect, &tree, number, file_moves),
-        None => Err(Stop::At(HandFault {
+        None => Err(Stop::At(OhhHandFault {
             hand: number,
-            what: Wrongness::Text,
+            what: HandFaultKind::Text,
         })),
     }
 }
@@ -148,7 +148,7 @@ fn read_found(
     tree: &Value,
     number: u32,
     file_moves: usize,
-) -> Result<(Record, usize), Stop<HandFault>>
+) -> Result<(Record, usize), Stop<OhhHandFault>>
     requires first { 1 ≤ number }
     requires few { file_moves ≤ MOST_FILE_MOVES }
     ensures said { Gives (λ found. (plain found.0, found.1)) result
@@ -160,9 +160,9 @@ fn read_found(
     match read_tree(alloc, dialect, tree, number - 1, file_moves) {
         Ok(found) => Ok(found),
         Err(Stop::Memory) => Err(Stop::Memory),
-        Err(Stop::At(fault)) => Err(Stop::At(HandFault {
+        Err(Stop::At(fault)) => Err(Stop::At(OhhHandFault {
             hand: number,
-            what: Wrongness::Member(fault),
+            what: HandFaultKind::Member(fault),
         })),
     }
 }
@@ -175,7 +175,7 @@ fn read_tree(
     tree: &Value,
     place: u32,
     file_moves: usize,
-) -> Result<(Record, usize), Stop<Fault>>
+) -> Result<(Record, usize), Stop<MemberFault>>
     requires { file_moves ≤ MOST_FILE_MOVES }
     ensures said { Gives (λ found. (plain found.0, found.1)) result
         (tree_said dialect file_moves place (view tree.now)) }
@@ -188,22 +188,22 @@ fn read_tree(
 }
 
 // The object of the hand in a tree.
-fn object_in(tree: &Value) -> Result<&Value, Stop<Fault>>
+fn object_in(tree: &Value) -> Result<&Value, Stop<MemberFault>>
     ensures { Gives (λ ohh. view ohh.now) result
         (object_of (field_said paths.Ohh (view tree.now))) }
 {
     match field(tree, Path::Ohh) {
         Some(value) => object_or_none(value),
-        None => Err(wrong(What::MissingMember, Path::Ohh)),
+        None => Err(wrong(MemberFaultKind::MissingMember, Path::Ohh)),
     }
 }
 
 // The object that a value is.
-fn object_or_none(value: &Value) -> Result<&Value, Stop<Fault>>
+fn object_or_none(value: &Value) -> Result<&Value, Stop<MemberFault>>
     ensures { Gives (λ ohh. view ohh.now) result (object_of (Some (view value.now))) }
 {
     match value {
         Value::Object(_) => Ok(value),
-        _ => Err(wrong(What::MissingMember, Path::Ohh)),
+        _ => Err(wrong(MemberFaultKind::MissingMember, Path::Ohh)),
     }
 }

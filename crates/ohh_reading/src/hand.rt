@@ -13,7 +13,7 @@ use crate::record::record_of;
 use first_fault::Stop;
 use hand_records::Record;
 use ohh_members::Dialect;
-use ohh_members::fault::Fault;
+use ohh_members::fault::MemberFault;
 use ohh_members::front::read_front;
 use serde_json::Value;
 use std::alloc::Global;
@@ -27,7 +27,7 @@ pub fn read_hand(
     ohh: &Value,
     place: u32,
     file_moves: usize,
-) -> Result<(Record, usize), Stop<Fault>>
+) -> Result<(Record, usize), Stop<MemberFault>>
     requires { file_moves ≤ MOST_FILE_MOVES }
     ensures said { Gives (λ found. (plain found.0, found.1)) result
         (hand_said dialect file_moves place (view ohh.now)) }

@@ -14,10 +14,10 @@ use card_set::Memory;
 use chip_ledger::SeatRow;
 use first_fault::Stop;
 use hand_records::Notes;
-use ohh_facts::found::Paid;
+use ohh_facts::listed_pots::Paid;
 use ohh_facts::notes::read_notes;
 use ohh_facts::pots::read_pots;
-use ohh_members::fault::Fault;
+use ohh_members::fault::MemberFault;
 use ohh_members::front::Front;
 use ohh_members::rows::{ids_of, stack_row};
 use serde_json::Value;
@@ -48,7 +48,7 @@ pub fn read_paid(
     front: &Front,
     ids: &Vec<i128>,
     ohh: &Value,
-) -> Result<Paid, Stop<Fault>>
+) -> Result<Paid, Stop<MemberFault>>
     requires front { IsFront front.now }
     requires count { length ids.now.items ≡ length front.now.players.items }
     requires ids { ids.now.items ≡ ids_of_said (map plain_player front.now.players.items) }
@@ -60,7 +60,12 @@ pub fn read_paid(
 }
 
 /// The notes of a hand with these players, at this place of its file, from 0.
-pub fn notes_in(alloc: Global, front: &Front, ohh: &Value, place: u32) -> Result<Notes, Stop<Fault>>
+pub fn notes_in(
+    alloc: Global,
+    front: &Front,
+    ohh: &Value,
+    place: u32,
+) -> Result<Notes, Stop<MemberFault>>
     requires { IsFront front.now }
     ensures said { Gives (plain_notes (length front.now.players.items)) result
         (notes_said place (map plain_player front.now.players.items) (view ohh.now)) }

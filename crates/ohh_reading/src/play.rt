@@ -1,14 +1,14 @@
 //! What the rounds of a hand say is read with what stands in front of them.
 ghost use Rattle.std.specs.Prelude.{◌≡◌, ◌≤◌, ◌+◌, count_by, length, map, IfOk};
 ghost use Rattle.serde_json.specs.View.{view};
-ghost use Rattle.canonical_play.specs.PlayedScript.{IsWithinLimits, is_move};
+ghost use Rattle.canon_script.specs.PlayedScript.{IsWithinLimits, is_move};
 ghost use Rattle.first_fault.specs.declared.limits.TheConstants.{MOST_FILE_MOVES};
 ghost use Rattle.play_event.specs.Said.{said_of};
 ghost use Rattle.first_fault.specs.Reading.{Gives};
 ghost use Rattle.ohh_members.specs.Front.{IsFront, ids_of, plain_front, stacks_of};
 ghost use Rattle.chip_ledger.specs.SeatRow.{amounts_in};
 ghost use Rattle.ohh_members.specs.Players.{plain_player};
-ghost use Rattle.ohh_posts.specs.Stakes.{AreStakesFor};
+ghost use Rattle.ohh_posts.specs.AntesAndBlinds.{AreAntesAndBlindsFor};
 ghost use Rattle.ohh_rounds.specs.Play.{plain_play, rounds_said};
 ghost use Rattle.ohh_reading.specs.Hand.{setting_of};
 
@@ -16,9 +16,9 @@ use crate::sizes::hole_cards;
 use chip_ledger::SeatRow;
 use first_fault::Stop;
 use ohh_members::Dialect;
-use ohh_members::fault::Fault;
+use ohh_members::fault::MemberFault;
 use ohh_members::front::Front;
-use ohh_posts::Table;
+use ohh_posts::NamedBlinds;
 use ohh_rounds::{RoundsPlay, Setting, read_rounds};
 use serde_json::Value;
 use std::alloc::Global;
@@ -32,7 +32,7 @@ pub fn read_play(
     ids: &Vec<i128>,
     file_moves: usize,
     ohh: &Value,
-) -> Result<RoundsPlay, Stop<Fault>>
+) -> Result<RoundsPlay, Stop<MemberFault>>
     requires front { IsFront front.now }
     requires stacks { amounts_in stacks ≡ stacks_of (map plain_player front.now.players.items) }
     requires ids { ids.now.items ≡ ids_of (map plain_player front.now.players.items) }
@@ -40,14 +40,14 @@ pub fn read_play(
     requires few { file_moves ≤ MOST_FILE_MOVES }
     ensures said { Gives plain_play result
         (rounds_said (setting_of dialect file_moves (plain_front front.now)) (view ohh.now)) }
-    ensures stakes { IfOk result (λ play. AreStakesFor stacks play.stakes) }
+    ensures stakes { IfOk result (λ play. AreAntesAndBlindsFor stacks play.stakes) }
     ensures within { IfOk result (λ play. IsWithinLimits (map said_of play.script)) }
     ensures moves { IfOk result (λ play. play.file_moves
         ≡ file_moves + count_by is_move (map said_of play.script)) }
     ensures few { IfOk result (λ play. play.file_moves ≤ MOST_FILE_MOVES) }
 {
     let setting = Setting {
-        table: Table {
+        table: NamedBlinds {
             stacks,
             small_blind: front.blinds.small,
             big_blind: front.blinds.big,

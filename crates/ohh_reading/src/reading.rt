@@ -7,12 +7,12 @@ ghost use Rattle.ohh_reading.specs.Reading.{InHand, Reads, reading, spelled as s
 ghost use Rattle.hand_records.specs.Histories.{IsHistory};
 ghost use Rattle.hand_records.specs.Moves.{moves_of};
 
-use crate::fault::{HandFault, OhhFault, Wrongness};
+use crate::fault::{HandFaultKind, OhhFault, OhhHandFault};
 use crate::file::read_file;
 use first_fault::{Stop, Text};
 use hand_records::Records;
 use ohh_members::Dialect;
-use ohh_members::fault::{Fault, What};
+use ohh_members::fault::{MemberFault, MemberFaultKind};
 use std::alloc::Global;
 
 /// The records that bytes in Open Hand History say in a dialect, one for each hand in the order of reading; or their
@@ -32,17 +32,17 @@ pub fn read(alloc: Global, dialect: Dialect, bytes: &[u8]) -> Result<Records, Oh
 }
 
 // A fault of a hand, with its path as it is spelled.
-fn spelled(alloc: Global, found: HandFault) -> OhhFault
+fn spelled(alloc: Global, found: OhhHandFault) -> OhhFault
     ensures { IfSome (wrong_of result) (λ wrong. wrong ≡ spelled_said found.hand found.what) }
 {
     match found.what {
-        Wrongness::Text => OhhFault::Text { hand: found.hand },
-        Wrongness::Member(fault) => spelled_at(alloc, found.hand, fault),
+        HandFaultKind::Text => OhhFault::Text { hand: found.hand },
+        HandFaultKind::Member(fault) => spelled_at(alloc, found.hand, fault),
     }
 }
 
 // A fault of a member of a hand, with its path as it is spelled.
-fn spelled_at(alloc: Global, hand: u32, fault: Fault) -> OhhFault
+fn spelled_at(alloc: Global, hand: u32, fault: MemberFault) -> OhhFault
     ensures { IfSome (wrong_of result) (λ wrong.
         wrong ≡ InHand hand (path_text fault.path) fault.what) }
 {
@@ -53,21 +53,21 @@ fn spelled_at(alloc: Global, hand: u32, fault: Fault) -> OhhFault
 }
 
 // What is wrong at a path of a hand.
-fn wrong_at(hand: u32, path: Text, what: What) -> OhhFault
+fn wrong_at(hand: u32, path: Text, what: MemberFaultKind) -> OhhFault
     ensures { wrong_of result ≡ Some (InHand hand path what) }
 {
     match what {
-        What::MissingMember => OhhFault::MissingMember { hand, path },
-        What::WrongType => OhhFault::WrongType { hand, path },
-        What::AmountNotWhole => OhhFault::AmountNotWhole { hand, path },
-        What::AmountLimit => OhhFault::AmountLimit { hand, path },
-        What::UnsupportedGame => OhhFault::UnsupportedGame { hand, path },
-        What::BadPlayer => OhhFault::BadPlayer { hand, path },
-        What::UnsupportedAction => OhhFault::UnsupportedAction { hand, path },
-        What::BadStreet => OhhFault::BadStreet { hand, path },
-        What::BadPost => OhhFault::BadPost { hand, path },
-        What::RakePlace => OhhFault::RakePlace { hand, path },
-        What::TooMany { quantity } => OhhFault::TooMany {
+        MemberFaultKind::MissingMember => OhhFault::MissingMember { hand, path },
+        MemberFaultKind::WrongType => OhhFault::WrongType { hand, path },
+        MemberFaultKind::AmountNotWhole => OhhFault::AmountNotWhole { hand, path },
+        MemberFaultKind::AmountLimit => OhhFault::AmountLimit { hand, path },
+        MemberFaultKind::UnsupportedGame => OhhFault::UnsupportedGame { hand, path },
+        MemberFaultKind::BadPlayer => OhhFault::BadPlayer { hand, path },
+        MemberFaultKind::UnsupportedAction => OhhFault::UnsupportedAction { hand, path },
+        MemberFaultKind::BadStreet => OhhFault::BadStreet { hand, path },
+        MemberFaultKind::BadPost => OhhFault::BadPost { hand, path },
+        MemberFaultKind::RakePlace => OhhFault::RakePlace { hand, path },
+        MemberFaultKind::TooMany { quantity } => OhhFault::TooMany {
             hand,
             path,
             quantity,

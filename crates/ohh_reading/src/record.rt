@@ -1,6 +1,6 @@
 //! The record of a hand is made of its parts.
 ghost use Rattle.std.specs.Prelude.{◌≡◌, ◌<◌, ℕ, length, map, slice_index};
-ghost use Rattle.canonical_play.specs.PlayedScript.{IsWithinLimits};
+ghost use Rattle.canon_script.specs.PlayedScript.{IsWithinLimits};
 ghost use Rattle.hand_records.specs.AllowedNotes.{AreAllowed};
 ghost use Rattle.play_event.specs.Said.{said_of};
 ghost use Rattle.play_event.specs.ValidSetup.{IsSize};
@@ -9,7 +9,7 @@ ghost use Rattle.ohh_facts.specs.Pots.{IsPaid, plain_paid};
 ghost use Rattle.ohh_members.specs.Front.{IsFront, plain_front, stacks_of};
 ghost use Rattle.chip_ledger.specs.SeatRow.{amounts_in};
 ghost use Rattle.ohh_members.specs.Players.{plain_player};
-ghost use Rattle.ohh_posts.specs.Stakes.{AreStakesFor};
+ghost use Rattle.ohh_posts.specs.AntesAndBlinds.{AreAntesAndBlindsFor};
 ghost use Rattle.ohh_rounds.specs.Play.{plain_play};
 ghost use Rattle.ohh_reading.specs.Hand.{hand_of, plain};
 ghost use Rattle.hand_records.specs.Histories.{IsHistory};
@@ -17,7 +17,7 @@ ghost use Rattle.hand_records.specs.Histories.{IsHistory};
 use crate::sizes::sizes_of;
 use chip_ledger::SeatRow;
 use hand_records::{Notes, Record, Stated};
-use ohh_facts::found::Paid;
+use ohh_facts::listed_pots::Paid;
 use ohh_members::front::Front;
 use ohh_rounds::RoundsPlay;
 use play_event::{Reopen, Rules, Setup};
@@ -34,7 +34,7 @@ pub fn record_of(
     requires stacks { amounts_in stacks ≡ stacks_of (map plain_player front.now.players.items) }
     requires seats { stacks.seats ≡ length front.now.players.items }
     requires sizes { (k : ℕ) → k < stacks.seats → IsSize (slice_index stacks.amounts k) }
-    requires stakes { AreStakesFor stacks play.stakes }
+    requires stakes { AreAntesAndBlindsFor stacks play.stakes }
     requires within { IsWithinLimits (map said_of play.script) }
     requires paid { IsPaid (length front.now.players.items) paid }
     requires allowed { AreAllowed (length front.now.players.items) notes }

@@ -4,12 +4,12 @@ use Rattle.std.proofs.lemmas.List.{drop_more, drop_all}
 use Rattle.first_fault.specs.declared.stop.Stop.{Stop}
 use Rattle.first_fault.specs.declared.stop.Stop.TheVariants as stops
 use Rattle.first_fault.specs.Reading.{Fails}
-use Rattle.ohh_members.specs.declared.fault.Fault.{Fault}
+use Rattle.ohh_members.specs.declared.fault.MemberFault.{MemberFault}
 use Rattle.ohh_rounds.specs.Rounds.{added_from}
 
-module _ {V D S : Type 0} (seen : V → D) (form : S → ℕ → D → Result S Fault) where
+module _ {V D S : Type 0} (seen : V → D) (form : S → ℕ → D → Result S MemberFault) where
   -- one more item was read
-  pub adds_on : (before after : S) (values : List V) (index : ℕ) (value : V) (whole : Result S Fault)
+  pub adds_on : (before after : S) (values : List V) (index : ℕ) (value : V) (whole : Result S MemberFault)
       → index < length values → get_or values index value ≡ value → form before index (seen value) ≡ Ok after
       → added_from form before index (map seen (drop index values)) ≡ whole
       → added_from form after (index + 1) (map seen (drop (index + 1) values)) ≡ whole
@@ -19,7 +19,7 @@ module _ {V D S : Type 0} (seen : V → D) (form : S → ℕ → D → Result S 
       sym one ∙ so_far
 
   -- an item was refused
-  pub adding_ends : (stop : Stop Fault) (before : S) (values : List V) (index : ℕ) (value : V) (whole : Result S Fault)
+  pub adding_ends : (stop : Stop MemberFault) (before : S) (values : List V) (index : ℕ) (value : V) (whole : Result S MemberFault)
       → index < length values → get_or values index value ≡ value → Fails stop (form before index (seen value))
       → added_from form before index (map seen (drop index values)) ≡ whole
       → Fails stop whole
@@ -30,7 +30,7 @@ module _ {V D S : Type 0} (seen : V → D) (form : S → ℕ → D → Result S 
       sym so_far ∙ one
 
   -- no item is left
-  pub all_added : (before : S) (values : List V) (index : ℕ) (whole : Result S Fault) → length values ≤ index
+  pub all_added : (before : S) (values : List V) (index : ℕ) (whole : Result S MemberFault) → length values ≤ index
       → added_from form before index (map seen (drop index values)) ≡ whole → whole ≡ Ok before
   unfolding added_from
   all_added before values index whole le so_far =

@@ -2,8 +2,8 @@
 use Rattle.std.specs.Prelude.{⊤, ℕ, ◌+◌, ◌==◌, nat_le, Bool, not, ◌&&◌, if◌then◌else◌, List, [], length, Some, None, Result, Ok}
 use Rattle.serde_json.specs.Data.{Data}
 use Rattle.chip_ledger.specs.declared.numbers.TheConstants.{MOST_CHIPS}
-use Rattle.canonical_play.specs.declared.limits.TheConstants.{MOST_MOVES, MOST_OTHER_EVENTS}
-use Rattle.canonical_play.specs.PlayedScript.{is_move}
+use Rattle.canon_script.specs.declared.limits.TheConstants.{MOST_MOVES, MOST_OTHER_EVENTS}
+use Rattle.canon_script.specs.PlayedScript.{is_move}
 use Rattle.first_fault.specs.declared.limits.TheConstants.{MOST_FILE_MOVES}
 use Rattle.first_fault.specs.declared.limits.Quantity.TheVariants as quantities
 use Rattle.play_event.specs.declared.event.Spelled.{Spelled}
@@ -18,13 +18,13 @@ use Rattle.ohh_members.specs.declared.fault.ActionMember.TheVariants as members
 use Rattle.ohh_members.specs.declared.fault.RoundMember.TheVariants as rounds
 use Rattle.ohh_members.specs.declared.fault.Path.{Path}
 use Rattle.ohh_members.specs.declared.fault.Path.TheVariants as paths
-use Rattle.ohh_members.specs.declared.fault.What.TheVariants as whats
-use Rattle.ohh_members.specs.declared.fault.Fault.{Fault}
+use Rattle.ohh_members.specs.declared.fault.MemberFaultKind.TheVariants as whats
+use Rattle.ohh_members.specs.declared.fault.MemberFault.{MemberFault}
 use Rattle.ohh_members.specs.Values.{cards_said, few_said, field, needed, number_said, object_said, or_wrong, player_said, slots_said, text_said, wrong}
 use Rattle.ohh_posts.specs.declared.post.ActionPlace.{ActionPlace}
 use Rattle.ohh_posts.specs.declared.post.PostKind.{PostKind}
 use Rattle.ohh_posts.specs.declared.post.PostKind.TheVariants as kinds
-use Rattle.ohh_posts.specs.Table.{seat_count}
+use Rattle.ohh_posts.specs.NamedBlinds.{seat_count}
 use Rattle.ohh_rounds.specs.declared.words.Word.{Word}
 use Rattle.ohh_rounds.specs.declared.words.Word.TheVariants as words
 use Rattle.ohh_rounds.specs.Words.{is_deal, word_named}
@@ -36,29 +36,29 @@ abbrev pub at_action : ActionPlace → ActionMember → Path
 at_action place member = paths.Round place.round (rounds.Action place.action member)
 
 -- the word of an action: one of those that are read, and hole cards are dealt in the first round alone
-unfoldable pub word_said : ActionPlace → Data → Result Word Fault
+unfoldable pub word_said : ActionPlace → Data → Result Word MemberFault
 word_said place action = do
   text ← needed (at_action place members.Word) action >>= text_said (at_action place members.Word)
   word ← or_wrong whats.UnsupportedAction (at_action place members.Word) (word_named text)
   if is_deal word && not (place.round == 0) then wrong whats.BadStreet (at_action place members.Word) else Ok word
 
 -- the seat of the action's player
-unfoldable pub seat_said : PlainSetting → ActionPlace → Data → Result ℕ Fault
+unfoldable pub seat_said : PlainSetting → ActionPlace → Data → Result ℕ MemberFault
 seat_said setting place action = needed (at_action place members.PlayerId) action >>= player_said setting.ids (at_action place members.PlayerId)
 
 -- the action's amount, in chips
-unfoldable pub chips_said : ActionPlace → Data → Result ℕ Fault
+unfoldable pub chips_said : ActionPlace → Data → Result ℕ MemberFault
 chips_said place action = needed (at_action place members.Amount) action >>= number_said 0 MOST_CHIPS (at_action place members.Amount)
 
 -- a post of some chips; it is early on the first street before any move
-unfoldable pub posted : PostKind → List PlainStep → ActionPlace → ℕ → Data → Result PlainDeed Fault
+unfoldable pub posted : PostKind → List PlainStep → ActionPlace → ℕ → Data → Result PlainDeed MemberFault
 posted kind earlier place seat action = do
   chips ← chips_said place action
   let early : Bool = (place.round == 0) && (moves_in earlier == 0)
   Ok (Posted (record { kind = kind; seat = seat; amount = chips; early = early; place = place }))
 
 -- hole cards that are listed: with those that the seat has they are at most seven
-unfoldable pub listed_cards : List PlainStep → Path → ℕ → Data → Result PlainDeed Fault
+unfoldable pub listed_cards : List PlainStep → Path → ℕ → Data → Result PlainDeed MemberFault
 listed_cards earlier path seat cards = do
   items ← few_said path cards
   if nat_le (length (dealt_to seat earlier) + length items) 7
@@ -66,7 +66,7 @@ listed_cards earlier path seat cards = do
       else wrong whats.WrongType path
 
 -- hole cards, or none where they lack
-unfoldable pub dealt_cards : List PlainStep → ActionPlace → ℕ → Data → Result PlainDeed Fault
+unfoldable pub dealt_cards : List PlainStep → ActionPlace → ℕ → Data → Result PlainDeed MemberFault
 dealt_cards earlier place seat action = elim (field (at_action place members.Cards) action) [
   | None ↦ Ok (Dealt seat [])
   | Some cards ↦ listed_cards earlier (at_action place members.Cards) seat cards
@@ -78,15 +78,15 @@ raise_by dialects.Added chips = spelled.Added chips
 raise_by dialects.To chips = spelled.To chips
 
 -- a call that states the chips that it adds
-unfoldable pub called : ActionPlace → ℕ → Data → Result PlainDeed Fault
+unfoldable pub called : ActionPlace → ℕ → Data → Result PlainDeed MemberFault
 called place seat action = chips_said place action >>= λ chips. Ok (Happened (said.Call (Some seat) (Some chips)))
 
 -- a bet or a raise
-unfoldable pub raised : Dialect → ActionPlace → ℕ → Data → Result PlainDeed Fault
+unfoldable pub raised : Dialect → ActionPlace → ℕ → Data → Result PlainDeed MemberFault
 raised dialect place seat action = chips_said place action >>= λ chips. Ok (Happened (said.Raise (Some seat) (raise_by dialect chips)))
 
 -- a show of cards
-unfoldable pub shown : ActionPlace → ℕ → Data → Result PlainDeed Fault
+unfoldable pub shown : ActionPlace → ℕ → Data → Result PlainDeed MemberFault
 shown place seat action = do
   cards ← needed (at_action place members.Cards) action >>= cards_said (at_action place members.Cards)
   Ok (Happened (said.Show seat cards))
@@ -96,7 +96,7 @@ abbrev pub mucked : List PlainStep → ℕ → PlainDeed
 mucked earlier seat = if has_folded seat earlier then Passed else Happened (said.Muck seat)
 
 -- what a word says of a player
-unfoldable pub deed_said : PlainSetting → List PlainStep → ActionPlace → ℕ → Data → Word → Result PlainDeed Fault
+unfoldable pub deed_said : PlainSetting → List PlainStep → ActionPlace → ℕ → Data → Word → Result PlainDeed MemberFault
 deed_said setting earlier place seat action words.PostAnte = posted kinds.Ante earlier place seat action
 deed_said setting earlier place seat action words.PostSmallBlind = posted kinds.SmallBlind earlier place seat action
 deed_said setting earlier place seat action words.PostBigBlind = posted kinds.BigBlind earlier place seat action
@@ -113,7 +113,7 @@ deed_said setting earlier place seat action words.SitsDown = Ok Passed
 deed_said setting earlier place seat action words.StandsUp = Ok Passed
 
 -- an event passes no limit; the hole cards of each seat are dealt first, and count as other events
-unfoldable pub event_counted : PlainSetting → List PlainStep → Path → Said → Result ⊤ Fault
+unfoldable pub event_counted : PlainSetting → List PlainStep → Path → Said → Result ⊤ MemberFault
 event_counted setting earlier path event =
     if is_move event
     then (if nat_le MOST_MOVES (moves_in earlier) then wrong (whats.TooMany quantities.Moves) path
@@ -123,28 +123,28 @@ event_counted setting earlier path event =
     else Ok tt)
 
 -- what was done passes no limit
-abbrev pub deed_counted : PlainSetting → List PlainStep → Path → PlainDeed → Result ⊤ Fault
+abbrev pub deed_counted : PlainSetting → List PlainStep → Path → PlainDeed → Result ⊤ MemberFault
 deed_counted setting earlier path (Happened event) = event_counted setting earlier path event
 deed_counted setting earlier path (Posted post) = Ok tt
 deed_counted setting earlier path (Dealt seat slots) = Ok tt
 deed_counted setting earlier path Passed = Ok tt
 
 -- the members of an action after these steps
-unfoldable pub members_said : PlainSetting → List PlainStep → ActionPlace → Data → Result PlainDeed Fault
+unfoldable pub members_said : PlainSetting → List PlainStep → ActionPlace → Data → Result PlainDeed MemberFault
 members_said setting earlier place action = do
   word ← word_said place action
   seat ← seat_said setting place action
   deed_said setting earlier place seat action word
 
 -- the members of an action that passes no limit
-abbrev pub counted_said : PlainSetting → List PlainStep → ActionPlace → Data → Result PlainDeed Fault
+abbrev pub counted_said : PlainSetting → List PlainStep → ActionPlace → Data → Result PlainDeed MemberFault
 counted_said setting earlier place action = do
   deed ← members_said setting earlier place action
   counted ← deed_counted setting earlier (at_action place members.Itself) deed
   Ok deed
 
 -- an action after these steps
-unfoldable pub step_said : PlainSetting → List PlainStep → ActionPlace → Data → Result PlainStep Fault
+unfoldable pub step_said : PlainSetting → List PlainStep → ActionPlace → Data → Result PlainStep MemberFault
 step_said setting earlier place value = do
   action ← object_said (at_action place members.Itself) value
   deed ← counted_said setting earlier place action

@@ -11,15 +11,15 @@ use Rattle.play_event.specs.Said.{Numbered, numbered}
 use Rattle.first_fault.specs.Reading.{◌>>=◌}
 use Rattle.ohh_members.specs.declared.fault.ActionMember.TheVariants as members
 use Rattle.ohh_members.specs.declared.fault.Path.TheVariants as paths
-use Rattle.ohh_members.specs.declared.fault.What.TheVariants as whats
-use Rattle.ohh_members.specs.declared.fault.Fault.{Fault}
+use Rattle.ohh_members.specs.declared.fault.MemberFaultKind.TheVariants as whats
+use Rattle.ohh_members.specs.declared.fault.MemberFault.{MemberFault}
 use Rattle.ohh_members.specs.Values.{wrong}
 use Rattle.ohh_posts.specs.declared.post.PostFault.{PostFault}
 use Rattle.ohh_posts.specs.declared.post.PostFault.TheVariants as post_faults
 use Rattle.ohh_posts.specs.Posts.{PlainPost}
 use Rattle.ohh_posts.specs.Conditions.{posts_checked}
-use Rattle.ohh_posts.specs.Stakes.{PlainStakes, plain_stakes, stakes_said}
-use Rattle.ohh_posts.specs.Table.{seat_count}
+use Rattle.ohh_posts.specs.AntesAndBlinds.{PlainAntesAndBlinds, antes_and_blinds_said, plain_antes_and_blinds}
+use Rattle.ohh_posts.specs.NamedBlinds.{seat_count}
 use Rattle.ohh_rounds.specs.declared.play.RoundsPlay.{RoundsPlay}
 use Rattle.ohh_rounds.specs.Steps.{PlainDeed, PlainStep, Posted, Dealt, Happened, Passed, dealt_to, first_deal, moves_in}
 use Rattle.ohh_rounds.specs.Setting.{PlainSetting}
@@ -28,7 +28,7 @@ use Rattle.ohh_rounds.specs.Rounds.{steps_said}
 
 -- antes and blinds, the script, and the moves of the file after this hand
 pub record PlainPlay : Type 0 where
-  pub stakes : PlainStakes
+  pub stakes : PlainAntesAndBlinds
   pub script : List Numbered
   pub file_moves : ℕ
 
@@ -41,7 +41,7 @@ post_in Passed = []
 
 -- the same of a play that was read
 abbrev pub plain_play : RoundsPlay → PlainPlay
-plain_play play = record { stakes = plain_stakes play.stakes; script = map numbered play.script; file_moves = play.file_moves }
+plain_play play = record { stakes = plain_antes_and_blinds play.stakes; script = map numbered play.script; file_moves = play.file_moves }
 
 -- the posts, in order
 abbrev pub posts_in : List PlainStep → List PlainPost
@@ -71,14 +71,14 @@ unfoldable pub script_said : ℕ → ℕ → List PlainStep → List Numbered
 script_said seats count steps = map (hole_deal count steps) (seats_of seats) ++ events_in steps
 
 -- a fault of the posts is told at the action that shows it, and at the rounds where a blind is missing
-abbrev pub at_posts : Result ⊤ PostFault → Result ⊤ Fault
+abbrev pub at_posts : Result ⊤ PostFault → Result ⊤ MemberFault
 at_posts (Ok x) = Ok x
 at_posts (Err post_faults.MissingBlind) = wrong whats.BadPost paths.Rounds
 at_posts (Err (post_faults.At place)) = wrong whats.BadPost (at_action place members.Itself)
 
 -- what the rounds of the hand `ohh` say, or their first fault
-unfoldable pub rounds_said : PlainSetting → Data → Result PlainPlay Fault
+unfoldable pub rounds_said : PlainSetting → Data → Result PlainPlay MemberFault
 rounds_said setting ohh = do
   steps ← steps_said setting ohh
   checked ← at_posts (posts_checked setting.table (posts_in steps))
-  Ok (record { stakes = stakes_said setting.table (posts_in steps); script = script_said (seat_count setting.table) setting.hole_cards steps; file_moves = setting.file_moves + moves_in steps })
+  Ok (record { stakes = antes_and_blinds_said setting.table (posts_in steps); script = script_said (seat_count setting.table) setting.hole_cards steps; file_moves = setting.file_moves + moves_in steps })

@@ -1,18 +1,18 @@
 -- What stands before the rounds of a hand.
 use Rattle.std.specs.Prelude.{ℕ, ℤ, List}
 use Rattle.ohh_members.specs.declared.dialect.Dialect.{Dialect}
-use Rattle.ohh_posts.specs.Table.{PlainTable, plain_table}
+use Rattle.ohh_posts.specs.NamedBlinds.{PlainNamedBlinds, plain_named_blinds}
 use Rattle.ohh_rounds.specs.declared.setting.Setting.{Setting}
 
 -- the players' ids by seat, stacks and blinds, how many hole cards a seat is dealt, the dialect, and the moves of the file
 -- before this hand
 pub record PlainSetting : Type 0 where
   pub ids : List ℤ
-  pub table : PlainTable
+  pub table : PlainNamedBlinds
   pub hole_cards : ℕ
   pub dialect : Dialect
   pub file_moves : ℕ
 
 -- the same with plain numbers and lists
 abbrev pub plain_setting : List ℤ → Setting → PlainSetting
-plain_setting ids setting = record { ids = ids; table = plain_table setting.table; hole_cards = setting.hole_cards; dialect = setting.dialect; file_moves = setting.file_moves }
+plain_setting ids setting = record { ids = ids; table = plain_named_blinds setting.table; hole_cards = setting.hole_cards; dialect = setting.dialect; file_moves = setting.file_moves }

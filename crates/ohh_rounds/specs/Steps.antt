@@ -3,15 +3,15 @@ use Rattle.std.specs.Prelude.{◌≡◌, ℕ, ◌+◌, ◌<◌, ◌≤◌, ◌==
 use Rattle.std.specs.List.{list_any}
 use Rattle.card_set.specs.declared.card.Slot.{Slot}
 use Rattle.card_set.specs.Row.{slots_of}
-use Rattle.canonical_play.specs.declared.limits.TheConstants.{MOST_MOVES, MOST_OTHER_EVENTS}
-use Rattle.canonical_play.specs.PlayedScript.{is_move}
+use Rattle.canon_script.specs.declared.limits.TheConstants.{MOST_MOVES, MOST_OTHER_EVENTS}
+use Rattle.canon_script.specs.PlayedScript.{is_move}
 use Rattle.first_fault.specs.declared.limits.TheConstants.{MOST_FILE_MOVES}
 use Rattle.play_event.specs.Said as said
 use Rattle.play_event.specs.Said.{Said, kind_said}
 use Rattle.ohh_posts.specs.Posts.{PlainPost, plain_post}
 use Rattle.ohh_rounds.specs.declared.step.Deed.{Deed}
 use Rattle.ohh_rounds.specs.declared.step.Deed.TheVariants as deeds
-use Rattle.ohh_rounds.specs.declared.step.Step.{Step}
+use Rattle.ohh_rounds.specs.declared.step.RoundStep.{RoundStep}
 use Rattle.first_fault.specs.Numbers.{kept_number}
 
 -- what was done: a post, hole cards dealt to a seat, an event of the script, or nothing that counts
@@ -34,7 +34,7 @@ plain_deed (deeds.Happened kind) = Happened (kind_said kind)
 plain_deed deeds.Passed = Passed
 
 -- a step with plain numbers and lists
-abbrev pub plain_step : Step → PlainStep
+abbrev pub plain_step : RoundStep → PlainStep
 plain_step step = record { number = step.number; deed = plain_deed step.deed }
 
 -- an action says the step

@@ -2,21 +2,21 @@
 ghost use Rattle.std.specs.Prelude.{◌≡◌, ◌≤◌, List, [], IfOk, length, map};
 ghost use Rattle.serde_json.specs.View.{view};
 ghost use Rattle.play_event.specs.Said.{kind_said};
-ghost use Rattle.canonical_play.specs.PlayedScript.{is_move as is_move_said};
+ghost use Rattle.canon_script.specs.PlayedScript.{is_move as is_move_said};
 ghost use Rattle.first_fault.specs.Reading.{Gives};
 ghost use Rattle.ohh_rounds.specs.Actions.{at_action, called, chips_said, counted_said, dealt_cards, deed_counted, deed_said, event_counted, listed_cards, members_said, mucked, posted, raise_by, raised, seat_said, shown, step_said, word_said};
 ghost use Rattle.ohh_rounds.specs.Setting.{plain_setting};
 ghost use Rattle.ohh_rounds.specs.Steps.{Dealt, HasRoom, IsWithin, LeavesFew, PlainStep, plain_deed, plain_step};
 
-use crate::step::{Deed, Step, is_move};
+use crate::step::{Deed, RoundStep, is_move};
 use crate::told::Told;
 use crate::words::{Word, is_deal, word_named};
-use canonical_play::{MOST_MOVES, MOST_OTHER_EVENTS};
+use canon_script::{MOST_MOVES, MOST_OTHER_EVENTS};
 use card_set::SlotRow;
 use chip_ledger::{Chips, MOST_CHIPS, Seat};
 use first_fault::{MOST_FILE_MOVES, Quantity, Stop};
 use ohh_members::dialect::Dialect;
-use ohh_members::fault::{ActionMember, Fault, Path, RoundMember, What};
+use ohh_members::fault::{ActionMember, MemberFault, MemberFaultKind, Path, RoundMember};
 use ohh_members::values::{
     field, needed, read_cards, read_few, read_number, read_object, read_player, read_slots,
     read_text, wrong,
@@ -32,7 +32,7 @@ pub fn read_step(
     told: &Told,
     place: ActionPlace,
     value: &Value,
-) -> Result<Step, Stop<Fault>>
+) -> Result<RoundStep, Stop<MemberFault>>
     requires { length ids.now ≤ 10 }
     ensures said { Gives plain_step result (step_said (plain_setting ids.now told.now.setting)
         (map plain_step told.now.steps.items) place (view value.now)) }
@@ -45,7 +45,7 @@ pub fn read_step(
     let action = read_object(value, path_of(place, ActionMember::Itself))?;
     let deed = read_counted(ids, told, place, action)?;
     let number = told.next;
-    Ok(Step { number, deed })
+    Ok(RoundStep { number, deed })
 }
 
 // The members of an action that passes no limit.
@@ -54,7 +54,7 @@ fn read_counted(
     told: &Told,
     place: ActionPlace,
     action: &Value,
-) -> Result<Deed, Stop<Fault>>
+) -> Result<Deed, Stop<MemberFault>>
     requires { length ids.now ≤ 10 }
     ensures said { Gives plain_deed result (counted_said (plain_setting ids.now told.now.setting)
         (map plain_step told.now.steps.items) place (view action.now)) }
@@ -75,7 +75,7 @@ fn read_members(
     told: &Told,
     place: ActionPlace,
     action: &Value,
-) -> Result<Deed, Stop<Fault>>
+) -> Result<Deed, Stop<MemberFault>>
     requires { length ids.now ≤ 10 }
     ensures said { Gives plain_deed result (members_said (plain_setting ids.now told.now.setting)
         (map plain_step told.now.steps.items) place (view action.now)) }
@@ -89,16 +89,16 @@ fn read_members(
 
 // The word of an action.
 #[tactic(auto, unfolding(crate::specs::Actions::word_said))]
-fn read_word(place: ActionPlace, action: &Value) -> Result<Word, Stop<Fault>>
+fn read_word(place: ActionPlace, action: &Value) -> Result<Word, Stop<MemberFault>>
     ensures { Gives (λ word. word) result (word_said place (view action.now)) }
 {
     let path = path_of(place, ActionMember::Word);
     let text = read_text(needed(action, path)?, path)?;
     let Some(word) = word_named(text) else {
-        return Err(wrong(What::UnsupportedAction, path));
+        return Err(wrong(MemberFaultKind::UnsupportedAction, path));
     };
     if is_deal(word) && place.round != 0 {
-        return Err(wrong(What::BadStreet, path));
+        return Err(wrong(MemberFaultKind::BadStreet, path));
     }
     Ok(word)
 }
@@ -110,7 +110,7 @@ fn read_seat(
     told: &Told,
     place: ActionPlace,
     action: &Value,
-) -> Result<Seat, Stop<Fault>>
+) -> Result<Seat, Stop<MemberFault>>
     requires { length ids.now ≤ 10 }
     ensures { Gives (λ seat. seat.number) result
         (seat_said (plain_setting ids.now told.now.setting) place (view action.now)) }
@@ -128,7 +128,7 @@ fn read_deed(
     seat: Seat,
     action: &Value,
     word: Word,
-) -> Result<Deed, Stop<Fault>>
+) -> Result<Deed, Stop<MemberFault>>
     ensures said { Gives plain_deed result (deed_said (plain_setting ids.now told.now.setting)
         (map plain_step told.now.steps.items) place seat.number (view action.now) word) }
     ensures few { IfOk result (λ deed. LeavesFew (map plain_step told.now.steps.items)
@@ -163,7 +163,7 @@ fn read_post(
     place: ActionPlace,
     seat: Seat,
     action: &Value,
-) -> Result<Deed, Stop<Fault>>
+) -> Result<Deed, Stop<MemberFault>>
     ensures said { Gives plain_deed result
         (posted kind (map plain_step told.now.steps.items) place seat.number (view action.now)) }
     ensures few { IfOk result (λ deed. LeavesFew (map plain_step told.now.steps.items)
@@ -187,7 +187,7 @@ fn read_dealt(
     place: ActionPlace,
     seat: Seat,
     action: &Value,
-) -> Result<Deed, Stop<Fault>>
+) -> Result<Deed, Stop<MemberFault>>
     ensures said { Gives plain_deed result
         (dealt_cards (map plain_step told.now.steps.items) place seat.number (view action.now)) }
     ensures few { IfOk result (λ deed. LeavesFew (map plain_step told.now.steps.items)
@@ -202,7 +202,12 @@ fn read_dealt(
 
 // Hole cards that are listed.
 #[tactic(auto, unfolding(crate::specs::Actions::listed_cards, ohh_members::specs::Values::slots_said))]
-fn read_listed(told: &Told, path: Path, seat: Seat, cards: &Value) -> Result<Deed, Stop<Fault>>
+fn read_listed(
+    told: &Told,
+    path: Path,
+    seat: Seat,
+    cards: &Value,
+) -> Result<Deed, Stop<MemberFault>>
     ensures said { Gives plain_deed result
         (listed_cards (map plain_step told.now.steps.items) path seat.number (view cards.now)) }
     ensures few { IfOk result (λ deed. LeavesFew (map plain_step told.now.steps.items)
@@ -210,7 +215,7 @@ fn read_listed(told: &Told, path: Path, seat: Seat, cards: &Value) -> Result<Dee
 {
     let values = read_few(cards, path)?;
     if told.cards_dealt(seat) + values.len() > 7 {
-        return Err(wrong(What::WrongType, path));
+        return Err(wrong(MemberFaultKind::WrongType, path));
     }
     let cards = read_slots(cards, path)?;
     Ok(Deed::Dealt { seat, cards })
@@ -228,7 +233,7 @@ fn no_cards(told: &Told, seat: Seat) -> Deed
 
 // A call that states the chips that it adds.
 #[tactic(auto, unfolding(crate::specs::Actions::called))]
-fn read_call(place: ActionPlace, seat: Seat, action: &Value) -> Result<Deed, Stop<Fault>>
+fn read_call(place: ActionPlace, seat: Seat, action: &Value) -> Result<Deed, Stop<MemberFault>>
     ensures said { Gives plain_deed result (called place seat.number (view action.now)) }
     ensures few { (earlier : List PlainStep)
         → IfOk result (λ deed. LeavesFew earlier (plain_deed deed)) }
@@ -247,7 +252,7 @@ fn read_raise(
     place: ActionPlace,
     seat: Seat,
     action: &Value,
-) -> Result<Deed, Stop<Fault>>
+) -> Result<Deed, Stop<MemberFault>>
     ensures said { Gives plain_deed result (raised dialect place seat.number (view action.now)) }
     ensures few { (earlier : List PlainStep)
         → IfOk result (λ deed. LeavesFew earlier (plain_deed deed)) }
@@ -261,7 +266,7 @@ fn read_raise(
 
 // The amount of an action.
 #[tactic(auto, unfolding(crate::specs::Actions::chips_said))]
-fn read_chips(place: ActionPlace, action: &Value) -> Result<Chips, Stop<Fault>>
+fn read_chips(place: ActionPlace, action: &Value) -> Result<Chips, Stop<MemberFault>>
     ensures { Gives (λ chips. chips.number) result (chips_said place (view action.now)) }
 {
     let path = path_of(place, ActionMember::Amount);
@@ -281,7 +286,7 @@ fn raise_of(dialect: Dialect, amount: Chips) -> Spelled
 
 // A show of cards.
 #[tactic(auto, unfolding(crate::specs::Actions::shown))]
-fn read_show(place: ActionPlace, seat: Seat, action: &Value) -> Result<Deed, Stop<Fault>>
+fn read_show(place: ActionPlace, seat: Seat, action: &Value) -> Result<Deed, Stop<MemberFault>>
     ensures said { Gives plain_deed result (shown place seat.number (view action.now)) }
     ensures few { (earlier : List PlainStep)
         → IfOk result (λ deed. LeavesFew earlier (plain_deed deed)) }
@@ -317,7 +322,7 @@ fn muck(told: &Told, seat: Seat) -> Deed
 }
 
 // What was done passes no limit.
-fn count_deed(ids: &[i128], told: &Told, path: Path, deed: Deed) -> Result<(), Stop<Fault>>
+fn count_deed(ids: &[i128], told: &Told, path: Path, deed: Deed) -> Result<(), Stop<MemberFault>>
     ensures said { Gives (λ x. x) result (deed_counted (plain_setting ids.now told.now.setting)
         (map plain_step told.now.steps.items) path (plain_deed deed)) }
     ensures within { IfOk result (λ x. IsWithin told.now.setting.table.stacks.seats
@@ -331,7 +336,12 @@ fn count_deed(ids: &[i128], told: &Told, path: Path, deed: Deed) -> Result<(), S
 
 /// An event passes no limit.
 #[tactic(auto, unfolding(crate::specs::Actions::event_counted))]
-pub fn count_event(ids: &[i128], told: &Told, path: Path, kind: Kind) -> Result<(), Stop<Fault>>
+pub fn count_event(
+    ids: &[i128],
+    told: &Told,
+    path: Path,
+    kind: Kind,
+) -> Result<(), Stop<MemberFault>>
     ensures said { Gives (λ x. x) result (event_counted (plain_setting ids.now told.now.setting)
         (map plain_step told.now.steps.items) path (kind_said kind)) }
     ensures room { IfOk result (λ x. HasRoom told.now.setting.table.stacks.seats
@@ -355,8 +365,8 @@ pub fn count_event(ids: &[i128], told: &Told, path: Path, kind: Kind) -> Result<
 }
 
 // A fault of a quantity that passes its limit.
-fn too_many(quantity: Quantity, path: Path) -> Stop<Fault>
-    ensures { result ≡ Stop.At (record { what = What.TooMany quantity; path = path }) }
+fn too_many(quantity: Quantity, path: Path) -> Stop<MemberFault>
+    ensures { result ≡ Stop.At (record { what = MemberFaultKind.TooMany quantity; path = path }) }
 {
-    wrong(What::TooMany { quantity }, path)
+    wrong(MemberFaultKind::TooMany { quantity }, path)
 }

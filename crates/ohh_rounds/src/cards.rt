@@ -7,13 +7,13 @@ ghost use Rattle.play_event.specs.Said.{kind_said};
 ghost use Rattle.ohh_rounds.specs.Steps.{Dealt, IsFoldBy, LeavesFew, folder as folder_said, plain_deed, plain_step};
 
 use crate::seat_told::SeatTold;
-use crate::step::{Deed, Step};
+use crate::step::{Deed, RoundStep};
 use card_set::SlotRow;
 use chip_ledger::Seat;
 use play_event::Kind;
 
 /// What is told of each seat, with one step more.
-pub fn seats_after(seats: [SeatTold; 10], step: Step, steps: &[Step]) -> [SeatTold; 10]
+pub fn seats_after(seats: [SeatTold; 10], step: RoundStep, steps: &[RoundStep]) -> [SeatTold; 10]
     requires told { AreTold (map plain_step steps.now) seats }
     requires ten { length seats ≡ 10 }
     requires few { LeavesFew (map plain_step steps.now) (plain_deed step.deed) }
@@ -37,7 +37,7 @@ fn after_deal(
     seat: Seat,
     cards: SlotRow,
     number: u32,
-    steps: &[Step],
+    steps: &[RoundStep],
 ) -> [SeatTold; 10]
     requires told { AreTold (map plain_step steps.now) seats }
     requires ten { length seats ≡ 10 }
@@ -89,7 +89,12 @@ fn folder(kind: Kind) -> Option<Seat>
 }
 
 // What is told of each seat, after a step in which this seat folds.
-fn after_fold(mut seats: [SeatTold; 10], seat: Seat, step: Step, steps: &[Step]) -> [SeatTold; 10]
+fn after_fold(
+    mut seats: [SeatTold; 10],
+    seat: Seat,
+    step: RoundStep,
+    steps: &[RoundStep],
+) -> [SeatTold; 10]
     requires told { AreTold (map plain_step steps.now) seats }
     requires ten { length seats ≡ 10 }
     requires folds { IsFoldBy seat.number (plain_deed step.deed) }

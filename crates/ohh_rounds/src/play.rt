@@ -1,7 +1,7 @@
 //! The posts of a hand are checked, and its script is put together.
 ghost use Rattle.std.specs.Prelude.{◌≡◌, ◌≤◌, ◌+◌, ◌++◌, IfOk, OnOk, count_by, length, map};
 ghost use Rattle.serde_json.specs.View.{view};
-ghost use Rattle.canonical_play.specs.PlayedScript.{IsWithinLimits, is_move};
+ghost use Rattle.canon_script.specs.PlayedScript.{IsWithinLimits, is_move};
 ghost use Rattle.card_set.specs.Row.{slots_of};
 ghost use Rattle.chip_ledger.specs.Seat.{seats_of};
 ghost use Rattle.first_fault.specs.declared.limits.TheConstants.{MOST_FILE_MOVES};
@@ -9,8 +9,8 @@ ghost use Rattle.play_event.specs.Said.{numbered, said_of};
 ghost use Rattle.first_fault.specs.Reading.{Gives};
 ghost use Rattle.ohh_posts.specs.Conditions.{posts_checked};
 ghost use Rattle.ohh_posts.specs.Posts.{plain_post};
-ghost use Rattle.ohh_posts.specs.Stakes.{AreStakesFor, plain_stakes, stakes_said};
-ghost use Rattle.ohh_posts.specs.Table.{plain_table};
+ghost use Rattle.ohh_posts.specs.AntesAndBlinds.{AreAntesAndBlindsFor, antes_and_blinds_said, plain_antes_and_blinds};
+ghost use Rattle.ohh_posts.specs.NamedBlinds.{plain_named_blinds};
 ghost use Rattle.ohh_rounds.specs.Play.{at_posts, event_in, events_in, hole_cards as hole_cards_said, hole_deal as hole_deal_said, plain_play, post_in, posts_in, rounds_said, script_said};
 ghost use Rattle.ohh_rounds.specs.Setting.{plain_setting};
 ghost use Rattle.ohh_rounds.specs.Steps.{plain_deed, plain_step};
@@ -18,14 +18,14 @@ ghost use Rattle.ohh_rounds.specs.Steps.{plain_deed, plain_step};
 use crate::actions::path_of;
 use crate::rounds::read_told;
 use crate::setting::Setting;
-use crate::step::{Deed, Step};
+use crate::step::{Deed, RoundStep};
 use crate::told::Told;
 use card_set::{Memory, Slot, SlotRow};
 use chip_ledger::Seat;
 use first_fault::Stop;
-use ohh_members::fault::{ActionMember, Fault, Path, What};
+use ohh_members::fault::{ActionMember, MemberFault, MemberFaultKind, Path};
 use ohh_members::values::wrong;
-use ohh_posts::{Post, PostFault, Stakes, Table, check_posts};
+use ohh_posts::{AntesAndBlinds, NamedBlinds, Post, PostFault, check_posts};
 use play_event::{Event, Kind, Script};
 use serde_json::Value;
 use std::alloc::Global;
@@ -34,7 +34,7 @@ use std::alloc::Global;
 #[derive(Debug, Drop)]
 pub struct RoundsPlay {
     /// The antes and blinds.
-    pub stakes: Stakes,
+    pub stakes: AntesAndBlinds,
     /// The hole deals of all seats, and then what happened.
     pub script: Script,
     /// The moves of the file after this hand.
@@ -49,11 +49,11 @@ pub fn read_rounds(
     ids: &[i128],
     setting: &Setting,
     ohh: &Value,
-) -> Result<RoundsPlay, Stop<Fault>>
+) -> Result<RoundsPlay, Stop<MemberFault>>
     requires { length ids.now ≤ 10 }
     ensures said { Gives plain_play result
         (rounds_said (plain_setting ids.now setting.now) (view ohh.now)) }
-    ensures stakes { IfOk result (λ play. AreStakesFor setting.now.table.stacks play.stakes) }
+    ensures stakes { IfOk result (λ play. AreAntesAndBlindsFor setting.now.table.stacks play.stakes) }
     ensures within { IfOk result (λ play. IsWithinLimits (map said_of play.script)) }
     ensures moves { IfOk result (λ play. play.file_moves
         ≡ setting.now.file_moves + count_by is_move (map said_of play.script)) }
@@ -70,20 +70,24 @@ pub fn read_rounds(
 }
 
 // The stakes of the posts, which meet their conditions.
-fn read_stakes(alloc: Global, table: &Table, steps: &[Step]) -> Result<Stakes, Stop<Fault>>
+fn read_stakes(
+    alloc: Global,
+    table: &NamedBlinds,
+    steps: &[RoundStep],
+) -> Result<AntesAndBlinds, Stop<MemberFault>>
     ensures checked { Gives (λ stakes. tt) result
-        (at_posts (posts_checked (plain_table table.now) (posts_in (map plain_step steps.now)))) }
-    ensures said { IfOk result (λ stakes. plain_stakes stakes
-        ≡ stakes_said (plain_table table.now) (posts_in (map plain_step steps.now))) }
-    ensures stakes { IfOk result (λ stakes. AreStakesFor table.now.stacks stakes) }
+        (at_posts (posts_checked (plain_named_blinds table.now) (posts_in (map plain_step steps.now)))) }
+    ensures said { IfOk result (λ stakes. plain_antes_and_blinds stakes
+        ≡ antes_and_blinds_said (plain_named_blinds table.now) (posts_in (map plain_step steps.now))) }
+    ensures stakes { IfOk result (λ stakes. AreAntesAndBlindsFor table.now.stacks stakes) }
 {
     let posts = posts_of(alloc, steps)?;
     check(table, posts.as_slice())?;
-    Ok(Stakes::of(table, posts.as_slice()))
+    Ok(AntesAndBlinds::of(table, posts.as_slice()))
 }
 
 // The posts, in order.
-fn posts_of(alloc: Global, steps: &[Step]) -> Result<Vec<Post>, Memory>
+fn posts_of(alloc: Global, steps: &[RoundStep]) -> Result<Vec<Post>, Memory>
     ensures { IfOk result (λ posts. map plain_post posts.items
         ≡ posts_in (map plain_step steps.now)) }
 {
@@ -109,15 +113,18 @@ fn push_post(posts: &mut Vec<Post>, deed: Deed) -> Result<(), Memory>
 }
 
 // The posts meet their conditions, or the first that does not is told at its action.
-fn check(table: &Table, posts: &[Post]) -> Result<(), Stop<Fault>>
+fn check(table: &NamedBlinds, posts: &[Post]) -> Result<(), Stop<MemberFault>>
     ensures { Gives (λ x. x) result
-        (at_posts (posts_checked (plain_table table.now) (map plain_post posts.now))) }
+        (at_posts (posts_checked (plain_named_blinds table.now) (map plain_post posts.now))) }
 {
     match check_posts(table, posts) {
         Ok(()) => Ok(()),
-        Err(PostFault::MissingBlind) => Err(wrong(What::BadPost, Path::Rounds)),
+        Err(PostFault::MissingBlind) => Err(wrong(MemberFaultKind::BadPost, Path::Rounds)),
         Err(PostFault::At(place)) => {
-            Err(wrong(What::BadPost, path_of(place, ActionMember::Itself)))
+            Err(wrong(
+                MemberFaultKind::BadPost,
+                path_of(place, ActionMember::Itself),
+            ))
         }
     }
 }
@@ -177,7 +184,7 @@ fn filled(cards: SlotRow, count: u8) -> SlotRow
 }
 
 // The script with what happened.
-fn push_events(script: &mut Script, steps: &[Step]) -> Result<(), Memory>
+fn push_events(script: &mut Script, steps: &[RoundStep]) -> Result<(), Memory>
     ensures { OnOk result (map numbered script.new
         ≡ map numbered script.old ++ events_in (map plain_step steps.now)) }
 {
@@ -188,7 +195,7 @@ fn push_events(script: &mut Script, steps: &[Step]) -> Result<(), Memory>
 }
 
 // The script with the event of a step, if it is one.
-fn push_event(script: &mut Script, step: Step) -> Result<(), Memory>
+fn push_event(script: &mut Script, step: RoundStep) -> Result<(), Memory>
     ensures { OnOk result (map numbered script.new
         ≡ map numbered script.old ++ event_in (plain_step step) (plain_deed step.deed)) }
 {

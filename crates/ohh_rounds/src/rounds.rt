@@ -9,13 +9,13 @@ ghost use Rattle.ohh_rounds.specs.Steps.{plain_step};
 
 use crate::actions::{count_event, read_step};
 use crate::setting::Setting;
-use crate::step::{Deed, Step};
+use crate::step::{Deed, RoundStep};
 use crate::street::{has_board_cards, street_after};
 use crate::told::Told;
 use card_set::CardRow;
 use first_fault::Stop;
-use ohh_members::fault::{Fault, Path, RoundMember, What};
-use ohh_members::street::Street;
+use ohh_members::fault::{MemberFault, MemberFaultKind, Path, RoundMember};
+use ohh_members::street::StreetName;
 use ohh_members::values::{field, needed, read_cards, read_list, read_object, read_text, wrong};
 use ohh_posts::ActionPlace;
 use play_event::Kind;
@@ -29,7 +29,7 @@ pub fn read_told(
     ids: &[i128],
     setting: &Setting,
     ohh: &Value,
-) -> Result<Told, Stop<Fault>>
+) -> Result<Told, Stop<MemberFault>>
     requires { length ids.now ≤ 10 }
     ensures said { Gives (λ told. map plain_step told.steps.items) result
         (steps_said (plain_setting ids.now setting.now) (view ohh.now)) }
@@ -41,12 +41,12 @@ pub fn read_told(
 
 // The rounds, one at least.
 #[tactic(auto, unfolding(crate::specs::Rounds::rounds_listed))]
-fn read_listed(ohh: &Value) -> Result<&[Value], Stop<Fault>>
+fn read_listed(ohh: &Value) -> Result<&[Value], Stop<MemberFault>>
     ensures { Gives (λ values. map view values.now) result (rounds_listed (view ohh.now)) }
 {
     let values = read_list(needed(ohh, Path::Rounds)?, Path::Rounds)?;
     if values.is_empty() {
-        return Err(wrong(What::BadStreet, Path::Rounds));
+        return Err(wrong(MemberFaultKind::BadStreet, Path::Rounds));
     }
     Ok(values)
 }
@@ -57,7 +57,7 @@ fn read_each(
     ids: &[i128],
     setting: &Setting,
     values: &[Value],
-) -> Result<Told, Stop<Fault>>
+) -> Result<Told, Stop<MemberFault>>
     requires { length ids.now ≤ 10 }
     ensures said { Gives (λ told. map plain_step told.steps.items) result
         (each_told (plain_setting ids.now setting.now) (map view values.now)) }
@@ -77,10 +77,10 @@ fn read_each(
 fn read_round(
     ids: &[i128],
     told: &mut Told,
-    last: Option<Street>,
+    last: Option<StreetName>,
     index: u64,
     value: &Value,
-) -> Result<Street, Stop<Fault>>
+) -> Result<StreetName, Stop<MemberFault>>
     requires { length ids.now ≤ 10 }
     ensures said { Gives (λ street. (Some street, map plain_step told.new.steps.items)) result
         (round_said (plain_setting ids.now told.old.setting)
@@ -98,10 +98,10 @@ fn read_round(
 fn read_opening(
     ids: &[i128],
     told: &mut Told,
-    last: Option<Street>,
+    last: Option<StreetName>,
     index: u64,
     round: &Value,
-) -> Result<Street, Stop<Fault>>
+) -> Result<StreetName, Stop<MemberFault>>
     ensures said { Gives (λ street. (street, map plain_step told.new.steps.items)) result
         (opening_said (plain_setting ids.now told.old.setting)
         (last, map plain_step told.old.steps.items) index (view round.now)) }
@@ -115,20 +115,24 @@ fn read_opening(
 
 // The street of a round after the last one.
 #[tactic(auto, unfolding(crate::specs::Rounds::street_said))]
-fn read_street(last: Option<Street>, index: u64, round: &Value) -> Result<Street, Stop<Fault>>
+fn read_street(
+    last: Option<StreetName>,
+    index: u64,
+    round: &Value,
+) -> Result<StreetName, Stop<MemberFault>>
     ensures { Gives (λ street. street) result (street_said last index (view round.now)) }
 {
     let path = path_of(index, RoundMember::Street);
     let text = read_text(needed(round, path)?, path)?;
     match street_after(last, text) {
         Some(street) => Ok(street),
-        None => Err(wrong(What::BadStreet, path)),
+        None => Err(wrong(MemberFaultKind::BadStreet, path)),
     }
 }
 
 // The board cards of a round.
 #[tactic(auto, unfolding(crate::specs::Rounds::board_said))]
-fn read_board(street: Street, index: u64, round: &Value) -> Result<CardRow, Stop<Fault>>
+fn read_board(street: StreetName, index: u64, round: &Value) -> Result<CardRow, Stop<MemberFault>>
     ensures { Gives cards_of result (board_said street index (view round.now)) }
 {
     let path = path_of(index, RoundMember::Cards);
@@ -144,19 +148,24 @@ fn read_board(street: Street, index: u64, round: &Value) -> Result<CardRow, Stop
 
 // A list without cards.
 #[tactic(auto, unfolding(crate::specs::Rounds::no_cards))]
-fn read_no_cards(cards: &Value, path: Path) -> Result<CardRow, Stop<Fault>>
+fn read_no_cards(cards: &Value, path: Path) -> Result<CardRow, Stop<MemberFault>>
     ensures { Gives cards_of result (no_cards path (view cards.now)) }
 {
     let values = read_list(cards, path)?;
     if !values.is_empty() {
-        return Err(wrong(What::BadStreet, path));
+        return Err(wrong(MemberFaultKind::BadStreet, path));
     }
     Ok(CardRow::new())
 }
 
 // A deal to the board is told, where there are cards.
 #[tactic(auto, unfolding(crate::specs::Rounds::board_dealt))]
-fn deal_board(ids: &[i128], told: &mut Told, index: u64, cards: CardRow) -> Result<(), Stop<Fault>>
+fn deal_board(
+    ids: &[i128],
+    told: &mut Told,
+    index: u64,
+    cards: CardRow,
+) -> Result<(), Stop<MemberFault>>
     ensures said { Gives (λ x. map plain_step told.new.steps.items) result
         (board_dealt (plain_setting ids.now told.old.setting)
         (map plain_step told.old.steps.items) index (cards_of cards)) }
@@ -167,7 +176,7 @@ fn deal_board(ids: &[i128], told: &mut Told, index: u64, cards: CardRow) -> Resu
     }
     let kind = Kind::Board { cards };
     count_event(ids, told, path_of(index, RoundMember::Cards), kind)?;
-    told.push(Step {
+    told.push(RoundStep {
         number: 0,
         deed: Deed::Happened(kind),
     })?;
@@ -180,7 +189,7 @@ fn read_listed_actions(
     told: &mut Told,
     index: u64,
     round: &Value,
-) -> Result<(), Stop<Fault>>
+) -> Result<(), Stop<MemberFault>>
     requires { length ids.now ≤ 10 }
     ensures said { Gives (λ x. map plain_step told.new.steps.items) result
         (actions_said (plain_setting ids.now told.old.setting) index
@@ -205,7 +214,7 @@ fn read_actions(
     told: &mut Told,
     round: u64,
     values: &[Value],
-) -> Result<(), Stop<Fault>>
+) -> Result<(), Stop<MemberFault>>
     requires { length ids.now ≤ 10 }
     ensures said { Gives (λ x. map plain_step told.new.steps.items) result
         (actions_added (plain_setting ids.now told.old.setting) round

@@ -3,13 +3,13 @@ ghost use Rattle.std.specs.Prelude.{◌≤◌};
 ghost use Rattle.first_fault.specs.declared.limits.TheConstants.{MOST_FILE_MOVES};
 
 use ohh_members::dialect::Dialect;
-use ohh_posts::Table;
+use ohh_posts::NamedBlinds;
 
 /// What the rounds of a hand are read with.
 #[derive(Clone, Copy, Debug, PartialEq, Eq)]
 pub struct Setting {
     /// The starting stacks, the first seat's first, and the blinds.
-    pub table: Table,
+    pub table: NamedBlinds,
     /// How many hole cards the game deals to a seat.
     pub hole_cards: u8,
     pub dialect: Dialect,

@@ -1,6 +1,6 @@
 //! What an action did, or a deal to the board, and how it counts.
 ghost use Rattle.std.specs.Prelude.{◌≡◌, ◌+◌, cond, min};
-ghost use Rattle.canonical_play.specs.PlayedScript.{is_move as is_move_said};
+ghost use Rattle.canon_script.specs.PlayedScript.{is_move as is_move_said};
 ghost use Rattle.play_event.specs.Said.{kind_said};
 ghost use Rattle.ohh_rounds.specs.Steps.{is_action, is_move_deed, is_other_deed, plain_deed, plain_step};
 
@@ -24,7 +24,7 @@ pub enum Deed {
 
 /// What was done, and the number of its action through all rounds from 1, or 0 where no action says it.
 #[derive(Clone, Copy, Debug, PartialEq, Eq)]
-pub struct Step {
+pub struct RoundStep {
     pub number: u32,
     pub deed: Deed,
 }
@@ -60,7 +60,7 @@ pub fn is_move(kind: Kind) -> bool
 }
 
 /// The number of the next action after a step, where this was it before.
-pub fn next_after(next: u32, step: Step) -> u32
+pub fn next_after(next: u32, step: RoundStep) -> u32
     ensures { result ≡ min (next + cond (is_action (plain_step step)) 1 0) 4294967295 }
 {
     if step.number > 0 {

@@ -2,31 +2,31 @@
 ghost use Rattle.std.specs.Prelude.{◌≡◌};
 ghost use Rattle.ohh_rounds.specs.Streets.{has_board_cards as has_board_cards_said, if_named, street_after as street_said};
 
-use ohh_members::street::{Street, name_of};
+use ohh_members::street::{StreetName, name_of};
 
 /// The street that a text names, if it may come after the last one.
 #[tactic(auto, unfolding(crate::specs::Streets::street_after))]
-pub fn street_after(last: Option<Street>, text: &str) -> Option<Street>
+pub fn street_after(last: Option<StreetName>, text: &str) -> Option<StreetName>
     ensures { result ≡ street_said last text.now }
 {
     let Some(last) = last else {
-        return named(Street::Preflop, text);
+        return named(StreetName::Preflop, text);
     };
     let next = match last {
-        Street::Preflop => Street::Flop,
-        Street::Flop => Street::Turn,
-        Street::Turn => Street::River,
-        Street::River => return named(Street::Showdown, text),
-        Street::Showdown => return None,
+        StreetName::Preflop => StreetName::Flop,
+        StreetName::Flop => StreetName::Turn,
+        StreetName::Turn => StreetName::River,
+        StreetName::River => return named(StreetName::Showdown, text),
+        StreetName::Showdown => return None,
     };
     match named(next, text) {
         Some(street) => Some(street),
-        None => named(Street::Showdown, text),
+        None => named(StreetName::Showdown, text),
     }
 }
 
 // The street, where the text is its name.
-fn named(street: Street, text: &str) -> Option<Street>
+fn named(street: StreetName, text: &str) -> Option<StreetName>
     ensures { result ≡ if_named street text.now }
 {
     if text == name_of(street) {
@@ -37,11 +37,11 @@ fn named(street: Street, text: &str) -> Option<Street>
 }
 
 /// Whether the street deals cards to the board.
-pub fn has_board_cards(street: Street) -> bool
+pub fn has_board_cards(street: StreetName) -> bool
     ensures { result ≡ has_board_cards_said street }
 {
     match street {
-        Street::Flop | Street::Turn | Street::River => true,
-        Street::Preflop | Street::Showdown => false,
+        StreetName::Flop | StreetName::Turn | StreetName::River => true,
+        StreetName::Preflop | StreetName::Showdown => false,
     }
 }

@@ -1,6 +1,6 @@
 //! What is told so far is kept step by step, with what later actions ask of it.
 ghost use Rattle.std.specs.Prelude.{◌≡◌, ◌≤◌, ◌+◌, length, map};
-ghost use Rattle.canonical_play.specs.declared.limits.TheConstants.{MOST_MOVES, MOST_OTHER_EVENTS};
+ghost use Rattle.canon_script.specs.declared.limits.TheConstants.{MOST_MOVES, MOST_OTHER_EVENTS};
 ghost use Rattle.first_fault.specs.declared.limits.TheConstants.{MOST_FILE_MOVES};
 ghost use Rattle.ohh_rounds.specs.Kept.{AreTold, IsToldOf};
 ghost use Rattle.ohh_rounds.specs.Steps.{next_number, moves_in, others_in, plain_step};
@@ -8,7 +8,7 @@ ghost use Rattle.ohh_rounds.specs.Steps.{next_number, moves_in, others_in, plain
 use crate::cards::seats_after;
 use crate::seat_told::SeatTold;
 use crate::setting::Setting;
-use crate::step::{Step, moves_of, next_after, others_of};
+use crate::step::{RoundStep, moves_of, next_after, others_of};
 use card_set::{Memory, SlotRow};
 use chip_ledger::Seat;
 use std::alloc::Global;
@@ -17,7 +17,7 @@ use std::alloc::Global;
 #[derive(Debug, Drop)]
 pub struct Told {
     pub setting: Setting,
-    pub steps: Vec<Step>,
+    pub steps: Vec<RoundStep>,
     /// The number of the next action.
     pub next: u32,
     pub moves: usize,
@@ -84,7 +84,7 @@ impl Told {
     }
 
     /// Takes one more step, which passes no limit.
-    pub fn push(&mut self, step: Step) -> Result<(), Memory>
+    pub fn push(&mut self, step: RoundStep) -> Result<(), Memory>
         requires within { IsWithin self.old.setting.table.stacks.seats self.old.setting.file_moves
             (map plain_step self.old.steps.items) (plain_deed step.deed) }
         requires few { LeavesFew (map plain_step self.old.steps.items) (plain_deed step.deed) }

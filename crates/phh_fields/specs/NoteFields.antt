@@ -11,11 +11,11 @@ use Rattle.hand_records.specs.declared.notes.Clock.{Clock}
 use Rattle.hand_records.specs.declared.notes.Notes.{Notes}
 use Rattle.hand_records.specs.AllowedNotes.{days_in_month, noted, unless_usual}
 use Rattle.first_fault.specs.Reading.{◌>>=◌, each_from, read_if, or_none}
-use Rattle.phh_fields.specs.declared.fault.Key.TheVariants as keys
-use Rattle.phh_fields.specs.declared.fault.What.TheVariants as whats
-use Rattle.phh_fields.specs.declared.fault.Place.{Place}
-use Rattle.phh_fields.specs.declared.fault.Fault.{Fault}
-use Rattle.phh_fields.specs.declared.date.Day.{Day}
+use Rattle.phh_fields.specs.declared.fault.FieldKey.TheVariants as keys
+use Rattle.phh_fields.specs.declared.fault.FieldFaultKind.TheVariants as whats
+use Rattle.phh_fields.specs.declared.fault.FieldPlace.{FieldPlace}
+use Rattle.phh_fields.specs.declared.fault.FieldFault.{FieldFault}
+use Rattle.phh_fields.specs.declared.date.PartialDate.{PartialDate}
 use Rattle.phh_fields.specs.declared.labels.Labels.{Labels}
 use Rattle.phh_fields.specs.declared.seating.Seating.{Seating}
 use Rattle.phh_fields.specs.Fields.{at_key, at_item, wrong, field, text_said, items_said, number_said}
@@ -46,7 +46,7 @@ plain_seating count seating = record { names = take count seating.names; seats =
 pub record PlainNotes : Type 0 where
   pub seating : PlainSeating
   pub labels : PlainLabels
-  pub day : Day
+  pub day : PartialDate
   pub time : Option Clock
   pub zone : Option (List ℕ)
 
@@ -62,43 +62,43 @@ plain_notes count notes =
     }
 
 -- the text of a note with this default; it is of at most 255 bytes
-unfoldable pub note_said : List ℕ → Place → List ℕ → Result (Option (List ℕ)) Fault
+unfoldable pub note_said : List ℕ → FieldPlace → List ℕ → Result (Option (List ℕ)) FieldFault
 note_said default place text =
     if nat_le (length text) MOST_TEXT_BYTES then Ok (noted default text) else wrong (whats.TooMany quantities.TextBytes) place
 
 -- a text with this default
-unfoldable pub text_note_said : List ℕ → Place → Data → Result (Option (List ℕ)) Fault
+unfoldable pub text_note_said : List ℕ → FieldPlace → Data → Result (Option (List ℕ)) FieldFault
 text_note_said default place value = text_said place value >>= note_said default place
 
 -- a text with this default, or a whole number that stands for its decimal text
-unfoldable pub label_said : List ℕ → Place → Data → Result (Option (List ℕ)) Fault
+unfoldable pub label_said : List ℕ → FieldPlace → Data → Result (Option (List ℕ)) FieldFault
 label_said default place (string text) = note_said default place text
 label_said default place (integer number) = note_said default place (signed_decimal number)
 label_said default place _ = wrong whats.WrongType place
 
 -- the names of the players of so many seats
-abbrev pub names_from : List Data → Result (List (Option (List ℕ))) Fault
+abbrev pub names_from : List Data → Result (List (Option (List ℕ))) FieldFault
 names_from items = each_from (λ n value. text_note_said (default_name n) (at_item keys.Players n) value) 1 items
 
 -- the names of the players, none where the key does not stand
-unfoldable pub names_said : ℕ → Option Data → Result (List (Option (List ℕ))) Fault
+unfoldable pub names_said : ℕ → Option Data → Result (List (Option (List ℕ))) FieldFault
 names_said count None = Ok (replicate count None)
 names_said count (Some value) = items_said count keys.Players value >>= names_from
 
 -- the numbers of so many seats
-abbrev pub numbers_from : List Data → Result (List ℕ) Fault
+abbrev pub numbers_from : List Data → Result (List ℕ) FieldFault
 numbers_from items = each_from (λ n value. number_said 1 255 (at_item keys.Seats n) value) 1 items
 
 -- the numbers that the players have at the table
-unfoldable pub seats_said : ℕ → Data → Result (Option (List ℕ)) Fault
+unfoldable pub seats_said : ℕ → Data → Result (Option (List ℕ)) FieldFault
 seats_said count value = items_said count keys.Seats value >>= numbers_from >>= λ numbers. Ok (unless_usual count numbers)
 
 -- how many seats the table has
-unfoldable pub seat_count_said : ℕ → Data → Result (Option ℕ) Fault
+unfoldable pub seat_count_said : ℕ → Data → Result (Option ℕ) FieldFault
 seat_count_said count value = number_said 1 255 (at_key keys.SeatCount) value >>= λ number. Ok (if number == count then None else Some number)
 
 -- who sits where
-unfoldable pub seating_said : ℕ → Members → Result PlainSeating Fault
+unfoldable pub seating_said : ℕ → Members → Result PlainSeating FieldFault
 seating_said count members = do
   names ← names_said count (field keys.Players members)
   seats ← or_none (seats_said count) (field keys.Seats members)
@@ -106,7 +106,7 @@ seating_said count members = do
   Ok (record { names = names; seats = seats; seat_count = seat_count })
 
 -- where the hand was played; place is the hand's place in its file, from 0
-unfoldable pub labels_said : ℕ → Members → Result PlainLabels Fault
+unfoldable pub labels_said : ℕ → Members → Result PlainLabels FieldFault
 labels_said place members = do
   hand ← or_none (label_said (decimal place) (at_key keys.Hand)) (field keys.Hand members)
   table ← or_none (label_said [] (at_key keys.Table)) (field keys.Table members)
@@ -120,7 +120,7 @@ is_in_calendar (Some year) (Some month) (Some day) = nat_le day (days_in_month y
 is_in_calendar _ _ _ = true
 
 -- when the hand was played
-unfoldable pub day_said : Members → Result Day Fault
+unfoldable pub day_said : Members → Result PartialDate FieldFault
 day_said members = do
   year ← read_if (number_said 1 9999 (at_key keys.Year)) (field keys.Year members)
   month ← read_if (number_said 1 12 (at_key keys.Month)) (field keys.Month members)
@@ -146,17 +146,17 @@ abbrev pub is_clock : Clock → Bool
 is_clock clock = (nat_le clock.hour 23 && nat_le clock.minute 59) && (nat_le clock.second 59 && nat_le clock.nano 999999999)
 
 -- the time of a day that a local time says
-unfoldable pub clock_said : Option Time → Result Clock Fault
+unfoldable pub clock_said : Option Time → Result Clock FieldFault
 clock_said None = wrong whats.WrongType (at_key keys.Time)
 clock_said (Some time) = if is_clock (clock_of time) then Ok (clock_of time) else wrong whats.WrongType (at_key keys.Time)
 
 -- the time of the day: a local time
-unfoldable pub time_said : Data → Result Clock Fault
+unfoldable pub time_said : Data → Result Clock FieldFault
 time_said (datetime said) = clock_said (time_alone said.date said.time said.offset)
 time_said _ = wrong whats.WrongType (at_key keys.Time)
 
 -- the notes
-unfoldable pub notes_said : ℕ → ℕ → Members → Result PlainNotes Fault
+unfoldable pub notes_said : ℕ → ℕ → Members → Result PlainNotes FieldFault
 notes_said place count members = do
   seating ← seating_said count members
   labels ← labels_said place members

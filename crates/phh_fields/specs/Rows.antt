@@ -4,23 +4,23 @@ use Rattle.toml.specs.Data.{Data}
 use Rattle.chip_ledger.specs.declared.numbers.TheConstants.{MOST_CHIPS}
 use Rattle.chip_ledger.specs.declared.rows.TheConstants.{MOST_AMOUNT}
 use Rattle.first_fault.specs.Reading.{◌>>=◌, each_from}
-use Rattle.phh_fields.specs.declared.fault.Key.{Key}
-use Rattle.phh_fields.specs.declared.fault.Key.TheVariants as keys
-use Rattle.phh_fields.specs.declared.fault.What.TheVariants as whats
-use Rattle.phh_fields.specs.declared.fault.Place.{Place}
-use Rattle.phh_fields.specs.declared.fault.Fault.{Fault}
+use Rattle.phh_fields.specs.declared.fault.FieldKey.{FieldKey}
+use Rattle.phh_fields.specs.declared.fault.FieldKey.TheVariants as keys
+use Rattle.phh_fields.specs.declared.fault.FieldFaultKind.TheVariants as whats
+use Rattle.phh_fields.specs.declared.fault.FieldPlace.{FieldPlace}
+use Rattle.phh_fields.specs.declared.fault.FieldFault.{FieldFault}
 use Rattle.phh_fields.specs.Fields.{at_key, at_item, wrong, list_said, items_said, amount_said}
 
 -- amounts from least to most
-abbrev pub amounts_said : ℕ → ℕ → Key → List Data → Result (List ℕ) Fault
+abbrev pub amounts_said : ℕ → ℕ → FieldKey → List Data → Result (List ℕ) FieldFault
 amounts_said least most key items = each_from (λ n value. amount_said least most (at_item key n) value) 1 items
 
 -- an amount of up to so many chips for each of so many seats
-unfoldable pub row_said : ℕ → ℕ → Key → Data → Result (List ℕ) Fault
+unfoldable pub row_said : ℕ → ℕ → FieldKey → Data → Result (List ℕ) FieldFault
 row_said seats most key value = items_said seats key value >>= amounts_said 0 most key
 
 -- the starting stacks, of two seats to the most of the game
-unfoldable pub stacks_said : ℕ → Data → Result (List ℕ) Fault
+unfoldable pub stacks_said : ℕ → Data → Result (List ℕ) FieldFault
 stacks_said most_seats value = do
   items ← list_said (at_key keys.StartingStacks) value
   if nat_le 2 (length items) && nat_le (length items) most_seats
@@ -28,15 +28,15 @@ stacks_said most_seats value = do
       else wrong whats.SeatCount (at_key keys.StartingStacks)
 
 -- the ante of a seat with this stack, held as the lesser of what is named and the stack
-unfoldable pub ante_said : ℕ → Place → Data → Result ℕ Fault
+unfoldable pub ante_said : ℕ → FieldPlace → Data → Result ℕ FieldFault
 ante_said stack place value = amount_said 0 MOST_CHIPS place value >>= λ ante. Ok (min ante stack)
 
 -- the antes of seats with these stacks
-abbrev pub antes_from : List ℕ → List Data → Result (List ℕ) Fault
+abbrev pub antes_from : List ℕ → List Data → Result (List ℕ) FieldFault
 antes_from stacks items = each_from (λ n value. ante_said (slice_index stacks (n - 1)) (at_item keys.Antes n) value) 1 items
 
 -- the antes of the seats
-unfoldable pub antes_said : List ℕ → Data → Result (List ℕ) Fault
+unfoldable pub antes_said : List ℕ → Data → Result (List ℕ) FieldFault
 antes_said stacks value = items_said (length stacks) keys.Antes value >>= antes_from stacks
 
 -- of two blinds the greater is the first seat's
@@ -45,11 +45,11 @@ posted (first ∷ second ∷ []) = max first second ∷ min first second ∷ []
 posted blinds = blinds
 
 -- the rakes of so many pots, the lowest pot's first; a pot past the last one has 0
-unfoldable pub rakes_from : List Data → Result (List ℕ) Fault
+unfoldable pub rakes_from : List Data → Result (List ℕ) FieldFault
 rakes_from items = amounts_said 0 MOST_AMOUNT keys.Rakes items >>= λ rakes. Ok (rakes ++ replicate (11 - length rakes) 0)
 
 -- the rakes of eleven pots at most
-unfoldable pub rakes_said : Data → Result (List ℕ) Fault
+unfoldable pub rakes_said : Data → Result (List ℕ) FieldFault
 rakes_said value = do
   items ← list_said (at_key keys.Rakes) value
   if nat_le (length items) 11 then rakes_from items else wrong whats.ListLength (at_key keys.Rakes)

@@ -11,10 +11,10 @@ use Rattle.play_event.specs.Games.{game_of, all_games}
 use Rattle.play_event.specs.Streets.{limit_of, is_stud}
 use Rattle.play_event.specs.ValidSetup.{is_fixed}
 use Rattle.first_fault.specs.Reading.{◌>>=◌, read_if}
-use Rattle.phh_fields.specs.declared.fault.Key.{Key}
-use Rattle.phh_fields.specs.declared.fault.Key.TheVariants as keys
-use Rattle.phh_fields.specs.declared.fault.What.TheVariants as whats
-use Rattle.phh_fields.specs.declared.fault.Fault.{Fault}
+use Rattle.phh_fields.specs.declared.fault.FieldKey.{FieldKey}
+use Rattle.phh_fields.specs.declared.fault.FieldKey.TheVariants as keys
+use Rattle.phh_fields.specs.declared.fault.FieldFaultKind.TheVariants as whats
+use Rattle.phh_fields.specs.declared.fault.FieldFault.{FieldFault}
 use Rattle.phh_fields.specs.declared.sizes.Sizes.{Sizes}
 use Rattle.phh_fields.specs.Fields.{at_key, or_wrong, field, needed, text_said, flag_said, amount_said}
 use Rattle.phh_fields.specs.Rows.{row_said, stacks_said, antes_said, posted}
@@ -46,11 +46,11 @@ unfoldable pub game_named : List ℕ → Option Code
 game_named text = find (λ code. bytes_eq text (code_text code)) all_games
 
 -- the variant
-unfoldable pub variant_said : Data → Result Code Fault
+unfoldable pub variant_said : Data → Result Code FieldFault
 variant_said value = text_said (at_key keys.Variant) value >>= λ text. or_wrong whats.UnknownVariant (at_key keys.Variant) (game_named text)
 
 -- the antes are trimmed: they are not dead
-unfoldable pub trimming_said : Members → Result Bool Fault
+unfoldable pub trimming_said : Members → Result Bool FieldFault
 trimming_said members = read_if (flag_said (at_key keys.AnteTrimmingStatus)) (field keys.AnteTrimmingStatus members) >>= λ said. Ok (option_map_or (λ trimmed. trimmed) said false)
 
 -- antes are dead where they are not trimmed and some seat posts one
@@ -58,17 +58,17 @@ abbrev pub are_dead : Bool → List ℕ → Bool
 are_dead trimmed antes = not trimmed && list_any (λ ante. nat_lt 0 ante) antes
 
 -- the blinds; stud has none
-unfoldable pub blinds_said : Code → ℕ → Members → Result (List ℕ) Fault
+unfoldable pub blinds_said : Code → ℕ → Members → Result (List ℕ) FieldFault
 blinds_said code seats members =
     if is_stud code then Ok (replicate seats 0)
     else (needed keys.BlindsOrStraddles members >>= row_said seats MOST_CHIPS keys.BlindsOrStraddles >>= λ blinds. Ok (posted blinds))
 
 -- a size that the game uses; a size that it does not use is 0
-unfoldable pub size_said : Bool → Key → Members → Result ℕ Fault
+unfoldable pub size_said : Bool → FieldKey → Members → Result ℕ FieldFault
 size_said used key members = if used then (needed key members >>= amount_said 1 MOST_CHIPS (at_key key)) else Ok 0
 
 -- the bring-in of stud, the bets of fixed limit, and the least bet of the other limits
-unfoldable pub sizes_said : Code → Members → Result Sizes Fault
+unfoldable pub sizes_said : Code → Members → Result Sizes FieldFault
 sizes_said code members = do
   bring_in ← size_said (is_stud code) keys.BringIn members
   small_bet ← size_said (is_fixed (limit_of code)) keys.SmallBet members
@@ -77,7 +77,7 @@ sizes_said code members = do
   Ok (record { bring_in = bring_in; small_bet = small_bet; big_bet = big_bet; min_bet = min_bet })
 
 -- the setup
-unfoldable pub setup_said : Members → Result PlainSetup Fault
+unfoldable pub setup_said : Members → Result PlainSetup FieldFault
 setup_said members = do
   code ← needed keys.Variant members >>= variant_said
   stacks ← needed keys.StartingStacks members >>= stacks_said (game_of code).seats

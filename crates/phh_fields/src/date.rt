@@ -3,11 +3,11 @@ ghost use Rattle.std.specs.Prelude.{◌≡◌, Option, Some, None, true, IfOk, I
 ghost use Rattle.toml.specs.View.{table_view, view};
 ghost use Rattle.hand_records.specs.AllowedNotes.{IsTime, IsWithin};
 ghost use Rattle.first_fault.specs.Reading.{Gives, read_if};
-ghost use Rattle.phh_fields.specs.declared.fault.Key.TheVariants as keys;
+ghost use Rattle.phh_fields.specs.declared.fault.FieldKey.TheVariants as keys;
 ghost use Rattle.phh_fields.specs.Fields.{at_key, field as field_said, number_said};
 ghost use Rattle.phh_fields.specs.NoteFields.{clock_of as clock_of_said, clock_said, day_said, is_clock as is_clock_said, is_in_calendar as is_in_calendar_said, time_alone as time_alone_said, time_said};
 
-use crate::fault::{Fault, Key, Place, What};
+use crate::fault::{FieldFault, FieldFaultKind, FieldKey, FieldPlace};
 use crate::values::{field, read_number, wrong};
 use first_fault::Stop;
 use hand_records::{Clock, has_day};
@@ -16,7 +16,7 @@ use toml::{Table, Value};
 
 /// The day on which a hand was played, as far as it is said.
 #[derive(Clone, Copy, Debug, PartialEq, Eq)]
-pub struct Day {
+pub struct PartialDate {
     pub year: Option<u16>,
     pub month: Option<u8>,
     pub day: Option<u8>,
@@ -24,7 +24,7 @@ pub struct Day {
 
 /// The day on which the hand was played.
 #[tactic(auto, unfolding(crate::specs::NoteFields::day_said))]
-pub fn read_day(table: &Table) -> Result<Day, Stop<Fault>>
+pub fn read_day(table: &Table) -> Result<PartialDate, Stop<FieldFault>>
     ensures said { Gives (λ day. day) result (day_said (table_view table.now)) }
     ensures year { IfOk result (λ date. IfSome date.year (IsWithin 1 9999)) }
     ensures month { IfOk result (λ date. IfSome date.month (IsWithin 1 12)) }
@@ -33,26 +33,26 @@ pub fn read_day(table: &Table) -> Result<Day, Stop<Fault>>
         is_in_calendar_said date.year date.month date.day ≡ true) }
 {
     let year = read_year(table)?;
-    let month = read_part(table, Key::Month, 12)?;
-    let day = read_part(table, Key::Day, 31)?;
-    let date = Day { year, month, day };
+    let month = read_part(table, FieldKey::Month, 12)?;
+    let day = read_part(table, FieldKey::Day, 31)?;
+    let date = PartialDate { year, month, day };
     if is_in_calendar(date) {
         Ok(date)
     } else {
-        Err(wrong(What::WrongType, Place::at_key(Key::Day)))
+        Err(wrong(FieldFaultKind::WrongType, FieldPlace::at_key(FieldKey::Day)))
     }
 }
 
 // The year at its key, if there is one.
-fn read_year(table: &Table) -> Result<Option<u16>, Stop<Fault>>
+fn read_year(table: &Table) -> Result<Option<u16>, Stop<FieldFault>>
     ensures said { Gives (λ year. year) result
         (read_if (number_said 1 9999 (at_key keys.Year))
         (field_said keys.Year (table_view table.now))) }
     ensures within { IfOk result (λ year. IfSome year (IsWithin 1 9999)) }
 {
-    match field(table, Key::Year) {
+    match field(table, FieldKey::Year) {
         Some(value) => {
-            let year = read_number(value, 1, 9999, Place::at_key(Key::Year))?;
+            let year = read_number(value, 1, 9999, FieldPlace::at_key(FieldKey::Year))?;
             Ok(Some(year as u16))
         }
         None => Ok(None),
@@ -60,14 +60,14 @@ fn read_year(table: &Table) -> Result<Option<u16>, Stop<Fault>>
 }
 
 // The number from 1 to `most` at a key, if there is one.
-fn read_part(table: &Table, key: Key, most: u8) -> Result<Option<u8>, Stop<Fault>>
+fn read_part(table: &Table, key: FieldKey, most: u8) -> Result<Option<u8>, Stop<FieldFault>>
     ensures said { Gives (λ part. part) result
         (read_if (number_said 1 most (at_key key)) (field_said key (table_view table.now))) }
     ensures within { IfOk result (λ part. IfSome part (IsWithin 1 most)) }
 {
     match field(table, key) {
         Some(value) => {
-            let part = read_number(value, 1, u64::from(most), Place::at_key(key))?;
+            let part = read_number(value, 1, u64::from(most), FieldPlace::at_key(key))?;
             Ok(Some(part as u8))
         }
         None => Ok(None),
@@ -75,7 +75,7 @@ fn read_part(table: &Table, key: Key, most: u8) -> Result<Option<u8>, Stop<Fault
 }
 
 // Whether year, month and day are a day of the calendar where all three stand.
-fn is_in_calendar(date: Day) -> bool
+fn is_in_calendar(date: PartialDate) -> bool
     requires year { IfSome date.year (IsWithin 1 9999) }
     requires month { IfSome date.month (IsWithin 1 12) }
     requires day { IfSome date.day (IsWithin 1 31) }
@@ -88,12 +88,12 @@ fn is_in_calendar(date: Day) -> bool
 }
 
 /// The time of the day, if it is said.
-pub fn read_time_at(table: &Table) -> Result<Option<Clock>, Stop<Fault>>
+pub fn read_time_at(table: &Table) -> Result<Option<Clock>, Stop<FieldFault>>
     ensures said { Gives (λ clock. clock) result
         (read_if time_said (field_said keys.Time (table_view table.now))) }
     ensures allowed { IfOk result (λ clock. IfSome clock IsTime) }
 {
-    match field(table, Key::Time) {
+    match field(table, FieldKey::Time) {
         Some(value) => Ok(Some(read_time(value)?)),
         None => Ok(None),
     }
@@ -101,31 +101,34 @@ pub fn read_time_at(table: &Table) -> Result<Option<Clock>, Stop<Fault>>
 
 // The time of the day.
 #[tactic(auto, unfolding(crate::specs::NoteFields::time_said))]
-fn read_time(value: &Value) -> Result<Clock, Stop<Fault>>
+fn read_time(value: &Value) -> Result<Clock, Stop<FieldFault>>
     ensures said { Gives (λ clock. clock) result (time_said (view value.now)) }
     ensures allowed { IfOk result IsTime }
 {
     match value {
         Value::Datetime(said) => read_clock(time_alone(said)),
-        _ => Err(wrong(What::WrongType, Place::at_key(Key::Time))),
+        _ => Err(wrong(
+            FieldFaultKind::WrongType,
+            FieldPlace::at_key(FieldKey::Time),
+        )),
     }
 }
 
 // The time of a day that a local time says.
 #[tactic(auto, unfolding(crate::specs::NoteFields::clock_said))]
-fn read_clock(time: Option<Time>) -> Result<Clock, Stop<Fault>>
+fn read_clock(time: Option<Time>) -> Result<Clock, Stop<FieldFault>>
     ensures said { Gives (λ clock. clock) result (clock_said time) }
     ensures allowed { IfOk result IsTime }
 {
-    let place = Place::at_key(Key::Time);
+    let place = FieldPlace::at_key(FieldKey::Time);
     match time {
-        None => Err(wrong(What::WrongType, place)),
+        None => Err(wrong(FieldFaultKind::WrongType, place)),
         Some(time) => {
             let clock = clock_of(time);
             if is_clock(clock) {
                 Ok(clock)
             } else {
-                Err(wrong(What::WrongType, place))
+                Err(wrong(FieldFaultKind::WrongType, place))
             }
         }
     }

@@ -6,7 +6,7 @@ use first_fault::Quantity;
 
 /// What is wrong.
 #[derive(Clone, Copy, Debug, PartialEq, Eq)]
-pub enum What {
+pub enum FieldFaultKind {
     /// A field that is needed lacks.
     MissingField,
     /// A field is of another kind, or a day is none of the calendar.
@@ -29,7 +29,7 @@ pub enum What {
 
 /// The keys of the fields, in the order in which they are examined.
 #[derive(Clone, Copy, Debug, PartialEq, Eq)]
-pub enum Key {
+pub enum FieldKey {
     Variant,
     StartingStacks,
     Antes,
@@ -56,67 +56,67 @@ pub enum Key {
     TimeZone,
 }
 
-impl Key {
+impl FieldKey {
     /// The key as it is spelled.
     pub fn text(self) -> &'static str
         ensures { result.now ≡ key_text self }
     {
         match self {
-            Key::Variant => "variant",
-            Key::StartingStacks => "starting_stacks",
-            Key::Antes => "antes",
-            Key::AnteTrimmingStatus => "ante_trimming_status",
-            Key::BlindsOrStraddles => "blinds_or_straddles",
-            Key::BringIn => "bring_in",
-            Key::SmallBet => "small_bet",
-            Key::BigBet => "big_bet",
-            Key::MinBet => "min_bet",
-            Key::Actions => "actions",
-            Key::FinishingStacks => "finishing_stacks",
-            Key::Rakes => "_rakes",
-            Key::Players => "players",
-            Key::Seats => "seats",
-            Key::SeatCount => "seat_count",
-            Key::Hand => "hand",
-            Key::Table => "table",
-            Key::Venue => "venue",
-            Key::Currency => "currency",
-            Key::Year => "year",
-            Key::Month => "month",
-            Key::Day => "day",
-            Key::Time => "time",
-            Key::TimeZone => "time_zone",
+            FieldKey::Variant => "variant",
+            FieldKey::StartingStacks => "starting_stacks",
+            FieldKey::Antes => "antes",
+            FieldKey::AnteTrimmingStatus => "ante_trimming_status",
+            FieldKey::BlindsOrStraddles => "blinds_or_straddles",
+            FieldKey::BringIn => "bring_in",
+            FieldKey::SmallBet => "small_bet",
+            FieldKey::BigBet => "big_bet",
+            FieldKey::MinBet => "min_bet",
+            FieldKey::Actions => "actions",
+            FieldKey::FinishingStacks => "finishing_stacks",
+            FieldKey::Rakes => "_rakes",
+            FieldKey::Players => "players",
+            FieldKey::Seats => "seats",
+            FieldKey::SeatCount => "seat_count",
+            FieldKey::Hand => "hand",
+            FieldKey::Table => "table",
+            FieldKey::Venue => "venue",
+            FieldKey::Currency => "currency",
+            FieldKey::Year => "year",
+            FieldKey::Month => "month",
+            FieldKey::Day => "day",
+            FieldKey::Time => "time",
+            FieldKey::TimeZone => "time_zone",
         }
     }
 }
 
 /// Where a fault is: at a key, or at an item of its list.
 #[derive(Clone, Copy, Debug, PartialEq, Eq)]
-pub struct Place {
-    pub key: Key,
+pub struct FieldPlace {
+    pub key: FieldKey,
     /// The number of the item from 1, or 0 for the key itself.
     pub item: u64,
 }
 
-impl Place {
+impl FieldPlace {
     /// The key itself.
-    pub fn at_key(key: Key) -> Self
+    pub fn at_key(key: FieldKey) -> Self
         ensures { result ≡ place_of key }
     {
-        Place { key, item: 0 }
+        FieldPlace { key, item: 0 }
     }
 
     /// The item with this number, from 1.
-    pub fn at_item(key: Key, item: u64) -> Self
+    pub fn at_item(key: FieldKey, item: u64) -> Self
         ensures { result ≡ item_of key item }
     {
-        Place { key, item }
+        FieldPlace { key, item }
     }
 }
 
 /// A fault of a hand.
 #[derive(Clone, Copy, Debug, PartialEq, Eq)]
-pub struct Fault {
-    pub what: What,
-    pub place: Place,
+pub struct FieldFault {
+    pub what: FieldFaultKind,
+    pub place: FieldPlace,
 }

@@ -4,11 +4,11 @@ ghost use Rattle.std.specs.Fmt.{decimal};
 ghost use Rattle.toml.specs.View.{table_view};
 ghost use Rattle.hand_records.specs.AllowedNotes.{IsNoteText};
 ghost use Rattle.first_fault.specs.Reading.{Gives, or_none};
-ghost use Rattle.phh_fields.specs.declared.fault.Key.TheVariants as keys;
+ghost use Rattle.phh_fields.specs.declared.fault.FieldKey.TheVariants as keys;
 ghost use Rattle.phh_fields.specs.Fields.{at_key, field as field_said};
 ghost use Rattle.phh_fields.specs.NoteFields.{label_said, labels_said, plain_labels, text_note_said};
 
-use crate::fault::{Fault, Key, Place};
+use crate::fault::{FieldFault, FieldKey, FieldPlace};
 use crate::texts::{read_label, read_text_note};
 use crate::values::field;
 use first_fault::{Stop, Text};
@@ -26,7 +26,7 @@ pub struct Labels {
 
 /// The labels of the hand at this place of its file, from 0.
 #[tactic(auto, unfolding(crate::specs::NoteFields::labels_said))]
-pub fn read_labels(alloc: Global, table: &Table, place: u32) -> Result<Labels, Stop<Fault>>
+pub fn read_labels(alloc: Global, table: &Table, place: u32) -> Result<Labels, Stop<FieldFault>>
     ensures said { Gives plain_labels result (labels_said place (table_view table.now)) }
     ensures hand { IfOk result (λ labels. IfSome labels.hand IsNoteText) }
     ensures table { IfOk result (λ labels. IfSome labels.table IsNoteText) }
@@ -34,9 +34,9 @@ pub fn read_labels(alloc: Global, table: &Table, place: u32) -> Result<Labels, S
     ensures currency { IfOk result (λ labels. IfSome labels.currency IsNoteText) }
 {
     let hand = hand_at(alloc, table, place)?;
-    let label = label_at(alloc, table, Key::Table)?;
-    let venue = text_at(alloc, table, Key::Venue)?;
-    let currency = text_at(alloc, table, Key::Currency)?;
+    let label = label_at(alloc, table, FieldKey::Table)?;
+    let venue = text_at(alloc, table, FieldKey::Venue)?;
+    let currency = text_at(alloc, table, FieldKey::Currency)?;
     Ok(Labels {
         hand,
         table: label,
@@ -47,41 +47,50 @@ pub fn read_labels(alloc: Global, table: &Table, place: u32) -> Result<Labels, S
 
 // The name of the hand at this place of its file, from 0, if there is one. Most files say none, and the number of a place
 // is spelled only where one is.
-fn hand_at(alloc: Global, table: &Table, place: u32) -> Result<Option<Text>, Stop<Fault>>
+fn hand_at(alloc: Global, table: &Table, place: u32) -> Result<Option<Text>, Stop<FieldFault>>
     ensures said { Gives (λ note. note) result
         (or_none (label_said (decimal place) (at_key keys.Hand))
         (field_said keys.Hand (table_view table.now))) }
     ensures allowed { IfOk result (λ note. IfSome note IsNoteText) }
 {
-    match field(table, Key::Hand) {
+    match field(table, FieldKey::Hand) {
         Some(value) => {
             let usual = place.to_string(alloc)?;
-            read_label(alloc, value, usual.as_str(), Place::at_key(Key::Hand))
+            read_label(
+                alloc,
+                value,
+                usual.as_str(),
+                FieldPlace::at_key(FieldKey::Hand),
+            )
         }
         None => Ok(None),
     }
 }
 
 // The label at a key, if there is one that is not empty.
-fn label_at(alloc: Global, table: &Table, key: Key) -> Result<Option<Text>, Stop<Fault>>
+fn label_at(alloc: Global, table: &Table, key: FieldKey) -> Result<Option<Text>, Stop<FieldFault>>
     ensures said { Gives (λ note. note) result
         (or_none (label_said [] (at_key key)) (field_said key (table_view table.now))) }
     ensures allowed { IfOk result (λ note. IfSome note IsNoteText) }
 {
     match field(table, key) {
-        Some(value) => read_label(alloc, value, "", Place::at_key(key)),
+        Some(value) => read_label(alloc, value, "", FieldPlace::at_key(key)),
         None => Ok(None),
     }
 }
 
 /// The text at a key, if there is one that is not empty.
-pub fn text_at(alloc: Global, table: &Table, key: Key) -> Result<Option<Text>, Stop<Fault>>
+pub fn text_at(
+    alloc: Global,
+    table: &Table,
+    key: FieldKey,
+) -> Result<Option<Text>, Stop<FieldFault>>
     ensures said { Gives (λ note. note) result
         (or_none (text_note_said [] (at_key key)) (field_said key (table_view table.now))) }
     ensures allowed { IfOk result (λ note. IfSome note IsNoteText) }
 {
     match field(table, key) {
-        Some(value) => read_text_note(alloc, value, "", Place::at_key(key)),
+        Some(value) => read_text_note(alloc, value, "", FieldPlace::at_key(key)),
         None => Ok(None),
     }
 }

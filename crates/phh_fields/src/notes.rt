@@ -5,8 +5,8 @@ ghost use Rattle.hand_records.specs.AllowedNotes.{AreAllowed};
 ghost use Rattle.first_fault.specs.Reading.{Gives};
 ghost use Rattle.phh_fields.specs.NoteFields.{notes_said, plain_notes};
 
-use crate::date::{Day, read_day, read_time_at};
-use crate::fault::{Fault, Key};
+use crate::date::{PartialDate, read_day, read_time_at};
+use crate::fault::{FieldFault, FieldKey};
 use crate::labels::{Labels, read_labels, text_at};
 use crate::seating::{Seating, read_seating};
 use first_fault::Stop;
@@ -16,7 +16,12 @@ use toml::Table;
 
 /// The notes of a hand with so many seats, at this place of its file, from 0.
 #[tactic(auto, unfolding(crate::specs::NoteFields::notes_said))]
-pub fn read_notes(alloc: Global, table: &Table, place: u32, seats: u8) -> Result<Notes, Stop<Fault>>
+pub fn read_notes(
+    alloc: Global,
+    table: &Table,
+    place: u32,
+    seats: u8,
+) -> Result<Notes, Stop<FieldFault>>
     requires { seats ≤ 10 }
     ensures said { Gives (plain_notes seats) result
         (notes_said place seats (table_view table.now)) }
@@ -26,7 +31,7 @@ pub fn read_notes(alloc: Global, table: &Table, place: u32, seats: u8) -> Result
     let labels = read_labels(alloc, table, place)?;
     let date = read_day(table)?;
     let time = read_time_at(table)?;
-    let zone = text_at(alloc, table, Key::TimeZone)?;
+    let zone = text_at(alloc, table, FieldKey::TimeZone)?;
     let Seating {
         names,
         seats: numbers,
@@ -38,7 +43,7 @@ pub fn read_notes(alloc: Global, table: &Table, place: u32, seats: u8) -> Result
         venue,
         currency,
     } = labels;
-    let Day { year, month, day } = date;
+    let PartialDate { year, month, day } = date;
     Ok(Notes {
         names,
         seats: numbers,

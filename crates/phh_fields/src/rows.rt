@@ -5,11 +5,11 @@ ghost use Rattle.chip_ledger.specs.declared.rows.TheConstants.{MOST_AMOUNT};
 ghost use Rattle.chip_ledger.specs.RakeRow.{rake_of};
 ghost use Rattle.play_event.specs.ValidSetup.{IsSize};
 ghost use Rattle.first_fault.specs.Reading.{Gives};
-ghost use Rattle.phh_fields.specs.declared.fault.Key.TheVariants as keys;
+ghost use Rattle.phh_fields.specs.declared.fault.FieldKey.TheVariants as keys;
 ghost use Rattle.phh_fields.specs.Rows.{amounts_said, antes_from, ante_said, antes_said, posted as posted_said, rakes_from, rakes_said, row_said, stacks_said};
 ghost use Rattle.chip_ledger.specs.SeatRow.{amounts_in};
 
-use crate::fault::{Fault, Key, Place, What};
+use crate::fault::{FieldFault, FieldFaultKind, FieldKey, FieldPlace};
 use crate::values::{has_count, read_amount, read_items, read_list, wrong};
 use chip_ledger::{MOST_AMOUNT, MOST_CHIPS, RakeRow, SeatRow};
 use first_fault::Stop;
@@ -17,7 +17,12 @@ use toml::Value;
 
 /// A row of so many seats, each with an amount of up to `most` chips.
 #[tactic(auto, unfolding(crate::specs::Rows::row_said))]
-pub fn read_row(value: &Value, seats: u8, most: u64, key: Key) -> Result<SeatRow, Stop<Fault>>
+pub fn read_row(
+    value: &Value,
+    seats: u8,
+    most: u64,
+    key: FieldKey,
+) -> Result<SeatRow, Stop<FieldFault>>
     requires some { 2 ≤ seats }
     requires few { seats ≤ 10 }
     requires bounded { most ≤ MOST_AMOUNT }
@@ -31,23 +36,28 @@ pub fn read_row(value: &Value, seats: u8, most: u64, key: Key) -> Result<SeatRow
 
 /// The starting stacks of two seats to `most_seats`, each of at least one chip.
 #[tactic(auto, unfolding(crate::specs::Rows::stacks_said))]
-pub fn read_stacks(value: &Value, most_seats: u8) -> Result<SeatRow, Stop<Fault>>
+pub fn read_stacks(value: &Value, most_seats: u8) -> Result<SeatRow, Stop<FieldFault>>
     requires { most_seats ≤ 10 }
     ensures amounts { Gives amounts_in result (stacks_said most_seats (view value.now)) }
     ensures seats { IfOk result (λ row. row.seats ≤ most_seats) }
     ensures sizes { IfOk result (λ row. (k : ℕ)
         → k < row.seats → IsSize (slice_index row.amounts k)) }
 {
-    let place = Place::at_key(Key::StartingStacks);
+    let place = FieldPlace::at_key(FieldKey::StartingStacks);
     let values = read_list(value, place)?;
     if !has_count(values, 2, most_seats as usize) {
-        return Err(wrong(What::SeatCount, place));
+        return Err(wrong(FieldFaultKind::SeatCount, place));
     }
-    read_amounts(values, 1, MOST_CHIPS, Key::StartingStacks)
+    read_amounts(values, 1, MOST_CHIPS, FieldKey::StartingStacks)
 }
 
 // A row of two to ten amounts.
-fn read_amounts(values: &[Value], least: u64, most: u64, key: Key) -> Result<SeatRow, Stop<Fault>>
+fn read_amounts(
+    values: &[Value],
+    least: u64,
+    most: u64,
+    key: FieldKey,
+) -> Result<SeatRow, Stop<FieldFault>>
     requires some { 2 ≤ length values.now }
     requires few { length values.now ≤ 10 }
     requires bounded { most ≤ MOST_AMOUNT }
@@ -59,7 +69,7 @@ fn read_amounts(values: &[Value], least: u64, most: u64, key: Key) -> Result<Sea
 {
     let mut amounts = [0; 10];
     for (index, value) in values.iter().enumerate() {
-        let place = Place {
+        let place = FieldPlace {
             key,
             item: index as u64 + 1,
         };
@@ -73,19 +83,19 @@ fn read_amounts(values: &[Value], least: u64, most: u64, key: Key) -> Result<Sea
 
 /// The antes of seats with these stacks.
 #[tactic(auto, unfolding(crate::specs::Rows::antes_said))]
-pub fn read_antes(value: &Value, stacks: &SeatRow) -> Result<SeatRow, Stop<Fault>>
+pub fn read_antes(value: &Value, stacks: &SeatRow) -> Result<SeatRow, Stop<FieldFault>>
     ensures amounts { Gives amounts_in result
         (antes_said (amounts_in stacks.now) (view value.now)) }
     ensures seats { IfOk result (λ row. row.seats ≡ stacks.now.seats) }
     ensures held { IfOk result (λ row. (k : ℕ)
         → slice_index row.amounts k ≤ slice_index stacks.now.amounts k) }
 {
-    let values = read_items(value, stacks.seats, Key::Antes)?;
+    let values = read_items(value, stacks.seats, FieldKey::Antes)?;
     fill_antes(values, stacks)
 }
 
 // The antes of seats with these stacks.
-fn fill_antes(values: &[Value], stacks: &SeatRow) -> Result<SeatRow, Stop<Fault>>
+fn fill_antes(values: &[Value], stacks: &SeatRow) -> Result<SeatRow, Stop<FieldFault>>
     requires { length values.now ≡ stacks.now.seats }
     ensures amounts { Gives amounts_in result
         (antes_from stacks.now.amounts (map view values.now)) }
@@ -95,8 +105,8 @@ fn fill_antes(values: &[Value], stacks: &SeatRow) -> Result<SeatRow, Stop<Fault>
 {
     let mut amounts = [0; 10];
     for (index, value) in values.iter().enumerate() {
-        let place = Place {
-            key: Key::Antes,
+        let place = FieldPlace {
+            key: FieldKey::Antes,
             item: index as u64 + 1,
         };
         amounts[index] = read_ante(value, stacks.amounts[index], place)?;
@@ -109,7 +119,7 @@ fn fill_antes(values: &[Value], stacks: &SeatRow) -> Result<SeatRow, Stop<Fault>
 
 // An ante, held as the lesser of what is named and the stack.
 #[tactic(auto, unfolding(crate::specs::Rows::ante_said))]
-fn read_ante(value: &Value, stack: u64, place: Place) -> Result<u64, Stop<Fault>>
+fn read_ante(value: &Value, stack: u64, place: FieldPlace) -> Result<u64, Stop<FieldFault>>
     ensures within { IfOk result (λ ante. ante ≤ stack) }
     ensures said { Gives (λ ante. ante) result (ante_said stack place (view value.now)) }
 {
@@ -134,21 +144,21 @@ pub fn posted(mut blinds: SeatRow) -> SeatRow
 
 /// The rakes of eleven pots at most.
 #[tactic(auto, unfolding(crate::specs::Rows::rakes_said))]
-pub fn read_rakes(value: &Value) -> Result<RakeRow, Stop<Fault>>
+pub fn read_rakes(value: &Value) -> Result<RakeRow, Stop<FieldFault>>
     ensures said { Gives (λ row. row.rakes) result (rakes_said (view value.now)) }
     ensures most { IfOk result (λ row. (pot : ℕ) → rake_of row pot ≤ MOST_AMOUNT) }
 {
-    let place = Place::at_key(Key::Rakes);
+    let place = FieldPlace::at_key(FieldKey::Rakes);
     let values = read_list(value, place)?;
     if !has_count(values, 0, 11) {
-        return Err(wrong(What::ListLength, place));
+        return Err(wrong(FieldFaultKind::ListLength, place));
     }
     fill_rakes(values)
 }
 
 // The rakes of eleven pots at most, each of up to the greatest amount.
 #[tactic(auto, using(crate::proofs::Zeros::with_zeros), unfolding(crate::specs::Rows::rakes_from))]
-fn fill_rakes(values: &[Value]) -> Result<RakeRow, Stop<Fault>>
+fn fill_rakes(values: &[Value]) -> Result<RakeRow, Stop<FieldFault>>
     requires { length values.now ≤ 11 }
     ensures said { Gives (λ row. row.rakes) result (rakes_from (map view values.now)) }
     ensures most { IfOk result (λ row. (pot : ℕ) → rake_of row pot ≤ MOST_AMOUNT) }
@@ -158,7 +168,7 @@ fn fill_rakes(values: &[Value]) -> Result<RakeRow, Stop<Fault>>
 }
 
 // The same, and zeros behind them.
-fn read_each_rake(values: &[Value]) -> Result<[u64; 11], Stop<Fault>>
+fn read_each_rake(values: &[Value]) -> Result<[u64; 11], Stop<FieldFault>>
     requires { length values.now ≤ 11 }
     ensures amounts { Gives (λ rakes. take (length values.now) rakes) result
         (amounts_said 0 MOST_AMOUNT keys.Rakes (map view values.now)) }
@@ -169,8 +179,8 @@ fn read_each_rake(values: &[Value]) -> Result<[u64; 11], Stop<Fault>>
 {
     let mut rakes = [0; 11];
     for (index, value) in values.iter().enumerate() {
-        let place = Place {
-            key: Key::Rakes,
+        let place = FieldPlace {
+            key: FieldKey::Rakes,
             item: index as u64 + 1,
         };
         rakes[index] = read_amount(value, 0, MOST_AMOUNT, place)?;

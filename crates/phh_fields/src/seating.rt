@@ -4,12 +4,12 @@ ghost use Rattle.std.specs.List.{range_with_len};
 ghost use Rattle.toml.specs.View.{table_view, view};
 ghost use Rattle.hand_records.specs.AllowedNotes.{AreSeatNumbers, IsName, IsSeatCount, IsWithin};
 ghost use Rattle.first_fault.specs.Reading.{Gives, or_none};
-ghost use Rattle.phh_fields.specs.declared.fault.Key.TheVariants as keys;
+ghost use Rattle.phh_fields.specs.declared.fault.FieldKey.TheVariants as keys;
 ghost use Rattle.phh_fields.specs.Fields.{at_item, field as field_said};
 ghost use Rattle.phh_fields.specs.NoteFields.{names_from, names_said, numbers_from, plain_seating, seat_count_said, seating_said, seats_said, text_note_said};
 ghost use Rattle.chip_ledger.specs.SeatsSaid.{default_name};
 
-use crate::fault::{Fault, Key, Place};
+use crate::fault::{FieldFault, FieldKey, FieldPlace};
 use crate::texts::read_text_note;
 use crate::values::{field, read_items, read_number};
 use first_fault::{Stop, Text};
@@ -29,7 +29,7 @@ const USUAL: [u8; 10] = [1, 2, 3, 4, 5, 6, 7, 8, 9, 10];
 
 /// Who sits where in a hand with so many seats.
 #[tactic(auto, unfolding(crate::specs::NoteFields::seating_said))]
-pub fn read_seating(alloc: Global, table: &Table, seats: u8) -> Result<Seating, Stop<Fault>>
+pub fn read_seating(alloc: Global, table: &Table, seats: u8) -> Result<Seating, Stop<FieldFault>>
     requires { seats ≤ 10 }
     ensures said { Gives (plain_seating seats) result (seating_said seats (table_view table.now)) }
     ensures each { IfOk result (λ seating. (seat : ℕ) → 1 ≤ seat → seat ≤ seats
@@ -51,7 +51,11 @@ pub fn read_seating(alloc: Global, table: &Table, seats: u8) -> Result<Seating, 
 
 // The names of the players of so many seats.
 #[tactic(auto, unfolding(crate::specs::NoteFields::names_said))]
-fn read_names(alloc: Global, table: &Table, seats: u8) -> Result<[Option<Text>; 10], Stop<Fault>>
+fn read_names(
+    alloc: Global,
+    table: &Table,
+    seats: u8,
+) -> Result<[Option<Text>; 10], Stop<FieldFault>>
     requires { seats ≤ 10 }
     ensures said { Gives (take seats) result
         (names_said seats (field_said keys.Players (table_view table.now))) }
@@ -60,17 +64,17 @@ fn read_names(alloc: Global, table: &Table, seats: u8) -> Result<[Option<Text>; 
     ensures no_more { IfOk result (λ names. (index : ℕ) → seats ≤ index
         → slice_index_or names index None ≡ None) }
 {
-    match field(table, Key::Players) {
+    match field(table, FieldKey::Players) {
         None => Ok(no_names(seats)),
         Some(value) => {
-            let values = read_items(value, seats, Key::Players)?;
+            let values = read_items(value, seats, FieldKey::Players)?;
             fill_names(alloc, values)
         }
     }
 }
 
 // The names of as many players as there are values.
-fn fill_names(alloc: Global, values: &[Value]) -> Result<[Option<Text>; 10], Stop<Fault>>
+fn fill_names(alloc: Global, values: &[Value]) -> Result<[Option<Text>; 10], Stop<FieldFault>>
     requires { length values.now ≤ 10 }
     ensures said { Gives (take (length values.now)) result
         (names_from (map view values.now)) }
@@ -97,13 +101,13 @@ fn no_names(seats: u8) -> [Option<Text>; 10]
 }
 
 // The name of a seat's player.
-fn read_name(alloc: Global, value: &Value, seat: u8) -> Result<Option<Text>, Stop<Fault>>
+fn read_name(alloc: Global, value: &Value, seat: u8) -> Result<Option<Text>, Stop<FieldFault>>
     ensures said { Gives (λ name. name) result
         (text_note_said (default_name seat) (at_item keys.Players seat) (view value.now)) }
     ensures allowed { IfOk result (λ name. IfSome name (IsName seat)) }
 {
-    let place = Place {
-        key: Key::Players,
+    let place = FieldPlace {
+        key: FieldKey::Players,
         item: u64::from(seat),
     };
     let usual = format!(in alloc; "p{seat}")?;
@@ -111,13 +115,13 @@ fn read_name(alloc: Global, value: &Value, seat: u8) -> Result<Option<Text>, Sto
 }
 
 // The numbers of the seats, if they are said.
-fn read_seats_at(table: &Table, seats: u8) -> Result<Option<[u8; 10]>, Stop<Fault>>
+fn read_seats_at(table: &Table, seats: u8) -> Result<Option<[u8; 10]>, Stop<FieldFault>>
     requires { seats ≤ 10 }
     ensures said { Gives (option_map (take seats)) result
         (or_none (seats_said seats) (field_said keys.Seats (table_view table.now))) }
     ensures allowed { IfOk result (λ numbers. IfSome numbers (AreSeatNumbers seats)) }
 {
-    match field(table, Key::Seats) {
+    match field(table, FieldKey::Seats) {
         Some(value) => read_seats(value, seats),
         None => Ok(None),
     }
@@ -125,12 +129,12 @@ fn read_seats_at(table: &Table, seats: u8) -> Result<Option<[u8; 10]>, Stop<Faul
 
 // The numbers of so many seats, unless they are the usual ones.
 #[tactic(auto, unfolding(crate::specs::NoteFields::seats_said))]
-fn read_seats(value: &Value, seats: u8) -> Result<Option<[u8; 10]>, Stop<Fault>>
+fn read_seats(value: &Value, seats: u8) -> Result<Option<[u8; 10]>, Stop<FieldFault>>
     requires { seats ≤ 10 }
     ensures said { Gives (option_map (take seats)) result (seats_said seats (view value.now)) }
     ensures allowed { IfOk result (λ numbers. IfSome numbers (AreSeatNumbers seats)) }
 {
-    let values = read_items(value, seats, Key::Seats)?;
+    let values = read_items(value, seats, FieldKey::Seats)?;
     let numbers = fill_numbers(values)?;
     if are_usual(numbers, seats) {
         Ok(None)
@@ -140,7 +144,7 @@ fn read_seats(value: &Value, seats: u8) -> Result<Option<[u8; 10]>, Stop<Fault>>
 }
 
 // The numbers of as many seats as there are values.
-fn fill_numbers(values: &[Value]) -> Result<[u8; 10], Stop<Fault>>
+fn fill_numbers(values: &[Value]) -> Result<[u8; 10], Stop<FieldFault>>
     requires { length values.now ≤ 10 }
     ensures said { Gives (take (length values.now)) result
         (numbers_from (map view values.now)) }
@@ -151,8 +155,8 @@ fn fill_numbers(values: &[Value]) -> Result<[u8; 10], Stop<Fault>>
 {
     let mut numbers = [0; 10];
     for (index, value) in values.iter().enumerate() {
-        let place = Place {
-            key: Key::Seats,
+        let place = FieldPlace {
+            key: FieldKey::Seats,
             item: index as u64 + 1,
         };
         numbers[index] = read_number(value, 1, 255, place)? as u8;
@@ -171,12 +175,12 @@ fn are_usual(numbers: [u8; 10], seats: u8) -> bool
 }
 
 // How many seats the table has, if that is said.
-fn read_seat_count_at(table: &Table, seats: u8) -> Result<Option<u8>, Stop<Fault>>
+fn read_seat_count_at(table: &Table, seats: u8) -> Result<Option<u8>, Stop<FieldFault>>
     ensures said { Gives (λ count. count) result
         (or_none (seat_count_said seats) (field_said keys.SeatCount (table_view table.now))) }
     ensures allowed { IfOk result (λ count. IfSome count (IsSeatCount seats)) }
 {
-    match field(table, Key::SeatCount) {
+    match field(table, FieldKey::SeatCount) {
         Some(value) => read_seat_count(value, seats),
         None => Ok(None),
     }
@@ -184,11 +188,11 @@ fn read_seat_count_at(table: &Table, seats: u8) -> Result<Option<u8>, Stop<Fault
 
 // How many seats the table has.
 #[tactic(auto, unfolding(crate::specs::NoteFields::seat_count_said))]
-fn read_seat_count(value: &Value, seats: u8) -> Result<Option<u8>, Stop<Fault>>
+fn read_seat_count(value: &Value, seats: u8) -> Result<Option<u8>, Stop<FieldFault>>
     ensures said { Gives (λ count. count) result (seat_count_said seats (view value.now)) }
     ensures allowed { IfOk result (λ count. IfSome count (IsSeatCount seats)) }
 {
-    let count = read_number(value, 1, 255, Place::at_key(Key::SeatCount))? as u8;
+    let count = read_number(value, 1, 255, FieldPlace::at_key(FieldKey::SeatCount))? as u8;
     if count == seats {
         Ok(None)
     } else {

@@ -11,7 +11,7 @@ ghost use Rattle.first_fault.specs.Reading.{Gives};
 ghost use Rattle.chip_ledger.specs.SeatRow.{amounts_in};
 ghost use Rattle.phh_fields.specs.SetupFields.{are_dead as are_dead_said, blinds_said, game_named, plain_setup, setup_said, trimming_said, variant_said};
 
-use crate::fault::{Fault, Key, Place, What};
+use crate::fault::{FieldFault, FieldFaultKind, FieldKey, FieldPlace};
 use crate::rows::{posted, read_antes, read_row, read_stacks};
 use crate::sizes::{Sizes, is_stud, most_seats, read_sizes};
 use crate::values::{field, needed, read_flag, read_text, wrong};
@@ -22,13 +22,13 @@ use toml::{Table, Value};
 
 /// The setup that a hand's fields say, from its variant to its least bet; it has no rakes yet.
 #[tactic(auto, unfolding(crate::specs::SetupFields::setup_said))]
-pub fn read_setup(table: &Table) -> Result<Setup, Stop<Fault>>
+pub fn read_setup(table: &Table) -> Result<Setup, Stop<FieldFault>>
     ensures said { Gives plain_setup result (setup_said (table_view table.now)) }
     ensures valid { IfOk result IsValid }
 {
-    let code = read_variant(needed(table, Key::Variant)?)?;
-    let stacks = read_stacks(needed(table, Key::StartingStacks)?, most_seats(code))?;
-    let antes = read_antes(needed(table, Key::Antes)?, &stacks)?;
+    let code = read_variant(needed(table, FieldKey::Variant)?)?;
+    let stacks = read_stacks(needed(table, FieldKey::StartingStacks)?, most_seats(code))?;
+    let antes = read_antes(needed(table, FieldKey::Antes)?, &stacks)?;
     let trimmed = read_trimming(table)?;
     let blinds = read_blinds(table, code, stacks.seats)?;
     let sizes = read_sizes(table, code)?;
@@ -54,13 +54,13 @@ pub fn read_setup(table: &Table) -> Result<Setup, Stop<Fault>>
 
 // The variant.
 #[tactic(auto, unfolding(crate::specs::SetupFields::variant_said))]
-fn read_variant(value: &Value) -> Result<Code, Stop<Fault>>
+fn read_variant(value: &Value) -> Result<Code, Stop<FieldFault>>
     ensures { Gives (λ code. code) result (variant_said (view value.now)) }
 {
-    let place = Place::at_key(Key::Variant);
+    let place = FieldPlace::at_key(FieldKey::Variant);
     match game(read_text(value, place)?) {
         Some(code) => Ok(code),
-        None => Err(wrong(What::UnknownVariant, place)),
+        None => Err(wrong(FieldFaultKind::UnknownVariant, place)),
     }
 }
 
@@ -73,18 +73,18 @@ fn game(text: &str) -> Option<Code>
 
 // Whether the antes are said to be trimmed.
 #[tactic(auto, unfolding(crate::specs::SetupFields::trimming_said))]
-fn read_trimming(table: &Table) -> Result<bool, Stop<Fault>>
+fn read_trimming(table: &Table) -> Result<bool, Stop<FieldFault>>
     ensures { Gives (λ trimmed. trimmed) result (trimming_said (table_view table.now)) }
 {
-    match field(table, Key::AnteTrimmingStatus) {
-        Some(value) => read_flag(value, Place::at_key(Key::AnteTrimmingStatus)),
+    match field(table, FieldKey::AnteTrimmingStatus) {
+        Some(value) => read_flag(value, FieldPlace::at_key(FieldKey::AnteTrimmingStatus)),
         None => Ok(false),
     }
 }
 
 // The blinds of so many seats; stud has none.
 #[tactic(auto, unfolding(crate::specs::SetupFields::blinds_said))]
-fn read_blinds(table: &Table, code: Code, seats: u8) -> Result<SeatRow, Stop<Fault>>
+fn read_blinds(table: &Table, code: Code, seats: u8) -> Result<SeatRow, Stop<FieldFault>>
     requires some { 2 ≤ seats }
     requires few { seats ≤ 10 }
     ensures said { Gives amounts_in result (blinds_said code seats (table_view table.now)) }
@@ -101,8 +101,8 @@ fn read_blinds(table: &Table, code: Code, seats: u8) -> Result<SeatRow, Stop<Fau
             amounts: [0; 10],
         });
     }
-    let value = needed(table, Key::BlindsOrStraddles)?;
-    let blinds = read_row(value, seats, MOST_CHIPS, Key::BlindsOrStraddles)?;
+    let value = needed(table, FieldKey::BlindsOrStraddles)?;
+    let blinds = read_row(value, seats, MOST_CHIPS, FieldKey::BlindsOrStraddles)?;
     Ok(posted(blinds))
 }
 

@@ -7,7 +7,7 @@ ghost use Rattle.play_event.specs.ValidSetup.{IsSizeWhere, is_fixed as is_fixed_
 ghost use Rattle.first_fault.specs.Reading.{Gives};
 ghost use Rattle.phh_fields.specs.SetupFields.{size_said, sizes_said};
 
-use crate::fault::{Fault, Key, Place};
+use crate::fault::{FieldFault, FieldKey, FieldPlace};
 use crate::values::{needed, read_amount};
 use chip_ledger::MOST_CHIPS;
 use first_fault::Stop;
@@ -36,7 +36,7 @@ pub fn most_seats(code: Code) -> u8
 
 /// The sizes of the game's bets.
 #[tactic(auto, unfolding(crate::specs::SetupFields::sizes_said))]
-pub fn read_sizes(table: &Table, code: Code) -> Result<Sizes, Stop<Fault>>
+pub fn read_sizes(table: &Table, code: Code) -> Result<Sizes, Stop<FieldFault>>
     ensures said { Gives (λ sizes. sizes) result (sizes_said code (table_view table.now)) }
     ensures bring_in { IfOk result (λ sizes. IsSizeWhere (is_stud_said code) sizes.bring_in) }
     ensures small_bet { IfOk result (λ sizes.
@@ -47,10 +47,10 @@ pub fn read_sizes(table: &Table, code: Code) -> Result<Sizes, Stop<Fault>>
         IsSizeWhere (not (is_fixed_said (limit_of code))) sizes.min_bet) }
 {
     let fixed = is_fixed(code);
-    let bring_in = read_size(table, is_stud(code), Key::BringIn)?;
-    let small_bet = read_size(table, fixed, Key::SmallBet)?;
-    let big_bet = read_size(table, fixed, Key::BigBet)?;
-    let min_bet = read_size(table, !fixed, Key::MinBet)?;
+    let bring_in = read_size(table, is_stud(code), FieldKey::BringIn)?;
+    let small_bet = read_size(table, fixed, FieldKey::SmallBet)?;
+    let big_bet = read_size(table, fixed, FieldKey::BigBet)?;
+    let min_bet = read_size(table, !fixed, FieldKey::MinBet)?;
     Ok(Sizes {
         bring_in,
         small_bet,
@@ -71,14 +71,14 @@ fn is_fixed(code: Code) -> bool
 
 // A size that the game uses or does not.
 #[tactic(auto, unfolding(crate::specs::SetupFields::size_said))]
-fn read_size(table: &Table, used: bool, key: Key) -> Result<u64, Stop<Fault>>
+fn read_size(table: &Table, used: bool, key: FieldKey) -> Result<u64, Stop<FieldFault>>
     ensures said { Gives (λ size. size) result (size_said used key (table_view table.now)) }
     ensures within { IfOk result (IsSizeWhere used) }
 {
     if !used {
         return Ok(0);
     }
-    read_amount(needed(table, key)?, 1, MOST_CHIPS, Place::at_key(key))
+    read_amount(needed(table, key)?, 1, MOST_CHIPS, FieldPlace::at_key(key))
 }
 
 /// Whether the game is a stud game.

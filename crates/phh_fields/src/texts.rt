@@ -5,7 +5,7 @@ ghost use Rattle.hand_records.specs.AllowedNotes.{IsNoteText};
 ghost use Rattle.first_fault.specs.Reading.{Gives};
 ghost use Rattle.phh_fields.specs.NoteFields.{label_said, note_said, text_note_said};
 
-use crate::fault::{Fault, Place, What};
+use crate::fault::{FieldFault, FieldFaultKind, FieldPlace};
 use crate::values::{read_text, wrong};
 use first_fault::{MOST_TEXT_BYTES, Quantity, Stop, Text};
 use std::alloc::Global;
@@ -17,8 +17,8 @@ pub fn read_text_note(
     alloc: Global,
     value: &Value,
     default: &str,
-    place: Place,
-) -> Result<Option<Text>, Stop<Fault>>
+    place: FieldPlace,
+) -> Result<Option<Text>, Stop<FieldFault>>
     ensures said { Gives (λ note. note) result
         (text_note_said default.now place (view value.now)) }
     ensures allowed { IfOk result (λ note. IfSome note (λ text.
@@ -33,8 +33,8 @@ pub fn read_label(
     alloc: Global,
     value: &Value,
     default: &str,
-    place: Place,
-) -> Result<Option<Text>, Stop<Fault>>
+    place: FieldPlace,
+) -> Result<Option<Text>, Stop<FieldFault>>
     ensures said { Gives (λ note. note) result (label_said default.now place (view value.now)) }
     ensures allowed { IfOk result (λ note. IfSome note (λ text.
         IsNoteText text × (text ≢ default.now))) }
@@ -45,7 +45,7 @@ pub fn read_label(
             let text = number.to_string(alloc)?;
             keep_text(alloc, text.as_str(), default, place)
         }
-        _ => Err(wrong(What::WrongType, place)),
+        _ => Err(wrong(FieldFaultKind::WrongType, place)),
     }
 }
 
@@ -55,15 +55,15 @@ fn keep_text(
     alloc: Global,
     text: &str,
     default: &str,
-    place: Place,
-) -> Result<Option<Text>, Stop<Fault>>
+    place: FieldPlace,
+) -> Result<Option<Text>, Stop<FieldFault>>
     ensures said { Gives (λ note. note) result (note_said default.now place text.now) }
     ensures allowed { IfOk result (λ note. IfSome note (λ text.
         IsNoteText text × (text ≢ default.now))) }
 {
     if text.len() > MOST_TEXT_BYTES {
         let quantity = Quantity::TextBytes;
-        return Err(wrong(What::TooMany { quantity }, place));
+        return Err(wrong(FieldFaultKind::TooMany { quantity }, place));
     }
     if text.is_empty() || text == default {
         return Ok(None);

@@ -4,23 +4,23 @@ ghost use Rattle.toml.specs.View.{array_view, table_view, view};
 ghost use Rattle.first_fault.specs.Reading.{Gives};
 ghost use Rattle.phh_fields.specs.Fields.{amount_said, field as field_said, flag_said, items_said, kept_within, list_said, listed, needed as needed_said, number_said, text_said};
 
-use crate::fault::{Fault, Key, Place, What};
+use crate::fault::{FieldFault, FieldFaultKind, FieldKey, FieldPlace};
 use first_fault::Stop;
 use toml::{Table, Value};
 
 /// The value at a key that is needed.
 #[tactic(auto, unfolding(crate::specs::Fields::needed))]
-pub fn needed<'a>(table: &'a Table, key: Key) -> Result<&'a Value, Stop<Fault>>
+pub fn needed<'a>(table: &'a Table, key: FieldKey) -> Result<&'a Value, Stop<FieldFault>>
     ensures { Gives (λ value. view value.now) result (needed_said key (table_view table.now)) }
 {
     match field(table, key) {
         Some(value) => Ok(value),
-        None => Err(wrong(What::MissingField, Place::at_key(key))),
+        None => Err(wrong(FieldFaultKind::MissingField, FieldPlace::at_key(key))),
     }
 }
 
 /// The value at a key, if there is one.
-pub fn field<'a>(table: &'a Table, key: Key) -> Option<&'a Value>
+pub fn field<'a>(table: &'a Table, key: FieldKey) -> Option<&'a Value>
     ensures { option_map (λ value. view value.now) result
         ≡ field_said key (table_view table.now) }
 {
@@ -29,23 +29,23 @@ pub fn field<'a>(table: &'a Table, key: Key) -> Option<&'a Value>
 
 /// A text.
 #[tactic(auto, unfolding(crate::specs::Fields::text_said))]
-pub fn read_text(value: &Value, place: Place) -> Result<&str, Stop<Fault>>
+pub fn read_text(value: &Value, place: FieldPlace) -> Result<&str, Stop<FieldFault>>
     ensures { Gives (λ text. text.now) result (text_said place (view value.now)) }
 {
     match value {
         Value::String(text) => Ok(text.as_str()),
-        _ => Err(wrong(What::WrongType, place)),
+        _ => Err(wrong(FieldFaultKind::WrongType, place)),
     }
 }
 
 /// A truth value.
 #[tactic(auto, unfolding(crate::specs::Fields::flag_said))]
-pub fn read_flag(value: &Value, place: Place) -> Result<bool, Stop<Fault>>
+pub fn read_flag(value: &Value, place: FieldPlace) -> Result<bool, Stop<FieldFault>>
     ensures { Gives (λ flag. flag) result (flag_said place (view value.now)) }
 {
     match value {
         Value::Boolean(flag) => Ok(*flag),
-        _ => Err(wrong(What::WrongType, place)),
+        _ => Err(wrong(FieldFaultKind::WrongType, place)),
     }
 }
 
@@ -59,22 +59,22 @@ pub fn has_count(values: &[Value], least: usize, most: usize) -> bool
 
 /// The values of a list with one for each of so many seats.
 #[tactic(auto, unfolding(crate::specs::Fields::items_said))]
-pub fn read_items(value: &Value, seats: u8, key: Key) -> Result<&Vec<Value>, Stop<Fault>>
+pub fn read_items(value: &Value, seats: u8, key: FieldKey) -> Result<&Vec<Value>, Stop<FieldFault>>
     ensures said { Gives (λ values. map view values.now.items) result
         (items_said seats key (view value.now)) }
     ensures count { IfOk result (λ values. length values.now.items ≡ seats) }
 {
-    let place = Place::at_key(key);
+    let place = FieldPlace::at_key(key);
     let values = read_list(value, place)?;
     if values.len() != seats as usize {
-        return Err(wrong(What::ListLength, place));
+        return Err(wrong(FieldFaultKind::ListLength, place));
     }
     Ok(values)
 }
 
 /// The values of a list.
 #[tactic(auto, using(crate::proofs::Lists::listed_view))]
-pub fn read_list(value: &Value, place: Place) -> Result<&Vec<Value>, Stop<Fault>>
+pub fn read_list(value: &Value, place: FieldPlace) -> Result<&Vec<Value>, Stop<FieldFault>>
     ensures { Gives (λ values. map view values.now.items) result
         (list_said place (view value.now)) }
 {
@@ -84,63 +84,78 @@ pub fn read_list(value: &Value, place: Place) -> Result<&Vec<Value>, Stop<Fault>
 
 // A list.
 #[tactic(auto, unfolding(crate::specs::Fields::list_said))]
-fn read_array(value: &Value, place: Place) -> Result<&Vec<Value>, Stop<Fault>>
+fn read_array(value: &Value, place: FieldPlace) -> Result<&Vec<Value>, Stop<FieldFault>>
     ensures { Gives (λ values. listed (array_view values.now)) result
         (list_said place (view value.now)) }
 {
     match value {
         Value::Array(values) => Ok(values),
-        _ => Err(wrong(What::WrongType, place)),
+        _ => Err(wrong(FieldFaultKind::WrongType, place)),
     }
 }
 
 /// An amount from `least` to `most`, in chips.
 #[tactic(auto, unfolding(crate::specs::Fields::amount_said))]
-pub fn read_amount(value: &Value, least: u64, most: u64, place: Place) -> Result<u64, Stop<Fault>>
+pub fn read_amount(
+    value: &Value,
+    least: u64,
+    most: u64,
+    place: FieldPlace,
+) -> Result<u64, Stop<FieldFault>>
     ensures within { IfOk result (λ amount. (least ≤ amount) × (amount ≤ most)) }
     ensures said { Gives (λ amount. amount) result
         (amount_said least most place (view value.now)) }
 {
     match value {
         Value::Integer(number) => keep_within(*number, least, most, place),
-        Value::Float(_) => Err(wrong(What::AmountNotWhole, place)),
-        _ => Err(wrong(What::WrongType, place)),
+        Value::Float(_) => Err(wrong(FieldFaultKind::AmountNotWhole, place)),
+        _ => Err(wrong(FieldFaultKind::WrongType, place)),
     }
 }
 
 /// A whole number from `least` to `most` that is no amount.
 #[tactic(auto, unfolding(crate::specs::Fields::number_said))]
-pub fn read_number(value: &Value, least: u64, most: u64, place: Place) -> Result<u64, Stop<Fault>>
+pub fn read_number(
+    value: &Value,
+    least: u64,
+    most: u64,
+    place: FieldPlace,
+) -> Result<u64, Stop<FieldFault>>
     ensures within { IfOk result (λ number. (least ≤ number) × (number ≤ most)) }
     ensures said { Gives (λ number. number) result
         (number_said least most place (view value.now)) }
 {
     match value {
         Value::Integer(number) => keep_within(*number, least, most, place),
-        _ => Err(wrong(What::WrongType, place)),
+        _ => Err(wrong(FieldFaultKind::WrongType, place)),
     }
 }
 
 // A number from least to most.
 #[tactic(auto, unfolding(crate::specs::Fields::kept_within))]
-fn keep_within(number: i64, least: u64, most: u64, place: Place) -> Result<u64, Stop<Fault>>
+fn keep_within(
+    number: i64,
+    least: u64,
+    most: u64,
+    place: FieldPlace,
+) -> Result<u64, Stop<FieldFault>>
     ensures within { IfOk result (λ number. (least ≤ number) × (number ≤ most)) }
     ensures said { Gives (λ number. number) result (kept_within least most place number) }
 {
     if number < 0 {
-        return Err(wrong(What::AmountLimit, place));
+        return Err(wrong(FieldFaultKind::AmountLimit, place));
     }
     let number = number as u64;
     if least <= number && number <= most {
         Ok(number)
     } else {
-        Err(wrong(What::AmountLimit, place))
+        Err(wrong(FieldFaultKind::AmountLimit, place))
     }
 }
 
 /// A fault at a place.
-pub fn wrong(what: What, place: Place) -> Stop<Fault>
+pub fn wrong(what: FieldFaultKind, place: FieldPlace) -> Stop<FieldFault>
     ensures { result ≡ Stop.At (record { what = what; place = place }) }
 {
-    Stop::At(Fault { what, place })
+    Stop::At(FieldFault { what, place })
 }

@@ -11,16 +11,16 @@ use Rattle.first_fault.specs.declared.limits.TheConstants.{MOST_FILE_MOVES, MOST
 use Rattle.hand_records.specs.declared.trace.Play.{Play}
 use Rattle.phh_reading.specs.Events.{counts_after}
 use Rattle.phh_reading.specs.Reading.{document_of, hands_of, numbered_hand, reading}
-use Rattle.phh_table.specs.Document.{Spells, document, hand_table, numbered_hands}
-use Rattle.phh_table.specs.HandFields.{hand_fields, script_of}
-use Rattle.phh_table.proofs.Puts.{field_at, get_member-table_of}
+use Rattle.phh_writing.specs.Document.{Spells, document, hand_table, numbered_hands}
+use Rattle.phh_writing.specs.HandFields.{hand_fields, script_of}
+use Rattle.phh_writing.proofs.Puts.{field_at, get_member-table_of}
 use Rattle.phh_format.specs.Again.{hand_again, hands_again}
 use Rattle.phh_format.proofs.EventsAgain.{HaveRoom, counts_with, one_more}
 use Rattle.list_laws.proofs.Counting.{count_by-cons}
 use Rattle.std.proofs.lemmas.List.Sums.{sum_by-cons}
-use Rattle.canonical_play.specs.PlayedScript.{is_move}
+use Rattle.canon_script.specs.PlayedScript.{is_move}
 use Rattle.play_event.specs.Said.{Said}
-use Rattle.phh_reading.specs.declared.events.Counts.{Counts}
+use Rattle.phh_reading.specs.declared.events.EventCounts.{EventCounts}
 use Rattle.phh_format.proofs.Readable.{IsReadable, moves_written}
 use Rattle.phh_format.proofs.HandAgain.{hand_read}
 use Rattle.phh_format.proofs.OrderAgain.{are_hands_again, hand_tables, in_order_again}
@@ -78,12 +78,12 @@ tables_again (play ∷ next ∷ rest) small =
     rw (get_member-table_of (codes "variant") (numbered_hands 0 plays), variant_lacks 0 plays (omega (arith, small)), are_hands_again 0 plays (omega (arith, small)))
     (ap (λ tables. Some tables) (in_order_again plays small))
 
-one_counted : (counts : Counts) (moves : Bool) (m : ℕ) → (one_more counts moves).file_moves + m ≡ counts.file_moves + (cond moves 1 0 + m)
+one_counted : (counts : EventCounts) (moves : Bool) (m : ℕ) → (one_more counts moves).file_moves + m ≡ counts.file_moves + (cond moves 1 0 + m)
 one_counted counts true m = omega arith
 one_counted counts false m = omega arith
 
 -- the file has the moves of the events more
-moves_counted : (counts : Counts) (events : List Said) → (counts_with counts events).file_moves ≡ counts.file_moves + count_by is_move events
+moves_counted : (counts : EventCounts) (events : List Said) → (counts_with counts events).file_moves ≡ counts.file_moves + count_by is_move events
 moves_counted counts [] = omega arith
 moves_counted counts (event ∷ rest) =
     moves_counted (one_more counts (is_move event)) rest

@@ -8,18 +8,18 @@ use Rattle.chip_ledger.specs.declared.rows.TheConstants.{MOST_AMOUNT}
 use Rattle.play_event.specs.declared.setup.Setup.{Setup}
 use Rattle.first_fault.specs.Reading.{◌>>=◌, read_if}
 use Rattle.hand_records.specs.declared.trace.Play.{Play}
-use Rattle.phh_words.specs.Written.{event_text}
-use Rattle.phh_fields.specs.declared.fault.Fault.{Fault}
-use Rattle.phh_fields.specs.declared.fault.Key.{Key}
-use Rattle.phh_fields.specs.declared.fault.Key.TheVariants as keys
+use Rattle.phh_actions.specs.Written.{event_text}
+use Rattle.phh_fields.specs.declared.fault.FieldFault.{FieldFault}
+use Rattle.phh_fields.specs.declared.fault.FieldKey.{FieldKey}
+use Rattle.phh_fields.specs.declared.fault.FieldKey.TheVariants as keys
 use Rattle.phh_fields.specs.Fields.{at_key, field, key_text, list_said, needed}
 use Rattle.phh_fields.specs.Rows.{rakes_from, rakes_said, row_said}
 use Rattle.phh_fields.specs.NoteFields.{day_said, labels_said, notes_said, seating_said}
 use Rattle.phh_reading.specs.Events.{counts_after}
 use Rattle.phh_reading.specs.Hand.{hand_said, rakes_at}
-use Rattle.phh_table.specs.Document.{hand_table}
-use Rattle.phh_table.specs.HandFields.{hand_field, hand_fields, label, local_time, names_field, number_field, numbers, rakes_field, script_of}
-use Rattle.phh_table.proofs.Puts.{field_at}
+use Rattle.phh_writing.specs.Document.{hand_table}
+use Rattle.phh_writing.specs.HandFields.{hand_field, hand_fields, label, local_time, names_field, number_field, numbers, rakes_field, script_of}
+use Rattle.phh_writing.proofs.Puts.{field_at}
 use Rattle.phh_fields.proofs.Zeros.{with_zeros}
 use Rattle.phh_format.proofs.Readable.{IsReadable}
 use Rattle.phh_format.specs.Again.{hand_again, notes_again}
@@ -40,7 +40,7 @@ all_zero all eleven none =
     cut_zeros all 0 (omega arith) (λ k _. none k) ∙ ap (λ (n : ℕ). replicate n 0) left
 
 -- the rakes that are said, or none
-abbrev rakes_found : Option Data → Result (List ℕ) Fault
+abbrev rakes_found : Option Data → Result (List ℕ) FieldFault
 rakes_found (Some value) = rakes_said value
 rakes_found None = Ok (replicate 11 0)
 
@@ -54,7 +54,7 @@ module _ (place : ℕ) (play : Play) (is : IsReadable play) where
   abbrev members : Members
   members = hand_table place play
 
-  here : (key : Key) → field key members ≡ field_at (key_text key) (hand_fields place play)
+  here : (key : FieldKey) → field key members ≡ field_at (key_text key) (hand_fields place play)
   here key = at place play is.valid key
 
   few : seats ≤ 10

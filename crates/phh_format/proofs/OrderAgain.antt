@@ -14,8 +14,8 @@ use Rattle.std.proofs.lemmas.List.{append-nil}
 use Rattle.toml.specs.Data.{Data, Members, no_members, member, table}
 use Rattle.hand_records.specs.declared.trace.Play.{Play}
 use Rattle.phh_reading.specs.Order.{Entry, are_hands, in_order, is_table, key_cmp, placed, placed_all, tables_among}
-use Rattle.phh_table.specs.Members.{put, table_of}
-use Rattle.phh_table.specs.Document.{hand_table, numbered_hands}
+use Rattle.phh_writing.specs.Members.{put, table_of}
+use Rattle.phh_writing.specs.Document.{hand_table, numbered_hands}
 use Rattle.list_laws.proofs.Digits.{number_said}
 use Rattle.list_laws.proofs.Orderings.{less_not_equal}
 use Rattle.first_fault.proofs.DecimalDigits.{decimal_digits}

@@ -12,9 +12,9 @@ use Rattle.play_event.specs.Scripts.{past_at_end}
 use Rattle.play_event.specs.Seats.{all_seats}
 use Rattle.play_event.specs.declared.setup.Rules.{Rules}
 use Rattle.play_event.specs.declared.setup.Setup.{Setup}
-use Rattle.canonical_play.specs.CanonScript.{canon_of}
-use Rattle.canonical_play.specs.PlayedScript.{IsPlayed}
-use Rattle.canonical_play.specs.TraceCore.{TraceCore, core_after}
+use Rattle.canon_script.specs.CanonScript.{canon_of}
+use Rattle.canon_script.specs.PlayedScript.{IsPlayed}
+use Rattle.canon_script.specs.TraceCore.{TraceCore, core_after}
 use Rattle.canon_laws.specs.OtherRules.{SuitsRules}
 use Rattle.canon_laws.proofs.SuitedMoves.{played_by}
 use Rattle.first_fault.specs.declared.limits.TheConstants.{MOST_FILE_MOVES, MOST_HANDS}
@@ -35,18 +35,18 @@ use Rattle.phh_fields.specs.SetupFields.{PlainSetup}
 use Rattle.phh_reading.specs.Hand.{PlainHand, PlainStated, plain}
 use Rattle.phh_reading.specs.Reading.{reading}
 use Rattle.phh_reading.proofs.SamePlay.{same_setup, same_stated}
-use Rattle.phh_table.specs.Document.{Spells}
-use Rattle.phh_table.specs.HandFields.{script_of}
-use Rattle.phh_table.specs.Spelled.{unspelled}
+use Rattle.phh_writing.specs.Document.{Spells}
+use Rattle.phh_writing.specs.HandFields.{script_of}
+use Rattle.phh_writing.specs.Spelled.{unspelled}
 use Rattle.phh_format.specs.Again.{hand_again, hands_again, notes_again, numbered_from}
 use Rattle.hand_canon.specs.ReadAgain.{AreAgain, IsAgain}
-use Rattle.phh_format.specs.ReadBack.{KeepsNotes}
+use Rattle.phh_format.specs.KeptNotes.{KeepsNotes}
 use Rattle.phh_format.proofs.RowsAgain.{amount_count}
 use Rattle.phh_format.proofs.SoundPlays.{same_script, sound_again}
 use Rattle.hand_records.specs.Moves.{moves_played}
 use Rattle.hand_records.proofs.Refusals.{none_refused}
 use Rattle.play_event.proofs.ScriptLaws.{said_numbered}
-use Rattle.hand_records.specs.Refusals.{refusal_from, first_refusal}
+use Rattle.hand_records.specs.WriteRefusals.{refusal_from, first_refusal}
 
 -- a play that the format spells has no closed raise
 spelled_open : (play : Play) → unspelled play ≡ None → list_any (λ move. move.closed) (core_said play.trace).moves ≡ false

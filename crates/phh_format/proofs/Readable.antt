@@ -1,12 +1,12 @@
 -- What a reader needs of a play, so that it reads back when it was written.
 use Rattle.std.specs.Prelude.{◌≡◌, ℕ, ◌<◌, count_by}
 use Rattle.std.specs.List.{AllByRecursion}
-use Rattle.canonical_play.specs.PlayedScript.{IsWithinLimits, is_move}
+use Rattle.canon_script.specs.PlayedScript.{IsWithinLimits, is_move}
 use Rattle.chip_ledger.specs.RakeRow.{rake_of}
 use Rattle.play_event.specs.ValidSetup.{IsValid}
 use Rattle.hand_records.specs.declared.trace.Play.{Play}
 use Rattle.hand_records.specs.AllowedNotes.{AreAllowed}
-use Rattle.phh_table.specs.HandFields.{script_of}
+use Rattle.phh_writing.specs.HandFields.{script_of}
 use Rattle.play_event.specs.Ranges.{IsInRange}
 
 -- Its setup is valid, an action can say each event of its canonical script, which is within the limits, past the last pot

@@ -8,11 +8,11 @@ use Rattle.toml.specs.View.{items_of}
 use Rattle.chip_ledger.specs.declared.rows.SeatRow.{SeatRow}
 use Rattle.chip_ledger.specs.SeatRow.{amount_of, amounts_in}
 use Rattle.first_fault.specs.Reading.{each_from}
-use Rattle.phh_fields.specs.declared.fault.Key.{Key}
-use Rattle.phh_fields.specs.declared.fault.Place.{Place}
+use Rattle.phh_fields.specs.declared.fault.FieldKey.{FieldKey}
+use Rattle.phh_fields.specs.declared.fault.FieldPlace.{FieldPlace}
 use Rattle.phh_fields.specs.Fields.{amount_said, at_item, items_said, kept_within, list_said, listed}
 use Rattle.phh_fields.specs.Rows.{amounts_said, row_said}
-use Rattle.phh_table.specs.HandFields.{numbers}
+use Rattle.phh_writing.specs.HandFields.{numbers}
 use Rattle.list_laws.proofs.Entries.{each_taken}
 use Rattle.hand_records.specs.AllowedNotes.{IsWithin}
 
@@ -25,11 +25,11 @@ listed_again (item ∷ rest) = ap (λ (items : List Data). item ∷ items) (list
 abbrev pub number_data : List ℕ → List Data
 number_data all = map (λ number. integer (pos number)) all
 
-pub amount_again : (least most number : ℕ) (place : Place) → least ≤ number → number ≤ most → amount_said least most place (integer (pos number)) ≡ Ok number
+pub amount_again : (least most number : ℕ) (place : FieldPlace) → least ≤ number → number ≤ most → amount_said least most place (integer (pos number)) ≡ Ok number
 unfolding amount_said kept_within
 amount_again least most number place low high = rw (le-leb least number low, le-leb number most high) refl
 
-amounts_from : (least most : ℕ) (key : Key) (n : ℕ) (all : List ℕ) → AllByRecursion (IsWithin least most) all
+amounts_from : (least most : ℕ) (key : FieldKey) (n : ℕ) (all : List ℕ) → AllByRecursion (IsWithin least most) all
     → each_from (λ n value. amount_said least most (at_item key n) value) n (number_data all) ≡ Ok all
 unfolding each_from
 amounts_from least most key n [] each = refl
@@ -37,19 +37,19 @@ amounts_from least most key n (number ∷ rest) each =
     rw (amount_again least most number (at_item key n) each.0.0 each.0.1, amounts_from least most key (n + 1) rest each.1) refl
 
 -- amounts that were written
-pub amounts_again : (least most : ℕ) (key : Key) (all : List ℕ) → AllByRecursion (IsWithin least most) all → amounts_said least most key (number_data all) ≡ Ok all
+pub amounts_again : (least most : ℕ) (key : FieldKey) (all : List ℕ) → AllByRecursion (IsWithin least most) all → amounts_said least most key (number_data all) ≡ Ok all
 amounts_again least most key all each = amounts_from least most key 1 all each
 
-pub list_again : (place : Place) (all : List ℕ) → list_said place (numbers all) ≡ Ok (number_data all)
+pub list_again : (place : FieldPlace) (all : List ℕ) → list_said place (numbers all) ≡ Ok (number_data all)
 unfolding list_said
 list_again place all = ap (λ items. Ok items) (listed_again (number_data all))
 
-pub items_again : (seats : ℕ) (key : Key) (all : List ℕ) → length all ≡ seats → items_said seats key (numbers all) ≡ Ok (number_data all)
+pub items_again : (seats : ℕ) (key : FieldKey) (all : List ℕ) → length all ≡ seats → items_said seats key (numbers all) ≡ Ok (number_data all)
 unfolding items_said
 items_again seats key all count = rw (list_again (record { key = key; item = 0 }) all, eq-eqb (length (number_data all)) seats (length-map all (λ number. integer (pos number)) ∙ count)) refl
 
 -- a row that was written
-pub row_again : (seats most : ℕ) (key : Key) (all : List ℕ) → length all ≡ seats → AllByRecursion (IsWithin 0 most) all → row_said seats most key (numbers all) ≡ Ok all
+pub row_again : (seats most : ℕ) (key : FieldKey) (all : List ℕ) → length all ≡ seats → AllByRecursion (IsWithin 0 most) all → row_said seats most key (numbers all) ≡ Ok all
 unfolding row_said
 row_again seats most key all count each = rw (items_again seats key all count) (amounts_again 0 most key all each)
 

@@ -11,11 +11,11 @@ use Rattle.first_fault.specs.Reading.{each_from, or_none}
 use Rattle.first_fault.specs.declared.limits.TheConstants.{MOST_TEXT_BYTES}
 use Rattle.hand_records.specs.declared.notes.Notes.{Notes}
 use Rattle.hand_records.specs.AllowedNotes.{AreSeatNumbers, IsName, IsSeatCount, IsWithin, name_written, unless_usual}
-use Rattle.phh_fields.specs.declared.fault.Key.TheVariants as keys
-use Rattle.phh_fields.specs.declared.fault.Place.{Place}
+use Rattle.phh_fields.specs.declared.fault.FieldKey.TheVariants as keys
+use Rattle.phh_fields.specs.declared.fault.FieldPlace.{FieldPlace}
 use Rattle.phh_fields.specs.Fields.{at_item, at_key, items_said, list_said, number_said, text_said}
 use Rattle.phh_fields.specs.NoteFields.{names_said, note_said, seat_count_said, seats_said, text_note_said}
-use Rattle.phh_table.specs.HandFields.{names_field, number_field, numbers, texts}
+use Rattle.phh_writing.specs.HandFields.{names_field, number_field, numbers, texts}
 use Rattle.phh_format.proofs.RowsAgain.{items_again, listed_again, number_data}
 use Rattle.phh_format.proofs.NotesAgain.{note_again, number_again}
 use Rattle.list_laws.proofs.Bytes.{different_bytes}
@@ -28,14 +28,14 @@ abbrev pub name_at : Notes → ℕ → Option (List ℕ)
 name_at notes seat = get_or notes.names (seat - 1) None
 
 -- a name that is the default is none
-default_again : (seat : ℕ) (place : Place) → seat ≤ 10 → note_said (default_name seat) place (default_name seat) ≡ Ok None
+default_again : (seat : ℕ) (place : FieldPlace) → seat ≤ 10 → note_said (default_name seat) place (default_name seat) ≡ Ok None
 unfolding note_said
 default_again seat place few =
     let short : length (decimal seat) ≤ 20 = length-decimal-le 20 seat (omega arith) (omega (arith, few)) (omega (arith, few)) in
     let usual : bytes_eq (default_name seat) (default_name seat) ≡ true = (bytes_eq-Decides (default_name seat) (default_name seat)).1 refl in
     rw (le-leb (length (default_name seat)) MOST_TEXT_BYTES (omega (arith, short)), usual) (ap (λ (found : Option (List ℕ)). Ok found) (none_anyway (length (default_name seat) == 0) (default_name seat)))
 
-one_name : (seat : ℕ) (place : Place) (said : Option (List ℕ)) → seat ≤ 10 → IfSome said (IsName seat) → text_note_said (default_name seat) place (string (unwrap_or said (default_name seat))) ≡ Ok said
+one_name : (seat : ℕ) (place : FieldPlace) (said : Option (List ℕ)) → seat ≤ 10 → IfSome said (IsName seat) → text_note_said (default_name seat) place (string (unwrap_or said (default_name seat))) ≡ Ok said
 unfolding text_note_said text_said
 one_name seat place None few is = default_again seat place few
 one_name seat place (Some name) few is = note_again (default_name seat) name place is.text (different_bytes name (default_name seat) is.said)

@@ -12,14 +12,14 @@ use Rattle.play_event.specs.Streets.{is_stud, limit_of}
 use Rattle.play_event.specs.ValidSetup.{IsSizeWhere, IsValid, is_fixed}
 use Rattle.first_fault.specs.Reading.{◌>>=◌, each_from}
 use Rattle.hand_records.specs.declared.trace.Play.{Play}
-use Rattle.phh_fields.specs.declared.fault.Key.{Key}
-use Rattle.phh_fields.specs.declared.fault.Key.TheVariants as keys
+use Rattle.phh_fields.specs.declared.fault.FieldKey.{FieldKey}
+use Rattle.phh_fields.specs.declared.fault.FieldKey.TheVariants as keys
 use Rattle.phh_fields.specs.Fields.{at_item, at_key, field, flag_said, key_text, needed, text_said}
 use Rattle.phh_fields.specs.Rows.{ante_said, antes_said, posted, stacks_said}
 use Rattle.phh_fields.specs.SetupFields.{are_dead, blinds_said, plain_setup, setup_said, size_said, sizes_said, trimming_said, variant_said}
-use Rattle.phh_table.specs.Document.{hand_table}
-use Rattle.phh_table.specs.HandFields.{blinds_written, hand_fields, numbers, size_field}
-use Rattle.phh_table.proofs.Puts.{field_at, get_member-table_of, or_later}
+use Rattle.phh_writing.specs.Document.{hand_table}
+use Rattle.phh_writing.specs.HandFields.{blinds_written, hand_fields, numbers, size_field}
+use Rattle.phh_writing.proofs.Puts.{field_at, get_member-table_of, or_later}
 use Rattle.phh_format.proofs.RowsAgain.{amount_again, amount_count, amounts_again, each_amount, items_again, list_again, number_data, row_again}
 use Rattle.phh_fields.proofs.Games.{own_code}
 use Rattle.list_laws.proofs.Entries.{less_taken, taken_zeros}
@@ -93,7 +93,7 @@ module _ (place : ℕ) (play : Play) (valid : IsValid play.trace.setup) where
   members = hand_table place play
 
   -- the value at a key
-  pub at : (key : Key) → field key members ≡ field_at (key_text key) (hand_fields place play)
+  pub at : (key : FieldKey) → field key members ≡ field_at (key_text key) (hand_fields place play)
   unfolding hand_table
   at key = get_member-table_of (key_text key) (hand_fields place play)
 
@@ -169,7 +169,7 @@ module _ (place : ℕ) (play : Play) (valid : IsValid play.trace.setup) where
   blinds_again : blinds_said setup.code (length (amounts_in setup.stacks)) members ≡ Ok (amounts_in setup.blinds)
   blinds_again = blinds_by (is_stud setup.code) refl
 
-  size_again : (used : Bool) (size : ℕ) (key : Key) → IsSizeWhere used size → field_at (key_text key) (hand_fields place play) ≡ size_field used size → size_said used key members ≡ Ok size
+  size_again : (used : Bool) (size : ℕ) (key : FieldKey) → IsSizeWhere used size → field_at (key_text key) (hand_fields place play) ≡ size_field used size → size_said used key members ≡ Ok size
   unfolding size_said needed
   size_again true size key is found = rw (at key, found) (amount_again 1 MOST_CHIPS size (at_key key) is.0 is.1)
   size_again false size key is found = ap (λ n. Ok n) (sym is)

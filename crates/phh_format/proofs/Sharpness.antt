@@ -4,13 +4,13 @@ use Rattle.std.proofs.Common.{◌≡◌, ℕ, ◌+◌, ◌-◌, nat_lt, Bool, tr
 use Rattle.std.specs.List.{AllByRecursion, list_any}
 use Rattle.toml.specs.Data.{Data, Members}
 use Rattle.chip_ledger.specs.declared.rows.TheConstants.{MOST_AMOUNT}
-use Rattle.phh_fields.specs.declared.fault.Key.TheVariants as keys
+use Rattle.phh_fields.specs.declared.fault.FieldKey.TheVariants as keys
 use Rattle.phh_fields.specs.Fields.{at_key, field, list_said, needed}
 use Rattle.phh_fields.specs.NoteFields.{PlainNotes, notes_said}
 use Rattle.phh_fields.specs.Rows.{row_said}
 use Rattle.phh_fields.specs.SetupFields.{PlainSetup, setup_said}
 use Rattle.phh_reading.specs.Events.{counts_after, events_said}
-use Rattle.phh_reading.specs.declared.events.Counts.{Counts}
+use Rattle.phh_reading.specs.declared.events.EventCounts.{EventCounts}
 use Rattle.play_event.specs.Said.{Numbered}
 use Rattle.list_laws.proofs.Any.{list_any-map}
 use Rattle.list_laws.proofs.Tests.{false_true}
@@ -26,13 +26,13 @@ use Rattle.hand_canon.specs.Judged.{IsTraceOfLegal}
 use Rattle.canon_ranges.proofs.SuitedRules.{suits_own}
 use Rattle.phh_reading.specs.Hand.{PlainHand, finish_stated, hand_said, plain, rakes_at}
 use Rattle.phh_reading.specs.Reading.{Wrong, at_variant, document_of, document_said, hands_of, hands_said, in_hand, numbered_hand, reading, records_said, spelled_fault, those_said}
-use Rattle.phh_reading.specs.declared.fault.HandFault.{HandFault}
-use Rattle.phh_fields.specs.declared.fault.Fault.{Fault}
-use Rattle.phh_fields.specs.declared.fault.What.{What}
-use Rattle.phh_fields.specs.declared.fault.What.TheVariants as whats
+use Rattle.phh_reading.specs.declared.fault.PhhHandFault.{PhhHandFault}
+use Rattle.phh_fields.specs.declared.fault.FieldFault.{FieldFault}
+use Rattle.phh_fields.specs.declared.fault.FieldFaultKind.{FieldFaultKind}
+use Rattle.phh_fields.specs.declared.fault.FieldFaultKind.TheVariants as whats
 use Rattle.first_fault.specs.declared.limits.Quantity.TheVariants as quantities
 use Rattle.first_fault.specs.declared.limits.TheConstants.{MOST_HANDS}
-use Rattle.phh_table.specs.Spelled.{unspelled}
+use Rattle.phh_writing.specs.Spelled.{unspelled}
 use Rattle.hand_canon.specs.Sharp.{IsOther}
 use Rattle.first_fault.proofs.Thread.{bound}
 
@@ -45,29 +45,29 @@ AreRuled found = AllByRecursion IsRuled found.0
 
 module _ (file_moves place : ℕ) (members : Members) where
   -- what is read behind each field, in order
-  abbrev after_notes : PlainSetup → List Numbered × Counts → Option (List ℕ) → List ℕ → PlainNotes → Result (PlainHand × ℕ) Fault
+  abbrev after_notes : PlainSetup → List Numbered × EventCounts → Option (List ℕ) → List ℕ → PlainNotes → Result (PlainHand × ℕ) FieldFault
   after_notes setup events finish rakes notes =
       Ok (record { setup = setup; rakes = rakes; rules = history_rules; script = events.0; stated = finish_stated finish; notes = notes }, events.1.file_moves)
 
-  abbrev after_rakes : PlainSetup → List Numbered × Counts → Option (List ℕ) → List ℕ → Result (PlainHand × ℕ) Fault
+  abbrev after_rakes : PlainSetup → List Numbered × EventCounts → Option (List ℕ) → List ℕ → Result (PlainHand × ℕ) FieldFault
   after_rakes setup events finish rakes = notes_said place (length setup.stacks) members >>= after_notes setup events finish rakes
 
-  abbrev after_finish : PlainSetup → List Numbered × Counts → Option (List ℕ) → Result (PlainHand × ℕ) Fault
+  abbrev after_finish : PlainSetup → List Numbered × EventCounts → Option (List ℕ) → Result (PlainHand × ℕ) FieldFault
   after_finish setup events finish = rakes_at members >>= after_rakes setup events finish
 
-  abbrev finish_read : PlainSetup → Result (Option (List ℕ)) Fault
+  abbrev finish_read : PlainSetup → Result (Option (List ℕ)) FieldFault
   finish_read setup = read_if (row_said (length setup.stacks) MOST_AMOUNT keys.FinishingStacks) (field keys.FinishingStacks members)
 
-  abbrev after_events : PlainSetup → List Numbered × Counts → Result (PlainHand × ℕ) Fault
+  abbrev after_events : PlainSetup → List Numbered × EventCounts → Result (PlainHand × ℕ) FieldFault
   after_events setup events = finish_read setup >>= after_finish setup events
 
-  abbrev after_actions : PlainSetup → List Data → Result (PlainHand × ℕ) Fault
+  abbrev after_actions : PlainSetup → List Data → Result (PlainHand × ℕ) FieldFault
   after_actions setup actions = events_said (length setup.stacks) (counts_after file_moves) actions >>= after_events setup
 
-  abbrev actions_read : Result (List Data) Fault
+  abbrev actions_read : Result (List Data) FieldFault
   actions_read = needed keys.Actions members >>= list_said (at_key keys.Actions)
 
-  abbrev after_setup : PlainSetup → Result (PlainHand × ℕ) Fault
+  abbrev after_setup : PlainSetup → Result (PlainHand × ℕ) FieldFault
   after_setup setup = actions_read >>= after_actions setup
 
   abbrev IsFound : PlainHand × ℕ → Type 0
@@ -83,11 +83,11 @@ module _ (file_moves place : ℕ) (members : Members) where
       bound IsFound (rakes_at members) (after_rakes setup events finish) (λ rakes.
       bound IsFound (notes_said place (length setup.stacks) members) (after_notes setup events finish rakes) (λ notes. refl))))))
 
-one_ruled : (number : ℕ) (read : Result (PlainHand × ℕ) Fault) → IfOk read (λ found. IsRuled found.0) → IfOk (in_hand number read >>= λ found. Ok (found.0 ∷ [], found.1)) AreRuled
+one_ruled : (number : ℕ) (read : Result (PlainHand × ℕ) FieldFault) → IfOk read (λ found. IsRuled found.0) → IfOk (in_hand number read >>= λ found. Ok (found.0 ∷ [], found.1)) AreRuled
 one_ruled number (Ok found) is = (is, tt)
 one_ruled number (Err fault) is = tt
 
-by_limit : (here : Result (List PlainHand × ℕ) HandFault) (number : ℕ) (what : What) (late : Bool) → IfOk here AreRuled → IfOk (if late then at_variant number what else here) AreRuled
+by_limit : (here : Result (List PlainHand × ℕ) PhhHandFault) (number : ℕ) (what : FieldFaultKind) (late : Bool) → IfOk here AreRuled → IfOk (if late then at_variant number what else here) AreRuled
 by_limit here number what true is = tt
 by_limit here number what false is = is
 
@@ -100,12 +100,12 @@ both_ruled : (some more : List PlainHand) → AllByRecursion IsRuled some → Al
 both_ruled [] more each others = others
 both_ruled (hand ∷ some) more each others = (each.0, both_ruled some more each.1 others)
 
-then_ruled : (found : List PlainHand × ℕ) (others : Result (List PlainHand × ℕ) HandFault) → AreRuled found → IfOk others AreRuled → IfOk (others >>= λ rest. Ok (found.0 ++ rest.0, rest.1)) AreRuled
+then_ruled : (found : List PlainHand × ℕ) (others : Result (List PlainHand × ℕ) PhhHandFault) → AreRuled found → IfOk others AreRuled → IfOk (others >>= λ rest. Ok (found.0 ++ rest.0, rest.1)) AreRuled
 then_ruled found (Ok rest) is all = both_ruled found.0 rest.0 is all
 then_ruled found (Err fault) is all = tt
 
 -- hands behind the first one, from the moves of the file behind it
-rest_ruled : (rest : ℕ → Result (List PlainHand × ℕ) HandFault) (first : Result (List PlainHand × ℕ) HandFault) → IfOk first AreRuled → ((file_moves : ℕ) → IfOk (rest file_moves) AreRuled)
+rest_ruled : (rest : ℕ → Result (List PlainHand × ℕ) PhhHandFault) (first : Result (List PlainHand × ℕ) PhhHandFault) → IfOk first AreRuled → ((file_moves : ℕ) → IfOk (rest file_moves) AreRuled)
     → IfOk (first >>= λ found. rest found.1 >>= λ others. Ok (found.0 ++ others.0, others.1)) AreRuled
 rest_ruled rest (Ok found) is all = then_ruled found (rest found.1) is (all found.1)
 rest_ruled rest (Err fault) is all = tt
@@ -119,11 +119,11 @@ threaded file_moves number (members ∷ rest) =
 records_ruled : (hands : List Members) → IfOk (records_said hands) (AllByRecursion IsRuled)
 records_ruled hands = by_hands (hands_said hands) (threaded 0 1 hands)
   where
-    by_hands : (found : Result (List PlainHand × ℕ) HandFault) → IfOk found AreRuled → IfOk (found >>= λ them. Ok them.0) (AllByRecursion IsRuled)
+    by_hands : (found : Result (List PlainHand × ℕ) PhhHandFault) → IfOk found AreRuled → IfOk (found >>= λ them. Ok them.0) (AllByRecursion IsRuled)
     by_hands (Ok found) is = is
     by_hands (Err fault) is = tt
 
-spelled_ruled : (found : Result (List PlainHand) HandFault) → IfOk found (AllByRecursion IsRuled) → IfOk (spelled_fault found) (AllByRecursion IsRuled)
+spelled_ruled : (found : Result (List PlainHand) PhhHandFault) → IfOk found (AllByRecursion IsRuled) → IfOk (spelled_fault found) (AllByRecursion IsRuled)
 spelled_ruled (Ok hands) is = is
 spelled_ruled (Err fault) is = tt
 

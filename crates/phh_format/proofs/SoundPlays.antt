@@ -11,8 +11,8 @@ use Rattle.play_event.specs.Said.{Said}
 use Rattle.play_event.specs.Scripts.{past_at_end}
 use Rattle.play_event.specs.ValidSetup.{IsValid}
 use Rattle.play_event.specs.declared.setup.Setup.{Setup}
-use Rattle.canonical_play.specs.CanonScript.{canon_of, canonical_script}
-use Rattle.canonical_play.specs.PlayedScript.{IsWithinLimits, is_move}
+use Rattle.canon_script.specs.CanonScript.{canon_of, canonical_script}
+use Rattle.canon_script.specs.PlayedScript.{IsWithinLimits, is_move}
 use Rattle.canon_ranges.proofs.EventRanges.{events_in_range}
 use Rattle.canon_ranges.proofs.SameMoves.{canon_within, same_moves}
 use Rattle.hand_records.specs.AllowedNotes.{AreAllowed}
@@ -23,8 +23,8 @@ use Rattle.first_fault.specs.declared.limits.TheConstants.{MOST_FILE_MOVES, MOST
 use Rattle.hand_records.specs.declared.trace.Play.{Play}
 use Rattle.trace_laws.proofs.ShareBounds.{shares_and_rakes}
 use Rattle.phh_reading.specs.Reading.{reading}
-use Rattle.phh_table.specs.Document.{Spells}
-use Rattle.phh_table.specs.HandFields.{script_of}
+use Rattle.phh_writing.specs.Document.{Spells}
+use Rattle.phh_writing.specs.HandFields.{script_of}
 use Rattle.phh_format.specs.Again.{hands_again}
 use Rattle.phh_format.proofs.FileAgain.{plays_again}
 use Rattle.phh_format.proofs.Readable.{IsReadable, moves_written}

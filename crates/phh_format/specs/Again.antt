@@ -9,7 +9,7 @@ use Rattle.hand_records.specs.declared.trace.Play.{Play}
 use Rattle.phh_fields.specs.NoteFields.{PlainNotes}
 use Rattle.phh_fields.specs.SetupFields.{plain_setup}
 use Rattle.phh_reading.specs.Hand.{PlainHand, finish_stated}
-use Rattle.phh_table.specs.HandFields.{script_of}
+use Rattle.phh_writing.specs.HandFields.{script_of}
 use Rattle.chip_ledger.specs.SeatRow.{amounts_in}
 use Rattle.first_fault.specs.Numbers.{kept_number}
 use Rattle.hand_canon.specs.ReadAgain.{kept_label}

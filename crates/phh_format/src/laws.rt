@@ -8,14 +8,14 @@ ghost use Rattle.hand_records.specs.declared.writing.Unspelled.{Unspelled};
 ghost use Rattle.hand_canon.specs.Sound.{IsSound};
 ghost use Rattle.phh_reading.specs.Hand.{plain};
 ghost use Rattle.phh_reading.specs.Reading.{reading};
-ghost use Rattle.phh_table.specs.Document.{Spells};
-ghost use Rattle.phh_table.specs.Spelled.{unspelled};
+ghost use Rattle.phh_writing.specs.Document.{Spells};
+ghost use Rattle.phh_writing.specs.Spelled.{unspelled};
 ghost use Rattle.phh_format.specs.Again.{hands_again};
 ghost use Rattle.hand_records.specs.Moves.{moves_played};
 ghost use Rattle.hand_canon.specs.ReadAgain.{AreAgain};
-ghost use Rattle.phh_format.specs.ReadBack.{KeepsNotes};
+ghost use Rattle.phh_format.specs.KeptNotes.{KeepsNotes};
 ghost use Rattle.hand_canon.specs.Sharp.{IsOther};
-ghost use Rattle.hand_records.specs.Refusals.{first_refusal};
+ghost use Rattle.hand_records.specs.WriteRefusals.{first_refusal};
 
 /// Bytes that spell sound plays, no more of them and of their moves than a file may have, read as the hands of these plays:
 /// with their setups, rakes and finishing stacks, their canonical scripts, and their kept notes. The function does nothing:

@@ -6,4 +6,4 @@ mod laws;
 
 pub use laws::{law_of_reading_again, law_of_reading_back, law_of_sharpness};
 pub use phh_reading::{PhhFault, read};
-pub use phh_table::{spells, write};
+pub use phh_writing::{spells, write};

@@ -2,10 +2,10 @@
 use Rattle.std.proofs.Common.{◌≡◌, ℕ, ◌+◌, Bool, true, false, not, cond, List, [], ◌∷◌, ◌++◌, map, count_by, Option, Some, None, refl, sym, ap, ◌∙◌, subst, arith}
 use Rattle.std.proofs.lemmas.List.{append-nil, map_push}
 use Rattle.list_laws.proofs.Counting.{count_by-push}
-use Rattle.canonical_play.specs.PlayedScript.{is_move}
+use Rattle.canon_script.specs.PlayedScript.{is_move}
 use Rattle.play_event.specs.declared.event.Event.{Event}
 use Rattle.play_event.specs.Said.{Said, said_of}
-use Rattle.phh_reading.specs.declared.events.Counts.{Counts}
+use Rattle.phh_reading.specs.declared.events.EventCounts.{EventCounts}
 use Rattle.phh_reading.specs.Events.{AreCounted, IsAfter, one_event}
 
 counts_push : (p : Said → Bool) (script : List Event) (event : Event) → count_by p (map said_of (script ++ event ∷ [])) ≡ count_by p (map said_of script) + cond (p (said_of event)) 1 0
@@ -16,9 +16,9 @@ not_counted true = refl
 not_counted false = refl
 
 -- the event of one more action, if it has one, is counted
-pub counted_after : (file_moves : ℕ) (script new : List Event) (before after : Counts) (event : Option Event) → new ≡ script ++ one_event event → AreCounted file_moves script before → IsAfter before event after → AreCounted file_moves new after
+pub counted_after : (file_moves : ℕ) (script new : List Event) (before after : EventCounts) (event : Option Event) → new ≡ script ++ one_event event → AreCounted file_moves script before → IsAfter before event after → AreCounted file_moves new after
 counted_after file_moves script new before after None is counted same =
-    subst (λ (events : List Event). AreCounted file_moves events after) (sym (is ∙ append-nil script)) (subst (λ (counts : Counts). AreCounted file_moves script counts) (sym same) counted)
+    subst (λ (events : List Event). AreCounted file_moves events after) (sym (is ∙ append-nil script)) (subst (λ (counts : EventCounts). AreCounted file_moves script counts) (sym same) counted)
 counted_after file_moves script new before after (Some event) is counted more =
     let moves = counts_push is_move script event in
     let others = counts_push (λ other. not (is_move other)) script event in

@@ -2,47 +2,47 @@
 use Rattle.std.specs.Prelude.{◌≡◌, ℕ, ◌+◌, ◌≤◌, Bool, not, cond, map, count_by, nat_le, if◌then◌else◌, List, [], ◌∷◌, Option, Some, None, Result, Ok, Err}
 use Rattle.toml.specs.Data.{Data}
 use Rattle.first_fault.specs.declared.limits.Quantity.TheVariants as quantities
-use Rattle.canonical_play.specs.declared.limits.TheConstants.{MOST_MOVES, MOST_OTHER_EVENTS}
-use Rattle.canonical_play.specs.PlayedScript.{is_move}
+use Rattle.canon_script.specs.declared.limits.TheConstants.{MOST_MOVES, MOST_OTHER_EVENTS}
+use Rattle.canon_script.specs.PlayedScript.{is_move}
 use Rattle.first_fault.specs.declared.limits.TheConstants.{MOST_FILE_MOVES}
 use Rattle.play_event.specs.declared.event.Event.{Event}
 use Rattle.play_event.specs.Said.{Said, Numbered, numbered, said_of}
 use Rattle.first_fault.specs.Reading.{◌>>=◌, thread_from}
-use Rattle.phh_words.specs.declared.fault.ActionFault.{ActionFault}
-use Rattle.phh_words.specs.declared.fault.ActionFault.TheVariants as actions
-use Rattle.phh_words.specs.Action.{action_said}
-use Rattle.phh_fields.specs.declared.fault.Key.TheVariants as keys
-use Rattle.phh_fields.specs.declared.fault.What.{What}
-use Rattle.phh_fields.specs.declared.fault.What.TheVariants as whats
-use Rattle.phh_fields.specs.declared.fault.Place.{Place}
-use Rattle.phh_fields.specs.declared.fault.Fault.{Fault}
+use Rattle.phh_actions.specs.declared.fault.ActionFault.{ActionFault}
+use Rattle.phh_actions.specs.declared.fault.ActionFault.TheVariants as actions
+use Rattle.phh_actions.specs.Action.{action_said}
+use Rattle.phh_fields.specs.declared.fault.FieldKey.TheVariants as keys
+use Rattle.phh_fields.specs.declared.fault.FieldFaultKind.{FieldFaultKind}
+use Rattle.phh_fields.specs.declared.fault.FieldFaultKind.TheVariants as whats
+use Rattle.phh_fields.specs.declared.fault.FieldPlace.{FieldPlace}
+use Rattle.phh_fields.specs.declared.fault.FieldFault.{FieldFault}
 use Rattle.phh_fields.specs.Fields.{at_item, wrong, text_said}
-use Rattle.phh_reading.specs.declared.events.Counts.{Counts}
+use Rattle.phh_reading.specs.declared.events.EventCounts.{EventCounts}
 use Rattle.first_fault.specs.Numbers.{kept_number}
 
 -- the counts before the first action of a hand, after so many moves of the file
-abbrev pub counts_after : ℕ → Counts
+abbrev pub counts_after : ℕ → EventCounts
 counts_after file_moves = record { moves = 0; other_events = 0; file_moves = file_moves }
 
 -- no count passes its limit
-pub record AreFew (counts : Counts) : Type 0 where
+pub record AreFew (counts : EventCounts) : Type 0 where
   pub moves : counts.moves ≤ MOST_MOVES
   pub other_events : counts.other_events ≤ MOST_OTHER_EVENTS
   pub file_moves : counts.file_moves ≤ MOST_FILE_MOVES
 
 -- the counts after one more event, which is a move or not
-pub record IsOneMore (before : Counts) (is_one : Bool) (after : Counts) : Type 0 where
+pub record IsOneMore (before : EventCounts) (is_one : Bool) (after : EventCounts) : Type 0 where
   pub moves : after.moves ≡ before.moves + cond is_one 1 0
   pub other_events : after.other_events ≡ before.other_events + cond is_one 0 1
   pub file_moves : after.file_moves ≡ before.file_moves + cond is_one 1 0
 
 -- the counts after the event of an action, if it has one
-abbrev pub IsAfter : Counts → Option Event → Counts → Type 0
+abbrev pub IsAfter : EventCounts → Option Event → EventCounts → Type 0
 IsAfter before None after = after ≡ before
 IsAfter before (Some event) after = IsOneMore before (is_move (said_of event)) after
 
 -- the counts after a hand's first events, where the file had so many moves before the hand
-pub record AreCounted (earlier : ℕ) (script : List Event) (counts : Counts) : Type 0 where
+pub record AreCounted (earlier : ℕ) (script : List Event) (counts : EventCounts) : Type 0 where
   pub moves : counts.moves ≡ count_by is_move (map said_of script)
   pub other_events : counts.other_events ≡ count_by (λ event. not (is_move event)) (map said_of script)
   pub file_moves : counts.file_moves ≡ earlier + count_by is_move (map said_of script)
@@ -58,7 +58,7 @@ listed_event (Some event) = numbered event ∷ []
 listed_event None = []
 
 -- the counts after one more event, each within its limit
-unfoldable pub counted : Counts → Place → Bool → Result Counts Fault
+unfoldable pub counted : EventCounts → FieldPlace → Bool → Result EventCounts FieldFault
 counted counts place moves =
     if moves
     then (if nat_le MOST_MOVES counts.moves then wrong (whats.TooMany quantities.Moves) place
@@ -68,28 +68,28 @@ counted counts place moves =
     else Ok (record { moves = counts.moves; other_events = counts.other_events + 1; file_moves = counts.file_moves }))
 
 -- what an action adds: no event, or one event that is counted
-unfoldable pub added : Counts → ℕ → Option Said → Result (List Numbered × Counts) Fault
+unfoldable pub added : EventCounts → ℕ → Option Said → Result (List Numbered × EventCounts) FieldFault
 added counts n None = Ok ([], counts)
 added counts n (Some event) = counted counts (at_item keys.Actions n) (is_move event) >>= λ next. Ok ((kept_number n, event) ∷ [], next)
 
 -- what is wrong with an action
-abbrev pub action_fault : ActionFault → What
+abbrev pub action_fault : ActionFault → FieldFaultKind
 action_fault actions.BadAction = whats.BadAction
 action_fault actions.AmountNotWhole = whats.AmountNotWhole
 action_fault actions.AmountLimit = whats.AmountLimit
 
 -- a fault of an action at its place
-abbrev pub at_place : {A : Type 0} → Place → Result A ActionFault → Result A Fault
+abbrev pub at_place : {A : Type 0} → FieldPlace → Result A ActionFault → Result A FieldFault
 at_place place (Ok x) = Ok x
 at_place place (Err fault) = wrong (action_fault fault) place
 
 -- an action
-unfoldable pub event_said : ℕ → Counts → ℕ → Data → Result (List Numbered × Counts) Fault
+unfoldable pub event_said : ℕ → EventCounts → ℕ → Data → Result (List Numbered × EventCounts) FieldFault
 event_said seats counts n value = do
   text ← text_said (at_item keys.Actions n) value
   event ← at_place (at_item keys.Actions n) (action_said seats text)
   added counts n event
 
 -- the actions in order
-abbrev pub events_said : ℕ → Counts → List Data → Result (List Numbered × Counts) Fault
+abbrev pub events_said : ℕ → EventCounts → List Data → Result (List Numbered × EventCounts) FieldFault
 events_said seats counts items = thread_from (event_said seats) counts 1 items

@@ -9,8 +9,8 @@ use Rattle.play_event.specs.declared.setup.Rules.{Rules}
 use Rattle.play_event.specs.HistoryRules.{history_rules}
 use Rattle.play_event.specs.Said.{Numbered, numbered}
 use Rattle.first_fault.specs.Reading.{◌>>=◌, read_if}
-use Rattle.phh_fields.specs.declared.fault.Key.TheVariants as keys
-use Rattle.phh_fields.specs.declared.fault.Fault.{Fault}
+use Rattle.phh_fields.specs.declared.fault.FieldKey.TheVariants as keys
+use Rattle.phh_fields.specs.declared.fault.FieldFault.{FieldFault}
 use Rattle.phh_fields.specs.Fields.{at_key, field, needed, list_said}
 use Rattle.phh_fields.specs.Rows.{row_said, rakes_said}
 use Rattle.phh_fields.specs.SetupFields.{PlainSetup, plain_setup, setup_said}
@@ -51,11 +51,11 @@ abbrev pub finish_stated : Option (List ℕ) → PlainStated
 finish_stated finish = record { finish = finish; wins = None; pot_total = None; values = None }
 
 -- the rakes, or none where they are not said
-unfoldable pub rakes_at : Members → Result (List ℕ) Fault
+unfoldable pub rakes_at : Members → Result (List ℕ) FieldFault
 rakes_at members = elim (field keys.Rakes members) [ Some value ↦ rakes_said value | None ↦ Ok (replicate 11 0) ]
 
 -- the hand at this place of its file, from 0, after so many moves of the file; and the moves of the file after it
-unfoldable pub hand_said : ℕ → ℕ → Members → Result (PlainHand × ℕ) Fault
+unfoldable pub hand_said : ℕ → ℕ → Members → Result (PlainHand × ℕ) FieldFault
 hand_said file_moves place members = do
   setup ← setup_said members
   actions ← needed keys.Actions members >>= list_said (at_key keys.Actions)

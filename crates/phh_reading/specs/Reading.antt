@@ -7,28 +7,28 @@ use Rattle.first_fault.specs.declared.limits.Quantity.TheVariants as quantities
 use Rattle.first_fault.specs.declared.limits.TheConstants.{MOST_HANDS}
 use Rattle.hand_records.specs.declared.record.Record.{Record}
 use Rattle.first_fault.specs.Reading.{◌>>=◌, thread_from}
-use Rattle.phh_fields.specs.declared.fault.Key.TheVariants as keys
-use Rattle.phh_fields.specs.declared.fault.What.{What}
-use Rattle.phh_fields.specs.declared.fault.What.TheVariants as whats
-use Rattle.phh_fields.specs.declared.fault.Fault.{Fault}
+use Rattle.phh_fields.specs.declared.fault.FieldKey.TheVariants as keys
+use Rattle.phh_fields.specs.declared.fault.FieldFaultKind.{FieldFaultKind}
+use Rattle.phh_fields.specs.declared.fault.FieldFaultKind.TheVariants as whats
+use Rattle.phh_fields.specs.declared.fault.FieldFault.{FieldFault}
 use Rattle.phh_fields.specs.Fields.{at_key, field, place_text}
-use Rattle.phh_reading.specs.declared.fault.HandFault.{HandFault}
+use Rattle.phh_reading.specs.declared.fault.PhhHandFault.{PhhHandFault}
 use Rattle.phh_reading.specs.declared.fault.PhhFault.{PhhFault}
 use Rattle.phh_reading.specs.declared.fault.PhhFault.TheVariants as faults
 use Rattle.phh_reading.specs.Hand.{PlainHand, plain, hand_said}
 use Rattle.phh_reading.specs.Order.{are_hands, in_order}
 
 -- a fault of the hand with this number
-abbrev pub in_hand : {A : Type 0} → ℕ → Result A Fault → Result A HandFault
+abbrev pub in_hand : {A : Type 0} → ℕ → Result A FieldFault → Result A PhhHandFault
 in_hand number (Ok x) = Ok x
 in_hand number (Err fault) = Err (record { hand = number; fault = fault })
 
 -- a fault at a hand's variant
-abbrev pub at_variant : {A : Type 0} → ℕ → What → Result A HandFault
+abbrev pub at_variant : {A : Type 0} → ℕ → FieldFaultKind → Result A PhhHandFault
 at_variant number what = Err (record { hand = number; fault = record { what = what; place = at_key keys.Variant } })
 
 -- the hand with this number, from 1, after so many moves of the file; and the moves of the file after it
-unfoldable pub numbered_hand : ℕ → ℕ → Members → Result (List PlainHand × ℕ) HandFault
+unfoldable pub numbered_hand : ℕ → ℕ → Members → Result (List PlainHand × ℕ) PhhHandFault
 numbered_hand file_moves number members =
     if nat_lt MOST_HANDS number then at_variant number (whats.TooMany quantities.Hands)
     else (in_hand number (hand_said file_moves (number - 1) members) >>= λ found. Ok (found.0 ∷ [], found.1))
@@ -41,25 +41,25 @@ hands_of members =
     else None
 
 -- the hands of tables, in order, and the moves of the file after them
-abbrev pub hands_said : List Members → Result (List PlainHand × ℕ) HandFault
+abbrev pub hands_said : List Members → Result (List PlainHand × ℕ) PhhHandFault
 hands_said hands = thread_from numbered_hand 0 1 hands
 
 -- the records of hands
-abbrev pub records_said : List Members → Result (List PlainHand) HandFault
+abbrev pub records_said : List Members → Result (List PlainHand) PhhHandFault
 records_said hands = hands_said hands >>= λ found. Ok found.0
 
 -- the hands of a document that has some or none, and any other document lacks the variant of its first hand
-abbrev pub those_said : Option (List Members) → Result (List PlainHand) HandFault
+abbrev pub those_said : Option (List Members) → Result (List PlainHand) PhhHandFault
 those_said (Some hands) = records_said hands
 those_said None = at_variant 1 whats.MissingField
 
 -- what is wrong with bytes: they are no document, or a hand of it has a fault at a key
 pub data Wrong : Type 0 where
   NoDocument : Wrong
-  InHand : ℕ → List ℕ → What → Wrong
+  InHand : ℕ → List ℕ → FieldFaultKind → Wrong
 
 -- a fault with its key as it is spelled
-abbrev pub spelled_fault : {A : Type 0} → Result A HandFault → Result A Wrong
+abbrev pub spelled_fault : {A : Type 0} → Result A PhhHandFault → Result A Wrong
 spelled_fault (Ok x) = Ok x
 spelled_fault (Err found) = Err (InHand found.hand (place_text found.fault.place) found.fault.what)
 

@@ -2,26 +2,26 @@
 ghost use Rattle.std.specs.Prelude.{◌≡◌, ◌≤◌, ◌+◌, ◌++◌, map, IfOk, OnOk, option_map};
 ghost use Rattle.toml.specs.View.{view};
 ghost use Rattle.first_fault.specs.declared.limits.TheConstants.{MOST_FILE_MOVES};
-ghost use Rattle.canonical_play.specs.PlayedScript.{is_move as is_move_said};
+ghost use Rattle.canon_script.specs.PlayedScript.{is_move as is_move_said};
 ghost use Rattle.play_event.specs.Said.{kind_said, numbered};
 ghost use Rattle.first_fault.specs.Reading.{Gives};
-ghost use Rattle.phh_words.specs.Action.{action_said};
+ghost use Rattle.phh_actions.specs.Action.{action_said};
 ghost use Rattle.phh_reading.specs.Events.{AreCounted, AreFew, IsAfter, IsOneMore, action_fault, at_place, counted, counts_after, event_said, events_said, listed_event, one_event};
 ghost use Rattle.first_fault.specs.Numbers.{kept_number};
 
-use canonical_play::{MOST_MOVES, MOST_OTHER_EVENTS};
+use canon_script::{MOST_MOVES, MOST_OTHER_EVENTS};
 use card_set::Memory;
 use first_fault::{MOST_FILE_MOVES, Quantity, Stop};
-use phh_fields::fault::{Fault, Key, Place, What};
+use phh_actions::{ActionFault, read_action};
+use phh_fields::fault::{FieldFault, FieldFaultKind, FieldKey, FieldPlace};
 use phh_fields::values::{read_text, wrong};
-use phh_words::{ActionFault, read_action};
 use play_event::{Event, Kind, Script};
 use std::alloc::Global;
 use toml::Value;
 
 /// How many moves and other events were read of a hand, and how many moves of the file.
 #[derive(Clone, Copy, Debug, PartialEq, Eq)]
-pub struct Counts {
+pub struct EventCounts {
     pub moves: usize,
     pub other_events: usize,
     pub file_moves: usize,
@@ -33,7 +33,7 @@ pub fn read_events(
     seats: u8,
     file_moves: usize,
     actions: &[Value],
-) -> Result<(Script, Counts), Stop<Fault>>
+) -> Result<(Script, EventCounts), Stop<FieldFault>>
     requires seats { seats ≤ 10 }
     requires few { file_moves ≤ MOST_FILE_MOVES }
     ensures said { Gives (λ found. (map numbered found.0, found.1)) result
@@ -42,7 +42,7 @@ pub fn read_events(
     ensures counted { IfOk result (λ found. AreCounted file_moves found.0 found.1) }
 {
     let mut script = Script::new(alloc);
-    let mut counts = Counts {
+    let mut counts = EventCounts {
         moves: 0,
         other_events: 0,
         file_moves,
@@ -59,18 +59,18 @@ pub fn read_events(
 #[tactic(auto, unfolding(crate::specs::Events::event_said, crate::specs::Events::added))]
 fn read_event(
     seats: u8,
-    counts: Counts,
+    counts: EventCounts,
     number: u64,
     value: &Value,
-) -> Result<(Option<Event>, Counts), Stop<Fault>>
+) -> Result<(Option<Event>, EventCounts), Stop<FieldFault>>
     requires { seats ≤ 10 }
     ensures said { Gives (λ found. (listed_event found.0, found.1)) result
         (event_said seats counts number (view value.now)) }
     ensures few { AreFew counts → IfOk result (λ found. AreFew found.1) }
     ensures after { IfOk result (λ found. IsAfter counts found.0 found.1) }
 {
-    let place = Place {
-        key: Key::Actions,
+    let place = FieldPlace {
+        key: FieldKey::Actions,
         item: number,
     };
     let text = read_text(value, place)?;
@@ -85,7 +85,7 @@ fn read_event(
 }
 
 // What the text of an action says.
-fn read_kind(text: &str, seats: u8, place: Place) -> Result<Option<Kind>, Stop<Fault>>
+fn read_kind(text: &str, seats: u8, place: FieldPlace) -> Result<Option<Kind>, Stop<FieldFault>>
     requires { seats ≤ 10 }
     ensures { Gives (option_map kind_said) result (at_place place (action_said seats text.now)) }
 {
@@ -96,19 +96,23 @@ fn read_kind(text: &str, seats: u8, place: Place) -> Result<Option<Kind>, Stop<F
 }
 
 // What is wrong with an action.
-fn fault_of(fault: ActionFault) -> What
+fn fault_of(fault: ActionFault) -> FieldFaultKind
     ensures { result ≡ action_fault fault }
 {
     match fault {
-        ActionFault::BadAction => What::BadAction,
-        ActionFault::AmountNotWhole => What::AmountNotWhole,
-        ActionFault::AmountLimit => What::AmountLimit,
+        ActionFault::BadAction => FieldFaultKind::BadAction,
+        ActionFault::AmountNotWhole => FieldFaultKind::AmountNotWhole,
+        ActionFault::AmountLimit => FieldFaultKind::AmountLimit,
     }
 }
 
 // The counts after one more event, each within its limit.
 #[tactic(auto, unfolding(crate::specs::Events::counted))]
-fn count(counts: Counts, place: Place, moves: bool) -> Result<Counts, Stop<Fault>>
+fn count(
+    counts: EventCounts,
+    place: FieldPlace,
+    moves: bool,
+) -> Result<EventCounts, Stop<FieldFault>>
     ensures said { Gives (λ next. next) result (counted counts place moves) }
     ensures few { AreFew counts → IfOk result AreFew }
     ensures one_more { IfOk result (IsOneMore counts moves) }
@@ -120,7 +124,7 @@ fn count(counts: Counts, place: Place, moves: bool) -> Result<Counts, Stop<Fault
         if counts.file_moves >= MOST_FILE_MOVES {
             return Err(too_many(Quantity::FileMoves, place));
         }
-        Ok(Counts {
+        Ok(EventCounts {
             moves: counts.moves + 1,
             other_events: counts.other_events,
             file_moves: counts.file_moves + 1,
@@ -129,7 +133,7 @@ fn count(counts: Counts, place: Place, moves: bool) -> Result<Counts, Stop<Fault
         if counts.other_events >= MOST_OTHER_EVENTS {
             return Err(too_many(Quantity::OtherEvents, place));
         }
-        Ok(Counts {
+        Ok(EventCounts {
             moves: counts.moves,
             other_events: counts.other_events + 1,
             file_moves: counts.file_moves,
@@ -138,10 +142,10 @@ fn count(counts: Counts, place: Place, moves: bool) -> Result<Counts, Stop<Fault
 }
 
 // A fault of a quantity that passes its limit.
-fn too_many(quantity: Quantity, place: Place) -> Stop<Fault>
-    ensures { result ≡ Stop.At (record { what = What.TooMany quantity; place = place }) }
+fn too_many(quantity: Quantity, place: FieldPlace) -> Stop<FieldFault>
+    ensures { result ≡ Stop.At (record { what = FieldFaultKind.TooMany quantity; place = place }) }
 {
-    wrong(What::TooMany { quantity }, place)
+    wrong(FieldFaultKind::TooMany { quantity }, place)
 }
 
 // Whether it is a move.

@@ -1,6 +1,6 @@
 //! Why bytes are no hands in the Poker Hand History format: their first fault, with its hand and its key.
 use first_fault::{Quantity, Text};
-use phh_fields::fault::{Fault, What};
+use phh_fields::fault::{FieldFault, FieldFaultKind};
 
 /// The first fault of bytes, in the order in which fields are examined. `hand` counts from 1 in the order of reading.
 /// `key` is the key of the field, and for an item of a list the key, a space and the number of the item from 1.
@@ -60,8 +60,8 @@ pub enum PhhFault {
 
 /// A fault of a hand of a file.
 #[derive(Clone, Copy, Debug, PartialEq, Eq)]
-pub struct HandFault {
+pub struct PhhHandFault {
     /// The number of the hand, from 1 in the order of reading.
     pub hand: u32,
-    pub fault: Fault,
+    pub fault: FieldFault,
 }

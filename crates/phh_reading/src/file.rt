@@ -4,43 +4,43 @@ ghost use Rattle.std.specs.List.{AllByRecursion};
 ghost use Rattle.toml.specs.View.{table_view};
 ghost use Rattle.first_fault.specs.declared.limits.TheConstants.{MOST_FILE_MOVES, MOST_HANDS};
 ghost use Rattle.first_fault.specs.Reading.{Gives};
-ghost use Rattle.phh_fields.specs.declared.fault.Key.TheVariants as keys;
+ghost use Rattle.phh_fields.specs.declared.fault.FieldKey.TheVariants as keys;
 ghost use Rattle.phh_fields.specs.Fields.{at_key};
 ghost use Rattle.phh_reading.specs.Hand.{plain};
 ghost use Rattle.phh_reading.specs.Reading.{hands_of, hands_said, numbered_hand, records_said, those_said};
 ghost use Rattle.hand_records.specs.Histories.{IsHistory};
 ghost use Rattle.hand_records.specs.Moves.{moves_of};
 
-use crate::fault::HandFault;
+use crate::fault::PhhHandFault;
 use crate::hand::read_hand;
 use crate::order::{are_hands, tables_in_order};
 use first_fault::{MOST_HANDS, Quantity, Stop};
 use hand_records::{Record, Records};
-use phh_fields::fault::{Fault, Key, Place, What};
+use phh_fields::fault::{FieldFault, FieldFaultKind, FieldKey, FieldPlace};
 use phh_fields::values::field;
 use std::alloc::Global;
 use toml::Table;
 
 /// The hands of a document.
 #[tactic(auto, unfolding(crate::specs::Reading::hands_of))]
-pub fn read_hands(alloc: Global, table: &Table) -> Result<Records, Stop<HandFault>>
+pub fn read_hands(alloc: Global, table: &Table) -> Result<Records, Stop<PhhHandFault>>
     ensures said { Gives (map plain) result (those_said (hands_of (table_view table.now))) }
     ensures sound { IfOk result (AllByRecursion IsHistory) }
     ensures few { IfOk result (λ records. length records ≤ MOST_HANDS) }
     ensures moves { IfOk result (λ records. sum_by moves_of records ≤ MOST_FILE_MOVES) }
 {
-    if field(table, Key::Variant).is_some() {
+    if field(table, FieldKey::Variant).is_some() {
         return read_records(alloc, &[table]);
     }
     if !are_hands(table) {
-        return Err(at_variant(1, What::MissingField));
+        return Err(at_variant(1, FieldFaultKind::MissingField));
     }
     let tables = tables_in_order(alloc, table)?;
     read_records(alloc, tables.as_slice())
 }
 
 // The hands of tables, in order.
-fn read_records(alloc: Global, tables: &[&Table]) -> Result<Records, Stop<HandFault>>
+fn read_records(alloc: Global, tables: &[&Table]) -> Result<Records, Stop<PhhHandFault>>
     ensures said { Gives (map plain) result
         (records_said (map (λ hand. table_view hand.now) tables.now)) }
     ensures sound { IfOk result (AllByRecursion IsHistory) }
@@ -52,7 +52,7 @@ fn read_records(alloc: Global, tables: &[&Table]) -> Result<Records, Stop<HandFa
 }
 
 // The hands of tables, in order, and the moves of the file after them.
-fn read_tables(alloc: Global, tables: &[&Table]) -> Result<(Records, usize), Stop<HandFault>>
+fn read_tables(alloc: Global, tables: &[&Table]) -> Result<(Records, usize), Stop<PhhHandFault>>
     ensures said { Gives (λ found. (map plain found.0, found.1)) result
         (hands_said (map (λ hand. table_view hand.now) tables.now)) }
     ensures sound { IfOk result (λ found. AllByRecursion IsHistory found.0) }
@@ -77,7 +77,7 @@ fn read_numbered(
     table: &Table,
     number: u32,
     file_moves: usize,
-) -> Result<(Record, usize), Stop<HandFault>>
+) -> Result<(Record, usize), Stop<PhhHandFault>>
     requires first { 1 ≤ number }
     requires few { file_moves ≤ MOST_FILE_MOVES }
     ensures said { Gives (λ found. (plain found.0 ∷ [], found.1)) result
@@ -89,12 +89,12 @@ fn read_numbered(
 {
     if number as usize > MOST_HANDS {
         let quantity = Quantity::Hands;
-        return Err(at_variant(number, What::TooMany { quantity }));
+        return Err(at_variant(number, FieldFaultKind::TooMany { quantity }));
     }
     match read_hand(alloc, table, number - 1, file_moves) {
         Ok(found) => Ok(found),
         Err(Stop::Memory) => Err(Stop::Memory),
-        Err(Stop::At(fault)) => Err(Stop::At(HandFault {
+        Err(Stop::At(fault)) => Err(Stop::At(PhhHandFault {
             hand: number,
             fault,
         })),
@@ -102,15 +102,15 @@ fn read_numbered(
 }
 
 // What is wrong at a hand's variant.
-fn at_variant(hand: u32, what: What) -> Stop<HandFault>
+fn at_variant(hand: u32, what: FieldFaultKind) -> Stop<PhhHandFault>
     ensures { result ≡ Stop.At (record {
       hand = hand;
       fault = record { what = what; place = at_key keys.Variant };
     }) }
 {
-    let place = Place::at_key(Key::Variant);
-    Stop::At(HandFault {
+    let place = FieldPlace::at_key(FieldKey::Variant);
+    Stop::At(PhhHandFault {
         hand,
-        fault: Fault { what, place },
+        fault: FieldFault { what, place },
     })
 }

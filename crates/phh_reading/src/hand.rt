@@ -6,7 +6,7 @@ ghost use Rattle.chip_ledger.specs.declared.rows.TheConstants.{MOST_AMOUNT};
 ghost use Rattle.chip_ledger.specs.RakeRow.{rake_of};
 ghost use Rattle.first_fault.specs.declared.limits.TheConstants.{MOST_FILE_MOVES};
 ghost use Rattle.first_fault.specs.Reading.{Gives, read_if};
-ghost use Rattle.phh_fields.specs.declared.fault.Key.TheVariants as keys;
+ghost use Rattle.phh_fields.specs.declared.fault.FieldKey.TheVariants as keys;
 ghost use Rattle.phh_fields.specs.Fields.{field as field_said};
 ghost use Rattle.phh_fields.specs.Rows.{row_said};
 ghost use Rattle.chip_ledger.specs.SeatRow.{amounts_in};
@@ -18,7 +18,7 @@ use crate::events::read_events;
 use chip_ledger::{MOST_AMOUNT, RakeRow, SeatRow};
 use first_fault::Stop;
 use hand_records::{Record, Stated};
-use phh_fields::fault::{Fault, Key, Place};
+use phh_fields::fault::{FieldFault, FieldKey, FieldPlace};
 use phh_fields::notes::read_notes;
 use phh_fields::rows::{read_rakes, read_row};
 use phh_fields::setup::read_setup;
@@ -35,7 +35,7 @@ pub fn read_hand(
     table: &Table,
     place: u32,
     file_moves: usize,
-) -> Result<(Record, usize), Stop<Fault>>
+) -> Result<(Record, usize), Stop<FieldFault>>
     requires { file_moves ≤ MOST_FILE_MOVES }
     ensures said { Gives (λ found. (plain found.0, found.1)) result
         (hand_said file_moves place (table_view table.now)) }
@@ -45,7 +45,10 @@ pub fn read_hand(
 {
     let setup = read_setup(table)?;
     let seats = setup.stacks.seats;
-    let actions = read_list(needed(table, Key::Actions)?, Place::at_key(Key::Actions))?;
+    let actions = read_list(
+        needed(table, FieldKey::Actions)?,
+        FieldPlace::at_key(FieldKey::Actions),
+    )?;
     let (script, counts) = read_events(alloc, seats, file_moves, actions)?;
     let finish = read_finish(table, seats)?;
     let rakes = read_rakes_at(table)?;
@@ -70,7 +73,7 @@ pub fn read_hand(
 }
 
 // The finishing stacks of so many seats, if they are stated.
-fn read_finish(table: &Table, seats: u8) -> Result<Option<SeatRow>, Stop<Fault>>
+fn read_finish(table: &Table, seats: u8) -> Result<Option<SeatRow>, Stop<FieldFault>>
     requires some { 2 ≤ seats }
     requires few { seats ≤ 10 }
     ensures said { Gives (option_map amounts_in) result
@@ -78,9 +81,9 @@ fn read_finish(table: &Table, seats: u8) -> Result<Option<SeatRow>, Stop<Fault>>
         (field_said keys.FinishingStacks (table_view table.now))) }
     ensures seats { IfOk result (λ finish. ForSome finish (λ row. row.seats ≡ seats)) }
 {
-    match field(table, Key::FinishingStacks) {
+    match field(table, FieldKey::FinishingStacks) {
         Some(value) => {
-            let finish = read_row(value, seats, MOST_AMOUNT, Key::FinishingStacks)?;
+            let finish = read_row(value, seats, MOST_AMOUNT, FieldKey::FinishingStacks)?;
             Ok(Some(finish))
         }
         None => Ok(None),
@@ -89,11 +92,11 @@ fn read_finish(table: &Table, seats: u8) -> Result<Option<SeatRow>, Stop<Fault>>
 
 // The rakes, or none.
 #[tactic(auto, unfolding(crate::specs::Hand::rakes_at))]
-fn read_rakes_at(table: &Table) -> Result<RakeRow, Stop<Fault>>
+fn read_rakes_at(table: &Table) -> Result<RakeRow, Stop<FieldFault>>
     ensures said { Gives (λ row. row.rakes) result (rakes_at (table_view table.now)) }
     ensures most { IfOk result (λ row. (pot : ℕ) → rake_of row pot ≤ MOST_AMOUNT) }
 {
-    match field(table, Key::Rakes) {
+    match field(table, FieldKey::Rakes) {
         Some(value) => read_rakes(value),
         None => Ok(RakeRow::none()),
     }

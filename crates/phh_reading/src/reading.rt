@@ -8,12 +8,12 @@ ghost use Rattle.phh_reading.specs.Reading.{InHand, Reads, document_said, readin
 ghost use Rattle.hand_records.specs.Histories.{IsHistory};
 ghost use Rattle.hand_records.specs.Moves.{moves_of};
 
-use crate::fault::{HandFault, PhhFault};
+use crate::fault::{PhhFault, PhhHandFault};
 use crate::file::read_hands;
 use card_set::Memory;
 use first_fault::{Stop, Text};
 use hand_records::Records;
-use phh_fields::fault::{Place, What};
+use phh_fields::fault::{FieldFaultKind, FieldPlace};
 use std::alloc::Global;
 use toml::Table;
 
@@ -53,7 +53,7 @@ fn read_document(alloc: Global, table: &Table) -> Result<Records, PhhFault>
 }
 
 // A fault with its key as it is spelled.
-fn spelled(alloc: Global, found: HandFault) -> PhhFault
+fn spelled(alloc: Global, found: PhhHandFault) -> PhhFault
     ensures { IfSome (wrong_of result) (λ wrong.
         wrong ≡ InHand found.hand (place_text_said found.fault.place) found.fault.what) }
 {
@@ -64,7 +64,7 @@ fn spelled(alloc: Global, found: HandFault) -> PhhFault
 }
 
 // How a place is spelled: the key, and for an item a space and its number.
-fn place_text(alloc: Global, place: Place) -> Result<Text, Memory>
+fn place_text(alloc: Global, place: FieldPlace) -> Result<Text, Memory>
     ensures { IfOk result (λ text. text ≡ place_text_said place) }
 {
     let key = place.key.text();
@@ -77,19 +77,19 @@ fn place_text(alloc: Global, place: Place) -> Result<Text, Memory>
 }
 
 // What is wrong at a key of a hand.
-fn wrong_at(hand: u32, key: Text, what: What) -> PhhFault
+fn wrong_at(hand: u32, key: Text, what: FieldFaultKind) -> PhhFault
     ensures { wrong_of result ≡ Some (InHand hand key what) }
 {
     match what {
-        What::MissingField => PhhFault::MissingField { hand, key },
-        What::WrongType => PhhFault::WrongType { hand, key },
-        What::AmountNotWhole => PhhFault::AmountNotWhole { hand, key },
-        What::AmountLimit => PhhFault::AmountLimit { hand, key },
-        What::UnknownVariant => PhhFault::UnknownVariant { hand, key },
-        What::SeatCount => PhhFault::SeatCount { hand, key },
-        What::ListLength => PhhFault::ListLength { hand, key },
-        What::BadAction => PhhFault::BadAction { hand, key },
-        What::TooMany { quantity } => PhhFault::TooMany {
+        FieldFaultKind::MissingField => PhhFault::MissingField { hand, key },
+        FieldFaultKind::WrongType => PhhFault::WrongType { hand, key },
+        FieldFaultKind::AmountNotWhole => PhhFault::AmountNotWhole { hand, key },
+        FieldFaultKind::AmountLimit => PhhFault::AmountLimit { hand, key },
+        FieldFaultKind::UnknownVariant => PhhFault::UnknownVariant { hand, key },
+        FieldFaultKind::SeatCount => PhhFault::SeatCount { hand, key },
+        FieldFaultKind::ListLength => PhhFault::ListLength { hand, key },
+        FieldFaultKind::BadAction => PhhFault::BadAction { hand, key },
+        FieldFaultKind::TooMany { quantity } => PhhFault::TooMany {
             hand,
             key,
             quantity,

@@ -10,20 +10,20 @@ use Rattle.toml.specs.Data as toml
 use Rattle.hand_records.specs.AllowedNotes.{name_written}
 use Rattle.hand_records.specs.declared.notes.Notes.{Notes}
 use Rattle.hand_records.specs.declared.trace.Trace.{Trace}
-use Rattle.acpc_line.specs.Names.{name_or_default, name_text, names_text}
-use Rattle.acpc_line.specs.Seats.{bar_before}
-use Rattle.ohh_line.specs.Games.{game_word}
-use Rattle.ohh_line.specs.Actions.{small_blind_seat}
-use Rattle.ohh_line.specs.Moment.{moment_said}
-use Rattle.ohh_line.specs.Rounds.{hand_rounds}
-use Rattle.ohh_line.specs.Seating.{is_circular, number_among, numbers_spelled}
-use Rattle.ohh_line.specs.Spelled.{big_blind, greatest_ante}
-use Rattle.ohh_line.specs.Tree.{date_member, hand_members, limit_tree, list, numbers_written, player_tree, players, pots, round_trees, text_or_empty, whole}
+use Rattle.acpc_writing.specs.Names.{name_or_default, name_text, names_text}
+use Rattle.acpc_writing.specs.Seats.{bar_before}
+use Rattle.ohh_writing.specs.Games.{game_word}
+use Rattle.ohh_writing.specs.Actions.{small_blind_seat}
+use Rattle.ohh_writing.specs.Moment.{moment_said}
+use Rattle.ohh_writing.specs.Rounds.{hand_rounds}
+use Rattle.ohh_writing.specs.Seating.{is_circular, number_among, numbers_spelled}
+use Rattle.ohh_writing.specs.Spelled.{big_blind, greatest_ante}
+use Rattle.ohh_writing.specs.Tree.{date_member, hand_members, limit_tree, list, numbers_written, player_tree, players, pots, round_trees, text_or_empty, whole}
 use Rattle.chip_ledger.specs.SeatRow.{amount_of}
 use Rattle.ohh_members.specs.declared.dialect.Dialect.{Dialect}
 use Rattle.phh_fields.specs.NoteFields.{PlainNotes, plain_notes}
-use Rattle.phh_table.specs.HandFields.{hand_field, label, local_time, names_field, note_fields, number_field, numbers, texts}
-use Rattle.phh_table.specs.Members.{Field}
+use Rattle.phh_writing.specs.HandFields.{hand_field, label, local_time, names_field, note_fields, number_field, numbers, texts}
+use Rattle.phh_writing.specs.Members.{Field}
 use Rattle.convert_core.specs.SameRecords.{NoteTheSame}
 use Rattle.list_laws.proofs.NumbersOfRange.{flat_same, map_agree}
 use Rattle.chip_ledger.specs.SeatsSaid.{default_name}

@@ -2,14 +2,14 @@
 use Rattle.std.proofs.Common.{◌≡◌, ◌⊎◌, ℕ, ◌<◌, true, List, length, Option, Some, None, is_some, IfOk, IfSome, Result, Ok, Err, refl, subst, sym, inl, inr}
 use Rattle.acpc_game.specs.declared.game.Game.{Game}
 use Rattle.acpc_text.specs.declared.fault.AcpcFault.{AcpcFault}
-use Rattle.acpc_text.specs.declared.fault.AcpcFault.TheVariants as logs
-use Rattle.command_words.specs.Words.{Convert, Load, Notation, Request, Show}
+use Rattle.acpc_text.specs.declared.fault.AcpcFault.TheVariants as in_acpc
+use Rattle.command_words.specs.Words.{Convert, Load, NotationName, Request, Show}
 use Rattle.command_words.specs.Words as words
 use Rattle.convert_core.specs.Conversion.{IsConversion as IsConverting, IsConverted, IsPlaysRefusal, ReadAsRefused}
-use Rattle.convert_core.specs.Faults.{is_want_in_history, is_want_in_log, is_want_in_tree, is_want_of_memory}
+use Rattle.convert_core.specs.Faults.{is_want_in_acpc, is_want_in_ohh, is_want_in_phh, is_want_of_memory}
 use Rattle.convert_core.specs.declared.convert_fault.ConvertFault.{ConvertFault}
 use Rattle.convert_core.specs.declared.convert_fault.ConvertFault.TheVariants as convert_faults
-use Rattle.convert_core.specs.declared.fault.Refusal.{Refusal}
+use Rattle.convert_core.specs.declared.refusal.Refusal.{Refusal}
 use Rattle.convert_core.specs.declared.format_fault.FormatFault.{FormatFault}
 use Rattle.convert_core.specs.declared.format_fault.FormatFault.TheVariants as formats
 use Rattle.hand_records.specs.declared.record.Record.{Record}
@@ -17,9 +17,9 @@ use Rattle.hand_records.specs.declared.trace.Play.{Play}
 use Rattle.hand_records.specs.declared.writing.Keep.{Keep}
 use Rattle.hand_records.specs.declared.writing.Unspelled.{Unspelled}
 use Rattle.ohh_reading.specs.declared.fault.OhhFault.{OhhFault}
-use Rattle.ohh_reading.specs.declared.fault.OhhFault.TheVariants as trees
+use Rattle.ohh_reading.specs.declared.fault.OhhFault.TheVariants as in_ohh
 use Rattle.phh_reading.specs.declared.fault.PhhFault.{PhhFault}
-use Rattle.phh_reading.specs.declared.fault.PhhFault.TheVariants as histories
+use Rattle.phh_reading.specs.declared.fault.PhhFault.TheVariants as in_phh
 use Rattle.poker_cli.specs.Answer.{Answer, Files, GivesGame, GivesNoGame, IsAnswer, IsAnswerIn, IsAnswerTo, IsSummed, IsToldOf, IsWay, IsWritten, done, most_input, to_excess, to_fault, to_refusal}
 use Rattle.poker_cli.specs.Answer as answers
 use Rattle.poker_cli.specs.Lacking.{IsLackTold, Lacks}
@@ -32,64 +32,64 @@ use Rattle.poker_cli.specs.declared.games.Lack.TheVariants as lacks
 use Rattle.poker_cli.specs.Run.{Ends, IsOfInput, IsOwn, MayEnd, ReadsNothing, Sinks, TellsLine, Writes, bytes_told, files_told, line_of}
 use Rattle.poker_cli.specs.declared.status.Status.{Status}
 use Rattle.poker_cli.specs.declared.status.Status.TheVariants as statuses
-use Rattle.poker_cli.specs.declared.task.Reader.{Reader}
+use Rattle.poker_cli.specs.declared.task.Format.{Format}
 use Rattle.poker_cli.specs.declared.task.Task.{Task}
 use Rattle.poker_cli.specs.declared.task.Task.TheVariants as tasks
 use Rattle.poker_cli.specs.declared.task.Way.{Way}
 use Rattle.list_laws.proofs.Options.{some_always, some_mapped}
 
 -- the bytes that were read are those that the source had left
-pub answer_within : (task : Task) (reader : Reader) (left : Option (List ℕ)) (bytes : List ℕ) (answer : Answer)
+pub answer_within : (task : Task) (reader : Format) (left : Option (List ℕ)) (bytes : List ℕ) (answer : Answer)
     → IfSome left (λ l. bytes ≡ l) → IsAnswer task reader bytes answer → IfSome left (λ l. IsAnswer task reader l answer)
 answer_within task reader (Some left) bytes answer all is = subst (λ (l : List ℕ). IsAnswer task reader l answer) all is
 answer_within task reader None bytes answer all is = tt
 
 -- more bytes than are read
-pub answer_beyond : (task : Task) (reader : Reader) (left : Option (List ℕ)) (answer : Answer)
+pub answer_beyond : (task : Task) (reader : Format) (left : Option (List ℕ)) (answer : Answer)
     → IfSome left (λ l. most_input < length l) → answer ≡ to_excess → IfSome left (λ l. IsAnswer task reader l answer)
 answer_beyond task reader (Some left) answer many is = subst (λ (a : Answer). IsAnswer task reader left a) (sym is) (answers.TooLong many)
 answer_beyond task reader None answer many is = tt
 
 -- want of memory is not told as a fault
-history_memory : (fault : PhhFault) (answer : Answer) → to_fault (formats.Phh fault) ≡ Some answer → is_want_in_history fault ≡ true → ⊥
-history_memory histories.Memory answer told memory = cc (told)
-history_memory histories.Text answer told memory = cc (memory)
-history_memory (histories.MissingField hand key) answer told memory = cc (memory)
-history_memory (histories.WrongType hand key) answer told memory = cc (memory)
-history_memory (histories.AmountNotWhole hand key) answer told memory = cc (memory)
-history_memory (histories.AmountLimit hand key) answer told memory = cc (memory)
-history_memory (histories.UnknownVariant hand key) answer told memory = cc (memory)
-history_memory (histories.SeatCount hand key) answer told memory = cc (memory)
-history_memory (histories.ListLength hand key) answer told memory = cc (memory)
-history_memory (histories.BadAction hand key) answer told memory = cc (memory)
-history_memory (histories.TooMany quantity hand key) answer told memory = cc (memory)
+history_memory : (fault : PhhFault) (answer : Answer) → to_fault (formats.Phh fault) ≡ Some answer → is_want_in_phh fault ≡ true → ⊥
+history_memory in_phh.Memory answer told memory = cc (told)
+history_memory in_phh.Text answer told memory = cc (memory)
+history_memory (in_phh.MissingField hand key) answer told memory = cc (memory)
+history_memory (in_phh.WrongType hand key) answer told memory = cc (memory)
+history_memory (in_phh.AmountNotWhole hand key) answer told memory = cc (memory)
+history_memory (in_phh.AmountLimit hand key) answer told memory = cc (memory)
+history_memory (in_phh.UnknownVariant hand key) answer told memory = cc (memory)
+history_memory (in_phh.SeatCount hand key) answer told memory = cc (memory)
+history_memory (in_phh.ListLength hand key) answer told memory = cc (memory)
+history_memory (in_phh.BadAction hand key) answer told memory = cc (memory)
+history_memory (in_phh.TooMany quantity hand key) answer told memory = cc (memory)
 
-tree_memory : (fault : OhhFault) (answer : Answer) → to_fault (formats.Ohh fault) ≡ Some answer → is_want_in_tree fault ≡ true → ⊥
-tree_memory trees.Memory answer told memory = cc (told)
-tree_memory (trees.Text hand) answer told memory = cc (memory)
-tree_memory (trees.MissingMember hand path) answer told memory = cc (memory)
-tree_memory (trees.WrongType hand path) answer told memory = cc (memory)
-tree_memory (trees.AmountNotWhole hand path) answer told memory = cc (memory)
-tree_memory (trees.AmountLimit hand path) answer told memory = cc (memory)
-tree_memory (trees.UnsupportedGame hand path) answer told memory = cc (memory)
-tree_memory (trees.BadPlayer hand path) answer told memory = cc (memory)
-tree_memory (trees.UnsupportedAction hand path) answer told memory = cc (memory)
-tree_memory (trees.BadStreet hand path) answer told memory = cc (memory)
-tree_memory (trees.BadPost hand path) answer told memory = cc (memory)
-tree_memory (trees.RakePlace hand path) answer told memory = cc (memory)
-tree_memory (trees.TooMany quantity hand path) answer told memory = cc (memory)
+tree_memory : (fault : OhhFault) (answer : Answer) → to_fault (formats.Ohh fault) ≡ Some answer → is_want_in_ohh fault ≡ true → ⊥
+tree_memory in_ohh.Memory answer told memory = cc (told)
+tree_memory (in_ohh.Text hand) answer told memory = cc (memory)
+tree_memory (in_ohh.MissingMember hand path) answer told memory = cc (memory)
+tree_memory (in_ohh.WrongType hand path) answer told memory = cc (memory)
+tree_memory (in_ohh.AmountNotWhole hand path) answer told memory = cc (memory)
+tree_memory (in_ohh.AmountLimit hand path) answer told memory = cc (memory)
+tree_memory (in_ohh.UnsupportedGame hand path) answer told memory = cc (memory)
+tree_memory (in_ohh.BadPlayer hand path) answer told memory = cc (memory)
+tree_memory (in_ohh.UnsupportedAction hand path) answer told memory = cc (memory)
+tree_memory (in_ohh.BadStreet hand path) answer told memory = cc (memory)
+tree_memory (in_ohh.BadPost hand path) answer told memory = cc (memory)
+tree_memory (in_ohh.RakePlace hand path) answer told memory = cc (memory)
+tree_memory (in_ohh.TooMany quantity hand path) answer told memory = cc (memory)
 
-log_memory : (fault : AcpcFault) (answer : Answer) → to_fault (formats.Acpc fault) ≡ Some answer → is_want_in_log fault ≡ true → ⊥
-log_memory logs.Memory answer told memory = cc (told)
-log_memory (logs.LineShape line byte) answer told memory = cc (memory)
-log_memory (logs.BadBetting line byte) answer told memory = cc (memory)
-log_memory (logs.BadCards line byte) answer told memory = cc (memory)
-log_memory (logs.BadValue line byte) answer told memory = cc (memory)
-log_memory (logs.SeatCount line byte) answer told memory = cc (memory)
-log_memory (logs.GameShape line byte) answer told memory = cc (memory)
-log_memory (logs.UnsupportedGame line byte) answer told memory = cc (memory)
-log_memory (logs.AmountLimit line byte) answer told memory = cc (memory)
-log_memory (logs.TooMany quantity line byte) answer told memory = cc (memory)
+log_memory : (fault : AcpcFault) (answer : Answer) → to_fault (formats.Acpc fault) ≡ Some answer → is_want_in_acpc fault ≡ true → ⊥
+log_memory in_acpc.Memory answer told memory = cc (told)
+log_memory (in_acpc.LineShape line byte) answer told memory = cc (memory)
+log_memory (in_acpc.BadBetting line byte) answer told memory = cc (memory)
+log_memory (in_acpc.BadCards line byte) answer told memory = cc (memory)
+log_memory (in_acpc.BadValue line byte) answer told memory = cc (memory)
+log_memory (in_acpc.SeatCount line byte) answer told memory = cc (memory)
+log_memory (in_acpc.GameShape line byte) answer told memory = cc (memory)
+log_memory (in_acpc.UnsupportedGame line byte) answer told memory = cc (memory)
+log_memory (in_acpc.AmountLimit line byte) answer told memory = cc (memory)
+log_memory (in_acpc.TooMany quantity line byte) answer told memory = cc (memory)
 
 no_memory : (fault : FormatFault) (answer : Answer) → to_fault fault ≡ Some answer → is_want_of_memory fault ≡ true → ⊥
 no_memory (formats.Phh fault) answer told memory = history_memory fault answer told memory
@@ -229,19 +229,19 @@ read_of_input statuses.ShelfFault of nothing = of
 read_of_input statuses.GameMissing of nothing = of
 read_of_input statuses.BadGame of nothing = of
 
-some_reader : (notation : Notation) → file_of notation ≡ None → is_some (reader_with None notation) ≡ true
+some_reader : (notation : NotationName) → file_of notation ≡ None → is_some (reader_with None notation) ≡ true
 some_reader words.Phh none = refl
 some_reader words.Ohh none = refl
 some_reader words.OhhTo none = refl
 some_reader (words.Acpc name) none = cc
 
-game_reader : (game : Game) (notation : Notation) → is_some (reader_with (Some game) notation) ≡ true
+game_reader : (game : Game) (notation : NotationName) → is_some (reader_with (Some game) notation) ≡ true
 game_reader game words.Phh = refl
 game_reader game words.Ohh = refl
 game_reader game words.OhhTo = refl
 game_reader game (words.Acpc name) = refl
 
-some_conversion : (keep : Keep) (from to : Option Reader) → is_some from ≡ true → is_some to ≡ true → is_some (conversion_way keep from to) ≡ true
+some_conversion : (keep : Keep) (from to : Option Format) → is_some from ≡ true → is_some to ≡ true → is_some (conversion_way keep from to) ≡ true
 some_conversion keep (Some from) (Some to) some other = refl
 some_conversion keep None to some other = cc
 some_conversion keep (Some from) None some other = cc

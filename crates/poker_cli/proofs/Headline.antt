@@ -4,8 +4,8 @@ use Rattle.std.specs.Option.{option_map}
 use Rattle.std.proofs.lemmas.Option.{same_Some}
 use Rattle.acpc_game.specs.declared.game.Game.{Game}
 use Rattle.acpc_text.specs.declared.fault.AcpcFault.{AcpcFault}
-use Rattle.acpc_text.specs.declared.fault.AcpcFault.TheVariants as logs
-use Rattle.command_words.specs.Words.{Convert, Load, Notation, Request, Show}
+use Rattle.acpc_text.specs.declared.fault.AcpcFault.TheVariants as in_acpc
+use Rattle.command_words.specs.Words.{Convert, Load, NotationName, Request, Show}
 use Rattle.command_words.specs.Words as words
 use Rattle.convert_core.specs.declared.format_fault.FormatFault.{FormatFault}
 use Rattle.convert_core.specs.declared.format_fault.FormatFault.TheVariants as formats
@@ -13,24 +13,24 @@ use Rattle.hand_records.specs.declared.record.Record.{Record}
 use Rattle.hand_records.specs.declared.trace.Play.{Play}
 use Rattle.hand_records.specs.declared.writing.Keep.{Keep}
 use Rattle.host_io.specs.Faults.{Rose}
-use Rattle.ohh_members.specs.declared.fault.What.TheVariants as members
+use Rattle.ohh_members.specs.declared.fault.MemberFaultKind.TheVariants as members
 use Rattle.ohh_reading.specs.Reading.{Wrong as WrongTree, NoText, InHand as InTree}
-use Rattle.ohh_reading.specs.Reading as trees
-use Rattle.phh_fields.specs.declared.fault.What.TheVariants as whats
+use Rattle.ohh_reading.specs.Reading as in_ohh
+use Rattle.phh_fields.specs.declared.fault.FieldFaultKind.TheVariants as whats
 use Rattle.phh_reading.specs.Reading.{InHand, NoDocument, Wrong}
-use Rattle.phh_reading.specs.Reading as histories
-use Rattle.poker_cli.specs.Answer.{Answer, Files, IsAnswer, most_input, to_fault, to_wrong_history, to_wrong_log, to_wrong_tree}
+use Rattle.phh_reading.specs.Reading as in_phh
+use Rattle.poker_cli.specs.Answer.{Answer, Files, IsAnswer, most_input, to_fault, to_wrong_acpc, to_wrong_ohh, to_wrong_phh}
 use Rattle.poker_cli.specs.Answer as answers
-use Rattle.poker_cli.specs.Faults.{wrong_status}
+use Rattle.poker_cli.specs.PhhFaults.{phh_status}
 use Rattle.poker_cli.specs.Headline.{AsksToConvert, CanConvert, ConversionEnds, ConvertsInto, Headline, IsOfHands, IsOfLogs, NamesFault, IsTooLong, NamesRefused, NamesUnspelled, TellsAlone}
 use Rattle.poker_cli.specs.Inputs.{SayRecords}
 use Rattle.poker_cli.specs.Run.{AsksForGame, Ends, RefusesNothing, Sinks, TellsLine, WritesNothing, bytes_told, files_told, fixed_line}
-use Rattle.poker_cli.specs.TreeFaults.{tree_status}
+use Rattle.poker_cli.specs.OhhFaults.{ohh_status}
 use Rattle.poker_cli.specs.Ways.{conversion_way, file_of, game_name, kept, made_by, or_file, reader_with, way, way_of}
 use Rattle.poker_cli.specs.declared.status.Status.{Status}
 use Rattle.poker_cli.specs.declared.status.Status.TheVariants as statuses
-use Rattle.poker_cli.specs.declared.task.Reader.{Reader}
-use Rattle.poker_cli.specs.declared.task.Reader.TheVariants as readers
+use Rattle.poker_cli.specs.declared.task.Format.{Format}
+use Rattle.poker_cli.specs.declared.task.Format.TheVariants as readers
 use Rattle.poker_cli.specs.declared.task.Task.{Task}
 use Rattle.poker_cli.specs.declared.task.Task.TheVariants as tasks
 use Rattle.poker_cli.specs.declared.task.Way.{Way}
@@ -43,7 +43,7 @@ IsUnread statuses.BadInput = Unit {0}
 IsUnread statuses.Limit = Unit {0}
 IsUnread status = ⊥
 
-history_unread : (wrong : Wrong) → IsUnread (wrong_status wrong)
+history_unread : (wrong : Wrong) → IsUnread (phh_status wrong)
 unfolding IsUnread
 history_unread NoDocument = tt
 history_unread (InHand hand key whats.MissingField) = tt
@@ -56,7 +56,7 @@ history_unread (InHand hand key whats.ListLength) = tt
 history_unread (InHand hand key whats.BadAction) = tt
 history_unread (InHand hand key (whats.TooMany quantity)) = tt
 
-tree_unread : (wrong : WrongTree) → IsUnread (tree_status wrong)
+tree_unread : (wrong : WrongTree) → IsUnread (ohh_status wrong)
 unfolding IsUnread
 tree_unread (NoText hand) = tt
 tree_unread (InTree hand path members.MissingMember) = tt
@@ -74,18 +74,18 @@ tree_unread (InTree hand path (members.TooMany quantity)) = tt
 IsToldUnread : Option Answer → Type 0
 IsToldUnread told = IfSome told (λ answer. IsUnread answer.status)
 
-log_unread : (fault : AcpcFault) → IsToldUnread (to_wrong_log fault)
+log_unread : (fault : AcpcFault) → IsToldUnread (to_wrong_acpc fault)
 unfolding IsUnread IsToldUnread
-log_unread logs.Memory = tt
-log_unread (logs.LineShape line byte) = tt
-log_unread (logs.BadBetting line byte) = tt
-log_unread (logs.BadCards line byte) = tt
-log_unread (logs.BadValue line byte) = tt
-log_unread (logs.SeatCount line byte) = tt
-log_unread (logs.GameShape line byte) = tt
-log_unread (logs.UnsupportedGame line byte) = tt
-log_unread (logs.AmountLimit line byte) = tt
-log_unread (logs.TooMany quantity line byte) = tt
+log_unread in_acpc.Memory = tt
+log_unread (in_acpc.LineShape line byte) = tt
+log_unread (in_acpc.BadBetting line byte) = tt
+log_unread (in_acpc.BadCards line byte) = tt
+log_unread (in_acpc.BadValue line byte) = tt
+log_unread (in_acpc.SeatCount line byte) = tt
+log_unread (in_acpc.GameShape line byte) = tt
+log_unread (in_acpc.UnsupportedGame line byte) = tt
+log_unread (in_acpc.AmountLimit line byte) = tt
+log_unread (in_acpc.TooMany quantity line byte) = tt
 
 mapped_unread : {W : Type 0} (to : W → Answer) (found : Option W) (answer : Answer) → ((w : W) → IsUnread (to w).status)
     → option_map to found ≡ Some answer → IsUnread answer.status
@@ -95,15 +95,15 @@ mapped_unread to None answer each told = absurd (cc (told))
 
 fault_unread : (fault : FormatFault) (answer : Answer) → to_fault fault ≡ Some answer → IsUnread answer.status
 unfolding IsToldUnread
-fault_unread (formats.Phh fault) answer told = mapped_unread to_wrong_history (histories.wrong_of fault) answer history_unread told
-fault_unread (formats.Ohh fault) answer told = mapped_unread to_wrong_tree (trees.wrong_of fault) answer tree_unread told
+fault_unread (formats.Phh fault) answer told = mapped_unread to_wrong_phh (in_phh.wrong_of fault) answer history_unread told
+fault_unread (formats.Ohh fault) answer told = mapped_unread to_wrong_ohh (in_ohh.wrong_of fault) answer tree_unread told
 fault_unread (formats.Acpc fault) answer told = subst IsToldUnread told (log_unread fault)
 
 -- no other status is that of a fault
 not_unread : (fault : FormatFault) (answer : Answer) (status : Status) → (IsUnread status → ⊥) → to_fault fault ≡ Some answer → answer.status ≡ status → ⊥
 not_unread fault answer status other told same = other (subst IsUnread same (fault_unread fault answer told))
 
-module _ (from to : Reader) (keep : Keep) (bytes : List ℕ) where
+module _ (from to : Format) (keep : Keep) (bytes : List ℕ) where
   -- an answer that is done
   done_into : (answer : Answer) → IsAnswer (tasks.Convert to keep) from bytes answer → answer.status ≡ statuses.Done → ConvertsInto from to keep bytes answer.output
   unfolding IsUnread
@@ -171,18 +171,18 @@ first_or_second : (name other : Option (List ℕ)) (file : List ℕ) → or_file
 first_or_second (Some name) other file is = inl is
 first_or_second None other file is = inr is
 
-of_logs : (game : Game) (notation : Notation) (reader : Reader) (file : List ℕ) → reader_with (Some game) notation ≡ Some reader
+of_logs : (game : Game) (notation : NotationName) (reader : Format) (file : List ℕ) → reader_with (Some game) notation ≡ Some reader
     → file_of notation ≡ Some file → IsOfLogs reader
 of_logs game words.Phh reader file reads named = absurd (cc (named))
 of_logs game words.Ohh reader file reads named = absurd (cc (named))
 of_logs game words.OhhTo reader file reads named = absurd (cc (named))
 of_logs game (words.Acpc name) reader file reads named = subst IsOfLogs (same_Some (readers.Acpc game) reader reads) tt
 
-mapped_task : (task : Task) (found : Option Reader) (by : Way) → option_map (way task) found ≡ Some by → by.task ≡ task
+mapped_task : (task : Task) (found : Option Format) (by : Way) → option_map (way task) found ≡ Some by → by.task ≡ task
 mapped_task task (Some reader) by is = ap (λ (w : Way). w.task) (sym (same_Some (way task reader) by is))
 mapped_task task None by is = absurd (cc (is))
 
-same_readers : (keep asked : Keep) (first second : Option Reader) (from to : Reader)
+same_readers : (keep asked : Keep) (first second : Option Format) (from to : Format)
     → conversion_way asked first second ≡ Some (way (tasks.Convert to keep) from) → (first ≡ Some from) × (second ≡ Some to)
 same_readers keep asked (Some reader) (Some target) from to is =
     let same : way (tasks.Convert target asked) reader ≡ way (tasks.Convert to keep) from =
@@ -193,7 +193,7 @@ same_readers keep asked (Some reader) (Some target) from to is =
 same_readers keep asked (Some reader) None from to is = absurd (cc (is))
 same_readers keep asked None second from to is = absurd (cc (is))
 
-under_game : (request : Request) (game : Game) (file : List ℕ) (from to : Reader) (keep : Keep) → game_name request ≡ Some file
+under_game : (request : Request) (game : Game) (file : List ℕ) (from to : Format) (keep : Keep) → game_name request ≡ Some file
     → way_of (Some game) request ≡ Some (way (tasks.Convert to keep) from) → IsOfLogs from ⊎ IsOfLogs to
 under_game (Load seed hands) game file from to keep named is = absurd (cc (is))
 under_game (Show command notation) game file from to keep named is =
@@ -205,7 +205,7 @@ under_game (Convert first second asked) game file from to keep named is =
     elim (first_or_second (file_of first) (file_of second) file named)
     [ inl is_first ↦ inl (of_logs game first from file both.0 is_first) | inr is_second ↦ inr (of_logs game second to file both.1 is_second) ]
 
-asks_for_logs : (files : Files) (request : Request) (from to : Reader) (keep : Keep) → AsksToConvert files request from to keep
+asks_for_logs : (files : Files) (request : Request) (from to : Format) (keep : Keep) → AsksToConvert files request from to keep
     → AsksForGame (game_name request) → IsOfLogs from ⊎ IsOfLogs to
 asks_for_logs files request from to keep (answers.Plain none is) asks = absurd (subst AsksForGame none asks)
 asks_for_logs files request from to keep (answers.Under file named game gives is) asks = under_game request game file from to keep named is
@@ -217,7 +217,7 @@ pub record IsLeft (out diag : Sinks) (status : Status) : Type 0 where
   pub quiet : status ≡ statuses.Done → diag.holds ≡ diag.held
   pub fixed : IfSome (fixed_line status) (TellsLine diag.before diag.now diag.held diag.holds)
 
-module _ (request : Request) (files : Files) (from to : Reader) (keep : Keep) (bytes : List ℕ) (out diag : Sinks) where
+module _ (request : Request) (files : Files) (from to : Format) (keep : Keep) (bytes : List ℕ) (out diag : Sinks) where
   -- a conversion ends as its status says
   conversion_ends : (status : Status) → AsksToConvert files request from to keep → Ends request files bytes out diag status
       → IsLeft out diag status → ConversionEnds from to keep bytes out diag status
@@ -298,7 +298,7 @@ EndsTold said left told out diag status =
 abbrev pub HeadlineTold : Option Request → Option (List ℕ) → Option Files → (out diag : Sinks) → Status → Type 0
 HeadlineTold said left told out diag status =
     IfSome said (λ request. IfSome (bytes_told (made_by request) left) (λ bytes. IfSome (files_told (game_name request) told) (λ files.
-    (from to : Reader) (keep : Keep) → AsksToConvert files request from to keep → Headline from to keep bytes out diag status)))
+    (from to : Format) (keep : Keep) → AsksToConvert files request from to keep → Headline from to keep bytes out diag status)))
 
 pub headline_told : (said : Option Request) (left : Option (List ℕ)) (told : Option Files) (out diag : Sinks) (status : Status)
     → EndsTold said left told out diag status → IsLeft out diag status → HeadlineTold said left told out diag status

@@ -8,7 +8,7 @@ use Rattle.std.proofs.lemmas.Option.{same_Some}
 use Rattle.acpc_game.specs.declared.game.Game.{Game as AnyGame}
 use Rattle.acpc_game.specs.GameFile.{game_said}
 use Rattle.acpc_game.specs.GameView.{game_in}
-use Rattle.command_words.specs.Words.{Convert, Game, Load, Notation, Request, Show}
+use Rattle.command_words.specs.Words.{Convert, Game, Load, NotationName, Request, Show}
 use Rattle.command_words.specs.declared.command.Command.{Command}
 use Rattle.command_words.specs.declared.command.Command.TheVariants as commands
 use Rattle.command_words.specs.declared.request.Keep.{Keep as KeepAsked}
@@ -24,20 +24,20 @@ use Rattle.printed_hands.specs.Check.{check_end, check_line, each_hand}
 use Rattle.printed_hands.specs.Steps.{replay_lines}
 use Rattle.printed_report.specs.Report.{Hand, Seated, hand_of, report_on, seated_in}
 use Rattle.hand_canon.specs.Judged.{IsJudged}
-use Rattle.convert_core.specs.HistoryLaws as history_laws
+use Rattle.convert_core.specs.PhhLaws as history_laws
 use Rattle.convert_core.specs.Judged.{ArePlaysOf, IsFirstRefused}
-use Rattle.convert_core.specs.LogLaws as log_laws
-use Rattle.convert_core.specs.TreeLaws as tree_laws
-use Rattle.convert_core.specs.declared.fault.Refusal.{Refusal}
+use Rattle.convert_core.specs.AcpcLaws as acpc_laws
+use Rattle.convert_core.specs.OhhLaws as ohh_laws
+use Rattle.convert_core.specs.declared.refusal.Refusal.{Refusal}
 use Rattle.convert_core.specs.declared.format_fault.FormatFault.{FormatFault}
 use Rattle.convert_core.specs.declared.format_fault.FormatFault.TheVariants as formats
-use Rattle.convert_core.specs.HistoryAlike as histories_alike
-use Rattle.convert_core.specs.LogAlike as logs_alike
+use Rattle.convert_core.specs.PhhAlike as phh_alike
+use Rattle.convert_core.specs.AcpcAlike as acpc_alike
 use Rattle.convert_core.specs.SameRecords.{AllAlike, AreAlike, SayTheSame}
-use Rattle.convert_core.specs.TreeAlike as trees_alike
+use Rattle.convert_core.specs.OhhAlike as ohh_alike
 use Rattle.convert_core.proofs.OneConversion.{AllPlayedAlike, all_same, played_alike, IsReadAlike}
 use Rattle.convert_core.proofs.OneOutcome.{AllTraced, no_plays, same_refused, same_traces}
-use Rattle.poker_cli.specs.Answer.{Answer, Files, GivesGame, GivesNoGame, IsAnswer, IsAnswerIn, IsAnswerTo, IsConversion, IsMadeOf, IsWay, done, most_input, text_of, to_excess, to_fault, to_first_game, to_refusal, to_unspelled, to_wrong_history, to_wrong_log, to_wrong_tree}
+use Rattle.poker_cli.specs.Answer.{Answer, Files, GivesGame, GivesNoGame, IsAnswer, IsAnswerIn, IsAnswerTo, IsConversion, IsMadeOf, IsWay, done, most_input, text_of, to_excess, to_fault, to_first_game, to_refusal, to_unspelled, to_wrong_acpc, to_wrong_ohh, to_wrong_phh}
 use Rattle.poker_cli.specs.Answer as answers
 use Rattle.poker_cli.specs.Inputs.{HaveFault, SayRecords}
 use Rattle.poker_cli.specs.OneAnswer.{AreOneAnswer}
@@ -46,8 +46,8 @@ use Rattle.poker_cli.specs.Ways.{game_name, kept, made_by, way, way_of}
 use Rattle.poker_cli.specs.Run.{Ends, IsGameMissing, NeedsNoInput, RefusesNothing, Sinks}
 use Rattle.poker_cli.specs.declared.status.Status.{Status}
 use Rattle.poker_cli.specs.declared.status.Status.TheVariants as statuses
-use Rattle.poker_cli.specs.declared.task.Reader.{Reader}
-use Rattle.poker_cli.specs.declared.task.Reader.TheVariants as readers
+use Rattle.poker_cli.specs.declared.task.Format.{Format}
+use Rattle.poker_cli.specs.declared.task.Format.TheVariants as readers
 use Rattle.poker_cli.specs.declared.task.Task.{Task}
 use Rattle.poker_cli.specs.declared.task.Task.TheVariants as tasks
 use Rattle.poker_cli.specs.declared.task.Way.{Way}
@@ -141,7 +141,7 @@ one_itself (tasks.Convert readers.Phh keep) answer other same =
     }
 
 -- the same plays are written as one output
-one_output : (to : Reader) (keep : Keep) (ps qs : List Play) (bytes others : List ℕ) → AllPlayedAlike ps qs
+one_output : (to : Format) (keep : Keep) (ps qs : List Play) (bytes others : List ℕ) → AllPlayedAlike ps qs
     → SpellPlays to ps bytes → SpellPlays to qs others → AreOneAnswer (tasks.Convert to keep) (done bytes) (done others)
 one_output readers.Phh keep ps qs bytes others alike spell too =
     record {
@@ -156,7 +156,7 @@ refusals_same : (number count : ℕ) (fact other : Unspelled) → refusals.Unspe
     → to_unspelled number fact ≡ to_unspelled count other
 refusals_same number count fact other same = ap₂ to_unspelled (cc) (cc)
 
-one_conversion : (to : Reader) (keep : Keep) (ps qs : List Play) (answer other : Answer) → AllPlayedAlike ps qs
+one_conversion : (to : Format) (keep : Keep) (ps qs : List Play) (answer other : Answer) → AllPlayedAlike ps qs
     → IsConversion to keep ps answer → IsConversion to keep qs other → AreOneAnswer (tasks.Convert to keep) answer other
 one_conversion to keep ps qs _ _ alike (answers.NotSpelled number fact is) (answers.NotSpelled count more it) =
     one_itself (tasks.Convert to keep) (to_unspelled number fact) (to_unspelled count more)
@@ -224,13 +224,13 @@ same_answer Say HaveFault task answer other alike told apart (answers.Played pla
     (alike_hands read.records reads.records plays too both read.are reads.are) made makes
 
 -- a fault of bytes is told in one way
-one_told : (reader : Reader) (bytes : List ℕ) → AllToldAlike (HaveFault reader bytes)
+one_told : (reader : Format) (bytes : List ℕ) → AllToldAlike (HaveFault reader bytes)
 unfolding AllToldAlike
 one_told readers.Phh bytes (formats.Phh fault) (formats.Phh other) answer too have has told tells =
     let reads = have.reads in
     let again = has.reads in
     let wrong : have.wrong ≡ has.wrong = cc (reads, again) in
-    same_Some answer too (sym told ∙ ap (option_map to_wrong_history) (have.told ∙ ap Some wrong ∙ sym has.told) ∙ tells)
+    same_Some answer too (sym told ∙ ap (option_map to_wrong_phh) (have.told ∙ ap Some wrong ∙ sym has.told) ∙ tells)
 one_told readers.Phh bytes (formats.Ohh fault) other answer too have has told tells = absurd have
 one_told readers.Phh bytes (formats.Acpc fault) other answer too have has told tells = absurd have
 one_told readers.Phh bytes (formats.Phh fault) (formats.Ohh other) answer too have has told tells = absurd has
@@ -239,7 +239,7 @@ one_told (readers.Ohh dialect) bytes (formats.Ohh fault) (formats.Ohh other) ans
     let reads = have.reads in
     let again = has.reads in
     let wrong : have.wrong ≡ has.wrong = cc (reads, again) in
-    same_Some answer too (sym told ∙ ap (option_map to_wrong_tree) (have.told ∙ ap Some wrong ∙ sym has.told) ∙ tells)
+    same_Some answer too (sym told ∙ ap (option_map to_wrong_ohh) (have.told ∙ ap Some wrong ∙ sym has.told) ∙ tells)
 one_told (readers.Ohh dialect) bytes (formats.Phh fault) other answer too have has told tells = absurd have
 one_told (readers.Ohh dialect) bytes (formats.Acpc fault) other answer too have has told tells = absurd have
 one_told (readers.Ohh dialect) bytes (formats.Ohh fault) (formats.Phh other) answer too have has told tells = absurd has
@@ -248,30 +248,30 @@ one_told (readers.Acpc game) bytes (formats.Acpc fault) (formats.Acpc other) ans
     let reads = have.reads in
     let again = has.reads in
     let same : fault ≡ other = cc (reads, again) in
-    same_Some answer too (sym told ∙ ap to_wrong_log same ∙ tells)
+    same_Some answer too (sym told ∙ ap to_wrong_acpc same ∙ tells)
 one_told (readers.Acpc game) bytes (formats.Phh fault) other answer too have has told tells = absurd have
 one_told (readers.Acpc game) bytes (formats.Ohh fault) other answer too have has told tells = absurd have
 one_told (readers.Acpc game) bytes (formats.Acpc fault) (formats.Phh other) answer too have has told tells = absurd has
 one_told (readers.Acpc game) bytes (formats.Acpc fault) (formats.Ohh other) answer too have has told tells = absurd has
 
 -- bytes with a fault say no records
-say_or_fault : (reader : Reader) (bytes : List ℕ) → SayOrFault (SayRecords reader bytes) (HaveFault reader bytes)
+say_or_fault : (reader : Format) (bytes : List ℕ) → SayOrFault (SayRecords reader bytes) (HaveFault reader bytes)
 unfolding SayOrFault
 say_or_fault readers.Phh bytes records fault say have = history_laws.no_fault bytes records fault say have
-say_or_fault (readers.Ohh dialect) bytes records fault say have = tree_laws.no_fault dialect bytes records fault say have
-say_or_fault (readers.Acpc game) bytes records fault say have = log_laws.no_fault game bytes records fault say have
+say_or_fault (readers.Ohh dialect) bytes records fault say have = ohh_laws.no_fault dialect bytes records fault say have
+say_or_fault (readers.Acpc game) bytes records fault say have = acpc_laws.no_fault game bytes records fault say have
 
-pub no_fault : (reader : Reader) (bytes : List ℕ) (records : List Record) (fault : FormatFault) → SayRecords reader bytes records → HaveFault reader bytes fault → ⊥
+pub no_fault : (reader : Format) (bytes : List ℕ) (records : List Record) (fault : FormatFault) → SayRecords reader bytes records → HaveFault reader bytes fault → ⊥
 unfolding SayOrFault
 no_fault reader bytes records fault say have = say_or_fault reader bytes records fault say have
 
 -- the records of bytes are alike
-said_alike : (reader : Reader) (bytes : List ℕ) → IsReadAlike (SayRecords reader bytes)
-said_alike readers.Phh bytes records others is it = histories_alike.one_reading bytes records others is it
-said_alike (readers.Ohh dialect) bytes records others is it = trees_alike.one_reading dialect bytes records others is it
-said_alike (readers.Acpc game) bytes records others is it = logs_alike.one_reading game bytes records others is it
+said_alike : (reader : Format) (bytes : List ℕ) → IsReadAlike (SayRecords reader bytes)
+said_alike readers.Phh bytes records others is it = phh_alike.one_reading bytes records others is it
+said_alike (readers.Ohh dialect) bytes records others is it = ohh_alike.one_reading dialect bytes records others is it
+said_alike (readers.Acpc game) bytes records others is it = acpc_alike.one_reading game bytes records others is it
 
-pub one_answer : (task : Task) (reader : Reader) (bytes : List ℕ) (answer other : Answer)
+pub one_answer : (task : Task) (reader : Format) (bytes : List ℕ) (answer other : Answer)
     → IsAnswer task reader bytes answer → IsAnswer task reader bytes other → AreOneAnswer task answer other
 one_answer task reader bytes _ _ (answers.TooLong many) (answers.TooLong too) = one_itself task to_excess to_excess refl
 one_answer task reader bytes _ other (answers.TooLong many) (answers.Read few _ is) = absurd (omega (arith, many, few))
@@ -303,7 +303,7 @@ made_of Say HaveFault task records plays answer alike apart say are (answers.Pla
       made = makes;
     }
 
-legal_made : (task : Task) (reader : Reader) (bytes : List ℕ) (records : List Record) (plays : List Play) (answer : Answer) → length bytes ≤ most_input
+legal_made : (task : Task) (reader : Format) (bytes : List ℕ) (records : List Record) (plays : List Play) (answer : Answer) → length bytes ≤ most_input
     → SayRecords reader bytes records → ArePlaysOf records plays → IsAnswer task reader bytes answer → IsMadeAlike task plays answer
 legal_made task reader bytes records plays _ few is are (answers.TooLong many) = absurd (omega (arith, many, few))
 legal_made task reader bytes records plays answer few is are (answers.Read less _ to) =
@@ -316,12 +316,12 @@ shown_status command plays answer is = ap (λ (a : Answer). a.status) is.made
 game_status : (plays : List Play) (answer : Answer) → IsMadeAlike tasks.GameFile plays answer → answer.status ≡ (to_first_game plays).status
 game_status plays answer is = ap (λ (a : Answer). a.status) (is.made ∙ sym (same_game plays is.others is.traced))
 
-spelled_status : (to : Reader) (keep : Keep) (plays : List Play) (answer : Answer) → first_refusal_in to keep plays ≡ None
+spelled_status : (to : Format) (keep : Keep) (plays : List Play) (answer : Answer) → first_refusal_in to keep plays ≡ None
     → IsConversion to keep plays answer → answer.status ≡ statuses.Done
 spelled_status to keep plays _ none (answers.NotSpelled number fact is) = absurd (cc (none, is))
 spelled_status to keep plays _ none (answers.Spelled spelled bytes spell back) = refl
 
-converted_status : (to : Reader) (keep : Keep) (plays : List Play) (answer : Answer) → first_refusal_in to keep plays ≡ None
+converted_status : (to : Format) (keep : Keep) (plays : List Play) (answer : Answer) → first_refusal_in to keep plays ≡ None
     → IsMadeAlike (tasks.Convert to keep) plays answer → answer.status ≡ statuses.Done
 converted_status to keep plays answer none is =
     spelled_status to keep is.others answer (sym (refusal_same to keep plays is.others is.alike) ∙ none) is.made
@@ -421,7 +421,7 @@ done_so status (inl is) = is
 done_so status (inr same) = subst RefusesNothing same tt
 
 -- so a run on such an input refuses nothing
-pub legal_shown : (command : Command) (notation : Notation) (reader : Reader) (files : Files) (bytes : List ℕ) (records : List Record) (plays : List Play)
+pub legal_shown : (command : Command) (notation : NotationName) (reader : Format) (files : Files) (bytes : List ℕ) (records : List Record) (plays : List Play)
     → (out diag : Sinks) (status : Status) → IsWay files (Show command notation) (way (tasks.Show command) reader)
     → length bytes ≤ most_input → SayRecords reader bytes records → ArePlaysOf records plays
     → Ends (Show command notation) files bytes out diag status → RefusesNothing status
@@ -435,7 +435,7 @@ legal_shown command notation reader files bytes records plays out diag status fo
     (no_missing files request by found) ends)
 
 -- the game file of the first hand is that of its play
-pub legal_game : (notation : Notation) (reader : Reader) (files : Files) (bytes : List ℕ) (records : List Record) (plays : List Play)
+pub legal_game : (notation : NotationName) (reader : Format) (files : Files) (bytes : List ℕ) (records : List Record) (plays : List Play)
     → (out diag : Sinks) (status : Status) → IsWay files (Game notation) (way tasks.GameFile reader)
     → length bytes ≤ most_input → SayRecords reader bytes records → ArePlaysOf records plays
     → Ends (Game notation) files bytes out diag status → RefusesNothing status ⊎ ((to_first_game plays).status ≡ status)
@@ -448,7 +448,7 @@ legal_game notation reader files bytes records plays out diag status found few i
     (no_missing files request by found) ends
 
 -- and hands whose facts are all spelled are converted
-pub legal_in_way : (request : Request) (reader target : Reader) (keep : Keep) (files : Files) (bytes : List ℕ) (records : List Record) (plays : List Play)
+pub legal_in_way : (request : Request) (reader target : Format) (keep : Keep) (files : Files) (bytes : List ℕ) (records : List Record) (plays : List Play)
     → (out diag : Sinks) (status : Status) → IsWay files request (way (tasks.Convert target keep) reader)
     → length bytes ≤ most_input → SayRecords reader bytes records → ArePlaysOf records plays
     → first_refusal_in target keep plays ≡ None
@@ -461,7 +461,7 @@ legal_in_way request reader target keep files bytes records plays out diag statu
     (legal_made (tasks.Convert target keep) reader bytes records plays answer few is are (in_way request files bytes by answer found given)))
     (no_missing files request by found) ends)
 
-pub legal_converted : (from to : Notation) (keep : KeepAsked) (reader target : Reader) (files : Files) (bytes : List ℕ) (records : List Record) (plays : List Play)
+pub legal_converted : (from to : NotationName) (keep : KeepAsked) (reader target : Format) (files : Files) (bytes : List ℕ) (records : List Record) (plays : List Play)
     → (out diag : Sinks) (status : Status) → IsWay files (Convert from to keep) (way (tasks.Convert target (kept keep)) reader)
     → length bytes ≤ most_input → SayRecords reader bytes records → ArePlaysOf records plays
     → first_refusal_in target (kept keep) plays ≡ None

@@ -4,14 +4,14 @@ use Rattle.acpc_game.specs.GameFile.{GameSaid, game_said}
 use Rattle.acpc_game.specs.GameText.{game_text}
 use Rattle.acpc_game.specs.GameView.{game_in}
 use Rattle.acpc_game.specs.declared.game.Game.{Game}
-use Rattle.acpc_line.specs.GameOf.{game_of}
+use Rattle.acpc_writing.specs.GameOf.{game_of}
 use Rattle.acpc_text.specs.declared.fault.AcpcFault.{AcpcFault}
-use Rattle.acpc_text.specs.declared.fault.AcpcFault.TheVariants as log_faults
+use Rattle.acpc_text.specs.declared.fault.AcpcFault.TheVariants as acpc_faults
 use Rattle.command_words.specs.Words.{Request}
 use Rattle.command_words.specs.declared.command.Command.{Command}
 use Rattle.command_words.specs.declared.command.Command.TheVariants as commands
 use Rattle.hand_gen.specs.Load.{IsLoad, summary_text}
-use Rattle.hand_gen.specs.declared.numbers.Summary.{Summary}
+use Rattle.hand_gen.specs.declared.summary.Summary.{Summary}
 use Rattle.hand_records.specs.declared.record.Record.{Record}
 use Rattle.hand_records.specs.declared.trace.Play.{Play}
 use Rattle.hand_records.specs.declared.writing.Keep.{Keep}
@@ -20,29 +20,29 @@ use Rattle.hand_records.specs.declared.writing.WriteRefusal.TheVariants as refus
 use Rattle.printed_hands.specs.Check.{check_said}
 use Rattle.printed_hands.specs.Replay.{replay_said}
 use Rattle.printed_report.specs.Report.{report_said}
-use Rattle.ohh_reading.specs.Reading as trees
-use Rattle.phh_reading.specs.Reading as histories
+use Rattle.ohh_reading.specs.Reading as in_ohh
+use Rattle.phh_reading.specs.Reading as in_phh
 use Rattle.convert_core.specs.Conversion.{ReadAsPlays, ReadAsRefused}
 use Rattle.convert_core.specs.declared.convert_fault.ConvertFault.{ConvertFault}
 use Rattle.convert_core.specs.declared.convert_fault.ConvertFault.TheVariants as convert_faults
-use Rattle.convert_core.specs.declared.fault.Refusal.{Refusal}
+use Rattle.convert_core.specs.declared.refusal.Refusal.{Refusal}
 use Rattle.convert_core.specs.declared.format_fault.FormatFault.{FormatFault}
 use Rattle.convert_core.specs.declared.format_fault.FormatFault.TheVariants as formats
-use Rattle.poker_cli.specs.Faults.{wrong_line, wrong_status}
+use Rattle.poker_cli.specs.PhhFaults.{phh_fault_line, phh_status}
 use Rattle.poker_cli.specs.Inputs.{HaveFault, SayRecords}
-use Rattle.poker_cli.specs.Lines.{refused_line}
-use Rattle.poker_cli.specs.LogFaults.{bad_game_line, log_line, log_status}
+use Rattle.poker_cli.specs.Refusals.{refused_line}
+use Rattle.poker_cli.specs.AcpcFaults.{acpc_fault_line, acpc_status, bad_game_line}
 use Rattle.poker_cli.specs.Outputs.{ReadsBack, SpellPlays, unspelled_in}
-use Rattle.poker_cli.specs.TreeFaults.{tree_line, tree_status}
+use Rattle.poker_cli.specs.OhhFaults.{ohh_fault_line, ohh_status}
 use Rattle.poker_cli.specs.Unspelled.{unspelled_line}
 use Rattle.poker_cli.specs.Ways.{game_name, made_by, way_of}
 use Rattle.poker_cli.specs.declared.status.Status.{Status}
 use Rattle.poker_cli.specs.declared.status.Status.TheVariants as statuses
-use Rattle.poker_cli.specs.declared.task.Reader.{Reader}
+use Rattle.poker_cli.specs.declared.task.Format.{Format}
 use Rattle.poker_cli.specs.declared.task.Task.{Task}
 use Rattle.poker_cli.specs.declared.task.Task.TheVariants as tasks
 use Rattle.poker_cli.specs.declared.task.Way.{Way}
-use Rattle.hand_records.specs.Refusals.{first_refusal}
+use Rattle.hand_records.specs.WriteRefusals.{first_refusal}
 
 -- the most bytes of an input
 abbrev pub most_input : ℕ
@@ -63,23 +63,23 @@ abbrev pub to_excess : Answer
 to_excess = refusal statuses.Limit (codes "limit: input bytes 16777216\n")
 
 -- the answer to a file of the Poker Hand History format that does not read as hands, by its first fault
-abbrev pub to_wrong_history : histories.Wrong → Answer
-to_wrong_history wrong = refusal (wrong_status wrong) (wrong_line wrong)
+abbrev pub to_wrong_phh : in_phh.Wrong → Answer
+to_wrong_phh wrong = refusal (phh_status wrong) (phh_fault_line wrong)
 
 -- the answer to a file of Open Hand History that does not read as hands, by its first fault
-abbrev pub to_wrong_tree : trees.Wrong → Answer
-to_wrong_tree wrong = refusal (tree_status wrong) (tree_line wrong)
+abbrev pub to_wrong_ohh : in_ohh.Wrong → Answer
+to_wrong_ohh wrong = refusal (ohh_status wrong) (ohh_fault_line wrong)
 
 -- the answer to a log that does not read as hands, by its first fault; want of memory has none
-abbrev pub to_wrong_log : AcpcFault → Option Answer
-to_wrong_log log_faults.Memory = None
-to_wrong_log fault = Some (refusal (log_status fault) (log_line fault))
+abbrev pub to_wrong_acpc : AcpcFault → Option Answer
+to_wrong_acpc acpc_faults.Memory = None
+to_wrong_acpc fault = Some (refusal (acpc_status fault) (acpc_fault_line fault))
 
 -- the answer to an input that does not read as hands, by its first fault in its notation; want of memory has none
 abbrev pub to_fault : FormatFault → Option Answer
-to_fault (formats.Phh fault) = option_map to_wrong_history (histories.wrong_of fault)
-to_fault (formats.Ohh fault) = option_map to_wrong_tree (trees.wrong_of fault)
-to_fault (formats.Acpc fault) = to_wrong_log fault
+to_fault (formats.Phh fault) = option_map to_wrong_phh (in_phh.wrong_of fault)
+to_fault (formats.Ohh fault) = option_map to_wrong_ohh (in_ohh.wrong_of fault)
+to_fault (formats.Acpc fault) = to_wrong_acpc fault
 
 -- the answer to a refused hand
 abbrev pub to_refusal : ℕ → Refusal → Answer
@@ -120,7 +120,7 @@ pub data IsWritten (unspelled : Play → Option Unspelled) (Spell Back : List Pl
       → IsWritten unspelled Spell Back plays (done bytes)
 
 -- plays are written in a notation, with so many of their notes
-abbrev pub IsConversion : Reader → Keep → List Play → Answer → Type 0
+abbrev pub IsConversion : Format → Keep → List Play → Answer → Type 0
 IsConversion to keep plays answer = IsWritten (unspelled_in to keep) (SpellPlays to) (ReadsBack to) plays answer
 
 -- the answer to an input whose hands are all legal and agree
@@ -139,7 +139,7 @@ pub data IsAnswerTo (Say : List Record → Type 0) (HaveFault : FormatFault → 
   Played : (plays : List Play) → ReadAsPlays Say plays → (answer : Answer) → IsMade plays answer → IsAnswerTo Say HaveFault IsMade answer
 
 -- The answer to the bytes of an input, as they are read and what is made of them.
-pub data IsAnswer (task : Task) (reader : Reader) (bytes : List ℕ) : Answer → Type 0 where
+pub data IsAnswer (task : Task) (reader : Format) (bytes : List ℕ) : Answer → Type 0 where
   -- they are too many
   TooLong : most_input < length bytes → IsAnswer task reader bytes to_excess
   -- they are read

@@ -5,7 +5,7 @@ use Rattle.std.specs.Prelude.{◌≡◌, ◌⊎◌, ℕ, ◌<◌, ◌≤◌, Lis
 use Rattle.std.specs.Io.KnownBytes.{Appends}
 use Rattle.command_words.specs.Words.{Request}
 use Rattle.convert_core.specs.Conversion.{HasUnspelled, ReadAsPlays, ReadAsRefused}
-use Rattle.convert_core.specs.declared.fault.Refusal.{Refusal}
+use Rattle.convert_core.specs.declared.refusal.Refusal.{Refusal}
 use Rattle.convert_core.specs.declared.format_fault.FormatFault.{FormatFault}
 use Rattle.hand_records.specs.declared.record.Record.{Record}
 use Rattle.hand_records.specs.declared.trace.Play.{Play}
@@ -15,31 +15,31 @@ use Rattle.host_io.specs.Bytes.{AppendsPart}
 use Rattle.host_io.specs.Faults.{Rose}
 use Rattle.poker_cli.specs.Answer.{Answer, Files, IsWay, most_input, to_fault}
 use Rattle.poker_cli.specs.Inputs.{HaveFault, SayRecords}
-use Rattle.poker_cli.specs.Lines.{refused_line}
+use Rattle.poker_cli.specs.Refusals.{refused_line}
 use Rattle.poker_cli.specs.Outputs.{ReadsBack, SpellPlays, first_refusal_in, unspelled_in}
 use Rattle.poker_cli.specs.Run.{RefusesNothing, Sinks, TellsLine}
 use Rattle.poker_cli.specs.Unspelled.{unspelled_line}
 use Rattle.poker_cli.specs.Ways.{way}
 use Rattle.poker_cli.specs.declared.status.Status.{Status}
 use Rattle.poker_cli.specs.declared.status.Status.TheVariants as statuses
-use Rattle.poker_cli.specs.declared.task.Reader.{Reader}
-use Rattle.poker_cli.specs.declared.task.Reader.TheVariants as readers
+use Rattle.poker_cli.specs.declared.task.Format.{Format}
+use Rattle.poker_cli.specs.declared.task.Format.TheVariants as readers
 use Rattle.poker_cli.specs.declared.task.Task.TheVariants as tasks
 
 -- a request is to convert: its input is read by the one notation and its hands are written by the other, with so many of their
 -- notes, and each log under the game that its file gives
-abbrev pub AsksToConvert : Files → Request → (from to : Reader) → Keep → Type 0
+abbrev pub AsksToConvert : Files → Request → (from to : Format) → Keep → Type 0
 AsksToConvert files request from to keep = IsWay files request (way (tasks.Convert to keep) from)
 
 -- an input within the limit reads as hands; the replay of every hand is legal, every stated fact agrees, and these are the plays;
 -- every fact to be kept has a spelling in the target notation
-pub record CanConvert (from to : Reader) (keep : Keep) (bytes : List ℕ) (plays : List Play) : Type 0 where
+pub record CanConvert (from to : Format) (keep : Keep) (bytes : List ℕ) (plays : List Play) : Type 0 where
   pub within : length bytes ≤ most_input
   pub legal : ReadAsPlays (SayRecords from bytes) plays
   pub spelled : first_refusal_in to keep plays ≡ None
 
 -- the hands of an input can be converted, and this output spells them in the target notation, and reads back there as the same hands
-pub record ConvertsInto (from to : Reader) (keep : Keep) (bytes output : List ℕ) : Type 0 where
+pub record ConvertsInto (from to : Format) (keep : Keep) (bytes output : List ℕ) : Type 0 where
   pub plays : List Play
   pub can : CanConvert from to keep bytes plays
   pub spell : SpellPlays to plays output
@@ -56,14 +56,14 @@ pub record TellsAlone (out diag : Sinks) (line : List ℕ) : Type 0 where
 
 -- All is done, of which the number is 0: the hands can be converted, exactly the bytes that spell them were put behind what the
 -- output held, and no line was told.
-pub record IsConverted (from to : Reader) (keep : Keep) (bytes : List ℕ) (out diag : Sinks) : Type 0 where
+pub record IsConverted (from to : Format) (keep : Keep) (bytes : List ℕ) (out diag : Sinks) : Type 0 where
   pub output : List ℕ
   pub converts : ConvertsInto from to keep bytes output
   pub written : Appends out.held out.holds output
   pub quiet : diag.holds ≡ diag.held
 
 -- The output failed: the hands can be converted, and of the bytes that spell them a part of the front was written.
-pub record IsCutShort (from to : Reader) (keep : Keep) (bytes : List ℕ) (out diag : Sinks) : Type 0 where
+pub record IsCutShort (from to : Format) (keep : Keep) (bytes : List ℕ) (out diag : Sinks) : Type 0 where
   pub output : List ℕ
   pub converts : ConvertsInto from to keep bytes output
   pub written : AppendsPart out.held out.holds output
@@ -72,7 +72,7 @@ pub record IsCutShort (from to : Reader) (keep : Keep) (bytes : List ℕ) (out d
 
 -- A hand is refused: the bytes read as hands, and this is the number, from 1, of the first that is refused, and why: its first
 -- illegal action, or what else is wrong with it first.
-pub record NamesRefused (from : Reader) (bytes : List ℕ) (out diag : Sinks) : Type 0 where
+pub record NamesRefused (from : Format) (bytes : List ℕ) (out diag : Sinks) : Type 0 where
   pub within : length bytes ≤ most_input
   pub number : ℕ
   pub why : Refusal
@@ -81,7 +81,7 @@ pub record NamesRefused (from : Reader) (bytes : List ℕ) (out diag : Sinks) : 
 
 -- A fact has no spelling: all hands are legal and every stated fact agrees, and this is the number of the first hand with a fact
 -- to be kept that the target notation does not spell, and its first such fact.
-pub record NamesUnspelled (from to : Reader) (keep : Keep) (bytes : List ℕ) (out diag : Sinks) : Type 0 where
+pub record NamesUnspelled (from to : Format) (keep : Keep) (bytes : List ℕ) (out diag : Sinks) : Type 0 where
   pub within : length bytes ≤ most_input
   pub number : ℕ
   pub fact : Unspelled
@@ -89,7 +89,7 @@ pub record NamesUnspelled (from to : Reader) (keep : Keep) (bytes : List ℕ) (o
   pub told : TellsAlone out diag (unspelled_line number fact)
 
 -- The bytes do not read as hands: this is their first fault, which is answered by this status and this line.
-pub record NamesFault (from : Reader) (bytes : List ℕ) (out diag : Sinks) (status : Status) : Type 0 where
+pub record NamesFault (from : Format) (bytes : List ℕ) (out diag : Sinks) (status : Status) : Type 0 where
   pub within : length bytes ≤ most_input
   pub fault : FormatFault
   pub have : HaveFault from bytes fault
@@ -104,12 +104,12 @@ pub record IsTooLong (bytes : List ℕ) (out diag : Sinks) : Type 0 where
   pub told : TellsAlone out diag (codes "limit: input bytes 16777216\n")
 
 -- a notation is that of logs, which are under a game
-abbrev pub IsOfLogs : Reader → Type 0
+abbrev pub IsOfLogs : Format → Type 0
 IsOfLogs (readers.Acpc game) = Unit {0}
 IsOfLogs reader = ⊥
 
 -- How a conversion ends, status by status: the bytes are read by the one notation and written by the other, with so many notes.
-abbrev pub ConversionEnds : (from to : Reader) → Keep → (bytes : List ℕ) → (out diag : Sinks) → Status → Type 0
+abbrev pub ConversionEnds : (from to : Format) → Keep → (bytes : List ℕ) → (out diag : Sinks) → Status → Type 0
 ConversionEnds from to keep bytes out diag statuses.Done = IsConverted from to keep bytes out diag
 ConversionEnds from to keep bytes out diag statuses.Refused = NamesRefused from bytes out diag
 ConversionEnds from to keep bytes out diag statuses.Unspelled = NamesUnspelled from to keep bytes out diag
@@ -132,7 +132,7 @@ IsOfHands status = RefusesNothing status
 
 -- The headline: a conversion ends as its status says; an input within the limit that reads as hands is not told as bad input or
 -- as a limit; and wherever the hands can be converted, all is done, or a device failed, or memory ran out.
-pub record Headline (from to : Reader) (keep : Keep) (bytes : List ℕ) (out diag : Sinks) (status : Status) : Type 0 where
+pub record Headline (from to : Format) (keep : Keep) (bytes : List ℕ) (out diag : Sinks) (status : Status) : Type 0 where
   pub ends : ConversionEnds from to keep bytes out diag status
   pub reads : length bytes ≤ most_input → (records : List Record) → SayRecords from bytes records → IsOfHands status
   pub exactly : (plays : List Play) → CanConvert from to keep bytes plays → RefusesNothing status

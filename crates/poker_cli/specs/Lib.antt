@@ -1,9 +1,9 @@
 -- What the program answers, prints and leaves.
 pub mod Status
-pub mod Lines
-pub mod Faults
-pub mod TreeFaults
-pub mod LogFaults
+pub mod Refusals
+pub mod PhhFaults
+pub mod OhhFaults
+pub mod AcpcFaults
 pub mod Unspelled
 pub mod Inputs
 pub mod Outputs

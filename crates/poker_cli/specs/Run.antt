@@ -1,5 +1,5 @@
 -- What a run of the program tells and leaves.
-use Rattle.std.specs.Prelude.{◌≡◌, ◌⊎◌, ℕ, List, [], codes, Option, Some, None, unwrap_or}
+use Rattle.std.specs.Prelude.{◌≡◌, ◌⊎◌, ℕ, List, [], codes, Option, Some, None, IfSome, unwrap_or}
 use Rattle.std.specs.Io.KnownBytes.{Appends}
 use Rattle.command_words.specs.Words.{Request}
 use Rattle.host_io.specs.Faults.{Rose}
@@ -52,6 +52,10 @@ pub record Sinks : Type 0 where
   pub before : ℕ
   pub now : ℕ
 
+-- what changed of a sink, by what it tells that it holds and how often it failed
+abbrev pub change_of : {K : Type 0} → (K → Option (List ℕ)) → (K → ℕ) → K → K → Sinks
+change_of held faults old new = record { held = held old; holds = held new; before = faults old; now = faults new }
+
 -- the files of a shelf, where it tells them and a file of this name is asked for; where none is, nothing is asked of it
 abbrev pub files_told : Option (List ℕ) → Option Files → Option Files
 files_told (Some name) told = told
@@ -61,6 +65,11 @@ files_told None told = Some (λ (name : List ℕ). None)
 abbrev pub bytes_told : (made : Option (ℕ × ℕ)) → Option (List ℕ) → Option (List ℕ)
 bytes_told (Some made) told = Some []
 bytes_told None told = told
+
+-- what holds of the files and the bytes of a request, where the shelf and the source tell them
+abbrev pub WhereTold : Request → Option (List ℕ) → Option Files → (Files → List ℕ → Type 0) → Type 0
+WhereTold request left told P =
+    IfSome (bytes_told (made_by request) left) (λ bytes. IfSome (files_told (game_name request) told) (λ files. P files bytes))
 
 -- hands are made
 abbrev pub MakesHands : Option (ℕ × ℕ) → Type 0
@@ -164,3 +173,17 @@ ReadsNothing statuses.ShelfFault = Unit {0}
 ReadsNothing statuses.GameMissing = Unit {0}
 ReadsNothing statuses.BadGame = Unit {0}
 ReadsNothing _ = ⊥
+
+-- What a run that ends with this status keeps: a fault of a device is told only where its count of faults rose in the run, and
+-- the line of a status that depends on no input is told. `reads` and `asks` are the counts of the source and of the shelf.
+pub record Tells (status : Status) (reads asks : ℕ × ℕ) (out diag : Sinks) : Type 0 where
+  pub read_fault : status ≡ statuses.ReadFault → Rose reads.0 reads.1
+  pub write_fault : status ≡ statuses.WriteFault → Rose out.before out.now
+  pub shelf_fault : status ≡ statuses.ShelfFault → Rose asks.0 asks.1
+  pub fixed_line : IfSome (fixed_line status) (TellsLine diag.before diag.now diag.held diag.holds)
+
+-- Which devices a run that ends with this status leaves as they were.
+pub record Leaves {S K D : Type 0} (status : Status) (input read : S) (out written : K) (diag told : D) : Type 0 where
+  pub unread : ReadsNothing status → read ≡ input
+  pub nothing_written : WritesNothing status → written ≡ out
+  pub quiet : status ≡ statuses.Done → told ≡ diag

@@ -1,21 +1,21 @@
 -- How the hands of a request are read, and what is made of them, under the game of its file.
 use Rattle.std.specs.Prelude.{ℕ, List, Option, Some, None, option_map}
 use Rattle.acpc_game.specs.declared.game.Game.{Game}
-use Rattle.command_words.specs.Words.{Convert, Load, Notation, Request, Show}
+use Rattle.command_words.specs.Words.{Convert, Load, NotationName, Request, Show}
 use Rattle.command_words.specs.Words as notations
 use Rattle.command_words.specs.declared.request.Keep.{Keep as KeepAsked}
 use Rattle.command_words.specs.declared.request.Keep.TheVariants as asked
 use Rattle.hand_records.specs.declared.writing.Keep.{Keep}
 use Rattle.hand_records.specs.declared.writing.Keep.TheVariants as keeps
 use Rattle.ohh_members.specs.declared.dialect.Dialect.TheVariants as dialects
-use Rattle.poker_cli.specs.declared.task.Reader.{Reader}
-use Rattle.poker_cli.specs.declared.task.Reader.TheVariants as readers
+use Rattle.poker_cli.specs.declared.task.Format.{Format}
+use Rattle.poker_cli.specs.declared.task.Format.TheVariants as readers
 use Rattle.poker_cli.specs.declared.task.Task.{Task}
 use Rattle.poker_cli.specs.declared.task.Task.TheVariants as tasks
 use Rattle.poker_cli.specs.declared.task.Way.{Way}
 
 -- the name of the file of the game that a notation is under
-abbrev pub file_of : Notation → Option (List ℕ)
+abbrev pub file_of : NotationName → Option (List ℕ)
 file_of (notations.Acpc name) = Some name
 file_of notation = None
 
@@ -37,7 +37,7 @@ made_by (Load seed hands) = Some (seed, hands)
 made_by request = None
 
 -- how hands in a notation are read, and written: logs under the game that is given
-abbrev pub reader_with : Option Game → Notation → Option Reader
+abbrev pub reader_with : Option Game → NotationName → Option Format
 reader_with game notations.Phh = Some readers.Phh
 reader_with game notations.Ohh = Some (readers.Ohh dialects.Added)
 reader_with game notations.OhhTo = Some (readers.Ohh dialects.To)
@@ -49,11 +49,11 @@ kept asked.All = keeps.All
 kept asked.Spelled = keeps.Spelled
 
 -- hands are read so, and this is made of them
-abbrev pub way : Task → Reader → Way
+abbrev pub way : Task → Format → Way
 way task reader = record { reader = reader; task = task }
 
 -- a conversion from one notation into another
-abbrev pub conversion_way : Keep → Option Reader → Option Reader → Option Way
+abbrev pub conversion_way : Keep → Option Format → Option Format → Option Way
 conversion_way keep None to = None
 conversion_way keep (Some from) None = None
 conversion_way keep (Some from) (Some to) = Some (way (tasks.Convert to keep) from)

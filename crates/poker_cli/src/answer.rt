@@ -8,16 +8,16 @@ ghost use Rattle.poker_cli.specs.Answer.{IsAnswer, IsAnswerTo, IsMadeOf, IsToldO
 ghost use Rattle.poker_cli.specs.Run.{IsOfInput};
 ghost use Rattle.poker_cli.specs.Told.{answer_told};
 
-use crate::faults::answer_to_history_fault;
-use crate::lines::refused_line;
-use crate::log_faults::answer_to_log_fault;
+use crate::acpc_faults::answer_to_acpc_fault;
+use crate::ohh_faults::answer_to_ohh_fault;
+use crate::phh_faults::answer_to_phh_fault;
 use crate::printing::print_plays;
+use crate::refusals::refused_line;
 use crate::status::Status;
-use crate::task::{Reader, Task};
-use crate::tree_faults::answer_to_tree_fault;
+use crate::task::{Format, Task};
 use crate::unspelled::unspelled_line;
 use acpc_game::write_game;
-use acpc_line::game_of;
+use acpc_writing::game_of;
 use card_set::Memory;
 use command_words::Command;
 use convert_core::{Acpc, ConvertFault, FormatFault, Notation, Ohh, Phh, Refusal, convert, plays};
@@ -36,16 +36,16 @@ pub struct Answer {
 pub const MOST_INPUT: usize = 16_777_216;
 
 /// The answer to bytes that are not too many, as they are read.
-pub fn answer_to(alloc: Global, task: Task, reader: &Reader, bytes: &[u8]) -> Result<Answer, Memory>
+pub fn answer_to(alloc: Global, task: Task, reader: &Format, bytes: &[u8]) -> Result<Answer, Memory>
     requires { length bytes.now ≤ most_input }
     ensures answer { IfOk result (λ answer.
         IsAnswer task reader.now bytes.now (answer_told answer)) }
     ensures own { IfOk result (λ answer. IsOfInput answer.status) }
 {
     match reader {
-        Reader::Phh => answer_from(alloc, task, &Phh, bytes),
-        Reader::Ohh(dialect) => answer_from(alloc, task, &Ohh { dialect: *dialect }, bytes),
-        Reader::Acpc(game) => answer_from(alloc, task, &Acpc { game: *game }, bytes),
+        Format::Phh => answer_from(alloc, task, &Phh, bytes),
+        Format::Ohh(dialect) => answer_from(alloc, task, &Ohh { dialect: *dialect }, bytes),
+        Format::Acpc(game) => answer_from(alloc, task, &Acpc { game: *game }, bytes),
     }
 }
 
@@ -128,7 +128,7 @@ fn answer_with_first_game(alloc: Global, plays: &[Play]) -> Result<Answer, Memor
 fn answer_with_hands<N: Notation>(
     alloc: Global,
     from: &N,
-    to: &Reader,
+    to: &Format,
     keep: Keep,
     bytes: &[u8],
 ) -> Result<Answer, Memory>
@@ -138,11 +138,11 @@ fn answer_with_hands<N: Notation>(
     ensures own { IfOk result (λ answer. IsOfInput answer.status) }
 {
     match to {
-        Reader::Phh => answer_with_conversion(alloc, from, &Phh, keep, bytes),
-        Reader::Ohh(dialect) => {
+        Format::Phh => answer_with_conversion(alloc, from, &Phh, keep, bytes),
+        Format::Ohh(dialect) => {
             answer_with_conversion(alloc, from, &Ohh { dialect: *dialect }, keep, bytes)
         }
-        Reader::Acpc(game) => {
+        Format::Acpc(game) => {
             answer_with_conversion(alloc, from, &Acpc { game: *game }, keep, bytes)
         }
     }
@@ -189,9 +189,9 @@ fn answer_to_unread(alloc: Global, fault: &FormatFault) -> Result<Answer, Memory
     ensures own { IfOk result (λ answer. IsOfInput answer.status) }
 {
     match fault {
-        FormatFault::Phh(fault) => answer_to_history_fault(alloc, fault),
-        FormatFault::Ohh(fault) => answer_to_tree_fault(alloc, fault),
-        FormatFault::Acpc(fault) => answer_to_log_fault(alloc, fault),
+        FormatFault::Phh(fault) => answer_to_phh_fault(alloc, fault),
+        FormatFault::Ohh(fault) => answer_to_ohh_fault(alloc, fault),
+        FormatFault::Acpc(fault) => answer_to_acpc_fault(alloc, fault),
     }
 }
 

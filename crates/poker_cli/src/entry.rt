@@ -7,16 +7,15 @@ ghost use Rattle.host_io.specs.Faults.{Rose};
 ghost use Rattle.poker_cli.specs.Answer.{IsAnswer, IsAnswerIn};
 ghost use Rattle.poker_cli.specs.Headline.{AsksToConvert, Headline};
 ghost use Rattle.poker_cli.specs.Lacking.{ComesFirst};
-ghost use Rattle.poker_cli.specs.Run.{AskForNoGame, AsksForGame, Ends, IsGameMissing, IsOfInput, IsOwn, LacksGame, MakesHands, MakesNone, MayEnd, ReadsNothing, TellsLine, Writes, WritesNothing, bytes_told, files_told, fixed_line, line_of};
+ghost use Rattle.poker_cli.specs.Run.{AskForNoGame, AsksForGame, Ends, IsGameMissing, IsOfInput, IsOwn, LacksGame, Leaves, MakesHands, MakesNone, MayEnd, ReadsNothing, Tells, TellsLine, WhereTold, Writes, WritesNothing, change_of, files_told, line_of};
 ghost use Rattle.poker_cli.specs.Told.{answer_told};
 ghost use Rattle.poker_cli.specs.Ways.{game_name as game_asked, made_by as made_by_said, way_of as way_of_said};
-ghost use Rattle.poker_cli.specs.declared.task.Reader.{Reader};
+ghost use Rattle.poker_cli.specs.declared.task.Format.{Format};
 
 use crate::answer::{self, Answer, MOST_INPUT};
 use crate::games::{NoGame, answer_to_lack, fetch_game};
 use crate::status::Status;
 use crate::summing::answer_to_load;
-use crate::task::Way;
 use crate::ways::{game_name, made_by, way_of};
 use acpc_game::Game;
 use card_set::Memory;
@@ -43,62 +42,35 @@ pub fn run<S: Source, H: Shelf, K: Sink, D: Sink>(
     // The words ask for something: the run ends with the answer to the file that the shelf has and
     // to the input, or with a fault whose count rose in this call.
     ensures ends { IfSome (request_said (map string_bytes words.now)) (λ request.
-        IfSome (bytes_told (made_by_said request) (S.left input.old)) (λ bytes.
-        IfSome (files_told (game_asked request) (H.files shelf.old)) (λ files.
+        WhereTold request (S.left input.old) (H.files shelf.old) (λ files bytes.
         Ends request files bytes
-        (record {
-          held = K.held out.old;
-          holds = K.held out.new;
-          before = K.faults out.old;
-          now = K.faults out.new;
-        })
-        (record {
-          held = D.held diag.old;
-          holds = D.held diag.new;
-          before = D.faults diag.old;
-          now = D.faults diag.new;
-        }) result))) }
+        (change_of K.held K.faults out.old out.new)
+        (change_of D.held D.faults diag.old diag.new) result)) }
 
     // The words ask for a conversion: hands are read by `from`, and written by `to` with `keep`.
     ensures headline { IfSome (request_said (map string_bytes words.now)) (λ request.
-        IfSome (bytes_told (made_by_said request) (S.left input.old)) (λ bytes.
-        IfSome (files_told (game_asked request) (H.files shelf.old)) (λ files.
-        (from to : Reader) (keep : Keep)
+        WhereTold request (S.left input.old) (H.files shelf.old) (λ files bytes.
+        (from to : Format) (keep : Keep)
         → AsksToConvert files request from to keep → Headline from to keep bytes
-        (record {
-          held = K.held out.old;
-          holds = K.held out.new;
-          before = K.faults out.old;
-          now = K.faults out.new;
-        })
-        (record {
-          held = D.held diag.old;
-          holds = D.held diag.new;
-          before = D.faults diag.old;
-          now = D.faults diag.new;
-        }) result))) }
+        (change_of K.held K.faults out.old out.new)
+        (change_of D.held D.faults diag.old diag.new) result)) }
 
-    // A fault of a device is told only where its count rose.
-    ensures read_fault { result ≡ Status.ReadFault
-        → Rose (S.faults input.old) (S.faults input.new) }
-    ensures write_fault { result ≡ Status.WriteFault → Rose (K.faults out.old) (K.faults out.new) }
-    ensures shelf_fault { result ≡ Status.ShelfFault
-        → Rose (H.faults shelf.old) (H.faults shelf.new) }
+    // A fault of a device is told only where its count rose, and the line of a fault depends on no
+    // input. Nothing is written before all is done.
+    ensures tells { Tells result (S.faults input.old, S.faults input.new)
+        (H.faults shelf.old, H.faults shelf.new)
+        (change_of K.held K.faults out.old out.new)
+        (change_of D.held D.faults diag.old diag.new) }
+    ensures leaves { Leaves result
+        input.old input.new out.old out.new diag.old diag.new }
 
     // The shelf is called for a game alone, and the input is read behind it.
     ensures shelf { AskForNoGame (request_said (map string_bytes words.now))
         → shelf.new ≡ shelf.old }
-    ensures unread { ReadsNothing result → input.new ≡ input.old }
     ensures without_game { IfSome (request_said (map string_bytes words.now)) (λ request.
         LacksGame (game_asked request) (H.files shelf.old) → input.new ≡ input.old) }
     ensures without_input { IfSome (request_said (map string_bytes words.now)) (λ request.
         MakesHands (made_by_said request) → input.new ≡ input.old) }
-
-    // Nothing is written before all is done, and the line of a fault depends on no input.
-    ensures nothing_written { WritesNothing result → out.new ≡ out.old }
-    ensures fixed_line { IfSome (fixed_line result) (TellsLine
-        (D.faults diag.old) (D.faults diag.new) (D.held diag.old) (D.held diag.new)) }
-    ensures quiet { result ≡ Status.Done → diag.new ≡ diag.old }
 {
     match read_words(alloc, words) {
         Ok(Some(request)) => run_request(alloc, request, input, shelf, out, diag),
@@ -123,37 +95,22 @@ fn run_request<S: Source, H: Shelf, K: Sink, D: Sink>(
     diag: &mut D,
 ) -> Status
     ensures answered { result ≡ Status.Usage → ⊥ }
-    ensures ends { IfSome (bytes_told (made_by_said (request_in request.entry)) (S.left input.old))
-        (λ bytes.
-        IfSome (files_told (game_asked (request_in request.entry)) (H.files shelf.old)) (λ files.
+    ensures ends { WhereTold (request_in request.entry) (S.left input.old) (H.files shelf.old)
+        (λ files bytes.
         Ends (request_in request.entry) files bytes
-        (record {
-          held = K.held out.old;
-          holds = K.held out.new;
-          before = K.faults out.old;
-          now = K.faults out.new;
-        })
-        (record {
-          held = D.held diag.old;
-          holds = D.held diag.new;
-          before = D.faults diag.old;
-          now = D.faults diag.new;
-        }) result)) }
-    ensures read_fault { result ≡ Status.ReadFault
-        → Rose (S.faults input.old) (S.faults input.new) }
-    ensures write_fault { result ≡ Status.WriteFault → Rose (K.faults out.old) (K.faults out.new) }
-    ensures shelf_fault { result ≡ Status.ShelfFault
-        → Rose (H.faults shelf.old) (H.faults shelf.new) }
+        (change_of K.held K.faults out.old out.new)
+        (change_of D.held D.faults diag.old diag.new) result) }
+    ensures tells { Tells result (S.faults input.old, S.faults input.new)
+        (H.faults shelf.old, H.faults shelf.new)
+        (change_of K.held K.faults out.old out.new)
+        (change_of D.held D.faults diag.old diag.new) }
+    ensures leaves { Leaves result
+        input.old input.new out.old out.new diag.old diag.new }
     ensures shelf { AskForNoGame (Some (request_in request.entry)) → shelf.new ≡ shelf.old }
-    ensures unread { ReadsNothing result → input.new ≡ input.old }
     ensures without_game { LacksGame (game_asked (request_in request.entry)) (H.files shelf.old)
         → input.new ≡ input.old }
     ensures without_input { MakesHands (made_by_said (request_in request.entry))
         → input.new ≡ input.old }
-    ensures nothing_written { WritesNothing result → out.new ≡ out.old }
-    ensures fixed_line { IfSome (fixed_line result) (TellsLine
-        (D.faults diag.old) (D.faults diag.new) (D.held diag.old) (D.held diag.new)) }
-    ensures quiet { result ≡ Status.Done → diag.new ≡ diag.old }
 {
     match reply(alloc, request, input, shelf) {
         Ok(answer) => deliver(&answer, out, diag),
@@ -184,9 +141,8 @@ fn reply<S: Source, H: Shelf>(
     shelf: &mut H,
 ) -> Result<Answer, NoAnswer>
     ensures answer { IfOk result (λ answer.
-        IfSome (bytes_told (made_by_said (request_in request.entry)) (S.left input.old)) (λ bytes.
-        IfSome (files_told (game_asked (request_in request.entry)) (H.files shelf.old)) (λ files.
-        IsAnswerIn (request_in request.entry) files bytes (answer_told answer)))) }
+        WhereTold (request_in request.entry) (S.left input.old) (H.files shelf.old) (λ files bytes.
+        IsAnswerIn (request_in request.entry) files bytes (answer_told answer))) }
     ensures own { IfOk result (λ answer. IsOwn answer.status) }
     ensures read_fault { IsErrOf result NoAnswer.ReadFault
         → Rose (S.faults input.old) (S.faults input.new) }
@@ -212,40 +168,10 @@ fn reply<S: Source, H: Shelf>(
             Ok(answer) => Ok(answer),
             Err(Memory) => Err(NoAnswer::Memory),
         },
-        None => reply_to_input(alloc, request, input, shelf),
-    }
-}
-
-// The answer to a request that makes no hands, by the file of its game and by all that the source has left.
-fn reply_to_input<S: Source, H: Shelf>(
-    alloc: Global,
-    request: Request<'_>,
-    input: &mut S,
-    shelf: &mut H,
-) -> Result<Answer, NoAnswer>
-    requires { made_by_said (request_in request) ≡ None }
-    ensures answer { IfOk result (λ answer. IfSome (S.left input.old) (λ bytes.
-        IfSome (files_told (game_asked (request_in request.entry)) (H.files shelf.old)) (λ files.
-        IsAnswerIn (request_in request.entry) files bytes (answer_told answer)))) }
-    ensures own { IfOk result (λ answer. IsOwn answer.status) }
-    ensures read_fault { IsErrOf result NoAnswer.ReadFault
-        → Rose (S.faults input.old) (S.faults input.new) }
-    ensures shelf_fault { IsErrOf result NoAnswer.ShelfFault
-        → Rose (H.faults shelf.old) (H.faults shelf.new) }
-    ensures asked { IsErrOf result NoAnswer.ShelfFault
-        → AsksForGame (game_asked (request_in request.entry)) }
-    ensures shelf { AskForNoGame (Some (request_in request.entry)) → shelf.new ≡ shelf.old }
-    ensures unread { IfOk result (λ answer. ReadsNothing answer.status → input.new ≡ input.old) }
-    ensures missing { IsErrOf result NoAnswer.GameMissing →
-        IfSome (files_told (game_asked (request_in request.entry)) (H.files shelf.old)) (λ files.
-        IsGameMissing (game_asked (request_in request.entry)) files) }
-    ensures unasked { IfErr result (λ why. ComesFirst why → input.new ≡ input.old) }
-    ensures without_game { LacksGame (game_asked (request_in request.entry)) (H.files shelf.old)
-        → input.new ≡ input.old }
-{
-    match game_name(request) {
-        Some(name) => reply_under(alloc, name, request, input, shelf),
-        None => reply_with(alloc, None, request, input),
+        None => match game_name(request) {
+            Some(name) => reply_under(alloc, name, request, input, shelf),
+            None => reply_with(alloc, None, request, input),
+        },
     }
 }
 
@@ -303,18 +229,6 @@ fn reply_with<S: Source>(
     let Some(way) = way_of(game, request) else {
         unreachable!()
     };
-    reply_by(alloc, &way, input)
-}
-
-// The answer to all that the source has left, as it is read and what is made of it.
-fn reply_by<S: Source>(alloc: Global, way: &Way, input: &mut S) -> Result<Answer, NoAnswer>
-    ensures answer { IfOk result (λ answer. IfSome (S.left input.old)
-        (λ bytes. IsAnswer way.now.task way.now.reader bytes (answer_told answer))) }
-    ensures of_input { IfOk result (λ answer. IsOfInput answer.status) }
-    ensures read_fault { IsErrOf result NoAnswer.ReadFault
-        → Rose (S.faults input.old) (S.faults input.new) }
-    ensures read_alone { IfErr result (λ why. ComesFirst why → ⊥) }
-{
     match read_all(alloc, input, MOST_INPUT) {
         Ok(bytes) => match answer::answer_to(alloc, way.task, &way.reader, &bytes) {
             Ok(answer) => Ok(answer),

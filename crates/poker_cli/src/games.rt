@@ -3,12 +3,12 @@ ghost use Rattle.std.specs.Prelude.{◌≡◌, IfErr, IfOk, IfSome, IsErrOf, str
 ghost use Rattle.host_io.specs.Faults.{Rose};
 ghost use Rattle.poker_cli.specs.Answer.{GivesGame};
 ghost use Rattle.poker_cli.specs.Lacking.{HasNoGame, IsLackTold};
-ghost use Rattle.poker_cli.specs.LogFaults.{bad_game_line as bad_game_line_said};
+ghost use Rattle.poker_cli.specs.AcpcFaults.{bad_game_line as bad_game_line_said};
 ghost use Rattle.poker_cli.specs.Run.{IsOwn};
 ghost use Rattle.poker_cli.specs.Told.{answer_told};
 
+use crate::acpc_faults::{fault_name, line_of};
 use crate::answer::{Answer, MOST_INPUT, refusal};
-use crate::log_faults::{fault_name, line_of};
 use crate::status::Status;
 use acpc_game::{Game, read_game};
 use acpc_text::AcpcFault;

@@ -1,6 +1,6 @@
 //! An input has one answer, and none is refused whose hands are all legal.
 ghost use Rattle.std.specs.Prelude.{◌≡◌, ◌⊎◌, ◌≤◌, ℕ, List, None, length};
-ghost use Rattle.command_words.specs.Words.{Convert, Game, Load, Notation, Show};
+ghost use Rattle.command_words.specs.Words.{Convert, Game, Load, NotationName, Show};
 ghost use Rattle.command_words.specs.declared.command.Command.{Command};
 ghost use Rattle.command_words.specs.declared.request.Keep.{Keep};
 ghost use Rattle.hand_records.specs.declared.record.Record.{Record};
@@ -12,7 +12,7 @@ ghost use Rattle.poker_cli.specs.Outputs.{first_refusal_in};
 ghost use Rattle.poker_cli.specs.Run.{Ends, NeedsNoInput, RefusesNothing, Sinks};
 ghost use Rattle.poker_cli.specs.Ways.{kept, way};
 ghost use Rattle.poker_cli.specs.declared.status.Status.{Status};
-ghost use Rattle.poker_cli.specs.declared.task.Reader.{Reader};
+ghost use Rattle.poker_cli.specs.declared.task.Format.{Format};
 ghost use Rattle.poker_cli.specs.declared.task.Task.{Task};
 ghost use Rattle.poker_cli.specs.declared.task.Task.TheVariants as tasks;
 ghost use Rattle.convert_core.specs.Judged.{ArePlaysOf};
@@ -20,7 +20,7 @@ ghost use Rattle.convert_core.specs.Judged.{ArePlaysOf};
 /// The bytes of an input have one answer to a task, as they are read; where hands are written in the Poker Hand History
 /// format, TOML reads all answers alike. The function does nothing: its contract is a law.
 pub fn law_of_one_answer()
-    ensures { (task : Task) (reader : Reader) (bytes : List ℕ) (answer other : Answer)
+    ensures { (task : Task) (reader : Format) (bytes : List ℕ) (answer other : Answer)
         → IsAnswer task reader bytes answer → IsAnswer task reader bytes other
         → AreOneAnswer task answer other }
 {}
@@ -32,21 +32,21 @@ pub fn law_of_one_answer()
 /// with Done, or the output failed, or the status is Memory, whatever input and files there are. The function does nothing:
 /// its contract is a law.
 pub fn law_of_legal_inputs()
-    ensures show { (command : Command) (notation : Notation) (reader : Reader)
+    ensures show { (command : Command) (notation : NotationName) (reader : Format)
         → (files : Files) (bytes : List ℕ) (records : List Record) (plays : List Play)
         → (out diag : Sinks) (status : Status)
         → IsWay files (Show command notation) (way (tasks.Show command) reader)
         → length bytes ≤ most_input → SayRecords reader bytes records
         → ArePlaysOf records plays
         → Ends (Show command notation) files bytes out diag status → RefusesNothing status }
-    ensures game { (notation : Notation) (reader : Reader) (files : Files) (bytes : List ℕ)
+    ensures game { (notation : NotationName) (reader : Format) (files : Files) (bytes : List ℕ)
         → (records : List Record) (plays : List Play) (out diag : Sinks) (status : Status)
         → IsWay files (Game notation) (way tasks.GameFile reader)
         → length bytes ≤ most_input → SayRecords reader bytes records
         → ArePlaysOf records plays
         → Ends (Game notation) files bytes out diag status
         → RefusesNothing status ⊎ ((to_first_game plays).status ≡ status) }
-    ensures convert { (from to : Notation) (keep : Keep) (reader target : Reader)
+    ensures convert { (from to : NotationName) (keep : Keep) (reader target : Format)
         → (files : Files) (bytes : List ℕ) (records : List Record) (plays : List Play)
         → (out diag : Sinks) (status : Status)
         → IsWay files (Convert from to keep) (way (tasks.Convert target (kept keep)) reader)

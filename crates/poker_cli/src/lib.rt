@@ -2,19 +2,19 @@
 //! bytes of its input.
 #![tactic(auto)]
 
+mod acpc_faults;
 mod answer;
 mod entry;
-mod faults;
 mod games;
 mod laws;
-mod lines;
-mod log_faults;
+mod ohh_faults;
+mod phh_faults;
 mod printing;
 mod process;
+mod refusals;
 mod status;
 mod summing;
 mod task;
-mod tree_faults;
 mod unspelled;
 mod ways;
 

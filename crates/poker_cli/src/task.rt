@@ -12,12 +12,12 @@ pub enum Task {
     /// The game file of the first hand.
     GameFile,
     /// The same hands in a notation, with so many of their notes.
-    Convert { to: Reader, keep: Keep },
+    Convert { to: Format, keep: Keep },
 }
 
 /// How the bytes of an input are read, and as what hands are written.
 #[derive(Clone, Copy, Debug, PartialEq, Eq)]
-pub enum Reader {
+pub enum Format {
     /// As the Poker Hand History format.
     Phh,
     /// As Open Hand History in this dialect.
@@ -29,6 +29,6 @@ pub enum Reader {
 /// How hands are read, and what is made of them.
 #[derive(Clone, Copy, Debug, PartialEq, Eq)]
 pub struct Way {
-    pub reader: Reader,
+    pub reader: Format,
     pub task: Task,
 }

@@ -3,9 +3,9 @@ ghost use Rattle.std.specs.Prelude.{◌≡◌, option_map};
 ghost use Rattle.command_words.specs.Requests.{notation_in, request_in};
 ghost use Rattle.poker_cli.specs.Ways as definition;
 
-use crate::task::{Reader, Task, Way};
+use crate::task::{Format, Task, Way};
 use acpc_game::Game;
-use command_words::{HandCount, Keep as KeepAsked, Notation, Request};
+use command_words::{HandCount, Keep as KeepAsked, NotationName, Request};
 use hand_records::Keep;
 use ohh_members::Dialect;
 
@@ -34,12 +34,12 @@ pub fn made_by(request: Request<'_>) -> Option<(u64, HandCount)>
 }
 
 // The name of the file of the game that a notation is under.
-fn file_of<'a>(notation: Notation<'a>) -> Option<&'a str>
+fn file_of<'a>(notation: NotationName<'a>) -> Option<&'a str>
     ensures { option_map (λ name. name.now) result
         ≡ definition.file_of (notation_in notation.entry) }
 {
     match notation {
-        Notation::Acpc { game } => Some(game),
+        NotationName::Acpc { game } => Some(game),
         _ => None,
     }
 }
@@ -83,14 +83,14 @@ pub fn way_of(game: Option<Game>, request: Request<'_>) -> Option<Way>
 }
 
 // How hands in a notation are read and written: logs under the game that is given.
-fn reader_with(game: Option<Game>, notation: Notation<'_>) -> Option<Reader>
+fn reader_with(game: Option<Game>, notation: NotationName<'_>) -> Option<Format>
     ensures { result ≡ definition.reader_with game (notation_in notation.entry) }
 {
     match notation {
-        Notation::Phh => Some(Reader::Phh),
-        Notation::Ohh => Some(Reader::Ohh(Dialect::Added)),
-        Notation::OhhTo => Some(Reader::Ohh(Dialect::To)),
-        Notation::Acpc { .. } => Some(Reader::Acpc(game?)),
+        NotationName::Phh => Some(Format::Phh),
+        NotationName::Ohh => Some(Format::Ohh(Dialect::Added)),
+        NotationName::OhhTo => Some(Format::Ohh(Dialect::To)),
+        NotationName::Acpc { .. } => Some(Format::Acpc(game?)),
     }
 }
 

@@ -4,13 +4,13 @@ use Rattle.std.specs.Option.{option_map}
 use Rattle.std.proofs.lemmas.List.{append-nil, length-map, length-reverse, length-take-le, take_all}
 use Rattle.std.proofs.lemmas.Option.{slice_get-map}
 use Rattle.chip_ledger.specs.declared.rows.SeatRow.{SeatRow}
-use Rattle.canonical_play.specs.CanonScript.{move_named, plain_move}
-use Rattle.canonical_play.specs.PlayedScript.{is_move}
-use Rattle.canonical_play.specs.TraceCore.{TraceCore}
+use Rattle.canon_script.specs.CanonScript.{move_named, plain_move}
+use Rattle.canon_script.specs.PlayedScript.{is_move}
+use Rattle.canon_script.specs.TraceCore.{TraceCore}
 use Rattle.hand_canon.specs.Sound.{IsSound}
 use Rattle.hand_records.specs.SoundRecord.{script_said}
 use Rattle.hand_records.specs.declared.trace.Play.{Play}
-use Rattle.phh_words.specs.Written.{event_text}
+use Rattle.phh_actions.specs.Written.{event_text}
 use Rattle.play_event.proofs.ChipLaws.{puts_within}
 use Rattle.play_event.specs.Chips.{chips_put}
 use Rattle.play_event.specs.Laws.{AreLegal}

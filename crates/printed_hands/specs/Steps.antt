@@ -4,10 +4,10 @@ use Rattle.std.specs.Fmt.{decimal}
 use Rattle.chip_ledger.specs.SeatRow.{amount_of}
 use Rattle.chip_ledger.specs.declared.rows.SeatRow.{SeatRow}
 use Rattle.chip_ledger.specs.declared.rows.TheConstants.{MOST_AMOUNT}
-use Rattle.canonical_play.specs.CanonScript.{move_named}
+use Rattle.canon_script.specs.CanonScript.{move_named}
 use Rattle.hand_records.specs.SoundRecord.{script_said}
 use Rattle.hand_records.specs.declared.trace.Play.{Play}
-use Rattle.phh_words.specs.Written.{event_text}
+use Rattle.phh_actions.specs.Written.{event_text}
 use Rattle.play_event.specs.Chips.{chips_left, chips_put}
 use Rattle.play_event.specs.Code.{code_text}
 use Rattle.play_event.specs.Past as past

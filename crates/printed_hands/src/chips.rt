@@ -2,7 +2,7 @@
 ghost use Rattle.std.specs.Prelude.{◌≡◌, ◌≤◌, ◌-◌, ◌++◌, ℕ, [], ◌∷◌, List, OnOk, string_bytes};
 ghost use Rattle.chip_ledger.specs.SeatRow.{amount_of};
 ghost use Rattle.chip_ledger.specs.declared.rows.TheConstants.{MOST_AMOUNT};
-ghost use Rattle.canonical_play.specs.CanonScript.{plain_move};
+ghost use Rattle.canon_script.specs.CanonScript.{plain_move};
 ghost use Rattle.play_event.specs.Chips.{posted as posted_by};
 ghost use Rattle.play_event.specs.Past.{Move as PlainMove};
 ghost use Rattle.play_event.specs.Played.{move_said};

@@ -1,11 +1,11 @@
 //! The lines of a hand, step by step: what each event did, and the chips of the seats after it.
 ghost use Rattle.std.specs.Prelude.{◌≡◌, ◌<◌, ◌+◌, ◌-◌, ◌++◌, ◌∷◌, List, true, false, Some, OnOk, IsTrue, string_bytes};
 ghost use Rattle.std.specs.Fmt.{decimal};
-ghost use Rattle.canonical_play.specs.CanonScript.{move_named, plain_move};
-ghost use Rattle.canonical_play.specs.PlayedScript.{is_move as is_move_said};
+ghost use Rattle.canon_script.specs.CanonScript.{move_named, plain_move};
+ghost use Rattle.canon_script.specs.PlayedScript.{is_move as is_move_said};
 ghost use Rattle.hand_canon.specs.Sound.{IsSound};
 ghost use Rattle.hand_records.specs.SoundRecord.{script_said};
-ghost use Rattle.phh_words.specs.Written.{event_text as text_of_event, has_words};
+ghost use Rattle.phh_actions.specs.Written.{event_text as text_of_event, has_words};
 ghost use Rattle.play_event.specs.Past.{Move as PlainMove};
 ghost use Rattle.play_event.specs.Played.{move_said};
 ghost use Rattle.play_event.specs.Said.{kind_said};
@@ -18,7 +18,7 @@ use crate::ending::push_ending;
 use card_set::Memory;
 use chip_ledger::SeatRow;
 use hand_records::{Moves, Play};
-use phh_words::event_text;
+use phh_actions::event_text;
 use play_event::{Act, Kind, Move, Setup, Spelled};
 use std::alloc::Global;
 

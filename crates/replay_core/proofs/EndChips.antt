@@ -13,7 +13,7 @@ use Rattle.chip_ledger.specs.RakeRow.{rake_of}
 use Rattle.chip_ledger.specs.Rakes.{chips_in}
 use Rattle.chip_ledger.specs.SeatRow.{amount_of, total_of}
 use Rattle.hand_records.specs.declared.trace.Trace.{Trace}
-use Rattle.canonical_play.specs.PlayedScript.{IsPlayed}
+use Rattle.canon_script.specs.PlayedScript.{IsPlayed}
 use Rattle.hand_canon.specs.WholeTrace.{IsTraceOf}
 use Rattle.play_event.specs.declared.setup.Rules.{Rules}
 use Rattle.play_event.specs.declared.setup.Setup.{Setup}

@@ -9,9 +9,9 @@ use Rattle.chip_ledger.specs.Pots.{PlainPot}
 use Rattle.chip_ledger.specs.Rakes.{nets_from}
 use Rattle.chip_ledger.specs.SeatRow.{amount_of}
 use Rattle.canon_laws.proofs.SameCore.{plain_again}
-use Rattle.canonical_play.specs.CanonScript.{plain_moves}
-use Rattle.canonical_play.specs.PlayedScript.{IsWithinLimits, is_move}
-use Rattle.canonical_play.specs.TraceCore.{TraceCore, core_of}
+use Rattle.canon_script.specs.CanonScript.{plain_moves}
+use Rattle.canon_script.specs.PlayedScript.{IsWithinLimits, is_move}
+use Rattle.canon_script.specs.TraceCore.{TraceCore, core_of}
 use Rattle.list_laws.proofs.Sums.{sum_by-map}
 use Rattle.play_event.specs.declared.event.Event.{Event}
 use Rattle.play_event.specs.declared.setup.Setup.{Setup}

@@ -16,7 +16,7 @@ use Rattle.play_event.specs.Table.{up_cards}
 use Rattle.play_event.specs.Trace.{TracedMove, traced_move, traced_moves}
 use Rattle.play_event.specs.declared.played.Move as rows
 use Rattle.play_event.specs.Played.{act_said, move_said}
-use Rattle.betting_numbers.specs.declared.table.Table.{Table}
+use Rattle.betting_numbers.specs.declared.running.RunningNumbers.{RunningNumbers}
 use Rattle.card_places.specs.declared.card_state.CardState.{CardState}
 use Rattle.deal_core.specs.Standing.{StandsFor}
 use Rattle.deal_core.proofs.StandsMove.{move_kept}
@@ -78,14 +78,14 @@ moved_stands t setup past event moved bet stepped stands is =
     (move_kept t past made.move stands (ap (λ (m : TracedMove). is_fold m.act) (sym same) ∙ is))
 
 -- the moves of the trace after a move
-pub move_told : (b : Table) (past : Past) (event : Said) (moved : rows.Move) → is_card_said event ≡ false → IsStepped b.setup past event moved → IsToldOf b event past (Some moved)
+pub move_told : (b : RunningNumbers) (past : Past) (event : Said) (moved : rows.Move) → is_card_said event ≡ false → IsStepped b.setup past event moved → IsToldOf b event past (Some moved)
 move_told b past event moved bet stepped =
     let made = made_move b.setup past event bet in
     ap (λ (p : Past). traced_moves b.setup (moves_of p)) made.made
     ∙ ap (λ (m : TracedMove). traced_moves b.setup (moves_of past) ++ m ∷ []) (sym (stepped made.move made.made))
 
 -- and after an event of cards
-pub none_told : (b : Table) (past : Past) (event : Said) → is_card_said event ≡ true → IsToldOf b event past None
+pub none_told : (b : RunningNumbers) (past : Past) (event : Said) → is_card_said event ≡ true → IsToldOf b event past None
 unfolding with_event
 none_told b past event card =
     ap (traced_moves b.setup) (moves_kept (resolved_on b.setup past (turn b.setup past).0 event) past (card_resolved b.setup past (turn b.setup past).0 event card))

@@ -18,9 +18,9 @@ use Rattle.chip_ledger.specs.LiveRow.{flag_of, flagged}
 use Rattle.chip_ledger.specs.Seat.{seats_of}
 use Rattle.deal_core.specs.Board.{board_cards}
 use Rattle.deal_core.proofs.Boards.{board_held}
-use Rattle.canonical_play.specs.CanonScript as canon
+use Rattle.canon_script.specs.CanonScript as canon
 use Rattle.hand_canon.specs.LegalHand.{showdown_in}
-use Rattle.canonical_play.specs.TraceCore.{core_of}
+use Rattle.canon_script.specs.TraceCore.{core_of}
 use Rattle.card_set.specs.declared.pick.Pick.{Pick}
 use Rattle.play_event.specs.declared.card_rows.HandRow.{HandRow}
 use Rattle.play_event.specs.declared.setup.Rules.{Rules}

@@ -10,7 +10,7 @@ use Rattle.chip_ledger.specs.Rakes.{first_rake_above, nets_of}
 use Rattle.chip_ledger.specs.SeatRow.{amount_of}
 use Rattle.hand_records.specs.declared.trace.Trace.{Trace}
 use Rattle.hand_canon.specs.LegalHand.{showdown_in}
-use Rattle.canonical_play.specs.TraceCore.{core_of}
+use Rattle.canon_script.specs.TraceCore.{core_of}
 use Rattle.hand_records.specs.TraceRows.{core_said}
 use Rattle.hand_canon.specs.WholeTrace.{IsTraceOf}
 use Rattle.play_event.specs.declared.setup.Setup.{Setup}

@@ -1,11 +1,11 @@
 -- A script was played to its end, and rows say what is there then.
 use Rattle.std.specs.Prelude.{◌≡◌, ◌≢◌, ℕ, ◌≤◌, false, List, [], map, filter, reverse}
-use Rattle.betting_numbers.specs.declared.table.Table.{Table}
+use Rattle.betting_numbers.specs.declared.running.RunningNumbers.{RunningNumbers}
 use Rattle.card_places.specs.declared.card_state.CardState.{CardState}
 use Rattle.chip_ledger.specs.LiveRow.{flagged}
 use Rattle.chip_ledger.specs.SeatRow.{amount_of}
 use Rattle.hand_canon.specs.LegalHand.{showdown_in}
-use Rattle.canonical_play.specs.TraceCore.{core_of}
+use Rattle.canon_script.specs.TraceCore.{core_of}
 use Rattle.hand_records.specs.TraceRows.{place_said}
 use Rattle.card_set.specs.declared.pick.Pick.{Pick}
 use Rattle.play_event.specs.declared.setup.Rules.{Rules}
@@ -29,7 +29,7 @@ use Rattle.replay_core.specs.Showdowns.{ShowTheSame}
 use Rattle.replay_core.specs.Together.{StandTogether}
 
 -- betting and cards stand at the end of a script: its events are legal, and nothing is due but shows
-pub record StandAtEnd (setup : Setup) (rules : Rules) (script : List Said) (b : Table) (t : CardState) : Type 0 where
+pub record StandAtEnd (setup : Setup) (rules : Rules) (script : List Said) (b : RunningNumbers) (t : CardState) : Type 0 where
   pub same_setup : b.setup ≡ setup
   pub legal : AreLegal setup rules (reverse script)
   pub stands : StandTogether b t (past_at_end setup script)

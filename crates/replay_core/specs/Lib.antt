@@ -1,6 +1,7 @@
 -- For which pasts the betting and the cards of a hand stand together, what a step tells, and what a replay answers.
 pub mod Together
 pub mod Told
+pub mod Advances
 pub mod Events
 pub mod EndRows
 pub mod Showdowns

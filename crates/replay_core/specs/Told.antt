@@ -1,6 +1,6 @@
 -- What one event more adds to the moves of the trace.
 use Rattle.std.specs.Prelude.{◌≡◌, List, [], ◌∷◌, ◌++◌, Option, Some, None}
-use Rattle.betting_numbers.specs.declared.table.Table.{Table}
+use Rattle.betting_numbers.specs.declared.running.RunningNumbers.{RunningNumbers}
 use Rattle.betting_numbers.specs.LegalMoves.{past_with}
 use Rattle.card_places.specs.declared.card_state.CardState.{CardState}
 use Rattle.replay_core.specs.Together.{StandTogether}
@@ -11,7 +11,7 @@ use Rattle.play_event.specs.Said.{Said}
 use Rattle.play_event.specs.Trace.{TracedMove, traced_moves}
 
 -- after each past for which both stand
-abbrev pub WhereTogether : Table → CardState → (Past → Type 0) → Type 0
+abbrev pub WhereTogether : RunningNumbers → CardState → (Past → Type 0) → Type 0
 WhereTogether b t P = (past : Past) → StandTogether b t past → P past
 
 -- a move that is told, if one is
@@ -20,6 +20,6 @@ moves_told None = []
 moves_told (Some move) = move_said move ∷ []
 
 -- the moves of the trace after an event are those before it and the one that is told; of an event of cards none is told
-abbrev pub IsToldOf : Table → Said → Past → Option rows.Move → Type 0
+abbrev pub IsToldOf : RunningNumbers → Said → Past → Option rows.Move → Type 0
 IsToldOf b event past told =
     traced_moves b.setup (moves_of (past_with b past event)) ≡ traced_moves b.setup (moves_of past) ++ moves_told told

@@ -1,6 +1,5 @@
 //! The betting and the cards of a hand, and one event more of it.
-ghost use Rattle.std.specs.Prelude.{◌≡◌, [], ℕ, true, false, None, Some, IfErr, IfOk, OnErr, OnOk};
-ghost use Rattle.betting_numbers.specs.LegalMoves.{past_with, reason_after};
+ghost use Rattle.std.specs.Prelude.{◌≡◌, [], ℕ, true, false, None, Some, IfErr, OnErr, OnOk};
 ghost use Rattle.betting_numbers.specs.UpSeen.{HoldsOpeningUps};
 ghost use Rattle.chip_ledger.specs.LiveRow.{flag_of};
 ghost use Rattle.chip_ledger.specs.SeatRow.{amount_of};
@@ -23,7 +22,8 @@ ghost use Rattle.street_laws.specs.Done.{is_done};
 ghost use Rattle.street_laws.specs.Dues.{IsDueWithin};
 ghost use Rattle.street_laws.specs.Seats.{IsSeat};
 ghost use Rattle.replay_core.specs.Together.{StandTogether, StandUpToDue};
-ghost use Rattle.replay_core.specs.Told.{IsToldOf, WhereTogether};
+ghost use Rattle.replay_core.specs.Advances.{Advances, IsHandOf};
+ghost use Rattle.replay_core.specs.Told.{WhereTogether};
 
 use betting_core::Betting;
 use chip_ledger::{LiveRow, SeatRow};
@@ -82,23 +82,10 @@ impl<V: Variant> HandInPlay<V> {
     /// bring-in is told as the trace keeps it, and of other events nothing is told.
     pub fn advance(&mut self, event: &Event) -> Result<Option<Move>, Illegal>
         requires seats { self.old.betting.table.setup.stacks.seats ≡ self.old.cards.state.seats }
-        ensures refused { WhereTogether self.old.betting.table self.old.cards.state
-            (λ past. IfErr result (λ reason.
-            reason_after self.old.betting.table past (said_of event.now) ≡ Some reason)) }
-        ensures legal { WhereTogether self.old.betting.table self.old.cards.state
-            (λ past. OnOk result
-            (reason_after self.old.betting.table past (said_of event.now) ≡ None)) }
-        ensures stands { WhereTogether self.old.betting.table self.old.cards.state
-            (λ past. OnOk result
-            (StandTogether self.new.betting.table self.new.cards.state
-            (past_with self.old.betting.table past (said_of event.now)))) }
-        ensures told { WhereTogether self.old.betting.table self.old.cards.state
-            (λ past. IfOk result
-            (IsToldOf self.old.betting.table (said_of event.now) past)) }
+        ensures advanced { Advances
+            self.old.betting.table self.new.betting.table
+            self.old.cards.state self.new.cards.state (said_of event.now) result }
         ensures unchanged { OnErr result (self.new ≡ self.old) }
-        ensures seats { self.new.cards.state.seats ≡ self.old.cards.state.seats }
-        ensures setup { self.new.betting.table.setup ≡ self.old.betting.table.setup }
-        ensures rules { self.new.betting.table.rules ≡ self.old.betting.table.rules }
     {
         match event.kind {
             Kind::Fold { actor: _ }
@@ -123,23 +110,10 @@ impl<V: Variant> HandInPlay<V> {
     fn bet(&mut self, event: &Event) -> Result<Option<Move>, Illegal>
         requires seats { self.old.betting.table.setup.stacks.seats ≡ self.old.cards.state.seats }
         requires kind { is_card_said (said_of event.now) ≡ false }
-        ensures refused { WhereTogether self.old.betting.table self.old.cards.state
-            (λ past. IfErr result (λ reason.
-            reason_after self.old.betting.table past (said_of event.now) ≡ Some reason)) }
-        ensures legal { WhereTogether self.old.betting.table self.old.cards.state
-            (λ past. OnOk result
-            (reason_after self.old.betting.table past (said_of event.now) ≡ None)) }
-        ensures stands { WhereTogether self.old.betting.table self.old.cards.state
-            (λ past. OnOk result
-            (StandTogether self.new.betting.table self.new.cards.state
-            (past_with self.old.betting.table past (said_of event.now)))) }
-        ensures told { WhereTogether self.old.betting.table self.old.cards.state
-            (λ past. IfOk result
-            (IsToldOf self.old.betting.table (said_of event.now) past)) }
+        ensures advanced { Advances
+            self.old.betting.table self.new.betting.table
+            self.old.cards.state self.new.cards.state (said_of event.now) result }
         ensures unchanged { OnErr result (self.new ≡ self.old) }
-        ensures seats { self.new.cards.state.seats ≡ self.old.cards.state.seats }
-        ensures setup { self.new.betting.table.setup ≡ self.old.betting.table.setup }
-        ensures rules { self.new.betting.table.rules ≡ self.old.betting.table.rules }
     {
         let up = self.opening_up_cards();
         let moved = match self.betting.step(&up, event) {
@@ -172,23 +146,10 @@ impl<V: Variant> HandInPlay<V> {
     fn take_cards(&mut self, event: &Event) -> Result<Option<Move>, Illegal>
         requires seats { self.old.betting.table.setup.stacks.seats ≡ self.old.cards.state.seats }
         requires kind { is_card_said (said_of event.now) ≡ true }
-        ensures refused { WhereTogether self.old.betting.table self.old.cards.state
-            (λ past. IfErr result (λ reason.
-            reason_after self.old.betting.table past (said_of event.now) ≡ Some reason)) }
-        ensures legal { WhereTogether self.old.betting.table self.old.cards.state
-            (λ past. OnOk result
-            (reason_after self.old.betting.table past (said_of event.now) ≡ None)) }
-        ensures stands { WhereTogether self.old.betting.table self.old.cards.state
-            (λ past. OnOk result
-            (StandTogether self.new.betting.table self.new.cards.state
-            (past_with self.old.betting.table past (said_of event.now)))) }
-        ensures told { WhereTogether self.old.betting.table self.old.cards.state
-            (λ past. IfOk result
-            (IsToldOf self.old.betting.table (said_of event.now) past)) }
+        ensures advanced { Advances
+            self.old.betting.table self.new.betting.table
+            self.old.cards.state self.new.cards.state (said_of event.now) result }
         ensures unchanged { OnErr result (self.new ≡ self.old) }
-        ensures seats { self.new.cards.state.seats ≡ self.old.cards.state.seats }
-        ensures setup { self.new.betting.table.setup ≡ self.old.betting.table.setup }
-        ensures rules { self.new.betting.table.rules ≡ self.old.betting.table.rules }
     {
         let due = self.betting.due();
         let live = self.betting.live();
@@ -208,9 +169,9 @@ impl<V: Variant> HandInPlay<V> {
         ensures stands { (past : Past)
             → StandUpToDue self.old.betting.table self.old.cards.state past
             → StandTogether self.new.betting.table self.new.cards.state past }
-        ensures seats { self.new.cards.state.seats ≡ self.old.cards.state.seats }
-        ensures setup { self.new.betting.table.setup ≡ self.old.betting.table.setup }
-        ensures rules { self.new.betting.table.rules ≡ self.old.betting.table.rules }
+        ensures same { IsHandOf
+            self.old.betting.table self.new.betting.table
+            self.old.cards.state self.new.cards.state }
     {
         if self.end_one() {
             self.end_one();
@@ -235,9 +196,9 @@ impl<V: Variant> HandInPlay<V> {
         ensures undone { (past : Past)
             → StandUpToDue self.old.betting.table self.old.cards.state past → result ≡ false
             → StandTogether self.new.betting.table self.new.cards.state past }
-        ensures seats { self.new.cards.state.seats ≡ self.old.cards.state.seats }
-        ensures setup { self.new.betting.table.setup ≡ self.old.betting.table.setup }
-        ensures rules { self.new.betting.table.rules ≡ self.old.betting.table.rules }
+        ensures same { IsHandOf
+            self.old.betting.table self.new.betting.table
+            self.old.cards.state self.new.cards.state }
     {
         let due = self.betting.due();
         let live = self.betting.live();

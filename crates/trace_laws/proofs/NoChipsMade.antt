@@ -18,7 +18,7 @@ use Rattle.play_event.specs.Scripts.{past_of}
 use Rattle.play_event.specs.ValidSetup.{IsValid}
 use Rattle.hand_records.specs.declared.trace.Trace.{Trace}
 use Rattle.hand_canon.specs.LegalHand.{IsShareable}
-use Rattle.canonical_play.specs.TraceCore.{core_of}
+use Rattle.canon_script.specs.TraceCore.{core_of}
 use Rattle.hand_canon.specs.WholeTrace.{IsTraceOf}
 use Rattle.trace_laws.proofs.ShareBounds.{pot_at, share_at, shares_and_rakes}
 use Rattle.trace_laws.proofs.TraceStacks.{stacks_and_shares}

@@ -17,9 +17,9 @@ use Rattle.play_event.specs.Past.{Past}
 use Rattle.play_event.specs.Played.{move_said}
 use Rattle.play_event.specs.Stakes.{finishing_stack}
 use Rattle.hand_records.specs.declared.trace.Trace.{Trace}
-use Rattle.canonical_play.specs.CanonScript.{plain_moves}
+use Rattle.canon_script.specs.CanonScript.{plain_moves}
 use Rattle.hand_canon.specs.LegalHand.{showdown_in}
-use Rattle.canonical_play.specs.TraceCore.{TraceCore, core_of}
+use Rattle.canon_script.specs.TraceCore.{TraceCore, core_of}
 use Rattle.hand_records.specs.TraceRows.{core_said, place_said}
 use Rattle.hand_canon.specs.WholeTrace.{HasSeats, HasShares, IsTraceOf}
 use Rattle.trace_laws.proofs.Readings.{move_same, place_same}

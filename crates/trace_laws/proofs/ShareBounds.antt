@@ -29,7 +29,7 @@ use Rattle.showdown_split.proofs.Flagged.{is_flagged-flag, length-flagged, sum_f
 use Rattle.showdown_split.proofs.Parts.{parts_total}
 use Rattle.hand_records.specs.declared.trace.Trace.{Trace}
 use Rattle.hand_canon.specs.LegalHand.{IsShareable, showdown_in}
-use Rattle.canonical_play.specs.TraceCore.{core_of}
+use Rattle.canon_script.specs.TraceCore.{core_of}
 use Rattle.hand_canon.specs.WholeTrace.{IsTraceOf}
 
 -- a seat that does not win has no part

@@ -6,7 +6,7 @@ use Rattle.std.specs.Vec.Iter.{into_iter_items}
 use Rattle.hand_records.specs.SoundRecord.{IsSoundRecord}
 use Rattle.hand_records.specs.declared.record.Record.{Record}
 use Rattle.convert_core.specs.Judged.{IsFaultAt}
-use Rattle.convert_core.specs.declared.fault.PlaysFault.{PlaysFault}
+use Rattle.convert_core.specs.declared.refusal.PlaysFault.{PlaysFault}
 use Rattle.convert_core.proofs.WrittenLines.{AreOnTheWay, at_end, has_room, one_on, refused_on, written_sound}
 use Rattle.convert_core.proofs.lines.write_records.Goals as goal
 

@@ -5,9 +5,9 @@ use Rattle.std.proofs.lemmas.List.{length-map}
 use Rattle.chip_ledger.specs.Seat.{seats_of}
 use Rattle.play_event.specs.Games.{street_count}
 use Rattle.play_event.specs.Said.{Said, said_of}
-use Rattle.canonical_play.specs.CanonScript.{canonical_script, plain_moves, showdown_said, street_said}
+use Rattle.canon_script.specs.CanonScript.{canonical_script, plain_moves, showdown_said, street_said}
 use Rattle.hand_records.specs.TraceRows.{core_said}
-use Rattle.hand_canon.specs.Words.{words_of}
+use Rattle.hand_canon.specs.SaidSoFar.{words_of}
 use Rattle.hand_canon.proofs.OneByOne.{flat_more}
 use Rattle.hand_canon.proofs.ShortScripts.{canon_short, numbers_are}
 use Rattle.hand_canon.proofs.StreetRows.{streets_few}

@@ -1,8 +1,8 @@
 use Rattle.std.proofs.Common.{◌≡◌}
 use Rattle.std.specs.List.{flat_map, range_with_len}
-use Rattle.canonical_play.specs.CanonScript.{plain_moves, street_said}
+use Rattle.canon_script.specs.CanonScript.{plain_moves, street_said}
 use Rattle.hand_records.specs.TraceRows.{core_said}
-use Rattle.hand_canon.specs.Words.{words_of}
+use Rattle.hand_canon.specs.SaidSoFar.{words_of}
 use Rattle.hand_canon.proofs.canonical.canon.Given as goal
 
 -- the streets so far are written

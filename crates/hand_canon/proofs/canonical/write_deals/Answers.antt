@@ -1,7 +1,7 @@
 -- The deals to the seats, and then the board's.
 use Rattle.std.proofs.Common.{◌∙◌, Some, None, ap, map, sym}
 use Rattle.card_set.specs.Row.{slots_of}
-use Rattle.canonical_play.specs.CanonScript.{dealt_slots}
+use Rattle.canon_script.specs.CanonScript.{dealt_slots}
 use Rattle.hand_records.specs.TraceRows.{place_said}
 use Rattle.hand_canon.proofs.CanonParts.{deals_are}
 use Rattle.hand_canon.proofs.canonical.write_deals.Goals as goal

@@ -1,7 +1,7 @@
 -- Nothing is written where the street does not draw or is not reached, and else the discards of the seats.
 use Rattle.std.proofs.Common.{◌∙◌, ap, arith, map, sym}
 use Rattle.std.specs.List.{list_any}
-use Rattle.canonical_play.specs.CanonScript.{discarded_slots, plain_moves}
+use Rattle.canon_script.specs.CanonScript.{discarded_slots, plain_moves}
 use Rattle.hand_canon.specs.RowTests.{is_fold_before}
 use Rattle.hand_records.specs.TraceRows.{core_said, place_said}
 use Rattle.hand_canon.proofs.CanonParts.{discards_are, not_reached}

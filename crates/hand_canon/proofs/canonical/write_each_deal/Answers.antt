@@ -1,8 +1,8 @@
 -- One seat more.
 use Rattle.std.proofs.Common.{◌+◌, ◌++◌, ◌∙◌, ap}
 use Rattle.play_event.specs.SeatSlots.{slots_of_hand}
-use Rattle.canonical_play.specs.CanonScript.{deal_said}
-use Rattle.hand_canon.specs.Words.{words_of}
+use Rattle.canon_script.specs.CanonScript.{deal_said}
+use Rattle.hand_canon.specs.SaidSoFar.{words_of}
 use Rattle.hand_canon.proofs.OneByOne.{seat_more}
 use Rattle.hand_canon.proofs.canonical.write_each_deal.Goals as goal
 

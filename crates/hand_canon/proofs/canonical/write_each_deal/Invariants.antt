@@ -2,8 +2,8 @@ use Rattle.std.proofs.Common.{◌≡◌, ◌++◌}
 use Rattle.std.specs.List.{flat_map}
 use Rattle.chip_ledger.specs.Seat.{seats_of}
 use Rattle.play_event.specs.SeatSlots.{slots_of_hand}
-use Rattle.canonical_play.specs.CanonScript.{deal_said}
-use Rattle.hand_canon.specs.Words.{words_of}
+use Rattle.canon_script.specs.CanonScript.{deal_said}
+use Rattle.hand_canon.specs.SaidSoFar.{words_of}
 use Rattle.hand_canon.proofs.canonical.write_each_deal.Given as goal
 
 -- the deals to the seats so far are written

@@ -1,6 +1,6 @@
 -- One seat more.
 use Rattle.hand_canon.specs.RowTests.{showings_from}
-use Rattle.hand_canon.specs.Words.{words_of}
+use Rattle.hand_canon.specs.SaidSoFar.{words_of}
 use Rattle.hand_canon.proofs.OneByOne.{seat_more}
 use Rattle.hand_canon.proofs.canonical.write_each_showing.Goals as goal
 

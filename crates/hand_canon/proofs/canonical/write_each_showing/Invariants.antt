@@ -2,7 +2,7 @@ use Rattle.std.proofs.Common.{◌≡◌, ◌++◌}
 use Rattle.std.specs.List.{flat_map}
 use Rattle.chip_ledger.specs.Seat.{seats_of}
 use Rattle.hand_canon.specs.RowTests.{showings_from}
-use Rattle.hand_canon.specs.Words.{words_of}
+use Rattle.hand_canon.specs.SaidSoFar.{words_of}
 use Rattle.hand_canon.proofs.canonical.write_each_showing.Given as goal
 
 -- what the seats so far have to say is written

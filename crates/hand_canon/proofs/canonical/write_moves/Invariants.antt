@@ -1,7 +1,7 @@
 use Rattle.std.proofs.Common.{◌≡◌, ◌++◌, length}
 use Rattle.std.specs.List.{flat_map}
 use Rattle.hand_canon.specs.RowTests.{said_on}
-use Rattle.hand_canon.specs.Words.{words_of}
+use Rattle.hand_canon.specs.SaidSoFar.{words_of}
 use Rattle.hand_canon.proofs.canonical.write_moves.Given as goal
 
 -- what is written and the moves to come are all moves of the street

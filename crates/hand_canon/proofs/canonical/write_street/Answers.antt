@@ -2,10 +2,10 @@
 use Rattle.std.proofs.Common.{◌∙◌, ◌++◌, List, ap, sym}
 use Rattle.std.specs.List.{flat_map}
 use Rattle.play_event.specs.Said.{Said}
-use Rattle.canonical_play.specs.CanonScript.{deals_said, discards_said, moves_named, plain_moves}
+use Rattle.canon_script.specs.CanonScript.{deals_said, discards_said, moves_named, plain_moves}
 use Rattle.hand_canon.specs.RowTests.{said_on}
 use Rattle.hand_records.specs.TraceRows.{core_said}
-use Rattle.hand_canon.specs.Words.{words_of}
+use Rattle.hand_canon.specs.SaidSoFar.{words_of}
 use Rattle.hand_canon.proofs.MoveRows.{moves_are}
 use Rattle.hand_canon.proofs.canonical.write_street.Goals as goal
 use Rattle.list_laws.proofs.Results.{on_ok}

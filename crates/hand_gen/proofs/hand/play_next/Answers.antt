@@ -22,7 +22,7 @@ returns-in-Ok-push-clause-step g c = λ setup start made.
     let hand = c.advance.new.self in
     let pushed : c.push.new.self ≡ script ++ event ∷ [] = c.in-Ok-push.ensures.pushed in
     let more = one_event_more setup start c.args.hand.now.betting.table hand.betting.table c.args.hand.now.cards.state hand.cards.state script event c.args.stock.now c.next.new.stock made
-    (c.in-Some.ensures.event past made.stands) (c.in-Some.ensures.left past made.stands) (c.in-Ok.ensures.stands past made.stands) c.in-Ok.ensures.setup c.in-Ok.ensures.rules (ap (λ n. n + 1) c.len.ensures) in
+    (c.in-Some.ensures.event past made.stands) (c.in-Some.ensures.left past made.stands) (c.in-Ok.ensures.advanced.stands past made.stands) c.in-Ok.ensures.advanced.same.hand.setup c.in-Ok.ensures.advanced.same.hand.rules (ap (λ n. n + 1) c.len.ensures) in
     record {
       made = subst (λ (s : List Event). IsMadeTo setup start hand.betting.table hand.cards.state s c.next.new.stock) (sym pushed) more;
       said = ap backward pushed ∙ backward_more script event;

@@ -1,6 +1,6 @@
 -- The script is whole and within the limits, and one event more is counted.
 use Rattle.std.proofs.Common.{◌+◌, List, map, count_by, Option, sym, ap, subst, ◌∙◌, arith}
-use Rattle.canonical_play.specs.PlayedScript.{IsWithinLimits, is_move}
+use Rattle.canon_script.specs.PlayedScript.{IsWithinLimits, is_move}
 use Rattle.list_laws.proofs.Counting.{count_by-cons}
 use Rattle.play_event.specs.declared.event.Event.{Event}
 use Rattle.play_event.specs.declared.event.Kind.{Kind}

@@ -1,6 +1,6 @@
 -- The events so far are made and counted.
 use Rattle.std.proofs.Common.{◌≡◌, ◌≤◌, length, count_by}
-use Rattle.canonical_play.specs.PlayedScript.{is_move}
+use Rattle.canon_script.specs.PlayedScript.{is_move}
 use Rattle.hand_gen.specs.Made.{backward}
 use Rattle.hand_gen.specs.MadeTo.{IsMadeTo}
 use Rattle.hand_gen.proofs.hand.script_of.Given as goal

@@ -1,7 +1,7 @@
 use Rattle.std.proofs.Common.{ℕ, ◌+◌, List, [], ◌∷◌, arith, sym, ap, subst, ◌∙◌}
 use Rattle.hand_order.specs.Heights.{heights_of}
 use Rattle.hand_order.specs.Tops.{highest, tops}
-use Rattle.hand_order.specs.Picks.{IsBestPattern}
+use Rattle.hand_order.specs.Patterns.{IsBestPattern}
 use Rattle.hand_order.proofs.BestPatterns.{cleared_at, grown_one, grown_two, best_four, best_full, best_three, best_pairs, best_pair, best_ones}
 use Rattle.hand_order.proofs.pattern.best_pattern.Goals as goal
 use Rattle.list_laws.proofs.Lists.{none_before}

@@ -1,7 +1,7 @@
 use Rattle.std.proofs.Common.{◌≡◌, [], map, take, drop}
 use Rattle.ohh_posts.specs.Conditions.{AreFacts, first_breaking}
 use Rattle.ohh_posts.specs.Posts.{AreFirst, plain_post}
-use Rattle.ohh_posts.specs.Table.{plain_table}
+use Rattle.ohh_posts.specs.NamedBlinds.{plain_named_blinds}
 use Rattle.ohh_posts.proofs.checking.first_break.Given as goal
 
 -- no post so far breaks the condition
@@ -9,5 +9,5 @@ abbrev pub invariant-loop-post : goal.invariant-loop-post
 invariant-loop-post l = record {
   before : AreFirst (map plain_post (take l.post-index l.posts)) l.before;
   facts : AreFacts (map plain_post l.posts) l.facts;
-  left : first_breaking l.condition (plain_table l.facts.table) (map plain_post l.posts) (map plain_post (take l.post-index l.posts)) (map plain_post (drop l.post-index l.posts)) ≡ first_breaking l.condition (plain_table l.facts.table) (map plain_post l.posts) [] (map plain_post l.posts);
+  left : first_breaking l.condition (plain_named_blinds l.facts.table) (map plain_post l.posts) (map plain_post (take l.post-index l.posts)) (map plain_post (drop l.post-index l.posts)) ≡ first_breaking l.condition (plain_named_blinds l.facts.table) (map plain_post l.posts) [] (map plain_post l.posts);
 }

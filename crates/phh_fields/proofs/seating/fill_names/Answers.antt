@@ -5,7 +5,7 @@ use Rattle.toml.specs.View.{view}
 use Rattle.first_fault.specs.Reading.{each_from}
 use Rattle.first_fault.proofs.EachItem.{with_front, goes_on, ends, is_done}
 use Rattle.hand_records.specs.AllowedNotes.{IsName}
-use Rattle.phh_fields.specs.declared.fault.Key.TheVariants as keys
+use Rattle.phh_fields.specs.declared.fault.FieldKey.TheVariants as keys
 use Rattle.phh_fields.specs.Fields.{at_item}
 use Rattle.phh_fields.specs.NoteFields.{names_from, text_note_said}
 use Rattle.phh_fields.proofs.seating.fill_names.Goals as goal

@@ -3,7 +3,7 @@ use Rattle.toml.specs.View.{view}
 use Rattle.first_fault.specs.Reading.{each_from}
 use Rattle.first_fault.proofs.EachItem.{with_front}
 use Rattle.hand_records.specs.AllowedNotes.{IsWithin}
-use Rattle.phh_fields.specs.declared.fault.Key.TheVariants as keys
+use Rattle.phh_fields.specs.declared.fault.FieldKey.TheVariants as keys
 use Rattle.phh_fields.specs.Fields.{at_item, number_said}
 use Rattle.phh_fields.specs.NoteFields.{numbers_from}
 use Rattle.phh_fields.proofs.seating.fill_numbers.Given as goal

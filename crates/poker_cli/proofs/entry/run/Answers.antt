@@ -38,8 +38,12 @@ returns-in-Ok-Some-clause-headline g c =
     (g.H.Shelf.files c.args.shelf.now) _ _ c.run_request.result
     (sym (ap (option_map request_in) c.in-Ok-Some.field-0-is) ∙ c.in-Ok-Some.ensures.read) ends.ends
     (record {
-      unwritten = λ nothing. ap g.K.Sink.held (ends.nothing_written nothing);
-      failed = ends.write_fault;
-      quiet = λ done. ap g.D.Sink.held (ends.quiet done);
-      fixed = ends.fixed_line;
+      unwritten = λ nothing. ap g.K.Sink.held (ends.leaves.nothing_written nothing);
+      failed = ends.tells.write_fault;
+      quiet = λ done. ap g.D.Sink.held (ends.leaves.quiet done);
+      fixed = ends.tells.fixed_line;
     })
+
+pub returns-in-Ok-None-clause-tells : goal.returns-in-Ok-None-clause-tells
+returns-in-Ok-None-clause-tells g c =
+    record { read_fault = λ is. cc; write_fault = λ is. cc; shelf_fault = λ is. cc; fixed_line = c.tell.ensures }

@@ -1,5 +1,7 @@
 -- A run ends with the answer that was delivered.
+use Rattle.std.proofs.Common.{rules}
 use Rattle.command_words.specs.Requests.{request_in}
+use Rattle.host_io.specs.Faults.{Rose}
 use Rattle.poker_cli.specs.Run.{bytes_told, files_told}
 use Rattle.poker_cli.specs.Told.{answer_told}
 use Rattle.poker_cli.specs.Ways.{game_name, made_by}
@@ -12,3 +14,17 @@ returns-in-Ok-clause-ends g c =
     ends_where_told request (files_told (game_name request) (g.H.Shelf.files c.args.shelf.now)) (bytes_told (made_by request) (g.S.Source.left c.args.input.now)) _ _
     (answer_told c.in-Ok.answer) c.deliver.result c.in-Ok.ensures.answer c.in-Ok.ensures.own c.deliver.ensures.status c.deliver.ensures.written
     c.deliver.ensures.line
+
+pub returns-in-Err-ReadFault-clause-tells : goal.returns-in-Err-ReadFault-clause-tells
+returns-in-Err-ReadFault-clause-tells g c =
+    let rose : Rose (g.S.Source.faults c.args.input.now) (g.S.Source.faults c.reply.new.input) = search rules in
+    record { read_fault = λ is. rose; write_fault = λ is. cc; shelf_fault = λ is. cc; fixed_line = c.tell.ensures }
+
+pub returns-in-Err-GameMissing-clause-tells : goal.returns-in-Err-GameMissing-clause-tells
+returns-in-Err-GameMissing-clause-tells g c =
+    record { read_fault = λ is. cc; write_fault = λ is. cc; shelf_fault = λ is. cc; fixed_line = c.tell-in-Err-GameMissing.ensures }
+
+pub returns-in-Err-ShelfFault-clause-tells : goal.returns-in-Err-ShelfFault-clause-tells
+returns-in-Err-ShelfFault-clause-tells g c =
+    let rose : Rose (g.H.Shelf.faults c.args.shelf.now) (g.H.Shelf.faults c.reply.new.shelf) = search rules in
+    record { read_fault = λ is. cc; write_fault = λ is. cc; shelf_fault = λ is. rose; fixed_line = c.tell-in-Err-ShelfFault.ensures }

@@ -1,7 +1,7 @@
 -- What the move adds is put, and its line is that of the event that names it.
 use Rattle.std.proofs.Common.{◌≡◌, ◌∷◌, ◌++◌, subst, decimal, string_bytes}
-use Rattle.canonical_play.specs.CanonScript.{plain_move}
-use Rattle.phh_words.specs.Written.{event_text}
+use Rattle.canon_script.specs.CanonScript.{plain_move}
+use Rattle.phh_actions.specs.Written.{event_text}
 use Rattle.play_event.specs.Played.{move_said}
 use Rattle.play_event.specs.Said.{Said}
 use Rattle.printed_hands.specs.Steps.{chips_text}

@@ -10,4 +10,4 @@ returns-clause-stands g c = λ past stands. sym (ap (λ (p : ℕ × Due). p.1) s
 pub returns-clause-within : goal.returns-clause-within
 returns-clause-within g c =
     let whole = c.args.self.now in
-    here_within whole.table.due whole.table.street g.V.Variant.STREETS whole.here whole.first whole.last
+    here_within whole.table.due whole.table.street g.V.Variant.STREETS whole.kept.here whole.kept.first whole.kept.last

@@ -13,9 +13,9 @@ pub returns-clause-stands : goal.returns-clause-stands
 returns-clause-stands g c =
     let whole = c.args.self.now in
     let b = whole.table in
-    let most : b.street ≤ street_count g.V.Variant.CODE = omega (arith, whole.last, g.met.V.Variant.values.streets_is) in
+    let most : b.street ≤ street_count g.V.Variant.CODE = omega (arith, whole.kept.last, g.met.V.Variant.values.streets_is) in
     let within : b.street ≤ street_count b.setup.code = subst (λ (code : Code). b.street ≤ street_count code) (sym whole.code) most in
-    λ past stands bets. stands_after b c.make.new.self c.settle.new.table past c.args.seat.number c.args.target c.unit-unit.result (act_said c.args.act) stands bets (record { first = c.args.seat.first; last = c.requires.in_hand }) c.make.ensures c.unit-unit.ensures whole.first within c.requires.fits c.settle.ensures.settled
+    λ past stands bets. stands_after b c.make.new.self c.settle.new.table past c.args.seat.number c.args.target c.unit-unit.result (act_said c.args.act) stands bets (record { first = c.args.seat.first; last = c.requires.in_hand }) c.make.ensures c.unit-unit.ensures whole.kept.first within c.requires.fits c.settle.ensures.settled
 
 pub settle-requires-clause-behind : goal.settle-requires-clause-behind
 settle-requires-clause-behind g c =
@@ -24,5 +24,5 @@ settle-requires-clause-behind g c =
     let next = c.make.new.self in
     let seat = c.args.seat in
     some_more c.args.behind (IsFirstBehind b seat.number) (IsNextUp next)
-    (λ behind is. next_up b next seat.number (act_said c.args.act) c.args.target c.unit-unit.result c.make.ensures (record { first = seat.first; last = c.requires.in_hand }) whole.fresh behind is)
+    (λ behind is. next_up b next seat.number (act_said c.args.act) c.args.target c.unit-unit.result c.make.ensures (record { first = seat.first; last = c.requires.in_hand }) whole.kept.fresh behind is)
     c.requires.behind

@@ -10,7 +10,7 @@ use Rattle.betting_core.proofs.betting.Betting.turn_found.Goals as goal
 pub returns-in-Some-clause-turn : goal.returns-in-Some-clause-turn
 returns-in-Some-clause-turn g c =
     let whole = c.args.self.now in
-    λ past stands holds bets. kept_later whole.table past stands whole.turn bets whole.begins c.in-Some.field-0 c.in-Some.is
+    λ past stands holds bets. kept_later whole.table past stands whole.kept.turn bets whole.kept.begins c.in-Some.field-0 c.in-Some.is
 
 pub returns-in-Some-clause-behind : goal.returns-in-Some-clause-behind
 returns-in-Some-clause-behind g c =
@@ -20,7 +20,7 @@ returns-in-Some-clause-behind g c =
 pub returns-in-Blinds-clause-turn : goal.returns-in-Blinds-clause-turn
 returns-in-Blinds-clause-turn g c =
     let whole = c.args.self.now in
-    λ past stands holds bets. kept_blinds whole.table past stands whole.turn bets
+    λ past stands holds bets. kept_blinds whole.table past stands whole.kept.turn bets
     (ap (λ (code : Code). opener_of code) whole.code ∙ sym g.met.V.Variant.values.opener_is ∙ sym c.OPEN.ensures ∙ c.in-Blinds.is)
 
 pub returns-in-Blinds-clause-behind : goal.returns-in-Blinds-clause-behind

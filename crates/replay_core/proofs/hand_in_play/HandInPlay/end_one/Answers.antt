@@ -15,11 +15,11 @@ returns-then-done-clause-up_to g c =
     let done : is_done b.setup past b.due ≡ true =
     ap (is_done b.setup past) (sym c.due-due.ensures.value) ∙ sym (c.done.ensures.done b.setup past (turn b.setup past).1 now) ∙ c.if-done.true in
     record {
-      code_is = ap (λ (s : Setup). s.code) c.dealt.ensures.setup ∙ half.code_is;
-      seats = ap (λ (s : Setup). s.stacks.seats) c.dealt.ensures.setup ∙ half.seats;
+      code_is = ap (λ (s : Setup). s.code) c.dealt.ensures.same.setup ∙ half.code_is;
+      seats = ap (λ (s : Setup). s.stacks.seats) c.dealt.ensures.same.setup ∙ half.seats;
       cards = half.cards;
-      kept = λ unended. c.dealt.ensures.stands past (half.ended done) (sym (ap (λ (s : Setup). is_done s past c.dealt.new.self.table.due) c.dealt.ensures.setup) ∙ unended);
-      ended = λ ended. c.dealt.ensures.up_to past (half.ended done) (sym (ap (λ (s : Setup). is_done s past c.dealt.new.self.table.due) c.dealt.ensures.setup) ∙ ended);
+      kept = λ unended. c.dealt.ensures.stands past (half.ended done) (sym (ap (λ (s : Setup). is_done s past c.dealt.new.self.table.due) c.dealt.ensures.same.setup) ∙ unended);
+      ended = λ ended. c.dealt.ensures.up_to past (half.ended done) (sym (ap (λ (s : Setup). is_done s past c.dealt.new.self.table.due) c.dealt.ensures.same.setup) ∙ ended);
     }
 
 pub returns-else-done-clause-undone : goal.returns-else-done-clause-undone
@@ -50,4 +50,4 @@ returns-then-done-clause-next g c =
     let now = now_up_to b t c.live-live.result past half (c.live-live.ensures.stands past) (c.live-live.ensures.up_to past) in
     let done : is_done b.setup past b.due ≡ true =
     ap (is_done b.setup past) (sym c.due-due.ensures.value) ∙ sym (c.done.ensures.done b.setup past (turn b.setup past).1 now) ∙ c.if-done.true in
-    c.dealt.ensures.showdown past (half.ended done) (sym (ap (λ (s : Setup). is_done s past c.dealt.new.self.table.due) c.dealt.ensures.setup) ∙ ended)
+    c.dealt.ensures.showdown past (half.ended done) (sym (ap (λ (s : Setup). is_done s past c.dealt.new.self.table.due) c.dealt.ensures.same.setup) ∙ ended)

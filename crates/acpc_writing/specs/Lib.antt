@@ -1,0 +1,16 @@
+-- The one line of a log that stands for a play, the facts of a play that the logs of a game do not spell, and the game that a
+-- hand fits.
+pub mod Seats
+pub mod Rounds
+pub mod Betting
+pub mod Cards
+pub mod Values
+pub mod Names
+pub mod Line
+pub mod Texts
+pub mod Puts
+pub mod SetupFacts
+pub mod PlayFacts
+pub mod NoteFacts
+pub mod Spelled
+pub mod GameOf

@@ -1,0 +1,40 @@
+-- Which notes of a hand a line spells: names of players, and the number of the hand.
+use Rattle.std.specs.Prelude.{ℕ, Bool, false, not, List, [], ◌∷◌, Option, Some, None, is_some}
+use Rattle.std.specs.List.{list_any}
+use Rattle.hand_records.specs.declared.notes.Notes.{Notes}
+use Rattle.hand_records.specs.declared.notes.NoteName.TheVariants as names
+use Rattle.hand_records.specs.declared.writing.Unspelled.{Unspelled}
+use Rattle.hand_records.specs.declared.writing.Unspelled.TheVariants as facts
+use Rattle.acpc_writing.specs.Names.{is_spelled_hand, is_spelled_name}
+
+-- a name is said that has no spelling
+abbrev pub is_unspelled_name : Option (List ℕ) → Bool
+is_unspelled_name None = false
+is_unspelled_name (Some name) = not (is_spelled_name name)
+
+-- a number of the hand is said that has no spelling
+abbrev pub is_unspelled_hand : Option (List ℕ) → Bool
+is_unspelled_hand None = false
+is_unspelled_hand (Some text) = not (is_spelled_hand text)
+
+-- each condition of the notes of a hand that a line does not spell, with the note that it names: of seats and texts
+abbrev pub text_conditions : Notes → List (Bool × Unspelled)
+text_conditions notes =
+    (list_any is_unspelled_name notes.names, facts.Note names.Players)
+    ∷ (is_some notes.seats, facts.Note names.Seats)
+    ∷ (is_some notes.seat_count, facts.Note names.SeatCount)
+    ∷ (is_unspelled_hand notes.hand, facts.Note names.Hand)
+    ∷ (is_some notes.table, facts.Note names.Table)
+    ∷ (is_some notes.venue, facts.Note names.Venue)
+    ∷ (is_some notes.currency, facts.Note names.Currency)
+    ∷ []
+
+-- and of the day and its time
+abbrev pub time_conditions : Notes → List (Bool × Unspelled)
+time_conditions notes =
+    (is_some notes.zone, facts.Note names.TimeZone)
+    ∷ (is_some notes.year, facts.Note names.Year)
+    ∷ (is_some notes.month, facts.Note names.Month)
+    ∷ (is_some notes.day, facts.Note names.Day)
+    ∷ (is_some notes.time, facts.Note names.Time)
+    ∷ []

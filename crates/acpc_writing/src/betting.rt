@@ -1,0 +1,134 @@
+//! The betting of a line has a letter for each move.
+ghost use Rattle.std.specs.Prelude.{◌≡◌, ◌++◌, map, OnOk};
+ghost use Rattle.play_event.specs.Past.{Raised};
+ghost use Rattle.play_event.specs.Played.{act_said, move_said};
+ghost use Rattle.canon_script.specs.CanonScript.{plain_move, plain_moves};
+ghost use Rattle.hand_records.specs.TraceRows.{place_said};
+ghost use Rattle.acpc_writing.specs.Betting.{betting_text, letter, letter_on, letters_on, round_text};
+ghost use Rattle.acpc_writing.specs.Puts.{HaveFewChips};
+
+use crate::cards::has_board;
+use crate::puts::{add, posted_chips};
+use play_event::{Act, Move, Place, Setup};
+use std::alloc::{AllocError, Global};
+
+/// The betting of a hand with these moves and cards. Raises have their totals where the game has no limit.
+#[tactic(auto, unfolding(crate::specs::Betting::betting_text))]
+pub fn push_betting(
+    alloc: Global,
+    out: &mut Vec<u8>,
+    no_limit: bool,
+    setup: &Setup,
+    moves: &[Move],
+    places: &[Place],
+) -> Result<(), AllocError>
+    requires { HaveFewChips setup.now moves.now }
+    ensures { OnOk result (out.new.items ≡ out.old.items
+        ++ betting_text no_limit setup.now (map place_said places.now)
+        (plain_moves (map move_said moves.now))) }
+{
+    push_letters(alloc, out, no_limit, setup, moves, 1)?;
+    push_round(alloc, out, no_limit, setup, moves, places, 2)?;
+    push_round(alloc, out, no_limit, setup, moves, places, 3)?;
+    push_round(alloc, out, no_limit, setup, moves, places, 4)
+}
+
+// The betting of a further round, if it was dealt.
+#[tactic(auto, unfolding(crate::specs::Betting::round_text))]
+fn push_round(
+    alloc: Global,
+    out: &mut Vec<u8>,
+    no_limit: bool,
+    setup: &Setup,
+    moves: &[Move],
+    places: &[Place],
+    street: u8,
+) -> Result<(), AllocError>
+    requires { HaveFewChips setup.now moves.now }
+    ensures { OnOk result (out.new.items ≡ out.old.items
+        ++ round_text no_limit setup.now (map place_said places.now)
+        (plain_moves (map move_said moves.now)) street) }
+{
+    if !has_board(places, street) {
+        return Ok(());
+    }
+    out.extend_from_slice(b"/")?;
+    push_letters(alloc, out, no_limit, setup, moves, street)
+}
+
+// The letters of a street.
+fn push_letters(
+    alloc: Global,
+    out: &mut Vec<u8>,
+    no_limit: bool,
+    setup: &Setup,
+    moves: &[Move],
+    street: u8,
+) -> Result<(), AllocError>
+    requires { HaveFewChips setup.now moves.now }
+    ensures { OnOk result (out.new.items ≡ out.old.items
+        ++ letters_on no_limit setup.now street (plain_moves (map move_said moves.now))) }
+{
+    let mut put = posted_chips(setup);
+    for played in moves {
+        add(&mut put, *played);
+        let total = put[played.seat.number as usize - 1];
+        push_letter_on(alloc, out, no_limit, street, *played, total)?;
+    }
+    Ok(())
+}
+
+// The letter of a move, where it is one of a street.
+fn push_letter_on(
+    alloc: Global,
+    out: &mut Vec<u8>,
+    no_limit: bool,
+    street: u8,
+    played: Move,
+    total: u64,
+) -> Result<(), AllocError>
+    ensures { OnOk result (out.new.items
+        ≡ out.old.items ++ letter_on no_limit street (plain_move (move_said played)) total) }
+{
+    if played.street != street {
+        return Ok(());
+    }
+    push_letter(alloc, out, no_limit, played.act, total)
+}
+
+// The letter of a move, after which its seat has put so many chips in the whole hand.
+fn push_letter(
+    alloc: Global,
+    out: &mut Vec<u8>,
+    no_limit: bool,
+    act: Act,
+    total: u64,
+) -> Result<(), AllocError>
+    ensures { OnOk result (out.new.items
+        ≡ out.old.items ++ letter no_limit (act_said act) total) }
+{
+    match act {
+        Act::Fold => out.extend_from_slice(b"f"),
+        Act::Call => out.extend_from_slice(b"c"),
+        Act::Raise => push_raise(alloc, out, no_limit, total),
+        Act::BringIn => Ok(()),
+    }
+}
+
+// `r`, and in a no-limit game the chips of the whole hand behind it.
+fn push_raise(
+    alloc: Global,
+    out: &mut Vec<u8>,
+    no_limit: bool,
+    total: u64,
+) -> Result<(), AllocError>
+    ensures { OnOk result (out.new.items
+        ≡ out.old.items ++ letter no_limit Raised total) }
+{
+    out.extend_from_slice(b"r")?;
+    if !no_limit {
+        return Ok(());
+    }
+    let digits = total.to_string(alloc)?;
+    out.extend_from_slice(digits.as_bytes())
+}

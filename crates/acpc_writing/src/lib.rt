@@ -1,0 +1,25 @@
+//! Each play is written as its one line of a log, or the first play is named that the logs of a game do not spell.
+#![tactic(auto)]
+
+mod amounts;
+mod betting;
+mod cards;
+mod fits;
+mod line;
+mod log;
+mod names;
+mod notes;
+mod odd;
+mod played;
+mod puts;
+mod spelled;
+mod values;
+
+pub use betting::push_betting;
+pub use cards::{has_board, has_unknown, is_dealt, push_cards};
+pub use fits::game_of;
+pub use line::push_line;
+pub use log::write;
+pub use names::{is_spelled_hand, push_hand};
+pub use puts::{add, posted_chips};
+pub use spelled::spells;

@@ -1,0 +1,92 @@
+//! A play is written as its one line.
+ghost use Rattle.std.specs.Prelude.{◌≡◌, ◌++◌, OnOk};
+ghost use Rattle.hand_canon.specs.Sound.{IsSound};
+ghost use Rattle.acpc_writing.specs.Line.{end_text, head_text, line_text, play_text};
+ghost use Rattle.acpc_writing.specs.Puts.{HaveFewChips};
+ghost use Rattle.acpc_writing.specs.Texts.{AreTexts, HasTexts};
+
+use crate::betting::push_betting;
+use crate::cards::push_cards;
+use crate::names::{push_hand, push_names};
+use crate::values::push_values;
+use first_fault::Text;
+use hand_records::{Notes, Play, Trace};
+use std::alloc::{AllocError, Global};
+
+/// Puts the line of the play at a place of its file, from 0, behind those of the plays before it. Raises have their totals where
+/// the game has no limit.
+#[tactic(auto, unfolding(crate::specs::Line::line_text))]
+pub fn push_line(
+    alloc: Global,
+    out: &mut Vec<u8>,
+    no_limit: bool,
+    place: usize,
+    play: &Play,
+) -> Result<(), AllocError>
+    requires { IsSound play.now }
+    ensures written { OnOk result (out.new.items
+        ≡ out.old.items ++ line_text no_limit place play.now) }
+    ensures texts { OnOk result (HasTexts play.now) }
+{
+    push_head(alloc, out, place, &play.hand.notes.hand)?;
+    out.extend_from_slice(b":")?;
+    push_play(alloc, out, no_limit, &play.trace)?;
+    out.extend_from_slice(b":")?;
+    push_end(alloc, out, &play.trace, &play.hand.notes)?;
+    out.extend_from_slice(b"\n")?;
+    Ok(())
+}
+
+// `STATE` and the number of the hand at a place of its file, from 0.
+#[tactic(auto, unfolding(crate::specs::Line::head_text))]
+fn push_head(
+    alloc: Global,
+    out: &mut Vec<u8>,
+    place: usize,
+    hand: &Option<Text>,
+) -> Result<(), AllocError>
+    ensures { OnOk result (out.new.items ≡ out.old.items ++ head_text place hand.now) }
+{
+    out.extend_from_slice(b"STATE:")?;
+    push_hand(alloc, out, place, hand)
+}
+
+// The betting and the cards of a hand.
+#[tactic(auto, unfolding(crate::specs::Line::play_text))]
+fn push_play(
+    alloc: Global,
+    out: &mut Vec<u8>,
+    no_limit: bool,
+    trace: &Trace,
+) -> Result<(), AllocError>
+    requires { HaveFewChips trace.now.setup trace.now.moves }
+    ensures { OnOk result (out.new.items ≡ out.old.items ++ play_text no_limit trace.now) }
+{
+    push_betting(
+        alloc,
+        out,
+        no_limit,
+        &trace.setup,
+        trace.moves.as_slice(),
+        trace.places.as_slice(),
+    )?;
+    out.extend_from_slice(b":")?;
+    push_cards(out, trace.places.as_slice(), trace.setup.stacks.seats)
+}
+
+// The values and the names.
+#[tactic(auto, unfolding(crate::specs::Line::end_text))]
+fn push_end(
+    alloc: Global,
+    out: &mut Vec<u8>,
+    trace: &Trace,
+    notes: &Notes,
+) -> Result<(), AllocError>
+    requires { trace.now.finish.seats ≡ trace.now.setup.stacks.seats }
+    ensures written { OnOk result (out.new.items ≡ out.old.items ++ end_text trace.now notes.now) }
+    ensures texts { OnOk result (AreTexts trace.now.setup.stacks.seats notes.now) }
+{
+    push_values(alloc, out, &trace.setup.stacks, &trace.finish)?;
+    out.extend_from_slice(b":")?;
+    push_names(alloc, out, notes, trace.setup.stacks.seats)
+}

@@ -1,0 +1,57 @@
+//! Plays are written as the lines of a log.
+ghost use Rattle.std.specs.Prelude.{◌≡◌, ◌⊎◌, ◌≤◌, None, Some, length, IfErr, IfOk, OnOk};
+ghost use Rattle.std.specs.List.{AllByRecursion};
+ghost use Rattle.hand_canon.specs.Sound.{IsSound};
+ghost use Rattle.first_fault.specs.declared.limits.TheConstants.{MOST_HANDS};
+ghost use Rattle.hand_records.specs.declared.writing.WriteRefusal.TheVariants as refusals;
+ghost use Rattle.acpc_writing.specs.Line.{log_text};
+ghost use Rattle.acpc_writing.specs.Spelled.{unspelled};
+ghost use Rattle.acpc_writing.specs.Texts.{HasTexts};
+ghost use Rattle.hand_records.specs.WriteRefusals.{first_refusal};
+
+use crate::line::push_line;
+use crate::spelled::find_refusal;
+use acpc_game::Game;
+use hand_records::{Keep, Play, WriteRefusal};
+use std::alloc::{AllocError, Global};
+
+/// The lines of some plays, one a play. Nothing is written where the logs of the game do not spell one of them.
+///
+/// # Errors
+///
+/// The number of the first such play, from 1, and its first fact without a spelling.
+pub fn write(
+    alloc: Global,
+    game: &Game,
+    plays: &[Play],
+    keep: Keep,
+) -> Result<Vec<u8>, WriteRefusal>
+    requires few { length plays.now ≤ MOST_HANDS }
+    requires sound { AllByRecursion IsSound plays.now }
+    ensures written { IfOk result (λ bytes. bytes.items ≡ log_text game.now.no_limit plays.now) }
+    ensures texts { OnOk result (AllByRecursion HasTexts plays.now) }
+    ensures spelled { OnOk result (first_refusal (unspelled game.now keep) plays.now ≡ None) }
+    ensures refused { IfErr result (λ refusal. (refusal ≡ refusals.Memory)
+        ⊎ (first_refusal (unspelled game.now keep) plays.now ≡ Some refusal)) }
+{
+    if let Some(refusal) = find_refusal(game, plays, keep) {
+        return Err(refusal);
+    }
+    match spell(alloc, game.no_limit, plays) {
+        Ok(bytes) => Ok(bytes),
+        Err(_) => Err(WriteRefusal::Memory),
+    }
+}
+
+// The lines of some plays.
+fn spell(alloc: Global, no_limit: bool, plays: &[Play]) -> Result<Vec<u8>, AllocError>
+    requires { AllByRecursion IsSound plays.now }
+    ensures written { IfOk result (λ bytes. bytes.items ≡ log_text no_limit plays.now) }
+    ensures texts { OnOk result (AllByRecursion HasTexts plays.now) }
+{
+    let mut out = Vec::new(alloc);
+    for (place, play) in plays.iter().enumerate() {
+        push_line(alloc, &mut out, no_limit, place, play)?;
+    }
+    Ok(out)
+}

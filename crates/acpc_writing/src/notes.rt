@@ -1,0 +1,115 @@
+//! The notes of a hand are looked through for what a line does not spell.
+ghost use Rattle.std.specs.Prelude.{◌≡◌};
+ghost use Rattle.std.specs.List.{list_any};
+ghost use Rattle.hand_records.specs.declared.writing.Keep.TheVariants as keeps;
+ghost use Rattle.acpc_writing.specs.NoteFacts.{is_unspelled_hand as is_unspelled_hand_said, is_unspelled_name as is_unspelled_name_said, text_conditions, time_conditions};
+ghost use Rattle.acpc_writing.specs.Spelled.{unspelled_note};
+ghost use Rattle.first_fault.specs.Conditions.{first_where};
+
+use crate::names::{is_spelled_hand, is_spelled_name};
+use first_fault::Text;
+use hand_records::{Keep, NoteName, Notes, Unspelled};
+
+/// The first note that is kept and that a line does not spell.
+#[tactic(auto, unfolding(crate::specs::Spelled::unspelled_note))]
+pub fn find_other_note(notes: &Notes, keep: Keep) -> Option<Unspelled>
+    ensures { result ≡ unspelled_note keep notes.now }
+{
+    match keep {
+        Keep::All => find_any(notes),
+        Keep::Spelled => None,
+    }
+}
+
+// The first of all notes that a line does not spell.
+#[tactic(auto, unfolding(crate::specs::Spelled::unspelled_note))]
+fn find_any(notes: &Notes) -> Option<Unspelled>
+    ensures { result ≡ unspelled_note keeps.All notes.now }
+{
+    match find_text(notes) {
+        Some(fact) => Some(fact),
+        None => find_time(notes),
+    }
+}
+
+// The first note of seats and texts that a line does not spell.
+fn find_text(notes: &Notes) -> Option<Unspelled>
+    ensures { result ≡ first_where (text_conditions notes.now) }
+{
+    if has_unspelled_name(&notes.names) {
+        return Some(Unspelled::Note(NoteName::Players));
+    }
+    if notes.seats.is_some() {
+        return Some(Unspelled::Note(NoteName::Seats));
+    }
+    if notes.seat_count.is_some() {
+        return Some(Unspelled::Note(NoteName::SeatCount));
+    }
+    if is_unspelled_hand(&notes.hand) {
+        return Some(Unspelled::Note(NoteName::Hand));
+    }
+    if notes.table.is_some() {
+        return Some(Unspelled::Note(NoteName::Table));
+    }
+    if notes.venue.is_some() {
+        return Some(Unspelled::Note(NoteName::Venue));
+    }
+    if notes.currency.is_some() {
+        return Some(Unspelled::Note(NoteName::Currency));
+    }
+    None
+}
+
+// Whether this is so of one of the names.
+fn has_unspelled_name(names: &[Option<Text>]) -> bool
+    ensures { result ≡ list_any is_unspelled_name_said names.now }
+{
+    for name in names {
+        if is_unspelled_name(name) {
+            return true;
+        }
+    }
+    false
+}
+
+// Whether a name is said that has no spelling.
+fn is_unspelled_name(name: &Option<Text>) -> bool
+    ensures { result ≡ is_unspelled_name_said name.now }
+{
+    match name {
+        Some(name) => !is_spelled_name(name.as_str().as_bytes()),
+        None => false,
+    }
+}
+
+// Whether a number of the hand is said that has no spelling.
+fn is_unspelled_hand(text: &Option<Text>) -> bool
+    ensures { result ≡ is_unspelled_hand_said text.now }
+{
+    match text {
+        Some(text) => !is_spelled_hand(text.as_str().as_bytes()),
+        None => false,
+    }
+}
+
+// The first note of the day and its time that stands: a line spells none.
+fn find_time(notes: &Notes) -> Option<Unspelled>
+    ensures { result ≡ first_where (time_conditions notes.now) }
+{
+    if notes.zone.is_some() {
+        return Some(Unspelled::Note(NoteName::TimeZone));
+    }
+    if notes.year.is_some() {
+        return Some(Unspelled::Note(NoteName::Year));
+    }
+    if notes.month.is_some() {
+        return Some(Unspelled::Note(NoteName::Month));
+    }
+    if notes.day.is_some() {
+        return Some(Unspelled::Note(NoteName::Day));
+    }
+    if notes.time.is_some() {
+        return Some(Unspelled::Note(NoteName::Time));
+    }
+    None
+}

@@ -1,0 +1,41 @@
+//! A pot has an odd chip where one of its winners gets less than another.
+ghost use Rattle.std.specs.Prelude.{◌≡◌, ◌&&◌, nat_lt};
+ghost use Rattle.std.specs.List.{list_any};
+ghost use Rattle.chip_ledger.specs.PotRow.{shares_in};
+ghost use Rattle.acpc_writing.specs.PlayFacts.{is_uneven as is_uneven_said};
+
+use crate::amounts::amounts_of;
+use acpc_game::greatest;
+use chip_ledger::{SeatRow, ShareRow};
+
+/// Whether this is so of one of the pots.
+pub fn has_odd_chip(shares: &ShareRow) -> bool
+    ensures { result ≡ list_any is_uneven_said (shares_in shares.now) }
+{
+    for share in &shares.shares[..shares.count as usize] {
+        if is_uneven(share) {
+            return true;
+        }
+    }
+    false
+}
+
+// Whether one winner of a pot gets less than another.
+fn is_uneven(share: &SeatRow) -> bool
+    ensures { result ≡ is_uneven_said share.now }
+{
+    let amounts = amounts_of(share);
+    has_between(amounts, greatest(amounts))
+}
+
+// Whether one of the amounts is above 0 and below another.
+fn has_between(amounts: &[u64], most: u64) -> bool
+    ensures { result ≡ list_any (λ chips. nat_lt 0 chips && nat_lt chips most) amounts.now }
+{
+    for chips in amounts {
+        if 0 < *chips && *chips < most {
+            return true;
+        }
+    }
+    false
+}

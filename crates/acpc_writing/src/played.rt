@@ -1,0 +1,186 @@
+//! The moves and the cards of a hand are looked through for what the logs of a game do not spell.
+ghost use Rattle.std.specs.Prelude.{◌≡◌, ◌≤◌, ◌-◌, ◌&&◌, Some, count_by, map};
+ghost use Rattle.std.specs.List.{list_any};
+ghost use Rattle.chip_ledger.specs.Seat.{seats_of};
+ghost use Rattle.play_event.specs.Past.{is_fold as is_fold_said, is_raise as is_raise_said};
+ghost use Rattle.play_event.specs.Played.{act_said};
+ghost use Rattle.hand_records.specs.TraceRows.{place_said};
+ghost use Rattle.acpc_writing.specs.PlayFacts.{is_above_cap as is_above_cap_said, is_above_caps as is_above_caps_said, is_free_fold as is_free_fold_said, is_off_unit as is_off_unit_said, is_open_muck as is_open_muck_said, is_part_known as is_part_known_said, is_raise_on as is_raise_on_said, play_conditions};
+ghost use Rattle.first_fault.specs.Conditions.{first_where};
+
+use crate::cards::{has_known, has_unknown};
+use crate::odd::has_odd_chip;
+use acpc_game::Game;
+use chip_ledger::{LiveRow, Seat};
+use hand_records::{Trace, Unspelled};
+use play_event::{Act, Move, Place};
+
+/// The first fact of the play of a hand that the logs of a game do not spell.
+pub fn find_other_play(game: &Game, trace: &Trace) -> Option<Unspelled>
+    ensures { result ≡ first_where (play_conditions game.now trace.now) }
+{
+    let moves = trace.moves.as_slice();
+    let places = trace.places.as_slice();
+    let seats = trace.setup.stacks.seats;
+    if has_free_fold(moves) {
+        return Some(Unspelled::FreeFold);
+    }
+    if is_above_caps(game.caps, moves) {
+        return Some(Unspelled::TooManyRaises);
+    }
+    if !game.no_limit && has_off_unit(moves) {
+        return Some(Unspelled::RaiseTarget);
+    }
+    if has_part_known(places, seats) {
+        return Some(Unspelled::PartCards);
+    }
+    if has_open_muck(places, &trace.mucked, seats) {
+        return Some(Unspelled::Muck);
+    }
+    if has_odd_chip(&trace.shares) {
+        return Some(Unspelled::OddChip);
+    }
+    None
+}
+
+// Whether one of the moves is such a fold.
+fn has_free_fold(moves: &[Move]) -> bool
+    ensures { result ≡ list_any is_free_fold_said moves.now }
+{
+    for played in moves {
+        if is_free_fold(*played) {
+            return true;
+        }
+    }
+    false
+}
+
+// Whether a seat folds where it owes nothing.
+fn is_free_fold(played: Move) -> bool
+    ensures { result ≡ is_free_fold_said played }
+{
+    is_fold(played.act) && played.price <= played.from
+}
+
+// Whether the act is a fold.
+fn is_fold(act: Act) -> bool
+    ensures { result ≡ is_fold_said (act_said act) }
+{
+    match act {
+        Act::Fold => true,
+        _ => false,
+    }
+}
+
+// Whether one of the four streets has more raises than its cap, where there are caps.
+fn is_above_caps(caps: Option<[u32; 4]>, moves: &[Move]) -> bool
+    ensures { result ≡ is_above_caps_said caps moves.now }
+{
+    let Some(caps) = caps else {
+        return false;
+    };
+    is_above_cap(caps, moves, 1)
+        || is_above_cap(caps, moves, 2)
+        || is_above_cap(caps, moves, 3)
+        || is_above_cap(caps, moves, 4)
+}
+
+// Whether a street has more raises than its cap.
+fn is_above_cap(caps: [u32; 4], moves: &[Move], street: u8) -> bool
+    requires low { 1 ≤ street }
+    requires high { street ≤ 4 }
+    ensures { result ≡ is_above_cap_said caps moves.now street }
+{
+    let cap = u64::from(caps[street as usize - 1]);
+    cap < count_raises(moves, street) as u64
+}
+
+// How many raises a street has.
+fn count_raises(moves: &[Move], street: u8) -> usize
+    ensures count { result ≡ count_by (is_raise_on_said street) moves.now }
+{
+    let mut count = 0;
+    for played in moves {
+        if is_raise_on(*played, street) {
+            count += 1;
+        }
+    }
+    count
+}
+
+// Whether the move is a raise on a street.
+fn is_raise_on(played: Move, street: u8) -> bool
+    ensures { result ≡ is_raise_on_said street played }
+{
+    is_raise(played.act) && played.street == street
+}
+
+// Whether one of the moves is such a raise.
+fn has_off_unit(moves: &[Move]) -> bool
+    ensures { result ≡ list_any is_off_unit_said moves.now }
+{
+    for played in moves {
+        if is_off_unit(*played) {
+            return true;
+        }
+    }
+    false
+}
+
+// Whether a raise goes elsewhere than one by the unit of the limit.
+fn is_off_unit(played: Move) -> bool
+    ensures { result ≡ is_off_unit_said played }
+{
+    is_raise(played.act) && played.to != played.unit_to
+}
+
+// Whether the act is a bet or raise.
+fn is_raise(act: Act) -> bool
+    ensures { result ≡ is_raise_said (act_said act) }
+{
+    match act {
+        Act::Raise => true,
+        _ => false,
+    }
+}
+
+// Whether this is so of one of so many seats.
+fn has_part_known(places: &[Place], seats: u8) -> bool
+    requires { seats ≤ 10 }
+    ensures { result ≡ list_any (is_part_known_said (map place_said places.now)) (seats_of seats) }
+{
+    for index in 0..seats {
+        if is_part_known(places, Seat { number: index + 1 }) {
+            return true;
+        }
+    }
+    false
+}
+
+// Whether a hole card of a seat is known and another is not.
+fn is_part_known(places: &[Place], seat: Seat) -> bool
+    ensures { result ≡ is_part_known_said (map place_said places.now) seat.number }
+{
+    has_unknown(places, Some(seat), 1) && has_known(places, Some(seat), 1)
+}
+
+// Whether this is so of one of so many seats.
+fn has_open_muck(places: &[Place], mucked: &LiveRow, seats: u8) -> bool
+    requires { seats ≤ 10 }
+    ensures { result ≡ list_any (is_open_muck_said (map place_said places.now) mucked.now)
+        (seats_of seats) }
+{
+    for index in 0..seats {
+        if is_open_muck(places, mucked, Seat { number: index + 1 }) {
+            return true;
+        }
+    }
+    false
+}
+
+// Whether a seat mucked, and its hole cards are known.
+fn is_open_muck(places: &[Place], mucked: &LiveRow, seat: Seat) -> bool
+    ensures { result ≡ is_open_muck_said (map place_said places.now) mucked.now seat.number }
+{
+    mucked.flags[seat.number as usize - 1] && !has_unknown(places, Some(seat), 1)
+}

@@ -1,0 +1,50 @@
+//! The values of a line are what each seat won or lost.
+ghost use Rattle.std.specs.Prelude.{◌≡◌, ◌≤◌, ◌++◌, OnOk};
+ghost use Rattle.acpc_writing.specs.Values.{value_text, values_text};
+
+use crate::cards::push_bar;
+use chip_ledger::{Seat, SeatRow};
+use std::alloc::{AllocError, Global};
+
+/// The value of each seat, with bars between them.
+#[tactic(auto, unfolding(crate::specs::Values::values_text))]
+pub fn push_values(
+    alloc: Global,
+    out: &mut Vec<u8>,
+    stacks: &SeatRow,
+    finish: &SeatRow,
+) -> Result<(), AllocError>
+    requires { finish.now.seats ≡ stacks.now.seats }
+    ensures { OnOk result (out.new.items ≡ out.old.items ++ values_text stacks.now finish.now) }
+{
+    for index in 0..stacks.seats {
+        let seat = Seat { number: index + 1 };
+        push_bar(out, seat)?;
+        push_value(alloc, out, stacks, finish, seat)?;
+    }
+    Ok(())
+}
+
+// What a seat ends with less what it began with.
+fn push_value(
+    alloc: Global,
+    out: &mut Vec<u8>,
+    stacks: &SeatRow,
+    finish: &SeatRow,
+    seat: Seat,
+) -> Result<(), AllocError>
+    requires stack { seat.number ≤ stacks.now.seats }
+    requires finish { seat.number ≤ finish.now.seats }
+    ensures { OnOk result (out.new.items
+        ≡ out.old.items ++ value_text stacks.now finish.now seat.number) }
+{
+    let before = stacks.get(seat);
+    let after = finish.get(seat);
+    if after < before {
+        let digits = (before - after).to_string(alloc)?;
+        out.extend_from_slice(b"-")?;
+        return out.extend_from_slice(digits.as_bytes());
+    }
+    let digits = (after - before).to_string(alloc)?;
+    out.extend_from_slice(digits.as_bytes())
+}

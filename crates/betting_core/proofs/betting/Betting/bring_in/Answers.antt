@@ -1,8 +1,0 @@
--- Another thing is due.
-use Rattle.betting_numbers.proofs.InTurn.{bring_in_refused}
-use Rattle.betting_core.proofs.betting.Betting.bring_in.Goals as goal
-use Rattle.chip_ledger.specs.SeatsSaid.{seat_said}
-
-pub returns-in-Some-clause-refused : goal.returns-in-Some-clause-refused
-returns-in-Some-clause-refused g c =
-    λ past stands holds. bring_in_refused c.args.self.now.table past stands (seat_said c.args.actor) c.in-Some.reason c.in-Some.ensures

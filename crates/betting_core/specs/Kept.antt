@@ -1,0 +1,34 @@
+-- What the running numbers of a hand keep from call to call.
+use Rattle.std.specs.Prelude.{◌≡◌, ◌≤◌, ℕ, true, Option, None, IfSome}
+use Rattle.chip_ledger.specs.declared.numbers.Seat.{Seat}
+use Rattle.betting_numbers.specs.declared.running.RunningNumbers.{RunningNumbers}
+use Rattle.betting_numbers.specs.Turn.{KeepsSeat, KeepsTurn, StartsFresh}
+use Rattle.street_laws.specs.Dues.{is_before_moves, is_of_street}
+
+-- the numbers of a hand of a game with so many streets
+pub record AreKept (streets : ℕ) (b : RunningNumbers) : Type 0 where
+  pub first : 1 ≤ b.street
+  pub last : b.street ≤ streets
+  -- what is due is of the street
+  pub here : is_of_street b.street b.due ≡ true
+  -- before the first move of a street no seat has moved on it
+  pub begins : is_before_moves b.due ≡ true → b.last ≡ None
+  pub fresh : StartsFresh b
+  -- the seat in turn is kept where a move is due, and is of the hand
+  pub turn : KeepsTurn b
+  pub seat : KeepsSeat b
+
+-- the numbers are on a street of the game, and where no seat has moved on it none has since the price rose
+pub record IsOnStreet (streets : ℕ) (b : RunningNumbers) : Type 0 where
+  pub first : 1 ≤ b.street
+  pub last : b.street ≤ streets
+  pub fresh : StartsFresh b
+
+-- the hand is the same: what stood before its first card
+pub record IsSameHand (old new : RunningNumbers) : Type 0 where
+  pub setup : new.setup ≡ old.setup
+  pub rules : new.rules ≡ old.rules
+
+-- the seat, if it is known, is of the hand
+abbrev pub IsOfTable : RunningNumbers → Option Seat → Type 0
+IsOfTable b turn = IfSome turn (λ seat. seat.number ≤ b.setup.stacks.seats)

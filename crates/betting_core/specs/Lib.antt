@@ -1,0 +1,2 @@
+-- What the betting of a hand keeps from call to call.
+pub mod Kept

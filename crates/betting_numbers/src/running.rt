@@ -1,0 +1,99 @@
+//! The running numbers of the betting: what each seat put, who is live, and what the moves of the
+//! street came to.
+ghost use Rattle.std.specs.Prelude.{◌≡◌, ◌≤◌, ◌-◌, ◌*◌, ℕ, ◌&&◌, nat_lt, map, count_by, Some};
+ghost use Rattle.chip_ledger.specs.declared.numbers.Seat.{Seat};
+ghost use Rattle.betting_numbers.specs.Caps.{cap_at};
+ghost use Rattle.chip_ledger.specs.declared.rows.TheConstants.{MOST_AMOUNT};
+ghost use Rattle.chip_ledger.specs.Greatest.{greatest};
+ghost use Rattle.chip_ledger.specs.LiveRow.{flag_of};
+ghost use Rattle.chip_ledger.specs.Seat.{seats_of};
+ghost use Rattle.chip_ledger.specs.SeatRow.{amount_of, total_of};
+ghost use Rattle.play_event.specs.Openers.{blinds_opener};
+ghost use Rattle.play_event.specs.Price.{starting_price};
+
+use chip_ledger::{LiveRow, Seat, SeatRow};
+use play_event::{Due, Rules, Setup};
+
+/// The betting as it stands: a few rows and numbers, which each move changes, in place of the moves
+/// themselves. What would be counted over all seats again and again is kept as a number: the pot,
+/// the price, how many seats are live and able; and so is the seat in turn. What a seat owes and
+/// whether it is able are read from the rows.
+///
+/// The fields are public since the contracts of the machine speak of them; the facts below them
+/// keep sums from wrapping and seats in the hand, and each number that is kept equal to what it
+/// counts, whatever is done with them.
+#[derive(Clone, Copy, Debug, PartialEq, Eq)]
+pub struct RunningNumbers {
+    /// What stood before the first card.
+    pub setup: Setup,
+    pub rules: Rules,
+    /// The price before the first move of the hand.
+    pub first_price: u64,
+    /// Who opens the first street of a game with blinds.
+    pub first_opener: Seat,
+    /// The street, from 1.
+    pub street: u8,
+    /// What has to come next.
+    pub due: Due,
+    /// The chips that each seat has put in this hand, antes included.
+    pub puts: SeatRow,
+    /// Those of all seats together.
+    pub pot: u64,
+    /// The chips that each seat has put on this street, without its ante.
+    pub bets: SeatRow,
+    /// The price of the street: the greatest of those chips.
+    pub price: u64,
+    /// Which seats have not folded.
+    pub live: LiveRow,
+    /// How many seats are live.
+    pub live_count: u8,
+    /// How many seats are able: live, with chips left.
+    pub able_count: u8,
+    /// Which seats have moved on this street.
+    pub moved: LiveRow,
+    /// Which seats have moved since the price last rose.
+    pub since_rise: LiveRow,
+    /// The seat that moved last on this street.
+    pub last: Option<Seat>,
+    /// Where a move is due: the seat with that move, from the opener of a game with blinds on or from
+    /// behind the seat that moved last. Before the first move of a street of stud the up-cards say
+    /// whose turn it is, and not this.
+    pub next: Option<Seat>,
+    /// How many raises there were on this street, as far as a u32 counts.
+    pub raises: u32,
+    /// How far a raise has to go above the price to be full.
+    pub full_raise: u64,
+    /// The last full bet of fixed limit.
+    pub full_bet: u64,
+    /// The greatest of twice the target less the price before it, over the raises of the street:
+    /// the least raise where betting always reopens.
+    pub doubled: u64,
+    /// Whether a bring-in or a raise came on this street.
+    pub opened: bool,
+    pub ghost first_price_is: { first_price ≡ starting_price setup 1 },
+    pub ghost first_price_bounded: { first_price ≤ MOST_AMOUNT },
+    pub ghost first_opener_is: { first_opener.number ≡ blinds_opener setup 1 },
+    pub ghost first_opener_in: { first_opener.number ≤ setup.stacks.seats },
+    pub ghost ante_seats: { setup.antes.seats ≡ setup.stacks.seats },
+    pub ghost blind_seats: { setup.blinds.seats ≡ setup.stacks.seats },
+    pub ghost put_seats: { puts.seats ≡ setup.stacks.seats },
+    pub ghost bet_seats: { bets.seats ≡ setup.stacks.seats },
+    pub ghost live_seats: { live.seats ≡ setup.stacks.seats },
+    pub ghost moved_seats: { moved.seats ≡ setup.stacks.seats },
+    pub ghost since_seats: { since_rise.seats ≡ setup.stacks.seats },
+    pub ghost within: { (n : ℕ) → 1 ≤ n → amount_of puts n ≤ amount_of setup.stacks n },
+    pub ghost inside: { (n : ℕ) → 1 ≤ n → amount_of bets n ≤ amount_of puts n },
+    pub ghost pot_is: { pot ≡ total_of puts },
+    pub ghost pot_bounded: { pot ≤ 10 * MOST_AMOUNT },
+    pub ghost price_is: { price ≡ greatest (map (amount_of bets) (seats_of setup.stacks.seats)) },
+    pub ghost price_bounded: { price ≤ MOST_AMOUNT },
+    pub ghost live_is: { live_count ≡ count_by (flag_of live) (seats_of setup.stacks.seats) },
+    pub ghost able_is: { able_count
+        ≡ count_by
+        (λ n. flag_of live n && nat_lt 0 (amount_of setup.stacks n - amount_of puts n))
+        (seats_of setup.stacks.seats) },
+    pub ghost least: { full_raise ≤ MOST_AMOUNT },
+    pub ghost least_bet: { setup.min_bet ≤ MOST_AMOUNT },
+    pub ghost caps_fit: { (k : ℕ) → cap_at rules.caps k ≤ 4294967295 },
+    pub ghost last_in: { (seat : Seat) → last ≡ Some seat → seat.number ≤ setup.stacks.seats },
+}

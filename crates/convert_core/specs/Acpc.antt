@@ -1,0 +1,39 @@
+-- What bytes say as a log of the competition under a game, and what bytes are written of plays.
+use Rattle.std.specs.Prelude.{◌≡◌, ◌≢◌, ℕ, ◌≤◌, List, length, map, Ok, Err, sum_by}
+use Rattle.std.specs.List.{AllByRecursion}
+use Rattle.acpc_game.specs.declared.game.Game.{Game}
+use Rattle.acpc_writing.specs.Line.{log_text}
+use Rattle.acpc_writing.specs.Texts.{HasTexts}
+use Rattle.acpc_reading.specs.Logs.{reading}
+use Rattle.acpc_reading.specs.RecordView.{IsOfGame, record_said}
+use Rattle.acpc_text.specs.declared.fault.AcpcFault.{AcpcFault}
+use Rattle.acpc_text.specs.declared.fault.AcpcFault.TheVariants as faults
+use Rattle.first_fault.specs.declared.limits.TheConstants.{MOST_FILE_MOVES, MOST_HANDS}
+use Rattle.hand_records.specs.declared.record.Record.{Record}
+use Rattle.hand_records.specs.declared.trace.Play.{Play}
+use Rattle.convert_core.specs.declared.format_fault.FormatFault.{FormatFault}
+use Rattle.convert_core.specs.declared.format_fault.FormatFault.TheVariants as formats
+use Rattle.hand_records.specs.Moves.{moves_of}
+
+-- bytes say these records under a game: they are what the bytes read as, each one of the game, and no more than a file may have
+pub record Say (game : Game) (bytes : List ℕ) (records : List Record) : Type 0 where
+  pub reads : reading game bytes ≡ Ok (map record_said records)
+  pub each : AllByRecursion (IsOfGame game) records
+  pub few : length records ≤ MOST_HANDS
+  pub few_moves : sum_by moves_of records ≤ MOST_FILE_MOVES
+
+-- bytes have this first fault, which is not want of memory
+pub record Have (game : Game) (bytes : List ℕ) (fault : AcpcFault) : Type 0 where
+  pub told : fault ≢ faults.Memory
+  pub reads : reading game bytes ≡ Err fault
+
+-- a fault of this notation
+abbrev pub HaveFault : Game → List ℕ → FormatFault → Type 0
+HaveFault game bytes (formats.Phh fault) = ⊥
+HaveFault game bytes (formats.Ohh fault) = ⊥
+HaveFault game bytes (formats.Acpc fault) = Have game bytes fault
+
+-- bytes are the spelling of plays: the one line of each, where the names of players are texts
+pub record Spell (game : Game) (plays : List Play) (bytes : List ℕ) : Type 0 where
+  pub lines : bytes ≡ log_text game.no_limit plays
+  pub texts : AllByRecursion HasTexts plays

@@ -1,0 +1,208 @@
+-- Bytes of a log under a game say one list of records, as far as records can be told apart.
+use Rattle.std.proofs.Common.{◌≡◌, ℕ, suc, ◌≤◌, ◌||◌, Bool, true, false, ℤ, pos, List, [], ◌∷◌, map, length, take, get_or, slice_index_or, Option, Some, None, is_some, option_map, Ok, refl, sym, subst, ap, ap₂, ◌∙◌, inl, inr, arith}
+use Rattle.std.specs.List.{AllByRecursion, list_any}
+use Rattle.std.specs.Option.{option_map_or}
+use Rattle.std.proofs.Props.{props}
+use Rattle.std.proofs.lemmas.Bool.{cases_lt}
+use Rattle.std.proofs.lemmas.List.{ext_get_or, get_or-take, length-take-le}
+use Rattle.play_event.specs.declared.setup.Setup.{Setup}
+use Rattle.hand_records.specs.declared.notes.Notes.{Notes}
+use Rattle.hand_records.specs.declared.record.NetRow.{NetRow}
+use Rattle.hand_records.specs.declared.record.Record.{Record}
+use Rattle.hand_records.specs.declared.record.Stated.{Stated}
+use Rattle.hand_records.specs.declared.trace.Play.{Play}
+use Rattle.hand_records.specs.declared.trace.Trace.{Trace}
+use Rattle.hand_records.specs.declared.writing.Keep.{Keep}
+use Rattle.hand_records.specs.declared.writing.Keep.TheVariants as keeps
+use Rattle.hand_records.specs.declared.writing.Unspelled.{Unspelled}
+use Rattle.acpc_format.proofs.SetupsSame.{setups_same}
+use Rattle.acpc_game.specs.declared.game.Game.{Game}
+use Rattle.acpc_writing.specs.NoteFacts.{is_unspelled_name, text_conditions, time_conditions}
+use Rattle.acpc_writing.specs.PlayFacts.{play_conditions}
+use Rattle.acpc_writing.specs.SetupFacts.{setup_conditions}
+use Rattle.acpc_writing.specs.Spelled.{unspelled, unspelled_note}
+use Rattle.acpc_reading.specs.Logs.{HandSaid}
+use Rattle.acpc_reading.specs.RecordView.{IsOfGame, StatesValues, record_said}
+use Rattle.acpc_reading.specs.Views.{nets_in}
+use Rattle.convert_core.specs.Acpc.{Say}
+use Rattle.convert_core.specs.SameParts.{names_same, one_script}
+use Rattle.convert_core.specs.SameRecords.{AllAlike, AreAlike, ArePlayedAlike, NoteTheSame, number_at}
+use Rattle.hand_records.specs.WriteRefusals.{or_behind}
+use Rattle.hand_records.specs.StatedFacts.{stated_from}
+use Rattle.first_fault.specs.Conditions.{first_where}
+
+-- what these numbers keep as the nets of so many seats
+record KeptNets (seats : ℕ) (nets : List ℤ) : Type 0 where
+  greatest : seats ≤ 10
+  full : length nets ≡ 10
+  filler : (k : ℕ) → seats ≤ k → slice_index_or nets k (pos 0) ≡ pos 0
+
+-- they keep it in one way
+KeptNets-prop : (seats : ℕ) (nets : List ℤ) → IsProp (KeptNets seats nets)
+KeptNets-prop seats nets = hlevel props
+
+-- the row that keeps these nets
+net_row : (seats : ℕ) (nets : List ℤ) → KeptNets seats nets → NetRow
+net_row seats nets kept = record { seats = seats; nets = nets; greatest = kept.greatest; full = kept.full; filler = kept.filler }
+
+-- a row keeps its own nets
+kept_nets : (a : NetRow) → KeptNets a.seats a.nets
+kept_nets a = record { greatest = a.greatest; full = a.full; filler = a.filler }
+
+-- rows of as many seats and with the same numbers are one row
+net_row_same : (a b : NetRow) → a.seats ≡ b.seats → a.nets ≡ b.nets → a ≡ b
+unfolding net_row kept_nets
+net_row_same a b seats same =
+    let P : ℕ → List ℤ → Type 0 = λ n nets. (kept : KeptNets n nets) → a ≡ net_row n nets kept in
+    let here : P a.seats a.nets = λ kept. ap (net_row a.seats a.nets) (KeptNets-prop a.seats a.nets (kept_nets a) kept) in
+    subst (λ nets. P b.seats nets) same (subst (λ n. P n a.nets) seats here) (kept_nets b)
+
+-- rows that say the same nets are one row
+nets_same : (a b : NetRow) → nets_in a ≡ nets_in b → a ≡ b
+nets_same a b same =
+    let seats : a.seats ≡ b.seats =
+    sym (length-take-le a.seats a.nets (omega (arith, a.greatest, a.full)))
+    ∙ ap length same
+    ∙ length-take-le b.seats b.nets (omega (arith, b.greatest, b.full)) in
+    net_row_same a b seats
+    (ext_get_or (pos 0) a.nets b.nets (a.full ∙ sym b.full)
+    (λ k _. elim (cases_lt k a.seats) [
+      | inl inside ↦
+          sym (get_or-take a.seats a.nets k (pos 0) inside)
+          ∙ ap (λ (nets : List ℤ). get_or nets k (pos 0)) same
+          ∙ get_or-take b.seats b.nets k (pos 0) (omega (arith, inside, seats))
+      | inr past ↦ a.filler k past ∙ sym (b.filler k (omega (arith, past, seats)))
+    ]))
+
+-- rows that are both stated are one where they say the same nets
+values_same : (x y : Option NetRow) → is_some x ≡ true → is_some y ≡ true → option_map_or nets_in x [] ≡ option_map_or nets_in y [] → x ≡ y
+values_same None y some other same = absurd (cc)
+values_same (Some a) None some other same = absurd (cc)
+values_same (Some a) (Some b) some other same = ap Some (nets_same a b same)
+
+-- stated facts are made of their four parts
+stated_parts : (s : Stated) → s ≡ stated_from s.finish s.wins s.pot_total s.values
+unfolding stated_from
+stated_parts s = refl
+
+-- facts of logs, where only the nets are stated, are one where the nets are
+one_stated : (a b : Stated) → StatesValues a → StatesValues b → option_map_or nets_in a.values [] ≡ option_map_or nets_in b.values [] → a ≡ b
+one_stated a b is it same =
+    cc (
+      stated_parts a,
+      stated_parts b,
+      is.finish ∙ sym it.finish,
+      is.wins ∙ sym it.wins,
+      is.pot_total ∙ sym it.pot_total,
+      values_same a.values b.values is.values it.values same,
+    )
+
+module _ (game : Game) (a b : Record) (is : IsOfGame game a) (it : IsOfGame game b) (same : record_said a ≡ record_said b) where
+  -- their setups are one
+  setups : a.setup ≡ b.setup
+  setups = setups_same game a.setup b.setup is.setup it.setup
+
+  -- they have as many seats
+  count : a.setup.stacks.seats ≡ b.setup.stacks.seats
+  count = ap (λ (s : Setup). s.stacks.seats) setups
+
+  -- the seats have the same names
+  names : take a.setup.stacks.seats a.notes.names ≡ take a.setup.stacks.seats b.notes.names
+  names = ap (λ (hand : HandSaid). hand.names) same ∙ ap (λ (n : ℕ). take n b.notes.names) (sym count)
+
+  -- the other record names no more seats
+  no_names : (index : ℕ) → a.setup.stacks.seats ≤ index → slice_index_or b.notes.names index None ≡ None
+  no_names index late = it.sound.notes.no_more_names index (omega (arith, late, count))
+
+  -- two hands of one game that are said alike
+  pub log_alike : AreAlike a b
+  log_alike =
+      record {
+        same = record {
+          setup = setups;
+          rules = is.rules ∙ sym it.rules;
+          script = one_script a b (ap (λ (hand : HandSaid). hand.events) same);
+          stated = one_stated a.stated b.stated is.stated it.stated (ap (λ (hand : HandSaid). hand.values) same);
+        };
+        notes = record {
+          names = names_same a.setup.stacks.seats a.notes.names b.notes.names names is.sound.notes.no_more_names no_names;
+          all_names = names;
+          seats = λ index. ap (number_at index) (is.notes.seats ∙ sym it.notes.seats);
+          all_seats = ap (option_map (take a.setup.stacks.seats)) (is.notes.seats ∙ sym it.notes.seats);
+          seat_count = is.notes.seat_count ∙ sym it.notes.seat_count;
+          hand = ap (λ (hand : HandSaid). hand.hand) same;
+          table = is.notes.table ∙ sym it.notes.table;
+          venue = is.notes.venue ∙ sym it.notes.venue;
+          currency = is.notes.currency ∙ sym it.notes.currency;
+          year = is.notes.year ∙ sym it.notes.year;
+          month = is.notes.month ∙ sym it.notes.month;
+          day = is.notes.day ∙ sym it.notes.day;
+          time = is.notes.time ∙ sym it.notes.time;
+          zone = is.notes.zone ∙ sym it.notes.zone;
+        };
+      }
+
+-- records that are said alike are alike, one by one
+pub all_alike : (game : Game) (records others : List Record) → AllByRecursion (IsOfGame game) records → AllByRecursion (IsOfGame game) others
+    → map record_said records ≡ map record_said others → AllAlike records others
+unfolding AllAlike
+all_alike game [] [] all each same = tt
+all_alike game [] (b ∷ others) all each same = absurd (cc)
+all_alike game (a ∷ rest) [] all each same = absurd (cc)
+all_alike game (a ∷ rest) (b ∷ others) all each same =
+    (log_alike game a b all.0 each.0 (cc), all_alike game rest others all.1 each.1 (cc))
+
+-- bytes say one list of records
+pub one_reading : (game : Game) (bytes : List ℕ) (records others : List Record) → Say game bytes records → Say game bytes others → AllAlike records others
+one_reading game bytes records others say too =
+    let same : Ok (map record_said records) ≡ Ok (map record_said others) = sym say.reads ∙ too.reads in
+    all_alike game records others say.each too.each (cc)
+
+-- a test that passes where nothing is said passes on lists alike where their items are alike
+names_alike : (p : Option (List ℕ) → Bool) → p None ≡ false → (xs ys : List (Option (List ℕ))) → ((index : ℕ) → slice_index_or xs index None ≡ slice_index_or ys index None) → list_any p xs ≡ list_any p ys
+names_alike p none [] [] same = refl
+names_alike p none [] (y ∷ ys) same =
+    let first : None ≡ y = same 0 in
+    cc (ap p first, none, names_alike p none [] ys (λ index. same (suc index)))
+names_alike p none (x ∷ xs) [] same =
+    let first : x ≡ None = same 0 in
+    cc (ap p first, none, names_alike p none xs [] (λ index. same (suc index)))
+names_alike p none (x ∷ xs) (y ∷ ys) same = ap₂ (λ first rest. p first || rest) (same 0) (names_alike p none xs ys (λ index. same (suc index)))
+
+-- the numbers of the seats are said in both or in neither where they are alike
+numbers_alike : (x y : Option (List ℕ)) → ((index : ℕ) → number_at index x ≡ number_at index y) → is_some x ≡ is_some y
+numbers_alike None None same = refl
+numbers_alike None (Some b) same = absurd (let first = same 0 in cc)
+numbers_alike (Some a) None same = absurd (let first = same 0 in cc)
+numbers_alike (Some a) (Some b) same = refl
+
+-- notes that are the same have the same facts of names, numbers and labels
+texts_alike : (count : ℕ) (a b : Notes) → NoteTheSame count a b → text_conditions a ≡ text_conditions b
+texts_alike count a b same =
+    cc (
+      names_alike is_unspelled_name refl a.names b.names same.names,
+      numbers_alike a.seats b.seats same.seats,
+      same.seat_count,
+      same.hand,
+      same.table,
+      same.venue,
+      same.currency,
+    )
+
+-- notes that are the same have the same facts of day and time
+times_alike : (count : ℕ) (a b : Notes) → NoteTheSame count a b → time_conditions a ≡ time_conditions b
+times_alike count a b same = cc (same.zone, same.year, same.month, same.day, same.time)
+
+-- notes that are the same have the same first fact without a spelling
+notes_alike : (keep : Keep) (count : ℕ) (a b : Notes) → NoteTheSame count a b → unspelled_note keep a ≡ unspelled_note keep b
+unfolding unspelled_note
+notes_alike keeps.All count a b same =
+    ap₂ (λ texts times. or_behind (first_where texts) (first_where times)) (texts_alike count a b same) (times_alike count a b same)
+notes_alike keeps.Spelled _ a b same = refl
+
+-- which fact of a play has no spelling is told by its trace and its notes
+pub same_fact : (game : Game) (keep : Keep) (play other : Play) → ArePlayedAlike play other → unspelled game keep play ≡ unspelled game keep other
+unfolding unspelled
+same_fact game keep play other alike =
+    ap₂ (λ (trace : Trace) (note : Option Unspelled). or_behind (first_where (setup_conditions game trace.setup)) (or_behind (first_where (play_conditions game trace)) note))
+    alike.trace (notes_alike keep play.trace.setup.stacks.seats play.hand.notes other.hand.notes alike.notes)

@@ -1,0 +1,39 @@
+-- What bytes say in Open Hand History in a dialect, and what bytes are written of plays.
+use Rattle.std.specs.Prelude.{◌≡◌, ℕ, ◌≤◌, List, length, map, Some, Ok, Err, sum_by}
+use Rattle.std.specs.List.{AllByRecursion}
+use Rattle.first_fault.specs.declared.limits.TheConstants.{MOST_FILE_MOVES, MOST_HANDS}
+use Rattle.hand_records.specs.declared.record.Record.{Record}
+use Rattle.hand_records.specs.declared.trace.Play.{Play}
+use Rattle.ohh_writing.specs.Lines.{Spells}
+use Rattle.ohh_members.specs.declared.dialect.Dialect.{Dialect}
+use Rattle.ohh_reading.specs.Hand.{plain}
+use Rattle.ohh_reading.specs.Reading.{Wrong, reading, wrong_of}
+use Rattle.ohh_reading.specs.declared.fault.OhhFault.{OhhFault}
+use Rattle.convert_core.specs.declared.format_fault.FormatFault.{FormatFault}
+use Rattle.convert_core.specs.declared.format_fault.FormatFault.TheVariants as formats
+use Rattle.hand_records.specs.Histories.{IsHistory}
+use Rattle.hand_records.specs.Moves.{moves_of}
+
+-- bytes say these records in a dialect: they are what the bytes read as, each as a reader gives it, and no more than a file may
+-- have
+pub record Say (dialect : Dialect) (bytes : List ℕ) (records : List Record) : Type 0 where
+  pub reads : reading dialect bytes ≡ Ok (map plain records)
+  pub each : AllByRecursion IsHistory records
+  pub few : length records ≤ MOST_HANDS
+  pub few_moves : sum_by moves_of records ≤ MOST_FILE_MOVES
+
+-- bytes have this first fault
+pub record Have (dialect : Dialect) (bytes : List ℕ) (fault : OhhFault) : Type 0 where
+  pub wrong : Wrong
+  pub told : wrong_of fault ≡ Some wrong
+  pub reads : reading dialect bytes ≡ Err wrong
+
+-- a fault of this notation
+abbrev pub HaveFault : Dialect → List ℕ → FormatFault → Type 0
+HaveFault dialect bytes (formats.Phh fault) = ⊥
+HaveFault dialect bytes (formats.Ohh fault) = Have dialect bytes fault
+HaveFault dialect bytes (formats.Acpc fault) = ⊥
+
+-- bytes are the spelling of plays: the one line of each, which JSON reads as the tree of its hand
+abbrev pub Spell : Dialect → List Play → List ℕ → Type 0
+Spell dialect plays bytes = Spells dialect plays bytes

@@ -1,0 +1,68 @@
+-- The laws that a notation keeps, of Open Hand History in a dialect.
+use Rattle.std.proofs.Common.{◌≡◌, ℕ, true, List, [], Some, None, Ok, refl}
+use Rattle.std.specs.List.{AllByRecursion}
+use Rattle.hand_canon.specs.Sound.{IsSound}
+use Rattle.hand_records.specs.declared.record.Record.{Record}
+use Rattle.hand_records.specs.declared.trace.Play.{Play}
+use Rattle.hand_records.specs.declared.writing.Keep.{Keep}
+use Rattle.hand_records.specs.declared.writing.Unspelled.{Unspelled}
+use Rattle.hand_records.specs.declared.writing.Unspelled.TheVariants as unspellables
+use Rattle.play_event.specs.HistoryRules.{history_rules}
+use Rattle.ohh_format.specs.Again.{hands_again}
+use Rattle.ohh_format.specs.KeptNotes.{KeepsNotes}
+use Rattle.ohh_format.specs.Sharp as sharp_trees
+use Rattle.ohh_format.proofs.ReadBack.{read_back}
+use Rattle.ohh_format.proofs.Sharpness.{sharpness}
+use Rattle.ohh_format.proofs.SoundPlays.{sound_again}
+use Rattle.ohh_writing.specs.Spelled as facts
+use Rattle.ohh_members.specs.declared.dialect.Dialect.{Dialect}
+use Rattle.ohh_reading.specs.Reading.{reading}
+use Rattle.convert_core.specs.ReadBack.{ReadBack}
+use Rattle.convert_core.specs.Records.{AreFew, AreOfFile}
+use Rattle.convert_core.specs.Ohh.{HaveFault, Say, Spell}
+use Rattle.convert_core.specs.declared.format_fault.FormatFault.{FormatFault}
+use Rattle.convert_core.specs.declared.format_fault.FormatFault.TheVariants as formats
+use Rattle.hand_canon.specs.Sharp.{IsOther, is_sharp}
+use Rattle.hand_records.specs.WriteRefusals.{first_refusal}
+use Rattle.convert_core.specs.UnderRules.{each_under}
+
+-- what bytes say is what a reader gives of a file
+pub reads_file : (dialect : Dialect) (bytes : List ℕ) (hands : List Record) → Say dialect bytes hands → AreOfFile history_rules hands
+reads_file dialect bytes hands say = record { each = each_under hands say.each; few = say.few; few_moves = say.few_moves }
+
+-- what is read has no fault
+pub no_fault : (dialect : Dialect) (bytes : List ℕ) (hands : List Record) (fault : FormatFault) → Say dialect bytes hands → HaveFault dialect bytes fault → ⊥
+no_fault dialect bytes hands (formats.Phh fault) say have = have
+no_fault dialect bytes hands (formats.Ohh fault) say have = (let said = say.reads in let had = have.reads in cc)
+no_fault dialect bytes hands (formats.Acpc fault) say have = have
+
+-- no plays are no bytes
+pub no_lines : (dialect : Dialect) → Spell dialect [] []
+no_lines dialect = record { lines = refl; trees = tt }
+
+-- what is written reads back
+pub reads_back : (dialect : Dialect) (keep : Keep) (plays : List Play) (bytes : List ℕ) → AreFew plays → AllByRecursion IsSound plays → first_refusal (facts.unspelled keep) plays ≡ None → Spell dialect plays bytes
+    → ReadBack (Say dialect bytes) (HaveFault dialect bytes) KeepsNotes plays
+reads_back dialect keep plays bytes few sound spelled spell =
+    let unrefused = spelled in
+    let read : reading dialect bytes ≡ Ok (hands_again dialect 0 plays) = sound_again dialect keep plays bytes few.few sound unrefused few.few_moves spell in
+    record {
+      no_fault = λ fault have. none fault read have;
+      again = λ hands say. read_back dialect keep plays bytes few.few sound unrefused few.few_moves spell hands say.reads;
+    }
+  where
+    none : (fault : FormatFault) → reading dialect bytes ≡ Ok (hands_again dialect 0 plays) → HaveFault dialect bytes fault → ⊥
+    none (formats.Phh fault) read have = have
+    none (formats.Ohh fault) read have = (let had = have.reads in cc)
+    none (formats.Acpc fault) read have = have
+
+-- a fact that is sharp in every notation is sharp here
+sharp_too : (fact : Unspelled) → is_sharp fact ≡ true → sharp_trees.is_sharp fact ≡ true
+sharp_too unspellables.OddChip is = refl
+sharp_too (unspellables.Note name) is = is
+sharp_too _ is = refl
+
+-- what is not spelled no bytes say
+pub sharp : (dialect : Dialect) (keep : Keep) (play : Play) (fact : Unspelled) → facts.unspelled keep play ≡ Some fact → is_sharp fact ≡ true
+    → (bytes : List ℕ) (hands : List Record) → Say dialect bytes hands → AllByRecursion (IsOther play) hands
+sharp dialect keep play fact found is bytes hands say = sharpness dialect keep play fact found (sharp_too fact is) bytes hands say.reads

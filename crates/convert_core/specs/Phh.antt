@@ -1,0 +1,38 @@
+-- What bytes say in the Poker Hand History format, and what bytes are written of plays.
+use Rattle.std.specs.Prelude.{◌≡◌, ℕ, ◌≤◌, List, [], length, map, Some, Ok, Err, sum_by}
+use Rattle.std.specs.List.{AllByRecursion}
+use Rattle.first_fault.specs.declared.limits.TheConstants.{MOST_FILE_MOVES, MOST_HANDS}
+use Rattle.hand_records.specs.declared.record.Record.{Record}
+use Rattle.hand_records.specs.declared.trace.Play.{Play}
+use Rattle.phh_reading.specs.Hand.{plain}
+use Rattle.phh_reading.specs.Reading.{Wrong, reading, wrong_of}
+use Rattle.phh_reading.specs.declared.fault.PhhFault.{PhhFault}
+use Rattle.phh_writing.specs.Document as written
+use Rattle.convert_core.specs.declared.format_fault.FormatFault.{FormatFault}
+use Rattle.convert_core.specs.declared.format_fault.FormatFault.TheVariants as formats
+use Rattle.hand_records.specs.Histories.{IsHistory}
+use Rattle.hand_records.specs.Moves.{moves_of}
+
+-- bytes say these records: they are what the bytes read as, each as a reader gives it, and no more than a file may have
+pub record Say (bytes : List ℕ) (records : List Record) : Type 0 where
+  pub reads : reading bytes ≡ Ok (map plain records)
+  pub each : AllByRecursion IsHistory records
+  pub few : length records ≤ MOST_HANDS
+  pub few_moves : sum_by moves_of records ≤ MOST_FILE_MOVES
+
+-- bytes have this first fault
+pub record Have (bytes : List ℕ) (fault : PhhFault) : Type 0 where
+  pub wrong : Wrong
+  pub told : wrong_of fault ≡ Some wrong
+  pub reads : reading bytes ≡ Err wrong
+
+-- a fault of this notation
+abbrev pub HaveFault : List ℕ → FormatFault → Type 0
+HaveFault bytes (formats.Phh fault) = Have bytes fault
+HaveFault bytes (formats.Ohh fault) = ⊥
+HaveFault bytes (formats.Acpc fault) = ⊥
+
+-- bytes are the spelling of plays: TOML reads them as the one document of the plays, and no plays are no bytes
+pub record Spell (plays : List Play) (bytes : List ℕ) : Type 0 where
+  pub document : written.Spells plays bytes
+  pub nothing : plays ≡ [] → bytes ≡ []

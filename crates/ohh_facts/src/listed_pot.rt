@@ -1,0 +1,12 @@
+//! A pot of a hand, as it is listed.
+ghost use Rattle.std.specs.Prelude.{◌≤◌};
+ghost use Rattle.chip_ledger.specs.declared.rows.TheConstants.{MOST_AMOUNT};
+
+/// A pot, in chips.
+#[derive(Clone, Copy, Debug, PartialEq, Eq)]
+pub struct ListedPot {
+    /// All its chips, with the rake in them.
+    pub amount: u64,
+    pub rake: u64,
+    pub ghost most_rake: { rake ≤ MOST_AMOUNT },
+}

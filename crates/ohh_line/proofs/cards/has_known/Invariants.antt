@@ -1,7 +1,0 @@
-use Rattle.std.proofs.Common.{◌≡◌, drop}
-use Rattle.ohh_line.specs.Actions.{has_known}
-use Rattle.ohh_line.proofs.cards.has_known.Given as goal
-
--- the cards that are left decide
-abbrev pub invariant-loop-card : goal.invariant-loop-card
-invariant-loop-card l = has_known (drop l.card-index l.cards) ≡ has_known l.cards

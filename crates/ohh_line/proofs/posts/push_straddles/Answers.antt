@@ -1,8 +1,0 @@
-use Rattle.std.proofs.Common.{map}
-use Rattle.hand_canon.proofs.OneByOne.{seat_more}
-use Rattle.ohh_line.specs.Actions.{action_said, straddle_post}
-use Rattle.ohh_line.proofs.posts.push_straddles.Goals as goal
-
-pub loop-index-preserved : goal.loop-index-preserved
-loop-index-preserved c =
-    seat_more (straddle_post c.args.setup.now) c.loop-index.index (map action_said c.args.actions.now.items) (map action_said c.loop-index.actions.items) (map action_said c.push_straddle.new.actions.items) c.loop-index.invariant c.in_ok-push_straddle.ensures

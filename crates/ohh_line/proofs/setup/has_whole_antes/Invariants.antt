@@ -1,9 +1,0 @@
-use Rattle.std.proofs.Common.{◌≡◌, ◌+◌, ◌-◌}
-use Rattle.std.specs.List.{list_all, range_with_len}
-use Rattle.chip_ledger.specs.Seat.{seats_of}
-use Rattle.ohh_line.specs.Spelled.{is_whole_ante}
-use Rattle.ohh_line.proofs.setup.has_whole_antes.Given as goal
-
--- the seats that are left decide
-abbrev pub invariant-loop-index : goal.invariant-loop-index
-invariant-loop-index l = list_all (is_whole_ante l.setup) (range_with_len (l.index + 1) (l.setup.stacks.seats - l.index)) ≡ list_all (is_whole_ante l.setup) (seats_of l.setup.stacks.seats)

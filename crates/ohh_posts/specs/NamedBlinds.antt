@@ -1,0 +1,31 @@
+-- What the posts of a hand are compared with, and whose the blinds are.
+use Rattle.std.specs.Prelude.{ℕ, ◌-◌, List, length, slice_index}
+use Rattle.ohh_posts.specs.declared.named_blinds.NamedBlinds.{NamedBlinds}
+use Rattle.chip_ledger.specs.SeatRow.{amounts_in}
+use Rattle.chip_ledger.specs.Seat.{big_blind_of, small_blind_of}
+
+-- the starting stacks, p1's first, and both blinds as they are named
+pub record PlainNamedBlinds : Type 0 where
+  pub stacks : List ℕ
+  pub small_blind : ℕ
+  pub big_blind : ℕ
+
+-- a table with plain numbers
+abbrev pub plain_named_blinds : NamedBlinds → PlainNamedBlinds
+plain_named_blinds table = record { stacks = amounts_in table.stacks; small_blind = table.small_blind; big_blind = table.big_blind }
+
+-- how many seats there are
+abbrev pub seat_count : PlainNamedBlinds → ℕ
+seat_count table = length table.stacks
+
+-- the seat of the small blind: p1, or p2 of two
+abbrev pub small_blind_seat : PlainNamedBlinds → ℕ
+small_blind_seat table = small_blind_of (seat_count table)
+
+-- the seat of the big blind: p2, or p1 of two
+abbrev pub big_blind_seat : PlainNamedBlinds → ℕ
+big_blind_seat table = big_blind_of (seat_count table)
+
+-- the stack of a seat
+abbrev pub stack_of : PlainNamedBlinds → ℕ → ℕ
+stack_of table seat = slice_index table.stacks (seat - 1)

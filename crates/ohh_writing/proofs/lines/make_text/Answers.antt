@@ -1,0 +1,36 @@
+use Rattle.std.proofs.Common.{◌≡◌, ◌∙◌, Some, ap, arith, sym, subst}
+use Rattle.std.specs.Str.{IsUtf8}
+use Rattle.serde_json.specs.Data.{depth}
+use Rattle.serde_json.specs.Read.{read}
+use Rattle.serde_json.specs.View.{view}
+use Rattle.serde_json.specs.Written.{compact_text, has_float}
+use Rattle.ohh_writing.specs.Tree.{hand_tree}
+use Rattle.ohh_writing.proofs.Plain.{hand_plain}
+use Rattle.ohh_writing.proofs.lines.make_text.Goals as goal
+use Rattle.canon_laws.proofs.MoveCounts.{tidy_within}
+use Rattle.canon_script.specs.Tidy.{IsTidy}
+use Rattle.hand_records.specs.SoundRecord.{script_said}
+
+pub hand_value-requires : goal.hand_value-requires
+hand_value-requires c =
+    let hand = c.args.play.now.hand in
+    subst IsTidy (sym c.requires.trace.core) (tidy_within hand.setup hand.rules (script_said hand) c.requires.legal.played c.requires.within.moves)
+
+pub returns-clause-text : goal.returns-clause-text
+returns-clause-text c =
+    let tree = hand_tree c.args.dialect c.args.place c.args.play.now in
+    let plain = hand_plain c.args.dialect c.args.place c.args.play.now in
+    let seen : view c.in_ok-value.value ≡ tree = c.in_ok-value.ensures in
+    c.in_ok-to_vec.ensures.text (ap has_float seen ∙ plain.whole) ∙ ap compact_text seen
+
+pub returns-clause-read : goal.returns-clause-read
+returns-clause-read c =
+    let tree = hand_tree c.args.dialect c.args.place c.args.play.now in
+    let plain = hand_plain c.args.dialect c.args.place c.args.play.now in
+    let seen : view c.in_ok-value.value ≡ tree = c.in_ok-value.ensures in
+    let text = c.in_ok-to_vec.ensures.text (ap has_float seen ∙ plain.whole) ∙ ap compact_text seen in
+    let deep = ap depth seen in
+    record {
+      text = subst IsUtf8 text c.in_ok-to_vec.ensures.utf8;
+      tree = ap read (sym text) ∙ c.in_ok-to_vec.ensures.reads_back (omega (arith, deep, plain.shallow)) ∙ ap Some seen;
+    }

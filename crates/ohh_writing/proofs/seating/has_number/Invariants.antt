@@ -1,0 +1,7 @@
+use Rattle.std.proofs.Common.{◌≡◌, ◌==◌, drop}
+use Rattle.std.specs.List.{list_any}
+use Rattle.ohh_writing.proofs.seating.has_number.Given as goal
+
+-- the numbers that are left decide
+abbrev pub invariant-loop-other : goal.invariant-loop-other
+invariant-loop-other l = list_any (λ other. other == l.number) (drop l.other-index l.numbers) ≡ list_any (λ other. other == l.number) l.numbers

@@ -1,0 +1,45 @@
+//! A hand is written as rounds of actions: each has a word, a player, and what it tells besides.
+use card_set::SlotRow;
+use ohh_members::street::StreetName;
+
+/// What an action says that its player does.
+#[derive(Clone, Copy)]
+pub enum Word {
+    PostAnte,
+    PostSmallBlind,
+    PostBigBlind,
+    Straddle,
+    DealtCards,
+    Fold,
+    Check,
+    Call,
+    Bet,
+    Raise,
+    ShowsCards,
+    MucksCards,
+}
+
+/// What an action tells beside its word and its player.
+#[derive(Clone, Copy)]
+pub enum Detail {
+    Nothing,
+    /// Chips, and whether the player has none left.
+    Chips { amount: u64, all_in: bool },
+    Cards(SlotRow),
+}
+
+/// An action. Its player is the number of a seat.
+#[derive(Clone, Copy)]
+pub struct Action {
+    pub word: Word,
+    pub player: u8,
+    pub detail: Detail,
+}
+
+/// A round, with the cards that it deals to the board.
+#[derive(Drop)]
+pub struct Round {
+    pub street: StreetName,
+    pub cards: SlotRow,
+    pub actions: Vec<Action>,
+}

@@ -1,0 +1,213 @@
+//! The tree of a hand: what is written of its setup, its notes and its play.
+ghost use Rattle.std.specs.Prelude.{◌≡◌, [], codes, unwrap_or, IfOk, OnOk};
+ghost use Rattle.std.specs.Fmt.{decimal};
+ghost use Rattle.serde_json.specs.Data.{object, string, put as put_said};
+ghost use Rattle.serde_json.specs.View.{view, members_view};
+ghost use Rattle.chip_ledger.specs.SeatRow.{amount_of};
+ghost use Rattle.hand_records.specs.TraceRows.{core_said};
+ghost use Rattle.canon_script.specs.Tidy.{IsTidy};
+ghost use Rattle.ohh_writing.specs.Actions.{small_blind_seat as small_blind_seat_said};
+ghost use Rattle.ohh_writing.specs.Games.{game_word as game_said};
+ghost use Rattle.ohh_writing.specs.Rounds.{hand_rounds as hand_rounds_said};
+ghost use Rattle.ohh_writing.specs.Seating.{number_among as number_among_said};
+ghost use Rattle.ohh_writing.specs.Moment.{moment_of as moment_said};
+ghost use Rattle.ohh_writing.specs.Spelled.{big_blind as big_blind_said, greatest_ante as greatest_ante_said};
+ghost use Rattle.ohh_writing.specs.Tree.{hand_members, hand_tree, limit_tree, list, numbers_written, players, pots, round_trees, table_size, text_or_empty, whole, with_date};
+
+use crate::games::{bet_word, game_word};
+use crate::members::{put_number, put_text, put_value, text_value};
+use crate::moment::{moment_of, moment_text};
+use crate::players::player_values;
+use crate::posts::{amount_at, small_blind_seat};
+use crate::pots::pot_values;
+use crate::rounds::hand_rounds;
+use crate::seating::{number_among, numbers_spelled};
+use crate::setup::{big_blind, greatest_ante};
+use crate::trees::round_values;
+use card_set::Memory;
+use first_fault::Text;
+use hand_records::{Notes, Play, Trace};
+use ohh_members::Dialect;
+use play_event::Setup;
+use serde_json::{Map, Value};
+use std::alloc::Global;
+
+/// The tree of the hand at a place of its file, from 0.
+#[tactic(auto, unfolding(crate::specs::Tree::hand_tree))]
+pub fn hand_value(
+    alloc: Global,
+    dialect: Dialect,
+    place: usize,
+    play: &Play,
+) -> Result<Value, Memory>
+    requires { IsTidy (core_said play.now.trace) }
+    ensures { IfOk result (λ value. view value ≡ hand_tree dialect place play.now) }
+{
+    let ohh = make_members(alloc, dialect, place, play)?;
+    let mut members = Map::new(alloc);
+    put_value(alloc, &mut members, "ohh", ohh)?;
+    Ok(Value::Object(members))
+}
+
+// The members of the hand at a place of its file, as an object.
+fn make_members(alloc: Global, dialect: Dialect, place: usize, play: &Play) -> Result<Value, Memory>
+    requires { IsTidy (core_said play.now.trace) }
+    ensures { IfOk result (λ value. view value
+        ≡ object (hand_members dialect place play.now.trace play.now.hand.notes)) }
+{
+    let mut ohh = Map::new(alloc);
+    put_setup(alloc, &mut ohh, &play.trace.setup)?;
+    put_seating(alloc, &mut ohh, &play.trace.setup, &play.hand.notes)?;
+    put_names(alloc, &mut ohh, place, &play.hand.notes)?;
+    put_play(alloc, &mut ohh, dialect, &play.trace)?;
+    put_versions(alloc, &mut ohh)?;
+    put_date(alloc, &mut ohh, &play.hand.notes)?;
+    Ok(Value::Object(ohh))
+}
+
+// Puts the game, the greatest ante and the blinds under their names.
+fn put_setup(alloc: Global, ohh: &mut Map<String, Value>, setup: &Setup) -> Result<(), Memory>
+    ensures { OnOk result (members_view ohh.new.entries
+        ≡ put_said (codes "small_blind_amount")
+        (whole (amount_of setup.now.blinds (small_blind_seat_said setup.now)))
+        (put_said (codes "big_blind_amount") (whole (big_blind_said setup.now))
+        (put_said (codes "ante_amount") (whole (greatest_ante_said setup.now))
+        (put_said (codes "bet_limit") (limit_tree setup.now)
+        (put_said (codes "game_type") (string (game_said setup.now.code))
+        (members_view ohh.old.entries)))))) }
+{
+    let small_blind = amount_at(&setup.blinds, small_blind_seat(setup));
+    put_text(alloc, ohh, "game_type", game_word(setup.code))?;
+    put_value(alloc, ohh, "bet_limit", limit_value(alloc, setup)?)?;
+    put_number(alloc, ohh, "ante_amount", greatest_ante(setup))?;
+    put_number(alloc, ohh, "big_blind_amount", big_blind(setup))?;
+    put_number(alloc, ohh, "small_blind_amount", small_blind)?;
+    Ok(())
+}
+
+// The limit of the game.
+fn limit_value(alloc: Global, setup: &Setup) -> Result<Value, Memory>
+    ensures { IfOk result (λ value. view value ≡ limit_tree setup.now) }
+{
+    let mut members = Map::new(alloc);
+    put_text(alloc, &mut members, "bet_type", bet_word(setup.code))?;
+    Ok(Value::Object(members))
+}
+
+// Puts the players, the button and the number of the table's seats under their names.
+fn put_seating(
+    alloc: Global,
+    ohh: &mut Map<String, Value>,
+    setup: &Setup,
+    notes: &Notes,
+) -> Result<(), Memory>
+    ensures { OnOk result (members_view ohh.new.entries
+        ≡ put_said (codes "table_size") (whole (table_size setup.now notes.now))
+        (put_said (codes "players")
+        (players setup.now.stacks notes.now (numbers_written setup.now notes.now))
+        (put_said (codes "dealer_seat") (whole (number_among_said
+        (numbers_written setup.now notes.now) setup.now.stacks.seats))
+        (members_view ohh.old.entries)))) }
+{
+    let count = setup.stacks.seats;
+    let numbers = numbers_spelled(count, notes.seats);
+    let size = notes.seat_count.unwrap_or(count);
+    put_number(
+        alloc,
+        ohh,
+        "dealer_seat",
+        number_among(numbers, count) as u64,
+    )?;
+    let players = player_values(alloc, &setup.stacks, notes, numbers)?;
+    put_value(alloc, ohh, "players", players)?;
+    put_number(alloc, ohh, "table_size", size as u64)?;
+    Ok(())
+}
+
+// Puts the names of the hand at a place of its file, of its table, venue and currency under their names.
+fn put_names(
+    alloc: Global,
+    ohh: &mut Map<String, Value>,
+    place: usize,
+    notes: &Notes,
+) -> Result<(), Memory>
+    ensures { OnOk result (members_view ohh.new.entries
+        ≡ put_said (codes "table_name") (text_or_empty notes.now.table)
+        (put_said (codes "site_name") (text_or_empty notes.now.venue)
+        (put_said (codes "game_number") (string (unwrap_or notes.now.hand (decimal place)))
+        (put_said (codes "currency") (text_or_empty notes.now.currency)
+        (members_view ohh.old.entries))))) }
+{
+    put_text(alloc, ohh, "currency", text_of(&notes.currency))?;
+    put_value(
+        alloc,
+        ohh,
+        "game_number",
+        hand_name(alloc, place, &notes.hand)?,
+    )?;
+    put_text(alloc, ohh, "site_name", text_of(&notes.venue))?;
+    put_text(alloc, ohh, "table_name", text_of(&notes.table))?;
+    Ok(())
+}
+
+// A text that is said, or the empty one.
+fn text_of(note: &Option<Text>) -> &str
+    ensures { result.now ≡ unwrap_or note.now [] }
+{
+    match note {
+        Some(text) => text.as_str(),
+        None => "",
+    }
+}
+
+// The name of the hand at a place of its file: the one that is said, or its place.
+fn hand_name(alloc: Global, place: usize, name: &Option<Text>) -> Result<Value, Memory>
+    ensures { IfOk result (λ value. view value ≡ string (unwrap_or name.now (decimal place))) }
+{
+    match name {
+        Some(text) => text_value(alloc, text.as_str()),
+        None => Ok(Value::String(place.to_string(alloc)?)),
+    }
+}
+
+// Puts the rounds and the pots under their names.
+fn put_play(
+    alloc: Global,
+    ohh: &mut Map<String, Value>,
+    dialect: Dialect,
+    trace: &Trace,
+) -> Result<(), Memory>
+    requires { IsTidy (core_said trace.now) }
+    ensures { OnOk result (members_view ohh.new.entries
+        ≡ put_said (codes "rounds") (list (round_trees 1 (hand_rounds_said dialect trace.now)))
+        (put_said (codes "pots") (pots trace.now) (members_view ohh.old.entries))) }
+{
+    put_value(alloc, ohh, "pots", pot_values(alloc, trace)?)?;
+    let rounds = hand_rounds(alloc, dialect, trace)?;
+    let rounds = Value::Array(round_values(alloc, rounds.as_slice())?);
+    put_value(alloc, ohh, "rounds", rounds)?;
+    Ok(())
+}
+
+// Puts the versions of the format and of this project's spelling under their names.
+fn put_versions(alloc: Global, ohh: &mut Map<String, Value>) -> Result<(), Memory>
+    ensures { OnOk result (members_view ohh.new.entries
+        ≡ put_said (codes "spec_version") (string (codes "1.4.6"))
+        (put_said (codes "internal_version") (string (codes "1")) (members_view ohh.old.entries))) }
+{
+    put_text(alloc, ohh, "internal_version", "1")?;
+    put_text(alloc, ohh, "spec_version", "1.4.6")?;
+    Ok(())
+}
+
+// Puts the moment under its name, where the notes say a whole one.
+fn put_date(alloc: Global, ohh: &mut Map<String, Value>, notes: &Notes) -> Result<(), Memory>
+    ensures { OnOk result (members_view ohh.new.entries
+        ≡ with_date (moment_said notes.now) (members_view ohh.old.entries)) }
+{
+    if let Some(moment) = moment_of(notes) {
+        let text = moment_text(alloc, moment)?;
+        put_value(alloc, ohh, "start_date_utc", Value::String(text))?;
+    }
+    Ok(())
+}

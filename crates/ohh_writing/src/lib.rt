@@ -1,0 +1,25 @@
+//! Plays are written as Open Hand History, a line of JSON for each, or the first play is named that the format does not spell.
+#![tactic(auto)]
+
+mod action;
+mod cards;
+mod games;
+mod hand;
+mod laws;
+mod lines;
+mod members;
+mod moment;
+mod moves;
+mod players;
+mod posts;
+mod pots;
+mod rounds;
+mod seating;
+mod setup;
+mod shows;
+mod spelled;
+mod trees;
+
+pub use laws::law_of_lines;
+pub use lines::{push_line, write};
+pub use spelled::spells;

@@ -1,0 +1,93 @@
+//! Plays are written as the one list of lines that stands for them.
+ghost use Rattle.std.specs.Prelude.{◌≡◌, ◌⊎◌, ◌≤◌, List, [], ◌∷◌, ◌++◌, None, Some, length, IfOk, IfErr, OnOk};
+ghost use Rattle.std.specs.List.{AllByRecursion};
+ghost use Rattle.hand_canon.specs.Sound.{IsSound};
+ghost use Rattle.first_fault.specs.declared.limits.TheConstants.{MOST_HANDS};
+ghost use Rattle.hand_records.specs.declared.writing.WriteRefusal.TheVariants as refusals;
+ghost use Rattle.hand_records.specs.declared.trace.Play.{Play as AnyPlay};
+ghost use Rattle.ohh_writing.specs.Lines.{IsTextOf, Spells, empty_line_behind, hand_text};
+ghost use Rattle.ohh_writing.specs.Spelled.{unspelled};
+ghost use Rattle.hand_records.specs.WriteRefusals.{first_refusal};
+
+use crate::hand::hand_value;
+use crate::spelled::find_refusal;
+use card_set::Memory;
+use hand_records::{Keep, Play, WriteRefusal};
+use ohh_members::Dialect;
+use std::alloc::Global;
+
+/// The lines of some plays, each the compact text of the tree of its hand, with an empty line between two. Nothing is
+/// written where the format does not spell one of them.
+pub fn write(
+    alloc: Global,
+    dialect: Dialect,
+    plays: &[Play],
+    keep: Keep,
+) -> Result<Vec<u8>, WriteRefusal>
+    requires few { length plays.now ≤ MOST_HANDS }
+    requires sound { AllByRecursion IsSound plays.now }
+    ensures written { IfOk result (λ bytes. Spells dialect plays.now bytes.items) }
+    ensures spelled { OnOk result (first_refusal (unspelled keep) plays.now ≡ None) }
+    ensures refused { IfErr result (λ refusal. (refusal ≡ refusals.Memory)
+        ⊎ (first_refusal (unspelled keep) plays.now ≡ Some refusal)) }
+{
+    if let Some(refusal) = find_refusal(plays, keep) {
+        return Err(refusal);
+    }
+    match spell(alloc, dialect, plays) {
+        Ok(bytes) => Ok(bytes),
+        Err(Memory) => Err(WriteRefusal::Memory),
+    }
+}
+
+// The lines of some plays.
+fn spell(alloc: Global, dialect: Dialect, plays: &[Play]) -> Result<Vec<u8>, Memory>
+    requires sound { AllByRecursion IsSound plays.now }
+    ensures { IfOk result (λ bytes. Spells dialect plays.now bytes.items) }
+{
+    let mut out = Vec::new(alloc);
+    for (place, play) in plays.iter().enumerate() {
+        push_line(alloc, &mut out, dialect, place, play)?;
+    }
+    Ok(out)
+}
+
+/// Puts the line of the play at a place of its file, from 0, behind those of the plays before it, and an empty line between.
+pub fn push_line(
+    alloc: Global,
+    out: &mut Vec<u8>,
+    dialect: Dialect,
+    place: usize,
+    play: &Play,
+) -> Result<(), Memory>
+    requires { IsSound play.now }
+    ensures { (before : List AnyPlay) → length before ≡ place → Spells dialect before out.old.items
+        → OnOk result (Spells dialect (before ++ play.now ∷ []) out.new.items) }
+{
+    push_empty_line(out, place)?;
+    let text = make_text(alloc, dialect, place, play)?;
+    out.extend_from_slice(text.as_slice())?;
+    out.push(b'\n')?;
+    Ok(())
+}
+
+// Puts an empty line behind the hands that stand before a place, if there are any.
+fn push_empty_line(out: &mut Vec<u8>, place: usize) -> Result<(), Memory>
+    ensures { OnOk result (out.new.items ≡ out.old.items ++ empty_line_behind place) }
+{
+    if place == 0 {
+        return Ok(());
+    }
+    out.push(b'\n')?;
+    Ok(())
+}
+
+// The text of the hand at a place of its file, from 0.
+fn make_text(alloc: Global, dialect: Dialect, place: usize, play: &Play) -> Result<Vec<u8>, Memory>
+    requires { IsSound play.now }
+    ensures text { IfOk result (λ text. text.items ≡ hand_text dialect place play.now) }
+    ensures read { IfOk result (λ text. IsTextOf dialect place play.now) }
+{
+    let value = hand_value(alloc, dialect, place, play)?;
+    Ok(value.to_vec(alloc)?)
+}

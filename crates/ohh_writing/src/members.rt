@@ -1,0 +1,58 @@
+//! The members of an object of JSON, put one after the other. Each call makes the value that it
+//! puts, so that its callers own nothing but the members where memory is wanting.
+ghost use Rattle.std.specs.Prelude.{◌≡◌, IfOk, OnOk};
+ghost use Rattle.serde_json.specs.Data.{put as put_said, string};
+ghost use Rattle.serde_json.specs.View.{view, members_view};
+ghost use Rattle.ohh_writing.specs.Tree.{whole};
+
+use card_set::Memory;
+use serde_json::{Map, Value, put};
+use std::alloc::Global;
+
+/// Puts a whole number under a name.
+pub fn put_number(
+    alloc: Global,
+    members: &mut Map<String, Value>,
+    name: &str,
+    number: u64,
+) -> Result<(), Memory>
+    ensures { OnOk result (members_view members.new.entries
+        ≡ put_said name.now (whole number) (members_view members.old.entries)) }
+{
+    put_value(alloc, members, name, Value::from(number))?;
+    Ok(())
+}
+
+/// Puts a copy of a text under a name.
+pub fn put_text(
+    alloc: Global,
+    members: &mut Map<String, Value>,
+    name: &str,
+    text: &str,
+) -> Result<(), Memory>
+    ensures { OnOk result (members_view members.new.entries
+        ≡ put_said name.now (string text.now) (members_view members.old.entries)) }
+{
+    put_value(alloc, members, name, text_value(alloc, text)?)?;
+    Ok(())
+}
+
+/// Puts a value under a name.
+pub fn put_value(
+    alloc: Global,
+    members: &mut Map<String, Value>,
+    name: &str,
+    value: Value,
+) -> Result<(), Memory>
+    ensures { OnOk result (members_view members.new.entries
+        ≡ put_said name.now (view value) (members_view members.old.entries)) }
+{
+    Ok(put(members, alloc, name, value)?)
+}
+
+/// A copy of a text as a value.
+pub fn text_value(alloc: Global, text: &str) -> Result<Value, Memory>
+    ensures { IfOk result (λ value. view value ≡ string text.now) }
+{
+    Ok(Value::String(String::from_str(alloc, text)?))
+}

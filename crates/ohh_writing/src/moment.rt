@@ -1,0 +1,99 @@
+//! A hand is dated where its notes say a whole moment in the zone UTC.
+ghost use Rattle.std.specs.Prelude.{◌≡◌, ◌++◌, string_bytes, IfOk, OnOk};
+ghost use Rattle.ohh_writing.specs.Moment.{by_digits, fraction_text, moment_in as moment_in_said, moment_of as moment_said, moment_text as text_said, time_text};
+
+use card_set::Memory;
+use hand_records::{Clock, Notes};
+use std::alloc::Global;
+
+/// A date, and a time of that day.
+#[derive(Clone, Copy)]
+pub struct Moment {
+    pub year: u16,
+    pub month: u8,
+    pub day: u8,
+    pub time: Clock,
+}
+
+/// The moment that the notes say, where all of it is said and its zone is UTC.
+pub fn moment_of(notes: &Notes) -> Option<Moment>
+    ensures { result ≡ moment_said notes.now }
+{
+    let year = notes.year?;
+    let month = notes.month?;
+    let day = notes.day?;
+    let time = notes.time?;
+    match &notes.zone {
+        Some(zone) => moment_in(year, month, day, time, zone.as_str()),
+        None => None,
+    }
+}
+
+// The moment, where the zone is UTC.
+fn moment_in(year: u16, month: u8, day: u8, time: Clock, zone: &str) -> Option<Moment>
+    ensures { result ≡ moment_in_said year month day time zone.now }
+{
+    if zone == "UTC" {
+        Some(Moment {
+            year,
+            month,
+            day,
+            time,
+        })
+    } else {
+        None
+    }
+}
+
+/// A moment as the format writes it.
+pub fn moment_text(alloc: Global, moment: Moment) -> Result<String, Memory>
+    ensures { IfOk result (λ text. string_bytes text ≡ text_said moment) }
+{
+    let mut text = String::new(alloc);
+    push_digits(&mut text, 4, u32::from(moment.year))?;
+    text.push_str("-")?;
+    push_digits(&mut text, 2, u32::from(moment.month))?;
+    text.push_str("-")?;
+    push_digits(&mut text, 2, u32::from(moment.day))?;
+    text.push_str("T")?;
+    push_time(&mut text, moment.time)?;
+    text.push_str("Z")?;
+    Ok(text)
+}
+
+// Puts a time behind a text.
+fn push_time(text: &mut String, time: Clock) -> Result<(), Memory>
+    ensures { OnOk result (string_bytes text.new ≡ string_bytes text.old ++ time_text time) }
+{
+    push_digits(text, 2, u32::from(time.hour))?;
+    text.push_str(":")?;
+    push_digits(text, 2, u32::from(time.minute))?;
+    text.push_str(":")?;
+    push_digits(text, 2, u32::from(time.second))?;
+    push_fraction(text, time.nano)
+}
+
+// Puts a part of a second behind a text, where there is one.
+fn push_fraction(text: &mut String, nano: u32) -> Result<(), Memory>
+    ensures { OnOk result (string_bytes text.new ≡ string_bytes text.old ++ fraction_text nano) }
+{
+    if nano == 0 {
+        return Ok(());
+    }
+    text.push_str(".")?;
+    push_digits(text, 9, nano)
+}
+
+// Puts so many digits of a number, its last ones, behind a text.
+fn push_digits(text: &mut String, count: u8, number: u32) -> Result<(), Memory>
+    ensures { OnOk result (string_bytes text.new
+        ≡ string_bytes text.old ++ by_digits count number) }
+{
+    if count == 0 {
+        return Ok(());
+    }
+    push_digits(text, count - 1, number / 10)?;
+    let digit = b'0' + (number % 10) as u8;
+    text.push(char::from(digit))?;
+    Ok(())
+}

@@ -1,0 +1,87 @@
+//! The players of a hand, each with its seat at the table and its stack.
+ghost use Rattle.std.specs.Prelude.{◌≡◌, ◌≤◌, codes, string_bytes, IfOk, OnOk};
+ghost use Rattle.serde_json.specs.Data.{put as put_said, string};
+ghost use Rattle.serde_json.specs.View.{view, members_view};
+ghost use Rattle.hand_records.specs.AllowedNotes.{name_written};
+ghost use Rattle.ohh_writing.specs.Tree.{player_tree, players};
+
+use crate::members::{put_number, put_value};
+use crate::posts::amount_at;
+use crate::seating::number_among;
+use card_set::Memory;
+use chip_ledger::SeatRow;
+use hand_records::Notes;
+use serde_json::{Map, Value};
+use std::alloc::Global;
+
+/// The trees of the players, from p1 upward. The numbers of their seats are these, or by default 1, 2 and so on.
+pub fn player_values(
+    alloc: Global,
+    stacks: &SeatRow,
+    notes: &Notes,
+    numbers: Option<[u8; 10]>,
+) -> Result<Value, Memory>
+    ensures { IfOk result (λ value. view value ≡ players stacks.now notes.now numbers) }
+{
+    let mut values = Vec::new(alloc);
+    for index in 0..stacks.seats {
+        values.push(player_value(alloc, stacks, notes, numbers, index + 1)?)?;
+    }
+    Ok(Value::Array(values))
+}
+
+// The tree of a player.
+fn player_value(
+    alloc: Global,
+    stacks: &SeatRow,
+    notes: &Notes,
+    numbers: Option<[u8; 10]>,
+    seat: u8,
+) -> Result<Value, Memory>
+    requires first { 1 ≤ seat }
+    requires last { seat ≤ 10 }
+    ensures { IfOk result (λ value. view value ≡ player_tree stacks.now notes.now numbers seat) }
+{
+    let number = number_among(numbers, seat);
+    let stack = amount_at(stacks, seat);
+    let mut members = Map::new(alloc);
+    put_number(alloc, &mut members, "id", seat as u64)?;
+    put_name(alloc, &mut members, notes, seat)?;
+    put_number(alloc, &mut members, "seat", number as u64)?;
+    put_number(alloc, &mut members, "starting_stack", stack)?;
+    Ok(Value::Object(members))
+}
+
+// Puts the name of a seat's player under its name.
+fn put_name(
+    alloc: Global,
+    members: &mut Map<String, Value>,
+    notes: &Notes,
+    seat: u8,
+) -> Result<(), Memory>
+    requires first { 1 ≤ seat }
+    requires last { seat ≤ 10 }
+    ensures { OnOk result (members_view members.new.entries
+        ≡ put_said (codes "name") (string (name_written notes.now seat))
+        (members_view members.old.entries)) }
+{
+    put_value(
+        alloc,
+        members,
+        "name",
+        Value::String(name_of(alloc, notes, seat)?),
+    )?;
+    Ok(())
+}
+
+// The name of a seat's player, or its default where none is said.
+fn name_of(alloc: Global, notes: &Notes, seat: u8) -> Result<String, Memory>
+    requires first { 1 ≤ seat }
+    requires last { seat ≤ 10 }
+    ensures { IfOk result (λ name. string_bytes name ≡ name_written notes.now seat) }
+{
+    match &notes.names[seat as usize - 1] {
+        Some(name) => Ok(String::from_str(alloc, name.as_str())?),
+        None => Ok(format!(in alloc; "p{seat}")?),
+    }
+}

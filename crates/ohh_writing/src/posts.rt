@@ -1,0 +1,146 @@
+//! The posts of a hand: antes, blinds and straddles.
+ghost use Rattle.std.specs.Prelude.{◌≡◌, ◌≤◌, ◌-◌, ◌++◌, map, OnOk};
+ghost use Rattle.std.specs.List.{flat_map};
+ghost use Rattle.chip_ledger.specs.SeatRow.{amount_of};
+ghost use Rattle.play_event.specs.Chips.{blind_posted, posted};
+ghost use Rattle.play_event.specs.Seats.{all_seats};
+ghost use Rattle.ohh_writing.specs.Actions.{action_said, ante_post, big_blind_seat as big_blind_seat_said, blind_post, posts, small_blind_seat as small_blind_seat_said, straddle_post, with_chips};
+
+use crate::action::{Action, Detail, Word};
+use card_set::Memory;
+use chip_ledger::SeatRow;
+use play_event::Setup;
+
+/// Puts the posts of a hand behind other actions.
+pub fn push_posts(actions: &mut Vec<Action>, setup: &Setup) -> Result<(), Memory>
+    ensures { OnOk result (map action_said actions.new.items
+        ≡ map action_said actions.old.items ++ posts setup.now) }
+{
+    push_antes(actions, setup)?;
+    actions.push(blind_action(setup, Word::PostSmallBlind, small_blind_seat(setup)))?;
+    actions.push(blind_action(setup, Word::PostBigBlind, big_blind_seat(setup)))?;
+    push_straddles(actions, setup)
+}
+
+// Puts the antes behind other actions, from the first seat upward.
+fn push_antes(actions: &mut Vec<Action>, setup: &Setup) -> Result<(), Memory>
+    ensures { OnOk result (map action_said actions.new.items
+        ≡ map action_said actions.old.items
+        ++ flat_map (ante_post setup.now) (all_seats setup.now)) }
+{
+    for index in 0..setup.stacks.seats {
+        push_ante(actions, setup, index + 1)?;
+    }
+    Ok(())
+}
+
+// Puts the ante of a seat behind other actions, where it posts one.
+fn push_ante(actions: &mut Vec<Action>, setup: &Setup, seat: u8) -> Result<(), Memory>
+    requires first { 1 ≤ seat }
+    requires last { seat ≤ 10 }
+    ensures { OnOk result (map action_said actions.new.items
+        ≡ map action_said actions.old.items ++ ante_post setup.now seat) }
+{
+    let ante = amount_at(&setup.antes, seat);
+    if ante == 0 {
+        return Ok(());
+    }
+    let left = amount_at(&setup.stacks, seat).saturating_sub(ante);
+    actions.push(chips_action(Word::PostAnte, seat, ante, left))?;
+    Ok(())
+}
+
+/// The seat of the small blind.
+pub fn small_blind_seat(setup: &Setup) -> u8
+    ensures seat { result ≡ small_blind_seat_said setup.now }
+    ensures first { 1 ≤ result }
+    ensures last { result ≤ 2 }
+{
+    if setup.stacks.seats == 2 { 2 } else { 1 }
+}
+
+/// The seat of the big blind.
+pub fn big_blind_seat(setup: &Setup) -> u8
+    ensures seat { result ≡ big_blind_seat_said setup.now }
+    ensures first { 1 ≤ result }
+    ensures last { result ≤ 2 }
+{
+    if setup.stacks.seats == 2 { 1 } else { 2 }
+}
+
+// Puts the straddles behind other actions, from the third seat upward.
+fn push_straddles(actions: &mut Vec<Action>, setup: &Setup) -> Result<(), Memory>
+    ensures { OnOk result (map action_said actions.new.items
+        ≡ map action_said actions.old.items
+        ++ flat_map (straddle_post setup.now) (all_seats setup.now)) }
+{
+    for index in 0..setup.stacks.seats {
+        push_straddle(actions, setup, index + 1)?;
+    }
+    Ok(())
+}
+
+// Puts the straddle of a seat behind other actions, where it posts one.
+fn push_straddle(actions: &mut Vec<Action>, setup: &Setup, seat: u8) -> Result<(), Memory>
+    requires first { 1 ≤ seat }
+    requires last { seat ≤ 10 }
+    ensures { OnOk result (map action_said actions.new.items
+        ≡ map action_said actions.old.items ++ straddle_post setup.now seat) }
+{
+    if seat <= 2 || amount_at(&setup.blinds, seat) == 0 {
+        return Ok(());
+    }
+    actions.push(blind_action(setup, Word::Straddle, seat))?;
+    Ok(())
+}
+
+// A blind or straddle.
+fn blind_action(setup: &Setup, word: Word, seat: u8) -> Action
+    requires first { 1 ≤ seat }
+    requires last { seat ≤ 10 }
+    ensures { action_said result ≡ blind_post setup.now word seat }
+{
+    let amount = posted_blind(setup, seat);
+    chips_action(word, seat, amount, left_after_posts(setup, seat))
+}
+
+/// An action that puts chips and leaves so many.
+pub fn chips_action(word: Word, player: u8, amount: u64, left: u64) -> Action
+    ensures { action_said result ≡ with_chips word player amount left }
+{
+    let all_in = left == 0;
+    Action {
+        word,
+        player,
+        detail: Detail::Chips { amount, all_in },
+    }
+}
+
+/// The chips that a seat has left when it has posted its ante and its blind.
+pub fn left_after_posts(setup: &Setup, seat: u8) -> u64
+    requires first { 1 ≤ seat }
+    requires last { seat ≤ 10 }
+    ensures { result ≡ amount_of setup.now.stacks seat - posted setup.now seat }
+{
+    let left = amount_at(&setup.stacks, seat).saturating_sub(amount_at(&setup.antes, seat));
+    left.saturating_sub(posted_blind(setup, seat))
+}
+
+// The blind that a seat posts: as much of it as the stack has after the ante.
+fn posted_blind(setup: &Setup, seat: u8) -> u64
+    requires first { 1 ≤ seat }
+    requires last { seat ≤ 10 }
+    ensures { result ≡ blind_posted setup.now seat }
+{
+    let left = amount_at(&setup.stacks, seat).saturating_sub(amount_at(&setup.antes, seat));
+    amount_at(&setup.blinds, seat).min(left)
+}
+
+/// The amount of a seat in a row.
+pub fn amount_at(row: &SeatRow, seat: u8) -> u64
+    requires first { 1 ≤ seat }
+    requires last { seat ≤ 10 }
+    ensures { result ≡ amount_of row.now seat }
+{
+    row.amounts[seat as usize - 1]
+}

@@ -1,0 +1,109 @@
+//! The pots of a hand, with their rakes and with what is won of them.
+ghost use Rattle.std.specs.Prelude.{◌≡◌, ◌≤◌, ◌<◌, ◌++◌, ◌+◌, codes, map, IfOk, OnOk};
+ghost use Rattle.serde_json.specs.Data.{put as put_said};
+ghost use Rattle.serde_json.specs.View.{view, members_view};
+ghost use Rattle.ohh_writing.specs.Tree.{pot_tree, pots as pots_said, share_at as share_said, win_object, win_tree, wins_of};
+
+use crate::members::{put_number, put_value};
+use crate::posts::amount_at;
+use card_set::Memory;
+use chip_ledger::{Pot, SeatRow};
+use hand_records::Trace;
+use serde_json::{Map, Value};
+use std::alloc::Global;
+
+/// The trees of the pots, the lowest first.
+pub fn pot_values(alloc: Global, trace: &Trace) -> Result<Value, Memory>
+    ensures { IfOk result (λ value. view value ≡ pots_said trace.now) }
+{
+    let mut values = Vec::new(alloc);
+    for place in 0..trace.pots.count {
+        values.push(pot_value(alloc, trace, place, &trace.pots.pots[place as usize])?)?;
+    }
+    Ok(Value::Array(values))
+}
+
+// The tree of the pot at a place, from 0.
+fn pot_value(alloc: Global, trace: &Trace, place: u8, pot: &Pot) -> Result<Value, Memory>
+    requires { place < 11 }
+    ensures { IfOk result (λ value. view value ≡ pot_tree trace.now place pot.now) }
+{
+    let rake = trace.setup.rakes.rakes[place as usize];
+    let mut members = Map::new(alloc);
+    put_number(alloc, &mut members, "amount", pot.chips)?;
+    put_number(alloc, &mut members, "number", place as u64)?;
+    put_wins(
+        alloc,
+        &mut members,
+        share_at(trace, place),
+        trace.setup.stacks.seats,
+    )?;
+    put_number(alloc, &mut members, "rake", rake)?;
+    Ok(Value::Object(members))
+}
+
+// Puts what so many seats win of a pot under its name.
+fn put_wins(
+    alloc: Global,
+    members: &mut Map<String, Value>,
+    share: &SeatRow,
+    seats: u8,
+) -> Result<(), Memory>
+    requires { seats ≤ 10 }
+    ensures { OnOk result (members_view members.new.entries
+        ≡ put_said (codes "player_wins") (wins_of share.now seats)
+        (members_view members.old.entries)) }
+{
+    put_value(
+        alloc,
+        members,
+        "player_wins",
+        win_values(alloc, share, seats)?,
+    )?;
+    Ok(())
+}
+
+// The trees of what so many seats win of a pot.
+fn win_values(alloc: Global, share: &SeatRow, seats: u8) -> Result<Value, Memory>
+    requires { seats ≤ 10 }
+    ensures { IfOk result (λ value. view value ≡ wins_of share.now seats) }
+{
+    let mut values = Vec::new(alloc);
+    for index in 0..seats {
+        push_win(alloc, &mut values, share, index + 1)?;
+    }
+    Ok(Value::Array(values))
+}
+
+// Puts what a seat wins of a pot behind other wins, where it wins something.
+fn push_win(alloc: Global, values: &mut Vec<Value>, share: &SeatRow, seat: u8) -> Result<(), Memory>
+    requires first { 1 ≤ seat }
+    requires last { seat ≤ 10 }
+    ensures { OnOk result (map view values.new.items
+        ≡ map view values.old.items ++ win_tree share.now seat) }
+{
+    let amount = amount_at(share, seat);
+    if amount == 0 {
+        return Ok(());
+    }
+    values.push(win_value(alloc, seat, amount)?)?;
+    Ok(())
+}
+
+// The tree of so many chips that a seat wins.
+fn win_value(alloc: Global, seat: u8, amount: u64) -> Result<Value, Memory>
+    ensures { IfOk result (λ value. view value ≡ win_object seat amount) }
+{
+    let mut members = Map::new(alloc);
+    put_number(alloc, &mut members, "player_id", seat as u64)?;
+    put_number(alloc, &mut members, "win_amount", amount)?;
+    Ok(Value::Object(members))
+}
+
+// The shares of the pot at a place.
+fn share_at(trace: &Trace, place: u8) -> &SeatRow
+    requires { place < 11 }
+    ensures { result.now ≡ share_said trace.now place }
+{
+    &trace.shares.shares[place as usize]
+}

@@ -1,0 +1,103 @@
+//! Numbers of seats are written where they go round the table once.
+ghost use Rattle.std.specs.Prelude.{◌≡◌, ◌==◌, ◌≤◌, length};
+ghost use Rattle.std.specs.List.{list_any};
+ghost use Rattle.ohh_writing.specs.Seating.{fall as fall_said, falls as falls_said, first_or as first_or_said, has_no_repeat as has_no_repeat_said, is_circular as is_circular_said, number_among as number_among_said, numbers_spelled as numbers_said};
+
+/// The numbers of so many seats, where they are said and go round.
+pub fn numbers_spelled(count: u8, said: Option<[u8; 10]>) -> Option<[u8; 10]>
+    requires least { 1 ≤ count }
+    requires greatest { count ≤ 10 }
+    ensures { result ≡ numbers_said count said }
+{
+    match said {
+        Some(numbers) => {
+            if is_circular(&numbers.as_slice()[..count as usize]) {
+                Some(numbers)
+            } else {
+                None
+            }
+        }
+        None => None,
+    }
+}
+
+// Whether numbers differ, and one step goes down when one goes round them.
+fn is_circular(numbers: &[u8]) -> bool
+    requires some { 1 ≤ length numbers.now }
+    requires few { length numbers.now ≤ 10 }
+    ensures { result ≡ is_circular_said numbers.now }
+{
+    if !has_no_repeat(numbers) {
+        return false;
+    }
+    falls(numbers[0], numbers) == 1
+}
+
+// Whether no number stands twice.
+fn has_no_repeat(numbers: &[u8]) -> bool
+    ensures { result ≡ has_no_repeat_said numbers.now }
+{
+    match numbers {
+        [] => true,
+        [number, rest @ ..] => {
+            if has_number(rest, *number) {
+                return false;
+            }
+            has_no_repeat(rest)
+        }
+    }
+}
+
+// Whether a number is among others.
+fn has_number(numbers: &[u8], number: u8) -> bool
+    ensures { result ≡ list_any (λ other. other == number) numbers.now }
+{
+    for other in numbers {
+        if *other == number {
+            return true;
+        }
+    }
+    false
+}
+
+// How many steps go down, from each number to the next, and from the last one back.
+fn falls(back: u8, numbers: &[u8]) -> u8
+    requires few { length numbers.now ≤ 10 }
+    ensures falls { result ≡ falls_said back numbers.now }
+    ensures few { result ≤ length numbers.now }
+{
+    match numbers {
+        [] => 0,
+        [number, rest @ ..] => fall(*number, first_or(back, rest)) + falls(back, rest),
+    }
+}
+
+// Whether a step goes down, as a number.
+fn fall(number: u8, next: u8) -> u8
+    ensures fall { result ≡ fall_said number next }
+    ensures few { result ≤ 1 }
+{
+    u8::from(next < number)
+}
+
+// The first of some numbers, or this one behind the last.
+fn first_or(back: u8, numbers: &[u8]) -> u8
+    ensures { result ≡ first_or_said back numbers.now }
+{
+    match numbers {
+        [] => back,
+        [next, ..] => *next,
+    }
+}
+
+/// The number of a seat among these, or by default that of its place.
+pub fn number_among(numbers: Option<[u8; 10]>, seat: u8) -> u8
+    requires first { 1 ≤ seat }
+    requires last { seat ≤ 10 }
+    ensures { result ≡ number_among_said numbers seat }
+{
+    match numbers {
+        Some(numbers) => numbers[seat as usize - 1],
+        None => seat,
+    }
+}

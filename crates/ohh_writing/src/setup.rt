@@ -1,0 +1,145 @@
+//! Which setups the format spells.
+ghost use Rattle.std.specs.Prelude.{◌≡◌, ◌≤◌};
+ghost use Rattle.std.specs.List.{list_all, list_any};
+ghost use Rattle.play_event.specs.Seats.{all_seats};
+ghost use Rattle.ohh_writing.specs.Spelled.{big_blind as big_blind_said, greatest_ante as greatest_ante_said, has_no_ante as has_no_ante_said, has_spelled_antes as has_antes_said, has_spelled_blinds as has_blinds_said, has_spelled_sizes as has_sizes_said, has_spelled_straddles as has_straddles_said, has_two_blinds as has_two_said, is_covered_straddle as is_covered_said, is_whole_ante as is_whole_said};
+
+use crate::games::is_fixed;
+use crate::posts::{amount_at, big_blind_seat};
+use play_event::Setup;
+
+/// Whether the bet sizes are those that follow from the big blind.
+pub fn has_spelled_sizes(setup: &Setup) -> bool
+    ensures { result ≡ has_sizes_said setup.now }
+{
+    let blind = big_blind(setup);
+    if is_fixed(setup.code) {
+        setup.small_bet == blind && setup.big_bet == 2 * blind
+    } else {
+        setup.min_bet == blind
+    }
+}
+
+/// The big blind, as it is named.
+pub fn big_blind(setup: &Setup) -> u64
+    ensures { result ≡ big_blind_said setup.now }
+{
+    amount_at(&setup.blinds, big_blind_seat(setup))
+}
+
+/// Whether the antes are those of all seats where they are not dead, and else those of some.
+pub fn has_spelled_antes(setup: &Setup) -> bool
+    ensures { result ≡ has_antes_said setup.now }
+{
+    if setup.dead_antes {
+        has_seat_without_ante(setup)
+    } else {
+        has_whole_antes(setup)
+    }
+}
+
+// Whether some seat posts no ante.
+fn has_seat_without_ante(setup: &Setup) -> bool
+    ensures { result ≡ list_any (has_no_ante_said setup.now) (all_seats setup.now) }
+{
+    for index in 0..setup.stacks.seats {
+        if has_no_ante(setup, index + 1) {
+            return true;
+        }
+    }
+    false
+}
+
+// Whether a seat posts no ante.
+fn has_no_ante(setup: &Setup, seat: u8) -> bool
+    requires first { 1 ≤ seat }
+    requires last { seat ≤ 10 }
+    ensures { result ≡ has_no_ante_said setup.now seat }
+{
+    amount_at(&setup.antes, seat) == 0
+}
+
+// Whether each seat posts the greatest ante, as far as its stack goes.
+fn has_whole_antes(setup: &Setup) -> bool
+    ensures { result ≡ list_all (is_whole_said setup.now) (all_seats setup.now) }
+{
+    let greatest = greatest_ante(setup);
+    for index in 0..setup.stacks.seats {
+        if !is_whole_ante(setup, greatest, index + 1) {
+            return false;
+        }
+    }
+    true
+}
+
+/// The greatest ante.
+pub fn greatest_ante(setup: &Setup) -> u64
+    ensures { result ≡ greatest_ante_said setup.now }
+{
+    let mut greatest = 0;
+    let mut left = setup.stacks.seats;
+    while left > 0 {
+        greatest = amount_at(&setup.antes, left).max(greatest);
+        left -= 1;
+    }
+    greatest
+}
+
+// Whether a seat posts the greatest ante, as far as its stack goes.
+fn is_whole_ante(setup: &Setup, greatest: u64, seat: u8) -> bool
+    requires first { 1 ≤ seat }
+    requires last { seat ≤ 10 }
+    requires greatest { greatest ≡ greatest_ante_said setup.now }
+    ensures { result ≡ is_whole_said setup.now seat }
+{
+    amount_at(&setup.antes, seat) == amount_at(&setup.stacks, seat).min(greatest)
+}
+
+/// Whether the first two seats have the blinds, and the others straddles that their stacks cover.
+pub fn has_spelled_blinds(setup: &Setup) -> bool
+    ensures { result ≡ has_blinds_said setup.now }
+{
+    if !has_two_blinds(setup) {
+        return false;
+    }
+    setup.stacks.seats == 2 || has_spelled_straddles(setup)
+}
+
+// Whether the first two seats have blinds.
+fn has_two_blinds(setup: &Setup) -> bool
+    ensures { result ≡ has_two_said setup.now }
+{
+    0 < amount_at(&setup.blinds, 1) && 0 < amount_at(&setup.blinds, 2)
+}
+
+// Whether of three or more seats the first has the small blind, and each straddle is covered.
+fn has_spelled_straddles(setup: &Setup) -> bool
+    ensures { result ≡ has_straddles_said setup.now }
+{
+    if amount_at(&setup.blinds, 1) > amount_at(&setup.blinds, 2) {
+        return false;
+    }
+    has_covered_straddles(setup)
+}
+
+// Whether each straddle is no more than its stack without the ante.
+fn has_covered_straddles(setup: &Setup) -> bool
+    ensures { result ≡ list_all (is_covered_said setup.now) (all_seats setup.now) }
+{
+    for index in 0..setup.stacks.seats {
+        if !is_covered_straddle(setup, index + 1) {
+            return false;
+        }
+    }
+    true
+}
+
+// Whether a straddle of the seat is no more than its stack without the ante.
+fn is_covered_straddle(setup: &Setup, seat: u8) -> bool
+    requires first { 1 ≤ seat }
+    requires last { seat ≤ 10 }
+    ensures { result ≡ is_covered_said setup.now seat }
+{
+    let left = amount_at(&setup.stacks, seat).saturating_sub(amount_at(&setup.antes, seat));
+    seat <= 2 || amount_at(&setup.blinds, seat) <= left
+}

@@ -1,0 +1,87 @@
+//! The cards of a hand in its actions: what each seat was dealt, and what it shows or mucks at the end.
+ghost use Rattle.std.specs.Prelude.{◌≡◌, ◌++◌, Some, map, OnOk};
+ghost use Rattle.card_set.specs.Row.{slots_of};
+ghost use Rattle.canon_script.specs.Tidy.{HasTidyCards};
+ghost use Rattle.hand_records.specs.TraceRows.{core_said};
+ghost use Rattle.ohh_writing.specs.Actions.{action_said, alone, deal_written, deals, showing, showings, with_cards};
+ghost use Rattle.ohh_writing.specs.declared.action.Word.TheVariants as words;
+
+use crate::action::{Action, Detail, Word};
+use crate::cards::{dealt_cards, has_known, held_cards};
+use card_set::{Memory, SlotRow};
+use chip_ledger::Seat;
+use hand_records::Trace;
+
+/// Puts the deals to the seats behind other actions, from p1 upward.
+pub fn push_deals(actions: &mut Vec<Action>, trace: &Trace) -> Result<(), Memory>
+    requires { HasTidyCards (core_said trace.now) }
+    ensures { OnOk result (map action_said actions.new.items ≡ map action_said actions.old.items
+        ++ deals trace.now.setup (core_said trace.now).places) }
+{
+    for index in 0..trace.setup.stacks.seats {
+        let seat = Seat { number: index + 1 };
+        let cards = dealt_cards(trace.places.as_slice(), Some(seat), 1);
+        push_deal(actions, seat, cards)?;
+    }
+    Ok(())
+}
+
+// Puts the deal of cards to a seat behind other actions, where one of them is known.
+fn push_deal(actions: &mut Vec<Action>, seat: Seat, cards: SlotRow) -> Result<(), Memory>
+    ensures { OnOk result (map action_said actions.new.items
+        ≡ map action_said actions.old.items ++ deal_written seat.number (slots_of cards)) }
+{
+    if !has_known(cards.as_slice()) {
+        return Ok(());
+    }
+    actions.push(cards_action(Word::DealtCards, seat, cards))?;
+    Ok(())
+}
+
+/// Puts the showdown behind other actions, from p1 upward.
+pub fn push_showings(actions: &mut Vec<Action>, trace: &Trace) -> Result<(), Memory>
+    requires { HasTidyCards (core_said trace.now) }
+    ensures { OnOk result (map action_said actions.new.items
+        ≡ map action_said actions.old.items ++ showings trace.now) }
+{
+    for index in 0..trace.setup.stacks.seats {
+        push_showing(actions, trace, Seat { number: index + 1 })?;
+    }
+    Ok(())
+}
+
+// Puts what a seat does at the showdown behind other actions, where it is in it.
+fn push_showing(actions: &mut Vec<Action>, trace: &Trace, seat: Seat) -> Result<(), Memory>
+    requires { HasTidyCards (core_said trace.now) }
+    ensures { OnOk result (map action_said actions.new.items
+        ≡ map action_said actions.old.items ++ showing trace.now seat.number) }
+{
+    if trace.shown.flags[seat.number as usize - 1] {
+        let cards = held_cards(trace.places.as_slice(), seat);
+        actions.push(cards_action(Word::ShowsCards, seat, cards))?;
+    } else if trace.mucked.flags[seat.number as usize - 1] {
+        actions.push(muck_action(seat))?;
+    }
+    Ok(())
+}
+
+// An action that tells cards.
+fn cards_action(word: Word, seat: Seat, cards: SlotRow) -> Action
+    ensures { action_said result ≡ with_cards word seat.number (slots_of cards) }
+{
+    Action {
+        word,
+        player: seat.number,
+        detail: Detail::Cards(cards),
+    }
+}
+
+fn muck_action(seat: Seat) -> Action
+    ensures { action_said result ≡ alone words.MucksCards seat.number }
+{
+    Action {
+        word: Word::MucksCards,
+        player: seat.number,
+        detail: Detail::Nothing,
+    }
+}

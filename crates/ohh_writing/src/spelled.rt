@@ -1,0 +1,126 @@
+//! The first fact of a play that the format does not spell, and the first play that has one.
+ghost use Rattle.std.specs.Prelude.{◌≡◌, ◌≤◌, length};
+ghost use Rattle.std.specs.List.{list_any};
+ghost use Rattle.first_fault.specs.declared.limits.TheConstants.{MOST_HANDS};
+ghost use Rattle.ohh_writing.specs.Spelled.{first_unspelled, has_spelled_numbers as has_numbers_said, kept_facts, note_facts, trace_facts, unspelled};
+ghost use Rattle.hand_records.specs.WriteRefusals.{first_refusal};
+
+use crate::games::is_spelled_game;
+use crate::moment::moment_of;
+use crate::seating::numbers_spelled;
+use crate::setup::{has_spelled_antes, has_spelled_blinds, has_spelled_sizes};
+use hand_records::{Keep, NoteName, Notes, Play, Trace, Unspelled, WriteRefusal};
+use play_event::Move;
+
+/// The refusal of the first play that the format does not spell. The first hand has the number 1.
+pub fn find_refusal(plays: &[Play], keep: Keep) -> Option<WriteRefusal>
+    requires { length plays.now ≤ MOST_HANDS }
+    ensures { result ≡ first_refusal (unspelled keep) plays.now }
+{
+    for (index, play) in plays.iter().enumerate() {
+        if let Some(fact) = spells(play, keep) {
+            return Some(WriteRefusal::Unspelled {
+                hand: index as u32 + 1,
+                fact,
+            });
+        }
+    }
+    None
+}
+
+/// The first fact of the play that the format does not spell, in either dialect. Notes count where all are kept.
+#[tactic(auto, unfolding(crate::specs::Spelled::unspelled))]
+pub fn spells(play: &Play, keep: Keep) -> Option<Unspelled>
+    ensures { result ≡ unspelled keep play.now }
+{
+    match first_of_trace(&play.trace) {
+        Some(fact) => Some(fact),
+        None => first_of_kept(play, keep),
+    }
+}
+
+// The first fact of a trace that is not spelled.
+fn first_of_trace(trace: &Trace) -> Option<Unspelled>
+    ensures { result ≡ first_unspelled (trace_facts trace.now) }
+{
+    if !is_spelled_game(trace.setup.code) {
+        return Some(Unspelled::Variant);
+    }
+    if !has_spelled_sizes(&trace.setup) {
+        return Some(Unspelled::BetSizes);
+    }
+    if !has_spelled_antes(&trace.setup) {
+        return Some(Unspelled::Antes);
+    }
+    if !has_spelled_blinds(&trace.setup) {
+        return Some(Unspelled::Blinds);
+    }
+    if has_closed(trace.moves.as_slice()) {
+        return Some(Unspelled::ReopenedShort);
+    }
+    None
+}
+
+// Whether one of the moves is a raise that is closed.
+fn has_closed(moves: &[Move]) -> bool
+    ensures { result ≡ list_any (λ move. move.closed) moves.now }
+{
+    for played in moves {
+        if played.closed {
+            return true;
+        }
+    }
+    false
+}
+
+// The first of the notes to be kept that is not spelled.
+fn first_of_kept(play: &Play, keep: Keep) -> Option<Unspelled>
+    ensures { result ≡ first_unspelled (kept_facts keep play.now) }
+{
+    match keep {
+        Keep::All => first_of_notes(play.trace.setup.stacks.seats, &play.hand.notes),
+        Keep::Spelled => None,
+    }
+}
+
+// The first note of so many seats that is not spelled.
+fn first_of_notes(count: u8, notes: &Notes) -> Option<Unspelled>
+    requires least { 1 ≤ count }
+    requires greatest { count ≤ 10 }
+    ensures { result ≡ first_unspelled (note_facts count notes.now) }
+{
+    if !has_spelled_numbers(count, notes) {
+        return Some(Unspelled::Note(NoteName::Seats));
+    }
+    if moment_of(notes).is_some() {
+        return None;
+    }
+    if notes.zone.is_some() {
+        return Some(Unspelled::Note(NoteName::TimeZone));
+    }
+    if notes.year.is_some() {
+        return Some(Unspelled::Note(NoteName::Year));
+    }
+    if notes.month.is_some() {
+        return Some(Unspelled::Note(NoteName::Month));
+    }
+    if notes.day.is_some() {
+        return Some(Unspelled::Note(NoteName::Day));
+    }
+    if notes.time.is_some() {
+        return Some(Unspelled::Note(NoteName::Time));
+    }
+    None
+}
+
+// Whether the numbers of so many seats are not said, or go round the table.
+fn has_spelled_numbers(count: u8, notes: &Notes) -> bool
+    requires least { 1 ≤ count }
+    requires greatest { count ≤ 10 }
+    ensures { result ≡ has_numbers_said count notes.now }
+{
+    if notes.seats.is_none() {
+        return true;
+    }
+    numbers_spelled(count, notes.seats).is_some()
+}

@@ -1,0 +1,10 @@
+use Rattle.std.proofs.Common.{◌≡◌, length}
+use Rattle.phh_actions.proofs.words.skip_spaces.Given as goal
+use Rattle.first_fault.specs.Words.{words_of}
+
+-- what is left has the words of the text
+abbrev pub invariant-loop-rest : goal.invariant-loop-rest
+invariant-loop-rest l = words_of l.rest ≡ words_of l.text
+
+abbrev pub decreases-loop-rest : goal.decreases-loop-rest
+decreases-loop-rest l = length l.rest

@@ -1,0 +1,145 @@
+//! The parts of an action: the name of a seat, an amount of chips, and cards.
+ghost use Rattle.std.specs.Prelude.{◌≡◌, ◌≤◌, bytes_eq, length, option_map};
+ghost use Rattle.std.specs.List.{list_any};
+ghost use Rattle.card_set.specs.Known.{is_unknown, known_cards};
+ghost use Rattle.card_set.specs.Row.{cards_of, slots_of};
+ghost use Rattle.phh_actions.specs.Action.{amount_said, cards_said, has_fraction, one_to, seat_named, seat_said, seen_by, slots_said};
+ghost use Rattle.chip_ledger.specs.SeatsSaid.{default_name};
+
+use crate::fault::ActionFault;
+use crate::words::{is_word, place_of};
+use card_set::{CardRow, Slot, SlotRow, read_slots as read_row};
+use chip_ledger::{MOST_CHIPS, Seat};
+use first_fault::{are_digits, read_digits};
+
+/// The seat of the hand that a word names.
+#[tactic(auto, unfolding(crate::specs::Action::seat_said))]
+pub fn read_seat(seats: u8, name: &[u8]) -> Result<Seat, ActionFault>
+    requires { seats ≤ 10 }
+    ensures { seen_by (λ seat. seat.number) result ≡ seat_said seats name.now }
+{
+    match find_seat(seats, name) {
+        Some(seat) => Ok(seat),
+        None => Err(ActionFault::BadAction),
+    }
+}
+
+// The seat of the hand that a word names, if it names one.
+#[tactic(auto, unfolding(crate::specs::Action::seat_named))]
+fn find_seat(seats: u8, name: &[u8]) -> Option<Seat>
+    requires { seats ≤ 10 }
+    ensures { option_map (λ seat. seat.number) result ≡ seat_named seats name.now }
+{
+    for index in 0..seats {
+        if names_seat(name, index + 1) {
+            return Seat::new(index + 1);
+        }
+    }
+    None
+}
+
+// Whether the word is p and this number.
+fn names_seat(name: &[u8], seat: u8) -> bool
+    requires first { 1 ≤ seat }
+    requires last { seat ≤ 10 }
+    ensures { result ≡ bytes_eq name.now (default_name seat) }
+{
+    if seat < 10 {
+        name == [b'p', b'0' + seat].as_slice()
+    } else {
+        is_word(name, "p10")
+    }
+}
+
+/// The amount that a word says; leading zeros may stand.
+#[tactic(auto, unfolding(crate::specs::Action::amount_said))]
+pub fn read_amount(word: &[u8]) -> Result<u64, ActionFault>
+    ensures { seen_by (λ amount. amount) result ≡ amount_said word.now }
+{
+    if !are_digits(word) {
+        return Err(if is_fraction(word) {
+            ActionFault::AmountNotWhole
+        } else {
+            ActionFault::BadAction
+        });
+    }
+    match read_digits(word, MOST_CHIPS) {
+        Some(amount) => Ok(amount),
+        None => Err(ActionFault::AmountLimit),
+    }
+}
+
+// Whether the word is digits, a point and digits.
+#[tactic(auto, unfolding(crate::specs::Action::has_fraction, first_fault::specs::Digits::are_digits))]
+fn is_fraction(word: &[u8]) -> bool
+    ensures { result ≡ has_fraction word.now }
+{
+    let len = place_of(word, b'.');
+    if len == word.len() {
+        return false;
+    }
+    are_digits(&word[..len]) && are_digits(&word[len + 1..])
+}
+
+/// One to so many cards, each of them known.
+#[tactic(auto, unfolding(crate::specs::Action::cards_said))]
+pub fn read_cards(most: u8, word: &[u8]) -> Result<CardRow, ActionFault>
+    requires { most ≤ 7 }
+    ensures { seen_by cards_of result ≡ cards_said most word.now }
+{
+    let slots = read_slots(most, word)?;
+    if has_unknown(slots.as_slice()) {
+        return Err(ActionFault::BadAction);
+    }
+    Ok(known_row(slots.as_slice()))
+}
+
+/// One to so many slots, two letters each.
+#[tactic(auto, unfolding(crate::specs::Action::slots_said))]
+pub fn read_slots(most: u8, word: &[u8]) -> Result<SlotRow, ActionFault>
+    requires { most ≤ 7 }
+    ensures { seen_by slots_of result ≡ slots_said most word.now }
+{
+    let Ok(slots) = read_row(word) else {
+        return Err(ActionFault::BadAction);
+    };
+    keep_within(most, slots)
+}
+
+// The slots, if they are one to so many.
+fn keep_within(most: u8, slots: SlotRow) -> Result<SlotRow, ActionFault>
+    ensures { seen_by slots_of result ≡ one_to most (slots_of slots) }
+{
+    let len = slots.as_slice().len();
+    if 1 <= len && len <= usize::from(most) {
+        Ok(slots)
+    } else {
+        Err(ActionFault::BadAction)
+    }
+}
+
+// Whether one of the slots is unknown.
+fn has_unknown(slots: &[Slot]) -> bool
+    ensures { result ≡ list_any is_unknown slots.now }
+{
+    for slot in slots {
+        if *slot == Slot::Unknown {
+            return true;
+        }
+    }
+    false
+}
+
+// The known cards of up to seven slots.
+fn known_row(slots: &[Slot]) -> CardRow
+    requires { length slots.now ≤ 7 }
+    ensures { cards_of result ≡ known_cards slots.now }
+{
+    let mut row = CardRow::new();
+    for slot in slots {
+        if let Slot::Known(card) = slot {
+            row.push(*card);
+        }
+    }
+    row
+}

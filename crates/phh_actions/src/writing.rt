@@ -1,0 +1,144 @@
+//! An event is written in the words of its form.
+ghost use Rattle.std.specs.Prelude.{◌≡◌, ℕ, ◌<◌, ◌≤◌, ◌++◌, ◌∷◌, Some, Ok, IfOk, OnOk, IsTrue, slice_index, string_bytes};
+ghost use Rattle.card_set.specs.Known.{known_slots};
+ghost use Rattle.card_set.specs.Spelling.{slot_spelling, spelling};
+ghost use Rattle.play_event.specs.Said.{Board, Discard, Hole, Raise, Said, Show, kind_said};
+ghost use Rattle.phh_actions.specs.Action.{action_said};
+ghost use Rattle.phh_actions.specs.Written.{event_text as text_said, has_words};
+ghost use Rattle.play_event.specs.Ranges.{IsInRange};
+ghost use Rattle.chip_ledger.specs.SeatsSaid.{default_name};
+
+use card_set::{Card, Memory, Slot, slot_text};
+use chip_ledger::Seat;
+use play_event::{Kind, Spelled};
+use std::alloc::Global;
+
+/// The text of an event, as an action of the format says it. Ask first that its actor is named and that a raise is
+/// spelled by the amount to which it goes; the chips that a call is said to add are not written.
+#[tactic(auto, unfolding(crate::specs::Written::event_text))]
+pub fn event_text(alloc: Global, kind: Kind) -> Result<String, Memory>
+    requires { IsTrue (has_words (kind_said kind)) }
+    ensures { IfOk result (λ text. string_bytes text ≡ text_said (kind_said kind)) }
+{
+    match kind {
+        Kind::Hole { seat, cards } => hole_text(alloc, seat, cards.as_slice()),
+        Kind::Board { cards } => board_text(alloc, cards.as_slice()),
+        Kind::Fold { actor } => act_text(alloc, actor.unwrap(), "f"),
+        Kind::Call { actor, .. } => act_text(alloc, actor.unwrap(), "cc"),
+        Kind::Raise { actor, amount } => raise_text(alloc, actor.unwrap(), amount),
+        Kind::BringIn { actor } => act_text(alloc, actor.unwrap(), "pb"),
+        Kind::Discard { seat, cards } => discard_text(alloc, seat, cards.as_slice()),
+        Kind::Show { seat, cards } => show_text(alloc, seat, cards.as_slice()),
+        Kind::Muck { seat } => act_text(alloc, seat, "sm"),
+    }
+}
+
+#[tactic(auto, unfolding(crate::specs::Written::event_text))]
+fn hole_text(alloc: Global, seat: Seat, slots: &[Slot]) -> Result<String, Memory>
+    ensures { IfOk result (λ text. string_bytes text ≡ text_said (Hole seat.number slots.now)) }
+{
+    let number = seat.number();
+    let mut text = format!(in alloc; "d dh p{number} ")?;
+    push_slots(&mut text, slots)?;
+    Ok(text)
+}
+
+#[tactic(auto, unfolding(crate::specs::Written::event_text))]
+fn board_text(alloc: Global, cards: &[Card]) -> Result<String, Memory>
+    ensures { IfOk result (λ text. string_bytes text ≡ text_said (Board cards.now)) }
+{
+    let mut text = String::from_str(alloc, "d db ")?;
+    push_cards(&mut text, cards)?;
+    Ok(text)
+}
+
+#[tactic(auto, unfolding(crate::specs::Written::event_text))]
+fn raise_text(alloc: Global, seat: Seat, amount: Spelled) -> Result<String, Memory>
+    requires { IsTrue (has_words (Raise (Some seat.number) amount)) }
+    ensures { IfOk result (λ text. string_bytes text
+        ≡ text_said (Raise (Some seat.number) amount)) }
+{
+    let number = seat.number();
+    match amount {
+        Spelled::To(amount) => Ok(format!(in alloc; "p{number} cbr {amount}")?),
+        _ => unreachable!(),
+    }
+}
+
+#[tactic(auto, unfolding(crate::specs::Written::event_text))]
+fn discard_text(alloc: Global, seat: Seat, slots: &[Slot]) -> Result<String, Memory>
+    ensures { IfOk result (λ text. string_bytes text ≡ text_said (Discard seat.number slots.now)) }
+{
+    let mut text = act_text(alloc, seat, "sd")?;
+    if !slots.is_empty() {
+        text.push_str(" ")?;
+        push_slots(&mut text, slots)?;
+    }
+    Ok(text)
+}
+
+// The letters of slots.
+fn push_slots(text: &mut String, slots: &[Slot]) -> Result<(), Memory>
+    ensures { OnOk result (string_bytes text.new ≡ string_bytes text.old ++ spelling slots.now) }
+{
+    for slot in slots {
+        push_slot(text, *slot)?;
+    }
+    Ok(())
+}
+
+#[tactic(auto, unfolding(crate::specs::Written::event_text))]
+fn show_text(alloc: Global, seat: Seat, cards: &[Card]) -> Result<String, Memory>
+    ensures { IfOk result (λ text. string_bytes text ≡ text_said (Show seat.number cards.now)) }
+{
+    let mut text = act_text(alloc, seat, "sm ")?;
+    push_cards(&mut text, cards)?;
+    Ok(text)
+}
+
+// What a seat does, in one word.
+fn act_text(alloc: Global, seat: Seat, act: &str) -> Result<String, Memory>
+    ensures { IfOk result (λ text. string_bytes text ≡ default_name seat.number ++ 32 ∷ act.now) }
+{
+    let number = seat.number();
+    Ok(format!(in alloc; "p{number} {act}")?)
+}
+
+// The letters of cards.
+fn push_cards(text: &mut String, cards: &[Card]) -> Result<(), Memory>
+    ensures { OnOk result (string_bytes text.new
+        ≡ string_bytes text.old ++ spelling (known_slots cards.now)) }
+{
+    for card in cards {
+        push_slot(text, Slot::Known(*card))?;
+    }
+    Ok(())
+}
+
+// The two letters of a slot.
+fn push_slot(text: &mut String, slot: Slot) -> Result<(), Memory>
+    ensures { OnOk result (string_bytes text.new ≡ string_bytes text.old ++ slot_spelling slot) }
+{
+    let [first, second] = letters_of(slot);
+    text.push(char::from(first))?;
+    text.push(char::from(second))?;
+    Ok(())
+}
+
+// The two letters of a slot; each of them is one byte of a text.
+#[tactic(auto, using(card_set::proofs::Letters::one_byte_each))]
+fn letters_of(slot: Slot) -> [u8; 2]
+    ensures letters { result ≡ slot_spelling slot }
+    ensures first { slice_index result 0 < 128 }
+    ensures second { slice_index result 1 < 128 }
+{
+    slot_text(slot)
+}
+
+/// The text of an event says that event again, in each hand in which an action can say it. The function does nothing: its
+/// contract is a law.
+#[tactic(auto, using(crate::proofs::SaidAgain::event_again))]
+pub fn law_of_words()
+    ensures { (seats : ℕ) (event : Said) → seats ≤ 10 → IsInRange seats event
+        → action_said seats (text_said event) ≡ Ok (Some event) }
+{}

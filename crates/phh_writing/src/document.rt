@@ -1,0 +1,104 @@
+//! Plays are written as the bytes of their document.
+ghost use Rattle.std.specs.Prelude.{◌≡◌, ◌⊎◌, ◌≤◌, [], None, Some, length, IfOk, IfErr, OnOk};
+ghost use Rattle.std.specs.List.{AllByRecursion};
+ghost use Rattle.toml.specs.View.{table_view};
+ghost use Rattle.hand_canon.specs.Sound.{IsSound};
+ghost use Rattle.first_fault.specs.declared.limits.TheConstants.{MOST_HANDS};
+ghost use Rattle.hand_records.specs.declared.writing.WriteRefusal.TheVariants as refusals;
+ghost use Rattle.phh_writing.specs.Members.{table_of};
+ghost use Rattle.phh_writing.specs.Document.{Spells, document, hand_table, numbered_hands};
+ghost use Rattle.phh_writing.specs.Spelled.{unspelled};
+ghost use Rattle.hand_records.specs.WriteRefusals.{first_refusal};
+
+use crate::members::put;
+use crate::notes::put_notes;
+use crate::played::put_trace;
+use crate::setup::put_setup;
+use crate::spelled::find_refusal;
+use card_set::Memory;
+use hand_records::{Keep, Play, WriteRefusal};
+use std::alloc::Global;
+use toml::ser::Error;
+use toml::{Table, Value};
+
+/// The bytes of the document of some plays: one hand is its table, several stand under 1, 2 and so on, and no hands are no
+/// bytes. Nothing is written where the format does not spell one of them. It spells every note, so which are kept does not
+/// matter.
+pub fn write(alloc: Global, plays: &[Play], keep: Keep) -> Result<Vec<u8>, WriteRefusal>
+    requires few { length plays.now ≤ MOST_HANDS }
+    requires sound { AllByRecursion IsSound plays.now }
+    ensures written { IfOk result (λ bytes. Spells plays.now bytes.items) }
+    ensures nothing { plays.now ≡ [] → IfOk result (λ bytes. bytes.items ≡ []) }
+    ensures spelled { OnOk result (first_refusal unspelled plays.now ≡ None) }
+    ensures refused { IfErr result (λ refusal. (refusal ≡ refusals.Memory)
+        ⊎ (first_refusal unspelled plays.now ≡ Some refusal)) }
+{
+    if let Some(refusal) = find_refusal(plays, keep) {
+        return Err(refusal);
+    }
+    match spell(alloc, plays) {
+        Ok(bytes) => Ok(bytes),
+        Err(Memory) => Err(WriteRefusal::Memory),
+    }
+}
+
+// The bytes of the document of some plays.
+fn spell(alloc: Global, plays: &[Play]) -> Result<Vec<u8>, Memory>
+    requires few { length plays.now ≤ MOST_HANDS }
+    requires sound { AllByRecursion IsSound plays.now }
+    ensures written { IfOk result (λ bytes. Spells plays.now bytes.items) }
+    ensures nothing { plays.now ≡ [] → IfOk result (λ bytes. bytes.items ≡ []) }
+{
+    if plays.is_empty() {
+        return Ok(Vec::new(alloc));
+    }
+    let table = make_document(alloc, plays)?;
+    match toml::table_to_string(alloc, &table) {
+        Ok(text) => Ok(text.into_bytes()),
+        Err(Error::DateInvalid) => unreachable!(),
+        Err(_) => Err(Memory),
+    }
+}
+
+// The document of some plays.
+fn make_document(alloc: Global, plays: &[Play]) -> Result<Table, Memory>
+    requires few { length plays.now ≤ MOST_HANDS }
+    requires sound { AllByRecursion IsSound plays.now }
+    ensures { IfOk result (λ table. table_view table ≡ document plays.now) }
+{
+    if let [play] = plays {
+        return make_hand(alloc, 0, play);
+    }
+    make_hands(alloc, plays)
+}
+
+// The tables of hands under their numbers. They are put in from the last to the first.
+fn make_hands(alloc: Global, plays: &[Play]) -> Result<Table, Memory>
+    requires few { length plays.now ≤ MOST_HANDS }
+    requires sound { AllByRecursion IsSound plays.now }
+    ensures { IfOk result (λ table. table_view table ≡ table_of (numbered_hands 0 plays.now)) }
+{
+    let mut table = Table::new(alloc);
+    let mut left = plays.len();
+    while left > 0 {
+        left -= 1;
+        let hand = make_hand(alloc, left, &plays[left])?;
+        let key = (left + 1).to_string(alloc)?;
+        put(alloc, &mut table, key.as_str(), Value::Table(hand))?;
+    }
+    Ok(table)
+}
+
+// The table of the hand at a place of its file, from 0.
+#[tactic(auto, unfolding(crate::specs::Document::hand_table))]
+fn make_hand(alloc: Global, place: usize, play: &Play) -> Result<Table, Memory>
+    requires { IsSound play.now }
+    ensures { IfOk result (λ table. table_view table ≡ hand_table place play.now) }
+{
+    let mut table = Table::new(alloc);
+    let seats = play.trace.setup.stacks.seats;
+    put_notes(alloc, &mut table, place, seats, &play.hand.notes)?;
+    put_trace(alloc, &mut table, &play.trace)?;
+    put_setup(alloc, &mut table, &play.trace.setup)?;
+    Ok(table)
+}

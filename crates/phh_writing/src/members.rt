@@ -1,0 +1,101 @@
+//! A value is put into a table under its key.
+ghost use Rattle.std.specs.Prelude.{ℕ, ◌≡◌, ◌≤◌, ◌<◌, ◌^◌, pos, length, map, take, slice_index, string_bytes, IfOk, OnOk};
+ghost use Rattle.toml.specs.Data.{integer, string};
+ghost use Rattle.toml.specs.View.{table_view, view};
+ghost use Rattle.chip_ledger.specs.declared.rows.TheConstants.{MOST_AMOUNT};
+ghost use Rattle.phh_writing.specs.Members.{put as put_said};
+ghost use Rattle.phh_writing.specs.HandFields.{numbers};
+ghost use Rattle.chip_ledger.specs.SeatRow.{amounts_in};
+
+use card_set::Memory;
+use chip_ledger::SeatRow;
+use std::alloc::Global;
+use toml::{Table, Value};
+
+/// Puts a text under a key.
+pub fn put_text(alloc: Global, table: &mut Table, key: &str, text: &str) -> Result<(), Memory>
+    ensures { OnOk result (table_view table.new
+        ≡ put_said key.now (string text.now) (table_view table.old)) }
+{
+    let text = String::from_str(alloc, text)?;
+    put(alloc, table, key, Value::String(text))
+}
+
+/// A text as a value.
+pub fn text(text: String) -> Value
+    ensures { view result ≡ string (string_bytes text) }
+{
+    Value::String(text)
+}
+
+/// Puts a whole number under a key.
+pub fn put_number(alloc: Global, table: &mut Table, key: &str, amount: u64) -> Result<(), Memory>
+    requires { amount < 2 ^ 63 }
+    ensures { OnOk result (table_view table.new
+        ≡ put_said key.now (integer (pos amount)) (table_view table.old)) }
+{
+    put(alloc, table, key, number(amount))
+}
+
+/// Puts the amounts of a row under a key.
+pub fn put_row(alloc: Global, table: &mut Table, key: &str, row: &SeatRow) -> Result<(), Memory>
+    ensures { OnOk result (table_view table.new
+        ≡ put_said key.now (numbers (amounts_in row.now)) (table_view table.old)) }
+{
+    put_amounts(
+        alloc,
+        table,
+        key,
+        row.amounts.as_slice(),
+        row.seats as usize,
+    )
+}
+
+/// Puts a list of the first so many amounts under a key.
+pub fn put_amounts(
+    alloc: Global,
+    table: &mut Table,
+    key: &str,
+    amounts: &[u64],
+    count: usize,
+) -> Result<(), Memory>
+    requires within { count ≤ length amounts.now }
+    requires bounded { (k : ℕ) → slice_index amounts.now k ≤ MOST_AMOUNT }
+    ensures { OnOk result (table_view table.new
+        ≡ put_said key.now (numbers (take count amounts.now)) (table_view table.old)) }
+{
+    let values = list_of(alloc, amounts, count)?;
+    put(alloc, table, key, Value::Array(values))
+}
+
+// The first so many of some amounts, as values.
+fn list_of(alloc: Global, amounts: &[u64], count: usize) -> Result<Vec<Value>, Memory>
+    requires within { count ≤ length amounts.now }
+    requires bounded { (k : ℕ) → slice_index amounts.now k ≤ MOST_AMOUNT }
+    ensures { IfOk result (λ values. map view values.items
+        ≡ map (λ amount. integer (pos amount)) (take count amounts.now)) }
+{
+    let mut values = Vec::new(alloc);
+    for index in 0..count {
+        values.push(number(amounts[index]))?;
+    }
+    Ok(values)
+}
+
+/// A whole number as a value.
+pub fn number(amount: u64) -> Value
+    requires { amount < 2 ^ 63 }
+    ensures { view result ≡ integer (pos amount) }
+{
+    Value::Integer(amount as i64)
+}
+
+/// Puts a value under a key.
+pub fn put(alloc: Global, table: &mut Table, key: &str, value: Value) -> Result<(), Memory>
+    ensures { OnOk result (table_view table.new
+        ≡ put_said key.now (view value) (table_view table.old)) }
+{
+    let name = String::from_str(alloc, key)?;
+    table.insert(name, value)?;
+    Ok(())
+}

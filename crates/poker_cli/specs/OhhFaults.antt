@@ -1,0 +1,43 @@
+-- The line that is told where an input in Open Hand History does not read as hands.
+use Rattle.std.specs.Prelude.{ℕ, List, ◌++◌, codes}
+use Rattle.std.specs.Fmt.{decimal}
+use Rattle.ohh_members.specs.declared.fault.MemberFaultKind.{MemberFaultKind}
+use Rattle.ohh_members.specs.declared.fault.MemberFaultKind.TheVariants as whats
+use Rattle.ohh_reading.specs.Reading.{InHand, NoText, Wrong}
+use Rattle.poker_cli.specs.PhhFaults.{limit_line}
+use Rattle.poker_cli.specs.declared.status.Status.{Status}
+use Rattle.poker_cli.specs.declared.status.Status.TheVariants as statuses
+
+-- what a fault is called
+abbrev pub ohh_fault_text : MemberFaultKind → List ℕ
+ohh_fault_text whats.MissingMember = codes "MissingMember"
+ohh_fault_text whats.WrongType = codes "WrongType"
+ohh_fault_text whats.AmountNotWhole = codes "AmountNotWhole"
+ohh_fault_text whats.AmountLimit = codes "AmountLimit"
+ohh_fault_text whats.UnsupportedGame = codes "UnsupportedGame"
+ohh_fault_text whats.BadPlayer = codes "BadPlayer"
+ohh_fault_text whats.UnsupportedAction = codes "UnsupportedAction"
+ohh_fault_text whats.BadStreet = codes "BadStreet"
+ohh_fault_text whats.BadPost = codes "BadPost"
+ohh_fault_text whats.RakePlace = codes "RakePlace"
+ohh_fault_text (whats.TooMany quantity) = codes "TooMany"
+
+-- the line of a hand that is no JSON
+abbrev pub no_text_line : ℕ → List ℕ
+no_text_line hand = codes "bad input: hand " ++ (decimal hand ++ codes ": Text\n")
+
+-- the line of a fault at a member of a hand
+abbrev pub bad_member_line : ℕ → List ℕ → MemberFaultKind → List ℕ
+bad_member_line hand path what = codes "bad input: hand " ++ (decimal hand ++ (codes ", " ++ (path ++ (codes ": " ++ (ohh_fault_text what ++ codes "\n")))))
+
+-- the status of a fault: a limit that is passed, or else bad input
+abbrev pub ohh_status : Wrong → Status
+ohh_status (NoText hand) = statuses.BadInput
+ohh_status (InHand hand path (whats.TooMany quantity)) = statuses.Limit
+ohh_status (InHand hand path what) = statuses.BadInput
+
+-- the line of a fault
+abbrev pub ohh_fault_line : Wrong → List ℕ
+ohh_fault_line (NoText hand) = no_text_line hand
+ohh_fault_line (InHand hand path (whats.TooMany quantity)) = limit_line quantity
+ohh_fault_line (InHand hand path what) = bad_member_line hand path what
