@@ -1,0 +1,14 @@
+//! After the first events of a hand it is told what is due, and which moves are legal.
+#![tactic(auto)]
+
+mod asking;
+mod choices;
+mod now;
+mod playing;
+mod printing;
+mod seat_choices;
+mod targets;
+
+pub use asking::options;
+pub use choices::{Options, RaiseSet};
+pub use printing::options_text;

@@ -1,0 +1,42 @@
+//! The machines of betting and cards say what is due now, and which moves are legal.
+ghost use Rattle.std.specs.Prelude.{◌≡◌, true, IfNone};
+ghost use Rattle.hand_options.specs.Legal.{AreOptions, IsUndecided};
+ghost use Rattle.play_event.specs.TurnTargets.{is_bet_due};
+ghost use Rattle.replay_core.specs.Told.{WhereTogether};
+
+use crate::choices::Options;
+use crate::seat_choices::{no_options, options_of};
+use play_event::Due;
+use replay_core::HandInPlay;
+use variant_table::Variant;
+
+/// What is due now, and which moves of the seat in turn are legal. No seat is told where it is not
+/// known whose turn it is.
+pub fn options_now<V: Variant>(hand: &HandInPlay<V>) -> Options
+    requires seats { hand.now.betting.table.setup.stacks.seats ≡ hand.now.cards.state.seats }
+    ensures legal { WhereTogether hand.now.betting.table hand.now.cards.state
+        (λ past. AreOptions hand.now.betting.table.setup hand.now.betting.table.rules past result) }
+    ensures undecided { WhereTogether hand.now.betting.table hand.now.cards.state
+        (λ past. IfNone result.seat (is_bet_due result.due ≡ true
+        → IsUndecided hand.now.betting.table.setup past)) }
+{
+    let due = hand.betting.due();
+    if !is_bet(due) {
+        return no_options(due);
+    }
+    let up = hand.opening_up_cards();
+    match hand.betting.turn_now(&up) {
+        Some(seat) => options_of(&hand.betting, &up, seat),
+        None => no_options(due),
+    }
+}
+
+// A bring-in or a move is due.
+fn is_bet(due: Due) -> bool
+    ensures { result ≡ is_bet_due due }
+{
+    match due {
+        Due::BringIn | Due::Move => true,
+        Due::Deal(_) | Due::Draw(_) | Due::Show | Due::Over => false,
+    }
+}

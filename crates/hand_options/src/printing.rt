@@ -1,0 +1,154 @@
+//! Options are printed as a line of what is due, and a line for each legal move.
+ghost use Rattle.std.specs.Prelude.{◌≡◌, ◌++◌, IfOk, OnOk, is_some, codes, decimal, flat_map, string_bytes};
+ghost use Rattle.chip_ledger.specs.SeatsSaid.{default_name, seat_said};
+ghost use Rattle.hand_options.specs.Printed.{HasTargets, bring_in_line, call_line, due_text, fold_line, options_said, raise_lines, range_line, target_line};
+ghost use Rattle.play_event.specs.TurnTargets.{is_bet_due};
+
+use crate::choices::{Options, RaiseSet};
+use card_set::Memory;
+use chip_ledger::Seat;
+use play_event::Due;
+use std::alloc::Global;
+
+/// The text of the options after so many events of the hand with this number, in bytes.
+///
+/// Ask for a seat exactly where a move or a bring-in is due, and for a list of one or two targets:
+/// the options of a play are such.
+///
+/// # Errors
+///
+/// Want of memory.
+pub fn options_text(
+    alloc: Global,
+    hand: u32,
+    events: u32,
+    options: &Options,
+) -> Result<Vec<u8>, Memory>
+    requires seat { is_some options.now.seat ≡ is_bet_due options.now.due }
+    requires listed { HasTargets options.now.raise }
+    ensures { IfOk result (λ bytes. bytes.items ≡ options_said hand events options.now) }
+{
+    let mut text = format!(in alloc; "hand {hand} after {events}: ")?;
+    push_due(&mut text, options.due, options.seat)?;
+    text.push_str("\n")?;
+    push_fold(&mut text, options.fold)?;
+    push_call(&mut text, options.call)?;
+    push_bring_in(&mut text, options.bring_in)?;
+    push_raises(&mut text, options.raise)?;
+    Ok(text.into_bytes())
+}
+
+// Puts what is due at the end of a text, of a move and a bring-in with the seat in turn.
+fn push_due(text: &mut String, due: Due, seat: Option<Seat>) -> Result<(), Memory>
+    requires { is_some seat ≡ is_bet_due due }
+    ensures { OnOk result (string_bytes text.new
+        ≡ string_bytes text.old ++ due_text due (seat_said seat)) }
+{
+    match due {
+        Due::Move => push_turn(text, "move ", seat.unwrap()),
+        Due::BringIn => push_turn(text, "bring-in ", seat.unwrap()),
+        Due::Deal(street) => push_street(text, "deal", street),
+        Due::Draw(street) => push_street(text, "draw", street),
+        Due::Show => Ok(text.push_str("show")?),
+        Due::Over => Ok(text.push_str("over")?),
+    }
+}
+
+// Puts what the seat in turn has to do.
+fn push_turn(text: &mut String, what: &str, seat: Seat) -> Result<(), Memory>
+    ensures { OnOk result (string_bytes text.new
+        ≡ string_bytes text.old ++ (what.now ++ default_name seat.number)) }
+{
+    let number = seat.number();
+    write!(text, "{what}p{number}")?;
+    Ok(())
+}
+
+// Puts what is dealt or drawn, and on which street.
+fn push_street(text: &mut String, what: &str, street: u8) -> Result<(), Memory>
+    ensures { OnOk result (string_bytes text.new
+        ≡ string_bytes text.old ++ (what.now ++ (codes " street " ++ decimal street))) }
+{
+    write!(text, "{what} street {street}")?;
+    Ok(())
+}
+
+// Puts the line of a fold, if it is legal.
+fn push_fold(text: &mut String, fold: bool) -> Result<(), Memory>
+    ensures { OnOk result (string_bytes text.new ≡ string_bytes text.old ++ fold_line fold) }
+{
+    if fold {
+        text.push_str("fold\n")?;
+    }
+    Ok(())
+}
+
+// Puts the line of a call, if it is legal: the chips that it adds.
+fn push_call(text: &mut String, call: Option<u64>) -> Result<(), Memory>
+    ensures { OnOk result (string_bytes text.new ≡ string_bytes text.old ++ call_line call) }
+{
+    if let Some(chips) = call {
+        write!(text, "call {chips}\n")?;
+    }
+    Ok(())
+}
+
+// Puts the line of a bring-in, if it is legal: the chips to which it goes.
+fn push_bring_in(text: &mut String, target: Option<u64>) -> Result<(), Memory>
+    ensures { OnOk result (string_bytes text.new
+        ≡ string_bytes text.old ++ bring_in_line target) }
+{
+    if let Some(chips) = target {
+        write!(text, "bring-in to {chips}\n")?;
+    }
+    Ok(())
+}
+
+// Puts the lines of the raises that are legal.
+fn push_raises(text: &mut String, raise: RaiseSet) -> Result<(), Memory>
+    requires { HasTargets raise }
+    ensures { OnOk result (string_bytes text.new
+        ≡ string_bytes text.old ++ raise_lines raise) }
+{
+    match raise {
+        RaiseSet::None => Ok(()),
+        RaiseSet::Range { least, greatest } => push_range(text, least, greatest),
+        RaiseSet::List { count, to } => push_targets(text, &to[..count as usize]),
+    }
+}
+
+// Puts the line of a range, which may be one target.
+fn push_range(text: &mut String, least: u64, greatest: u64) -> Result<(), Memory>
+    ensures { OnOk result (string_bytes text.new
+        ≡ string_bytes text.old ++ range_line least greatest) }
+{
+    if least == greatest {
+        push_target(text, least)
+    } else {
+        write!(text, "raise to {least}..{greatest}\n")?;
+        Ok(())
+    }
+}
+
+// Puts a line for each of the targets.
+fn push_targets(text: &mut String, targets: &[u64]) -> Result<(), Memory>
+    ensures { OnOk result (string_bytes text.new
+        ≡ string_bytes text.old ++ flat_map target_line targets.now) }
+{
+    match targets {
+        [] => Ok(()),
+        [target, others @ ..] => {
+            push_target(text, *target)?;
+            push_targets(text, others)
+        }
+    }
+}
+
+// Puts the line of one target.
+fn push_target(text: &mut String, target: u64) -> Result<(), Memory>
+    ensures { OnOk result (string_bytes text.new
+        ≡ string_bytes text.old ++ target_line target) }
+{
+    write!(text, "raise to {target}\n")?;
+    Ok(())
+}

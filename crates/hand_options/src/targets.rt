@@ -1,0 +1,45 @@
+//! The set of legal targets follows from the least and the greatest of them and the game's limit.
+ghost use Rattle.std.specs.Prelude.{◌≡◌};
+ghost use Rattle.play_event.specs.declared.limit.Limit.TheVariants as limits;
+ghost use Rattle.hand_options.specs.Sets.{set_between as set_said, set_of};
+
+use crate::choices::RaiseSet;
+use betting_core::Targets;
+use play_event::Limit;
+
+/// The set of the legal targets, of which these are the least and the greatest.
+pub fn raise_set(limit: Limit, ends: Option<Targets>) -> RaiseSet
+    ensures { result ≡ set_of limit ends }
+{
+    match ends {
+        None => RaiseSet::None,
+        Some(ends) => set_between(limit, ends.least, ends.greatest),
+    }
+}
+
+// The set of the legal targets between its ends. Fixed limit has no others.
+fn set_between(limit: Limit, least: u64, greatest: u64) -> RaiseSet
+    ensures { result ≡ set_said limit least greatest }
+{
+    match limit {
+        Limit::No | Limit::Pot => RaiseSet::Range { least, greatest },
+        Limit::Fixed => listed(least, greatest),
+    }
+}
+
+// One target or two.
+fn listed(least: u64, greatest: u64) -> RaiseSet
+    ensures { result ≡ set_said limits.Fixed least greatest }
+{
+    if least == greatest {
+        RaiseSet::List {
+            count: 1,
+            to: [least, 0],
+        }
+    } else {
+        RaiseSet::List {
+            count: 2,
+            to: [least, greatest],
+        }
+    }
+}
