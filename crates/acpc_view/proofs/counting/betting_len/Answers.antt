@@ -1,0 +1,22 @@
+-- The betting is that of four rounds.
+use Rattle.std.proofs.Common.{List, length, map, take, sym, ap, subst, ◌∙◌}
+use Rattle.canon_script.specs.CanonScript.{plain_moves}
+use Rattle.play_event.specs.Played.{move_said}
+use Rattle.play_event.specs.declared.played.Move.{Move}
+use Rattle.acpc_writing.specs.Betting.{letters_on}
+use Rattle.acpc_writing.specs.Puts.{HaveFewChips}
+use Rattle.acpc_view.specs.Lengths.{seen_by}
+use Rattle.acpc_view.proofs.LineLengths.{betting_sum}
+use Rattle.acpc_view.proofs.Writing.{few_chips}
+use Rattle.acpc_view.proofs.counting.betting_len.Goals as goal
+
+pub letters_len-requires-clause-chips : goal.letters_len-requires-clause-chips
+letters_len-requires-clause-chips c =
+    subst (λ (moves : List Move). HaveFewChips c.args.trace.now.setup (take c.args.count moves)) (sym c.as_slice.ensures) (few_chips c.args.trace.now c.args.count c.requires.short.chips)
+
+pub returns-clause-value : goal.returns-clause-value
+returns-clause-value c =
+    let trace = c.args.trace.now in
+    betting_sum c.args.no_limit trace.setup (seen_by trace c.args.viewer.number c.args.count) (plain_moves (map move_said (take c.args.count trace.moves))) c.letters_len.result c.round_len.result c.round_len-2.result c.round_len-3.result
+    (c.letters_len.ensures.value ∙ ap (λ (moves : List Move). length (letters_on c.args.no_limit trace.setup 1 (plain_moves (map move_said (take c.args.count moves))))) c.as_slice.ensures)
+    c.round_len.ensures.value c.round_len-2.ensures.value c.round_len-3.ensures.value

@@ -1,0 +1,17 @@
+-- A board that is seen has a stroke and its cards.
+use Rattle.std.proofs.Common.{List, None, length, map, sym, ap, ◌∙◌}
+use Rattle.canon_script.specs.CanonScript.{dealt_slots}
+use Rattle.card_set.specs.Spelling.{spelling}
+use Rattle.hand_records.specs.TraceRows.{core_said, place_said}
+use Rattle.play_event.specs.declared.played.Place.{Place}
+use Rattle.acpc_view.proofs.LineLengths.{board_not, board_there}
+use Rattle.acpc_view.proofs.counting.board_len.Goals as goal
+
+pub returns-then-is_board_seen-clause-value : goal.returns-then-is_board_seen-clause-value
+returns-then-is_board_seen-clause-value c =
+    board_there (core_said c.args.trace.now) c.args.viewer.number c.args.count c.args.street c.dealt_len.result (sym (c.is_board_seen.ensures c.args.viewer.number) ∙ c.if-is_board_seen.true)
+    (c.dealt_len.ensures.value ∙ ap (λ (places : List Place). length (spelling (dealt_slots (map place_said places) None c.args.street))) c.as_slice.ensures)
+
+pub returns-else-is_board_seen-clause-value : goal.returns-else-is_board_seen-clause-value
+returns-else-is_board_seen-clause-value c =
+    board_not (core_said c.args.trace.now) c.args.viewer.number c.args.count c.args.street (sym (c.is_board_seen.ensures c.args.viewer.number) ∙ c.if-is_board_seen.false)

@@ -1,0 +1,19 @@
+-- One seat more.
+use Rattle.std.proofs.Common.{◌≡◌, ℕ, length, ap, ◌∙◌, arith}
+use Rattle.acpc_writing.specs.Cards.{hole_text, holes_text}
+use Rattle.acpc_writing.specs.Seats.{for_seats}
+use Rattle.acpc_view.specs.Lengths.{seen_by}
+use Rattle.acpc_view.proofs.LineLengths.{seat_sum}
+use Rattle.acpc_view.proofs.counting.holes_len.Goals as goal
+
+pub loop-index-preserved : goal.loop-index-preserved
+loop-index-preserved c = record {
+  counted = seat_sum (hole_text (seen_by c.args.trace.now c.args.viewer.number c.args.count)) c.loop-index.index c.loop-index.all c.seat_len-all.result c.loop-index.invariant.counted c.seat_len-all.ensures.value;
+  few = omega (arith, c.loop-index.invariant.few, c.seat_len-all.ensures.few);
+}
+
+pub returns-clause-value : goal.returns-clause-value
+unfolding holes_text
+returns-clause-value c =
+    let all : c.loop-index.index ≡ c.args.trace.now.setup.stacks.seats = omega (arith, c.loop-index-test.false) in
+    c.loop-index.invariant.counted ∙ ap (λ (n : ℕ). length (for_seats (hole_text (seen_by c.args.trace.now c.args.viewer.number c.args.count)) n)) all

@@ -1,0 +1,21 @@
+-- A further round that has begun has a stroke and its letters.
+use Rattle.std.proofs.Common.{List, take, sym, subst, ◌∙◌}
+use Rattle.play_event.specs.declared.played.Move.{Move}
+use Rattle.acpc_writing.specs.Puts.{HaveFewChips}
+use Rattle.acpc_view.proofs.Writing.{few_chips}
+use Rattle.acpc_view.specs.Lengths.{seen_by}
+use Rattle.acpc_view.proofs.LineLengths.{round_none, round_sum}
+use Rattle.acpc_view.proofs.counting.round_len.Goals as goal
+
+pub letters_len-requires-clause-chips : goal.letters_len-requires-clause-chips
+letters_len-requires-clause-chips c =
+    subst (λ (moves : List Move). HaveFewChips c.args.trace.now.setup (take c.args.count moves)) (sym c.as_slice.ensures) (few_chips c.args.trace.now c.args.count c.requires.short.chips)
+
+pub returns-then-is_board_seen-clause-value : goal.returns-then-is_board_seen-clause-value
+returns-then-is_board_seen-clause-value c =
+    round_sum c.args.no_limit c.args.trace.now (seen_by c.args.trace.now c.args.viewer.number c.args.count) c.args.count c.args.street c.letters_len.result c.as_slice.result.now c.as_slice.ensures
+    (sym (c.is_board_seen.ensures c.args.viewer.number) ∙ c.if-is_board_seen.true) c.letters_len.ensures.value
+
+pub returns-else-is_board_seen-clause-value : goal.returns-else-is_board_seen-clause-value
+returns-else-is_board_seen-clause-value c =
+    round_none c.args.no_limit c.args.trace.now (seen_by c.args.trace.now c.args.viewer.number c.args.count) c.args.count c.args.street (sym (c.is_board_seen.ensures c.args.viewer.number) ∙ c.if-is_board_seen.false)

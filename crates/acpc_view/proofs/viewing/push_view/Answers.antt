@@ -1,0 +1,19 @@
+-- A line is made of its pieces.
+use Rattle.std.proofs.Common.{[], ◌∷◌, ◌++◌}
+use Rattle.list_laws.proofs.Results.{on_ok}
+use Rattle.acpc_writing.proofs.Totals.{sound_few}
+use Rattle.acpc_view.specs.View.{head_text, seen_text, view_line}
+use Rattle.acpc_view.proofs.Writing.{four_pieces, when_ok}
+use Rattle.acpc_view.proofs.viewing.push_view.Goals as goal
+
+pub push_seen-requires-clause-few : goal.push_seen-requires-clause-few
+push_seen-requires-clause-few c = sound_few c.args.play.now c.requires.sound
+
+pub returns : goal.returns
+unfolding view_line
+returns c =
+    on_ok c.extend_from_slice-2.result
+    (four_pieces c.args.out.now.items c.push_head.new.out.items c.extend_from_slice.new.self.items c.push_seen.new.out.items c.extend_from_slice-2.new.self.items
+    (head_text c.args.viewer.number c.args.place c.args.play.now.hand.notes.hand) (seen_text c.args.no_limit c.args.play.now.trace c.args.viewer.number c.args.count)
+    c.in_ok-push_head.ensures c.in_ok-extend_from_slice.ensures.items c.in_ok-push_seen.ensures)
+    (when_ok c.extend_from_slice-2.result c.extend_from_slice-2.new.self.items (c.push_seen.new.out.items ++ 10 ∷ []) c.push_seen.new.out.items c.extend_from_slice-2.ensures.items)

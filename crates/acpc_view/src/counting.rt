@@ -1,0 +1,290 @@
+//! The bytes of the lines that a seat saw are counted, without memory.
+ghost use Rattle.std.specs.Prelude.{◌≡◌, ◌≤◌, ◌*◌, ◌++◌, ℕ, List, Some, None, decimal, length, map, take};
+ghost use Rattle.acpc_writing.specs.Betting.{betting_text, letter, letter_on, letters_on, round_text};
+ghost use Rattle.acpc_writing.specs.Cards.{board_text, cards_text, hole_text, holes_text};
+ghost use Rattle.acpc_writing.specs.Names.{hand_text};
+ghost use Rattle.acpc_writing.specs.Rounds.{has_board as has_board_said};
+ghost use Rattle.acpc_writing.specs.Seats.{bar_before};
+ghost use Rattle.acpc_writing.specs.Puts.{HaveFewChips};
+ghost use Rattle.acpc_view.specs.Lengths.{IsShort, hole_of, seen_by};
+ghost use Rattle.acpc_view.specs.View.{seen_text, view_line, views_text};
+ghost use Rattle.canon_script.specs.CanonScript.{dealt_slots, plain_move, plain_moves};
+ghost use Rattle.card_set.specs.Spelling.{spelling};
+ghost use Rattle.hand_canon.specs.Sound.{IsSound};
+ghost use Rattle.hand_records.specs.TraceRows.{place_said};
+ghost use Rattle.play_event.specs.Past.{Raised};
+ghost use Rattle.play_event.specs.Played.{act_said, move_said};
+ghost use Rattle.play_event.specs.Said.{seat_named};
+
+use crate::seeing::{has_begun, sees_seat_of};
+use acpc_game::Game;
+use acpc_writing::{add, has_board, has_unknown, is_dealt, is_spelled_hand, posted_chips};
+use chip_ledger::Seat;
+use first_fault::Text;
+use hand_records::{Play, Trace};
+use play_event::{Act, Move, Place, Setup};
+
+/// How many bytes the lines have that a seat saw of the play at a place of its file, from 0, under
+/// the game of that file.
+///
+/// Ask for a sound play. No memory is taken.
+pub fn views_len(game: &Game, play: &Play, place: u32, viewer: Seat) -> u64
+    requires { IsSound play.now }
+    ensures { result ≡ length (views_text game.now.no_limit viewer.number place play.now) }
+{
+    let moves = play.trace.moves.len();
+    let mut all: u64 = 0;
+    for count in 0..moves {
+        all += line_len(game.no_limit, play, place as usize, viewer, count);
+    }
+    all + line_len(game.no_limit, play, place as usize, viewer, moves)
+}
+
+// The number of bytes of one line.
+fn line_len(no_limit: bool, play: &Play, place: usize, viewer: Seat, count: usize) -> u64
+    requires sound { IsSound play.now }
+    requires there { count ≤ length play.now.trace.moves }
+    ensures value { result ≡ length (view_line no_limit viewer.number place play.now count) }
+    ensures few { result ≤ 400000 }
+{
+    // `MATCHSTATE`, three colons, the digit of the seat, and the end of the line.
+    15 + hand_len(place, &play.hand.notes.hand) + seen_len(no_limit, &play.trace, viewer, count)
+}
+
+// The number of bytes of the number of a hand at a place of its file.
+fn hand_len(place: usize, name: &Option<Text>) -> u64
+    ensures value { result ≡ length (hand_text place name.now) }
+    ensures few { result ≤ 20 }
+{
+    let Some(name) = name else {
+        return digits_len(place as u64);
+    };
+    let name = name.as_str().as_bytes();
+    if is_spelled_hand(name) {
+        name.len() as u64
+    } else {
+        digits_len(place as u64)
+    }
+}
+
+// The number of bytes of the betting and the cards that the seat saw.
+fn seen_len(no_limit: bool, trace: &Trace, viewer: Seat, count: usize) -> u64
+    requires short { IsShort trace.now }
+    requires there { count ≤ length trace.now.moves }
+    ensures value { result ≡ length (seen_text no_limit trace.now viewer.number count) }
+    ensures few { result ≤ 390000 }
+{
+    betting_len(no_limit, trace, viewer, count) + 1 + cards_len(trace, viewer, count)
+}
+
+// The number of bytes of the betting.
+fn betting_len(no_limit: bool, trace: &Trace, viewer: Seat, count: usize) -> u64
+    requires short { IsShort trace.now }
+    requires there { count ≤ length trace.now.moves }
+    ensures value { result ≡ length (betting_text no_limit trace.now.setup
+        (seen_by trace.now viewer.number count)
+        (plain_moves (map move_said (take count trace.now.moves)))) }
+    ensures few { result ≤ 360000 }
+{
+    let made = &trace.moves.as_slice()[..count];
+    letters_len(no_limit, &trace.setup, made, 1)
+        + round_len(no_limit, trace, viewer, count, 2)
+        + round_len(no_limit, trace, viewer, count, 3)
+        + round_len(no_limit, trace, viewer, count, 4)
+}
+
+// The number of bytes of a further round, if it has begun.
+fn round_len(no_limit: bool, trace: &Trace, viewer: Seat, count: usize, street: u8) -> u64
+    requires short { IsShort trace.now }
+    requires there { count ≤ length trace.now.moves }
+    ensures value { result ≡ length (round_text no_limit trace.now.setup
+        (seen_by trace.now viewer.number count)
+        (plain_moves (map move_said (take count trace.now.moves))) street) }
+    ensures few { result ≤ 90000 }
+{
+    let made = &trace.moves.as_slice()[..count];
+    if is_board_seen(trace, count, street) {
+        1 + letters_len(no_limit, &trace.setup, made, street)
+    } else {
+        0
+    }
+}
+
+// The number of bytes of the letters of a street.
+fn letters_len(no_limit: bool, setup: &Setup, moves: &[Move], street: u8) -> u64
+    requires chips { HaveFewChips setup.now moves.now }
+    requires short { length moves.now ≤ 4096 }
+    ensures value { result ≡ length (letters_on no_limit setup.now street
+        (plain_moves (map move_said moves.now))) }
+    ensures few { result ≤ 21 * length moves.now }
+{
+    let mut put = posted_chips(setup);
+    let mut all: u64 = 0;
+    for played in moves {
+        add(&mut put, *played);
+        let total = put[played.seat.number as usize - 1];
+        all += letter_len_on(no_limit, street, *played, total);
+    }
+    all
+}
+
+// The number of bytes of the letter of a move, or 0 where the move is of another street.
+fn letter_len_on(no_limit: bool, street: u8, played: Move, total: u64) -> u64
+    ensures value { result
+        ≡ length (letter_on no_limit street (plain_move (move_said played)) total) }
+    ensures few { result ≤ 21 }
+{
+    if played.street == street {
+        letter_len(no_limit, played.act, total)
+    } else {
+        0
+    }
+}
+
+// The number of bytes of the letter of a move.
+fn letter_len(no_limit: bool, act: Act, total: u64) -> u64
+    ensures value { result ≡ length (letter no_limit (act_said act) total) }
+    ensures few { result ≤ 21 }
+{
+    match act {
+        Act::Fold => 1,
+        Act::Call => 1,
+        Act::Raise => raise_len(no_limit, total),
+        Act::BringIn => 0,
+    }
+}
+
+// The number of bytes of a bet or raise.
+fn raise_len(no_limit: bool, total: u64) -> u64
+    ensures value { result ≡ length (letter no_limit Raised total) }
+    ensures few { result ≤ 21 }
+{
+    if no_limit { 1 + digits_len(total) } else { 1 }
+}
+
+// The number of decimal digits of a number.
+fn digits_len(number: u64) -> u64
+    ensures value { result ≡ length (decimal number) }
+    ensures few { result ≤ 20 }
+{
+    if number < 10 {
+        1
+    } else {
+        1 + digits_len(number / 10)
+    }
+}
+
+// The board of a street has begun, and is there.
+fn is_board_seen(trace: &Trace, count: usize, street: u8) -> bool
+    ensures { (viewer : ℕ) → result ≡ has_board_said (seen_by trace.now viewer count) street }
+{
+    has_begun(trace.moves.as_slice(), count, street) && has_board(trace.places.as_slice(), street)
+}
+
+// The number of bytes of the cards.
+fn cards_len(trace: &Trace, viewer: Seat, count: usize) -> u64
+    requires { IsShort trace.now }
+    ensures value { result ≡ length (cards_text (seen_by trace.now viewer.number count)
+        trace.now.setup.stacks.seats) }
+    ensures few { result ≤ 200 }
+{
+    holes_len(trace, viewer, count)
+        + board_len(trace, viewer, count, 2)
+        + board_len(trace, viewer, count, 3)
+        + board_len(trace, viewer, count, 4)
+}
+
+// The number of bytes of the hole cards, with the bars between them.
+fn holes_len(trace: &Trace, viewer: Seat, count: usize) -> u64
+    requires { IsShort trace.now }
+    ensures value { result ≡ length (holes_text (seen_by trace.now viewer.number count)
+        trace.now.setup.stacks.seats) }
+    ensures few { result ≤ 150 }
+{
+    let mut all: u64 = 0;
+    for index in 0..trace.setup.stacks.seats {
+        let seat = Seat { number: index + 1 };
+        all += seat_len(trace, viewer, count, seat);
+    }
+    all
+}
+
+// The number of bytes of the bar in front of a seat, and of its hole cards.
+fn seat_len(trace: &Trace, viewer: Seat, count: usize, seat: Seat) -> u64
+    requires { IsShort trace.now }
+    ensures value { result ≡ length (bar_before seat.number
+        ++ hole_text (seen_by trace.now viewer.number count) seat.number) }
+    ensures few { result ≤ 15 }
+{
+    if 1 < seat.number {
+        1 + hole_len(trace, viewer, count, seat)
+    } else {
+        hole_len(trace, viewer, count, seat)
+    }
+}
+
+// The number of bytes of the hole cards of a seat, if they are seen.
+fn hole_len(trace: &Trace, viewer: Seat, count: usize, seat: Seat) -> u64
+    requires { IsShort trace.now }
+    ensures value { result
+        ≡ length (hole_text (seen_by trace.now viewer.number count) seat.number) }
+    ensures few { result ≤ 14 }
+{
+    if sees_seat_of(trace, viewer, count, seat) {
+        known_len(trace.places.as_slice(), seat)
+    } else {
+        0
+    }
+}
+
+// The number of bytes of the hole cards of a seat, if they are known.
+fn known_len(places: &[Place], seat: Seat) -> u64
+    requires { length (dealt_slots (map place_said places.now) (Some seat.number) 1) ≤ 7 }
+    ensures value { result
+        ≡ length (hole_of (dealt_slots (map place_said places.now) (Some seat.number) 1)) }
+    ensures few { result ≤ 14 }
+{
+    if has_unknown(places, Some(seat), 1) {
+        0
+    } else {
+        dealt_len(places, Some(seat), 1)
+    }
+}
+
+// The number of bytes of the board of a further round, if it is seen.
+fn board_len(trace: &Trace, viewer: Seat, count: usize, street: u8) -> u64
+    requires { IsShort trace.now }
+    ensures value { result
+        ≡ length (board_text (seen_by trace.now viewer.number count) street) }
+    ensures few { result ≤ 15 }
+{
+    if is_board_seen(trace, count, street) {
+        1 + dealt_len(trace.places.as_slice(), None, street)
+    } else {
+        0
+    }
+}
+
+// The number of bytes of the cards that an owner was dealt on a street: each has two.
+fn dealt_len(places: &[Place], owner: Option<Seat>, street: u8) -> u64
+    requires { length (dealt_slots (map place_said places.now) (seat_named owner) street) ≤ 7 }
+    ensures value { result ≡ length (spelling
+        (dealt_slots (map place_said places.now) (seat_named owner) street)) }
+    ensures few { result ≤ 14 }
+{
+    2 * dealt_count(places, owner, street)
+}
+
+// How many cards an owner was dealt on a street.
+fn dealt_count(places: &[Place], owner: Option<Seat>, street: u8) -> u64
+    ensures { result
+        ≡ length (dealt_slots (map place_said places.now) (seat_named owner) street) }
+{
+    let mut count: u64 = 0;
+    for place in places {
+        if is_dealt(*place, owner, street) {
+            count += 1;
+        }
+    }
+    count
+}

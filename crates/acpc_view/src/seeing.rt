@@ -1,0 +1,78 @@
+//! A seat sees its own cards, the boards of the rounds that have begun and, at the end, shown cards.
+ghost use Rattle.std.specs.Prelude.{◌≡◌, ◌==◌, ◌++◌, ◌∷◌, [], if◌then◌else◌, map, IfOk, OnOk};
+ghost use Rattle.std.specs.List.{list_any};
+ghost use Rattle.acpc_view.specs.View.{has_begun as has_begun_said, is_seen_by, seen_places as seen_places_said, sees_seat};
+ghost use Rattle.chip_ledger.specs.LiveRow.{flagged};
+ghost use Rattle.hand_records.specs.TraceRows.{core_said, place_said};
+ghost use Rattle.play_event.specs.Played.{move_said};
+ghost use Rattle.play_event.specs.Said.{seat_named};
+
+use chip_ledger::{LiveRow, Seat};
+use hand_records::Trace;
+use play_event::{Move, Place};
+use std::alloc::{AllocError, Global};
+
+/// The cards that a seat sees behind the first so many moves, each with its place.
+pub fn seen_places(
+    alloc: Global,
+    trace: &Trace,
+    viewer: Seat,
+    count: usize,
+) -> Result<Vec<Place>, AllocError>
+    ensures { IfOk result (λ seen. map place_said seen.items
+        ≡ seen_places_said (core_said trace.now) viewer.number count) }
+{
+    let mut seen = Vec::new(alloc);
+    for place in trace.places.as_slice() {
+        let sees = is_seen(trace, viewer, count, *place);
+        push_where(&mut seen, *place, sees)?;
+    }
+    Ok(seen)
+}
+
+// Puts a card behind the others, if it is seen.
+fn push_where(seen: &mut Vec<Place>, place: Place, sees: bool) -> Result<(), AllocError>
+    ensures { OnOk result (seen.new.items
+        ≡ seen.old.items ++ (if sees then place ∷ [] else [])) }
+{
+    if sees {
+        seen.push(place)?;
+    }
+    Ok(())
+}
+
+// The seat sees a card then.
+fn is_seen(trace: &Trace, viewer: Seat, count: usize, place: Place) -> bool
+    ensures { result ≡ is_seen_by (core_said trace.now) viewer.number count
+        (seat_named place.owner) place.street }
+{
+    match place.owner {
+        None => has_begun(trace.moves.as_slice(), count, place.street),
+        Some(owner) => sees_seat_of(trace, viewer, count, owner),
+    }
+}
+
+/// The round of a street has begun before the move at an index, or there is no such move.
+pub fn has_begun(moves: &[Move], index: usize, street: u8) -> bool
+    ensures { result ≡ has_begun_said (map move_said moves.now) index street }
+{
+    match moves.get(index) {
+        Some(played) => street <= played.street,
+        None => true,
+    }
+}
+
+/// The seat sees the hole cards of an owner: its own and, behind the last move, those that are
+/// shown.
+pub fn sees_seat_of(trace: &Trace, viewer: Seat, count: usize, owner: Seat) -> bool
+    ensures { result ≡ sees_seat (core_said trace.now) viewer.number count owner.number }
+{
+    owner.number == viewer.number || (trace.moves.len() <= count && is_flagged(&trace.shown, owner))
+}
+
+// The seat is flagged.
+fn is_flagged(row: &LiveRow, seat: Seat) -> bool
+    ensures { result ≡ list_any (λ other. other == seat.number) (flagged row.now) }
+{
+    row.flags[seat.number as usize - 1]
+}

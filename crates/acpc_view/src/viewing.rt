@@ -1,0 +1,125 @@
+//! The lines that a seat saw of a hand are written: one before each move, and one behind the last.
+ghost use Rattle.std.specs.Prelude.{◌≡◌, ◌≤◌, ◌++◌, length, IfOk, OnOk};
+ghost use Rattle.acpc_writing.specs.Puts.{HaveFewChips};
+ghost use Rattle.acpc_view.specs.View.{head_text, seen_text, view_line, views_text};
+ghost use Rattle.hand_canon.specs.Sound.{IsSound};
+
+use crate::seeing::seen_places;
+use acpc_game::Game;
+use acpc_writing::{push_betting, push_cards, push_hand};
+use card_set::Memory;
+use chip_ledger::Seat;
+use first_fault::Text;
+use hand_records::{Play, Trace};
+use std::alloc::{AllocError, Global};
+
+/// The lines that a seat saw of the play at a place of its file, from 0, under the game of that
+/// file.
+///
+/// Ask for a sound play. A seat that the hand does not have would see no hole cards but those that
+/// are shown.
+///
+/// # Errors
+///
+/// Want of memory.
+pub fn views(
+    alloc: Global,
+    game: &Game,
+    play: &Play,
+    place: u32,
+    viewer: Seat,
+) -> Result<Vec<u8>, Memory>
+    requires { IsSound play.now }
+    ensures { IfOk result (λ bytes. bytes.items
+        ≡ views_text game.now.no_limit viewer.number place play.now) }
+{
+    match lines(alloc, game.no_limit, play, place as usize, viewer) {
+        Ok(bytes) => Ok(bytes),
+        Err(_) => Err(Memory),
+    }
+}
+
+// The lines one behind the other.
+#[tactic(auto, unfolding(crate::specs::View::views_text))]
+fn lines(
+    alloc: Global,
+    no_limit: bool,
+    play: &Play,
+    place: usize,
+    viewer: Seat,
+) -> Result<Vec<u8>, AllocError>
+    requires { IsSound play.now }
+    ensures { IfOk result (λ bytes. bytes.items
+        ≡ views_text no_limit viewer.number place play.now) }
+{
+    let mut out = Vec::new(alloc);
+    let moves = play.trace.moves.len();
+    for count in 0..moves {
+        push_view(alloc, &mut out, no_limit, play, place, viewer, count)?;
+    }
+    push_view(alloc, &mut out, no_limit, play, place, viewer, moves)?;
+    Ok(out)
+}
+
+// The line behind the first so many moves.
+#[tactic(auto, unfolding(crate::specs::View::view_line))]
+fn push_view(
+    alloc: Global,
+    out: &mut Vec<u8>,
+    no_limit: bool,
+    play: &Play,
+    place: usize,
+    viewer: Seat,
+    count: usize,
+) -> Result<(), AllocError>
+    requires sound { IsSound play.now }
+    requires there { count ≤ length play.now.trace.moves }
+    ensures { OnOk result (out.new.items ≡ out.old.items
+        ++ view_line no_limit viewer.number place play.now count) }
+{
+    push_head(alloc, out, viewer, place, &play.hand.notes.hand)?;
+    out.extend_from_slice(b":")?;
+    push_seen(alloc, out, no_limit, &play.trace, viewer, count)?;
+    out.extend_from_slice(b"\n")
+}
+
+// `MATCHSTATE`, the number of the seat from 0, and that of the hand.
+#[tactic(auto, unfolding(crate::specs::View::head_text))]
+fn push_head(
+    alloc: Global,
+    out: &mut Vec<u8>,
+    viewer: Seat,
+    place: usize,
+    hand: &Option<Text>,
+) -> Result<(), AllocError>
+    ensures { OnOk result (out.new.items
+        ≡ out.old.items ++ head_text viewer.number place hand.now) }
+{
+    let digits = (viewer.number - 1).to_string(alloc)?;
+    out.extend_from_slice(b"MATCHSTATE:")?;
+    out.extend_from_slice(digits.as_bytes())?;
+    out.extend_from_slice(b":")?;
+    push_hand(alloc, out, place, hand)
+}
+
+// The betting and the cards that the seat saw behind the first so many moves.
+#[tactic(auto, unfolding(crate::specs::View::seen_text))]
+fn push_seen(
+    alloc: Global,
+    out: &mut Vec<u8>,
+    no_limit: bool,
+    trace: &Trace,
+    viewer: Seat,
+    count: usize,
+) -> Result<(), AllocError>
+    requires few { HaveFewChips trace.now.setup trace.now.moves }
+    requires there { count ≤ length trace.now.moves }
+    ensures { OnOk result (out.new.items
+        ≡ out.old.items ++ seen_text no_limit trace.now viewer.number count) }
+{
+    let seen = seen_places(alloc, trace, viewer, count)?;
+    let made = &trace.moves.as_slice()[..count];
+    push_betting(alloc, out, no_limit, &trace.setup, made, seen.as_slice())?;
+    out.extend_from_slice(b":")?;
+    push_cards(out, seen.as_slice(), trace.setup.stacks.seats)
+}
