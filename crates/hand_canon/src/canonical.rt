@@ -13,7 +13,7 @@ ghost use Rattle.hand_records.specs.TraceRows.{core_said};
 ghost use Rattle.hand_canon.specs.SaidSoFar.{words_of};
 
 use crate::folds::{count_unfolded, folds, folds_before};
-use crate::gathered::{dealt_to_board, dealt_to_seats, discarded_by_seats};
+use crate::gathered::{dealt_to_board, dealt_to_seats, discarded_by_seats, held_by_seats};
 use crate::numbered::Numbered;
 use crate::streets::{count_streets, draws};
 use card_set::{Memory, SlotRow, known_row};
@@ -213,7 +213,7 @@ fn write_showdown(written: &mut Numbered, trace: &Trace) -> Result<(), Memory>
     if count_unfolded(&folded, seats) < 2 {
         return Ok(());
     }
-    let held = discarded_by_seats(trace.places.as_slice(), 0);
+    let held = held_by_seats(trace.places.as_slice());
     write_each_showing(written, &folded, &trace.shown, &held, seats)
 }
 

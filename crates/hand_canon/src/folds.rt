@@ -10,7 +10,7 @@ use chip_ledger::{LiveRow, Seat};
 use play_event::{Act, Move};
 
 /// The seats, of ten, that fold before a street.
-pub(crate) fn folds_before(moves: &[Move], street: u8) -> LiveRow
+pub fn folds_before(moves: &[Move], street: u8) -> LiveRow
     ensures seats { result.seats ≡ 10 }
     ensures flags { (n : ℕ)
         → 1 ≤ n → flag_of result n ≡ list_any (is_fold_before street n) moves.now }

@@ -1,8 +1,9 @@
-//! The cards of a trace that were dealt on one street, or discarded in one draw, owner by owner.
+//! The cards of a trace that were dealt on one street, discarded in one draw, or held at the end,
+//! owner by owner.
 ghost use Rattle.std.specs.Prelude.{◌≡◌, ◌≤◌, ℕ, ◌+◌, ◌++◌, Some, None, length, map};
 ghost use Rattle.card_set.specs.Row.{slots_of};
 ghost use Rattle.play_event.specs.SeatSlots.{slots_of_hand};
-ghost use Rattle.canon_script.specs.CanonScript.{dealt_slots, discarded_slots};
+ghost use Rattle.canon_script.specs.CanonScript.{dealt_slots, discarded_slots, held_slots};
 ghost use Rattle.hand_canon.specs.RowTests.{slot_for};
 ghost use Rattle.hand_records.specs.TraceRows.{place_said};
 
@@ -25,7 +26,19 @@ pub(crate) fn dealt_to_seats(places: &[Place], street: u8) -> HandRow
     dealt
 }
 
-/// The cards that each seat, of ten, discarded in the draw of a street; on street 0 those that it holds at the end.
+/// The cards that each seat, of ten, has at the end and did not discard; of a seat that folded those
+/// that it had then.
+pub fn held_by_seats(places: &[Place]) -> HandRow
+    requires { (n : ℕ) → length (held_slots (map place_said places.now) n) ≤ 7 }
+    ensures seats { result.seats ≡ 10 }
+    ensures held { (n : ℕ) → 1 ≤ n
+        → slots_of_hand result n ≡ held_slots (map place_said places.now) n }
+{
+    discarded_by_seats(places, 0)
+}
+
+/// The cards that each seat, of ten, discarded in the draw of a street; on street 0 those that it
+/// holds at the end.
 pub(crate) fn discarded_by_seats(places: &[Place], street: u8) -> HandRow
     requires { (n : ℕ) → length (discarded_slots (map place_said places.now) n street) ≤ 7 }
     ensures seats { result.seats ≡ 10 }
@@ -65,13 +78,23 @@ pub(crate) fn dealt_to_board(places: &[Place], street: u8) -> SlotRow
     requires { length (dealt_slots (map place_said places.now) None street) ≤ 7 }
     ensures { slots_of result ≡ dealt_slots (map place_said places.now) None street }
 {
-    let mut board = SlotRow::new();
+    board_with_street(SlotRow::new(), places, street)
+}
+
+/// The cards of a board so far, and behind them those that were dealt to it on a street.
+pub fn board_with_street(board: SlotRow, places: &[Place], street: u8) -> SlotRow
+    requires { length (slots_of board)
+        + length (dealt_slots (map place_said places.now) None street) ≤ 7 }
+    ensures { slots_of result
+        ≡ slots_of board ++ dealt_slots (map place_said places.now) None street }
+{
+    let mut longer = board;
     let mut rest = places;
     while let [place, behind @ ..] = rest {
-        add_to_board(&mut board, *place, place.street == street);
+        add_to_board(&mut longer, *place, place.street == street);
         rest = behind;
     }
-    board
+    longer
 }
 
 // Puts the card of a place on the board, where the place counts and is the board's.

@@ -1,4 +1,5 @@
-//! The canonical script of a trace, and the first stated fact that a trace differs from.
+//! The canonical script of a trace, and the first stated fact that a trace differs from; with them
+//! the records, traces and notes that these calls and the notations take and give.
 #![tactic(auto)]
 
 mod agreement;
@@ -10,3 +11,10 @@ mod streets;
 
 pub use agreement::{FactDiffers, Which, check_stated};
 pub use canonical::canon;
+pub use first_fault::{Quantity, Text};
+pub use folds::folds_before;
+pub use gathered::{board_with_street, held_by_seats};
+pub use hand_records::{
+    Clock, Keep, Moves, NetRow, NoteName, Notes, Places, Play, Record, Records, Stated, Trace,
+    Unspelled, WriteRefusal,
+};
