@@ -3,4 +3,6 @@ pub mod AllDone
 pub mod StreetSplits
 pub mod WholeHands
 pub mod WholeBoards
+pub mod ApartCards
 pub mod Different
+pub mod DealtOnce

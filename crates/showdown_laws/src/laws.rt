@@ -1,12 +1,16 @@
-//! What lies on the table where a contested hand ends. The functions do nothing: each contract is a law.
-ghost use Rattle.std.specs.Prelude.{◌≡◌, ◌≤◌, ℕ, ◌++◌, true, List, Some, None, length};
+//! What lies on the table where a contested hand ends, and that no card lies there twice. The
+//! functions do nothing: each contract is a law.
+ghost use Rattle.std.specs.Prelude.{◌≡◌, ◌≢◌, ◌≤◌, ℕ, ◌++◌, true, false, List, Some, None, length};
 ghost use Rattle.play_event.specs.Held.{held_slots};
 ghost use Rattle.card_set.specs.Different.{AllDifferent};
 ghost use Rattle.card_set.specs.Known.{known_cards};
 ghost use Rattle.play_event.specs.Games.{game_of};
-ghost use Rattle.play_event.specs.Laws.{AreLegal, moves_by};
+ghost use Rattle.play_event.specs.Laws.{AreLegal, IsAmong, moves_by};
+ghost use Rattle.play_event.specs.Places.{Place};
 ghost use Rattle.play_event.specs.Said.{Said};
 ghost use Rattle.play_event.specs.Seats.{is_live};
+ghost use Rattle.play_event.specs.Streets.{has_draw};
+ghost use Rattle.play_event.specs.Taken.{is_one_card};
 ghost use Rattle.play_event.specs.declared.setup.Rules.{Rules};
 ghost use Rattle.play_event.specs.declared.setup.Setup.{Setup};
 ghost use Rattle.play_laws.specs.LegalPlaces.{places_by};
@@ -29,4 +33,14 @@ pub fn law_of_different_cards()
         → AreLegal setup rules events
         → AllDifferent (known_cards (held_slots (Some seat) (places_by setup events))
         ++ known_cards (held_slots None (places_by setup events))) }
+{}
+
+/// In a game that never draws no known card of a legal hand was dealt to two places, those of seats
+/// that folded among them.
+pub fn law_of_cards_dealt_once()
+    ensures { (setup : Setup) (rules : Rules) (events : List Said) (a b : Place)
+        → AreLegal setup rules events
+        → ((street : ℕ) → has_draw setup.code street ≡ false)
+        → IsAmong (places_by setup events) a → IsAmong (places_by setup events) b
+        → a.number ≢ b.number → is_one_card a.slot b.slot ≡ false }
 {}

@@ -3,4 +3,4 @@
 
 mod laws;
 
-pub use laws::{law_of_different_cards, law_of_whole_hands};
+pub use laws::{law_of_cards_dealt_once, law_of_different_cards, law_of_whole_hands};
