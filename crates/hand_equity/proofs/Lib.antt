@@ -1,0 +1,25 @@
+-- Lemmas on worths, cards and counts.
+pub mod Absent
+pub mod AddedCards
+pub mod Alike
+pub mod Apart
+pub mod BoardSlots
+pub mod Completing
+pub mod Counts
+pub mod Few
+pub mod DealtHands
+pub mod EachOnce
+pub mod FirstSeat
+pub mod FlopGames
+pub mod Judged
+pub mod Leads
+pub mod Lines
+pub mod MadeBoards
+pub mod OneEquity
+pub mod OnStreet
+pub mod Outcomes
+pub mod Places
+pub mod Ready
+pub mod SameOrder
+pub mod SameTable
+pub mod Totals

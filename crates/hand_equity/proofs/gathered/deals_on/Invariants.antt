@@ -1,0 +1,11 @@
+-- The board was dealt as many cards by the places that are left as by all.
+use Rattle.std.proofs.Common.{◌≡◌, None, length, map}
+use Rattle.canon_script.specs.CanonScript.{dealt_slots}
+use Rattle.hand_records.specs.TraceRows.{place_said}
+use Rattle.hand_equity.proofs.gathered.deals_on.Given as goal
+
+abbrev pub invariant-loop-rest : goal.invariant-loop-rest
+invariant-loop-rest l = dealt_slots (map place_said l.rest) None l.street ≡ dealt_slots (map place_said l.places) None l.street
+
+abbrev pub decreases-loop-rest : goal.decreases-loop-rest
+decreases-loop-rest l = length l.rest

@@ -1,0 +1,57 @@
+//! How often each live seat wins or ties.
+ghost use Rattle.std.specs.Prelude.{◌≡◌, length};
+
+use crate::tally::Tally;
+
+/// How often the live seats win and tie, over all completions of a board. All numbers count
+/// completions. The first seat's are at index 0, and a seat that is not live has 0.
+#[derive(Clone, Copy, Debug, PartialEq, Eq)]
+pub struct EquityRow {
+    /// The completions.
+    pub total: u32,
+    /// Those in which some seats tie.
+    pub shared: u32,
+    /// Those in which a seat beats every other.
+    pub wins: [u32; 10],
+    /// Those in which no seat beats a seat, and another is even with it.
+    pub ties: [u32; 10],
+    /// Those in which no seat has a low hand; 0 in a game that does not pay half of a pot by them.
+    pub low_none: u32,
+    /// Those in which some low hands tie.
+    pub low_shared: u32,
+    /// Those in which a seat has a low hand that beats every other, or the only one.
+    pub low_wins: [u32; 10],
+    /// Those in which no low hand beats a seat's, and another is even with it.
+    pub low_ties: [u32; 10],
+    pub ghost all_wins: { length wins ≡ 10 },
+    pub ghost all_ties: { length ties ≡ 10 },
+    pub ghost all_low_wins: { length low_wins ≡ 10 },
+    pub ghost all_low_ties: { length low_ties ≡ 10 },
+}
+
+/// The row of what two tallies say.
+pub fn row_of(high: &Tally, low: &Tally) -> EquityRow
+    ensures total { result.total ≡ high.now.boards }
+    ensures shared { result.shared ≡ high.now.shared }
+    ensures wins { result.wins ≡ high.now.wins }
+    ensures ties { result.ties ≡ high.now.ties }
+    ensures low_none { result.low_none ≡ low.now.nobody }
+    ensures low_shared { result.low_shared ≡ low.now.shared }
+    ensures low_wins { result.low_wins ≡ low.now.wins }
+    ensures low_ties { result.low_ties ≡ low.now.ties }
+{
+    let wins = high.wins;
+    let ties = high.ties;
+    let low_wins = low.wins;
+    let low_ties = low.ties;
+    EquityRow {
+        total: high.boards,
+        shared: high.shared,
+        wins,
+        ties,
+        low_none: low.nobody,
+        low_shared: low.shared,
+        low_wins,
+        low_ties,
+    }
+}

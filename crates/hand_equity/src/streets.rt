@@ -1,0 +1,61 @@
+//! The equity of a played hand on a street: of the seats that are live when it begins.
+ghost use Rattle.std.specs.Prelude.{◌≡◌, IfErr, IfOk, IsTrue};
+ghost use Rattle.hand_canon.specs.Sound.{IsSound};
+ghost use Rattle.hand_equity.specs.Equity.{plays_board};
+ghost use Rattle.hand_equity.specs.Street.{HasNoEquity, IsEquityOn, IsReady};
+
+use crate::counting::equity;
+use crate::gathered::{board_up_to, deals_on, live_before};
+use crate::refusal::NoEquity;
+use crate::row::EquityRow;
+use crate::table::cards_folded;
+use crate::unknown::unknown_seat;
+use hand_canon::{Play, Trace, held_by_seats};
+use play_event::Code;
+use variant_table::{FO8, FT, NS, NT, PO, Variant};
+
+/// How often each seat that is live when a street begins would have won, over all boards that
+/// complete the one of this street. The streets are 2, 3 and 4: flop, turn and river. Known cards
+/// of seats that folded before do not come; unknown ones may.
+///
+/// # Errors
+///
+/// The hand dealt no board on this street, or a live seat has a card that stayed unknown.
+#[tactic(auto, using(crate::proofs::Ready::ready))]
+pub fn equity_of(play: &Play, street: u8) -> Result<EquityRow, NoEquity>
+    requires { IsSound play.now }
+    ensures equity { IfOk result (IsEquityOn play.now.trace street) }
+    ensures refused { IfErr result (HasNoEquity play.now.trace street) }
+{
+    match play.trace.setup.code {
+        Code::FT => equity_in::<FT>(&play.trace, street),
+        Code::NT => equity_in::<NT>(&play.trace, street),
+        Code::NS => equity_in::<NS>(&play.trace, street),
+        Code::PO => equity_in::<PO>(&play.trace, street),
+        Code::FO8 => equity_in::<FO8>(&play.trace, street),
+        Code::F7S | Code::F7S8 | Code::FR | Code::N2L1D | Code::F2L3D | Code::FB => {
+            Err(NoEquity::NoStreet)
+        }
+    }
+}
+
+// The same in a game with a board.
+fn equity_in<V: Variant>(trace: &Trace, street: u8) -> Result<EquityRow, NoEquity>
+    requires game { trace.now.setup.code ≡ V.CODE }
+    requires with_board { IsTrue (plays_board V.CODE) }
+    requires ready { IsReady trace.now street }
+    ensures equity { IfOk result (IsEquityOn trace.now street) }
+    ensures refused { IfErr result (HasNoEquity trace.now street) }
+{
+    if street < 2 || 4 < street || !deals_on(trace.places.as_slice(), street) {
+        return Err(NoEquity::NoStreet);
+    }
+    let live = live_before(trace.moves.as_slice(), street, trace.setup.stacks.seats);
+    let hands = held_by_seats(trace.places.as_slice());
+    if let Some(seat) = unknown_seat(&hands, &live) {
+        return Err(NoEquity::UnknownCards(seat));
+    }
+    let board = board_up_to(trace.places.as_slice(), street);
+    let dead = cards_folded(&hands, &live);
+    Ok(equity::<V>(&hands, &live, &board, &dead))
+}
