@@ -5,6 +5,7 @@
 mod cards;
 mod device_case;
 mod devices;
+mod equities;
 mod games;
 mod playable;
 mod pots;
@@ -50,6 +51,7 @@ fn answer_to(rt: &(impl Files + AllocGlobal), row: &str) -> Result<Option<String
     let (subject, rest) = words::first_and_rest(row);
     let answer = match subject.as_bytes() {
         b"cards" => cards::answer_to(alloc, rest)?,
+        b"equity" => equities::answer_to(alloc, rest)?,
         b"games" => games::answer_to(alloc, rest)?,
         b"pots" => pots::answer_to(alloc, rest)?,
         b"scripts" => scripts::answer_to(alloc, rest)?,

@@ -1,10 +1,14 @@
-//! Whether hands and pots are ones that can be split.
+//! Whether hands and pots are ones that can be split, and a board one that can be completed.
 ghost use Rattle.std.specs.Prelude.{◌≡◌, ◌≢◌, ◌≤◌, ◌++◌, [], IsTrue};
+ghost use Rattle.card_set.specs.declared.set.CardSet.{CardSet};
 ghost use Rattle.card_set.specs.Different.{AllDifferent, Lacks};
 ghost use Rattle.card_set.specs.Row.{cards_of};
 ghost use Rattle.chip_ledger.specs.declared.rows.TheConstants.{MOST_AMOUNT};
 ghost use Rattle.chip_ledger.specs.LiveRow.{flagged};
+ghost use Rattle.hand_equity.specs.Equity.{CanComplete, plays_board};
+ghost use Rattle.hand_equity.specs.Rest.{standing_of};
 ghost use Rattle.hand_order.specs.Choices.{CanPick};
+ghost use Rattle.play_event.specs.Games.{game_of};
 ghost use Rattle.showdown_split.specs.Playable.{ArePlayable, AreWinnable};
 
 use card_set::{Card, CardRow, known_row};
@@ -41,6 +45,30 @@ fn can_pick<V: Variant>(hole: &CardRow, board: &CardRow) -> bool
         Pick::TwoAndThree => V::Award::HELD == 5 && 2 <= hole.len && 3 <= board.len,
         Pick::AllHeld => hole.len == V::Award::HELD,
     }
+}
+
+/// Whether each live seat has so many cards, all different from one another and from the board's,
+/// and the board is not too long.
+pub fn can_complete<V: Variant>(hands: &HandRow, live: &LiveRow, board: &CardRow, cards: u8) -> bool
+    requires seats { hands.now.seats ≡ live.now.seats }
+    requires game { IsTrue (plays_board V.CODE) }
+    requires cards { cards ≡ (game_of V.CODE).hole }
+    ensures { IsTrue result → (dead : CardSet)
+        → CanComplete V.CODE (standing_of hands.now live.now board.now dead) }
+{
+    if board.len > 5 {
+        return false;
+    }
+    for index in 0..live.seats {
+        let seat = Seat { number: index + 1 };
+        let hole = known_row(&hands.get(seat));
+        if live.get(seat)
+            && !(hole.len == cards && differ_together(hole.as_slice(), board.as_slice()))
+        {
+            return false;
+        }
+    }
+    true
 }
 
 #[tactic(auto, using(crate::proofs::Splittable::lacks_both))]

@@ -1,7 +1,7 @@
 //! Rows of amounts, seats and cards as a row of the table writes them: parts with commas between them, `-` for nothing.
 ghost use Rattle.std.specs.Prelude.{◌<◌};
 
-use card_set::{CardRow, SlotRow, known_row, read_slots};
+use card_set::{CardRow, CardSet, SlotRow, known_row, read_slots};
 use chip_ledger::{LiveRow, MOST_AMOUNT, RakeRow, Seat, SeatRow};
 use play_event::HandRow;
 
@@ -99,6 +99,17 @@ fn part_count(text: &str) -> u8 {
 /// The cards of a board, as `KhKdQs`.
 pub fn board(text: &str) -> Option<CardRow> {
     Some(known_row(&slots(text)?))
+}
+
+/// A set of cards, as `KhKdQs,2c`.
+pub fn set(text: &str) -> Option<CardSet> {
+    let mut cards = CardSet::empty();
+    for part in text.split(',') {
+        for card in board(part)?.as_slice() {
+            cards.insert(*card);
+        }
+    }
+    Some(cards)
 }
 
 fn slots(text: &str) -> Option<SlotRow> {
