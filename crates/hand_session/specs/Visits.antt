@@ -1,0 +1,152 @@
+-- How a session is gathered: what a name does in one hand, and its row with one hand more.
+use Rattle.std.specs.Prelude.{ℕ, ◌+◌, ◌*◌, ◌≤◌, ℤ, pos, ◌+ℤ◌, ◌-ℤ◌, ◌≤ℤ◌, ◌==◌, ◌&&◌, ◌||◌, Bool, List, [], ◌∷◌, ◌++◌, map, filter, fold, flat_map, sum_by, bytes_eq, if◌then◌else◌}
+use Rattle.std.specs.List.{list_any}
+use Rattle.chip_ledger.specs.declared.rows.TheConstants.{MOST_AMOUNT}
+use Rattle.hand_session.specs.declared.lists.SessionRow.{SessionRow}
+use Rattle.hand_session.specs.declared.lists.Step.{Step}
+use Rattle.hand_session.specs.declared.lists.StepKind.TheVariants as kinds
+use Rattle.hand_session.specs.declared.visits.Visit.{Visit}
+use Rattle.hand_session.specs.Hands.{Hand, Seated}
+use Rattle.hand_session.specs.Sessions.{gap_step, is_named}
+
+-- what the seats of a name come to
+abbrev pub visit_among : List ℕ → List Seated → Visit
+visit_among name seats =
+    record {
+      started = sum_by (λ seat. seat.started) (filter (is_named name) seats);
+      finished = sum_by (λ seat. seat.finished) (filter (is_named name) seats);
+      entered = list_any (λ seat. is_named name seat && seat.entered) seats;
+      raised = list_any (λ seat. is_named name seat && seat.raised) seats;
+      shown = list_any (λ seat. is_named name seat && seat.shown) seats;
+      won = list_any (λ seat. is_named name seat && seat.won) seats;
+    }
+
+-- what a name does in a hand
+abbrev pub visit_in : List ℕ → Hand → Visit
+visit_in name hand = visit_among name hand.seats
+
+-- a visit with one seat more
+abbrev pub with_seat : Visit → Seated → Visit
+with_seat visit seat =
+    record {
+      started = visit.started + seat.started;
+      finished = visit.finished + seat.finished;
+      entered = visit.entered || seat.entered;
+      raised = visit.raised || seat.raised;
+      shown = visit.shown || seat.shown;
+      won = visit.won || seat.won;
+    }
+
+-- the row of a name that is not seen yet
+abbrev pub new_row : List ℕ → SessionRow
+new_row name =
+    record {
+      name = name;
+      first = 0;
+      gaps = pos 0;
+      net = pos 0;
+      last = 0;
+      hands = 0;
+      entered = 0;
+      raised = 0;
+      shown = 0;
+      won = 0;
+    }
+
+-- a count with one more, where a test passes
+abbrev pub counted : ℕ → Bool → ℕ
+counted count test = if test then count + 1 else count
+
+-- the gap of a name at a visit
+abbrev pub gap_at : SessionRow → Visit → ℤ
+gap_at row visit = if row.hands == 0 then pos 0 else pos visit.started -ℤ pos row.last
+
+-- a row with one visit more
+abbrev pub with_visit : SessionRow → Visit → SessionRow
+with_visit row visit =
+    record {
+      name = row.name;
+      first = if row.hands == 0 then visit.started else row.first;
+      gaps = row.gaps +ℤ gap_at row visit;
+      net = row.net +ℤ (pos visit.finished -ℤ pos visit.started);
+      last = visit.finished;
+      hands = row.hands + 1;
+      entered = counted row.entered visit.entered;
+      raised = counted row.raised visit.raised;
+      shown = counted row.shown visit.shown;
+      won = counted row.won visit.won;
+    }
+
+-- the step of a visit in the hand with this number
+abbrev pub visit_steps : ℕ → SessionRow → Visit → List Step
+visit_steps number row visit =
+    if row.hands == 0
+    then record { hand = number; name = row.name; kind = kinds.Join visit.started } ∷ []
+    else gap_step number row.name (pos visit.started -ℤ pos row.last)
+
+-- the names of rows
+abbrev pub row_names : List SessionRow → List (List ℕ)
+row_names rows = map (λ row. row.name) rows
+
+-- the row of a name among rows, or a new one
+abbrev pub row_at : List SessionRow → List ℕ → SessionRow
+row_at [] name = new_row name
+row_at (row ∷ rows) name = if bytes_eq name row.name then row else row_at rows name
+
+-- rows with one visit of a name more
+abbrev pub with_row : List SessionRow → List ℕ → Visit → List SessionRow
+with_row [] name visit = with_visit (new_row name) visit ∷ []
+with_row (row ∷ rows) name visit =
+    if bytes_eq name row.name then with_visit row visit ∷ rows else row ∷ with_row rows name visit
+
+-- rows with a row for a name, a new one behind the others where there is none
+abbrev pub rows_with : List SessionRow → List ℕ → List SessionRow
+rows_with rows name =
+    if list_any (bytes_eq name) (row_names rows) then rows else rows ++ new_row name ∷ []
+
+-- rows with the visit of a name in a hand, unless one of these seats before has it
+abbrev pub rows_after_seat : Hand → List Seated → List SessionRow → List ℕ → List SessionRow
+rows_after_seat hand before rows name =
+    if list_any (is_named name) before then rows else with_row rows name (visit_in name hand)
+
+-- the steps of a name in the hand with this number, unless one of these seats before has it
+abbrev pub steps_of_seat : ℕ → Hand → List Seated → List SessionRow → List ℕ → List Step
+steps_of_seat number hand before rows name =
+    if list_any (is_named name) before
+    then []
+    else visit_steps number (row_at rows name) (visit_in name hand)
+
+-- rows with the visits of these names in a hand
+abbrev pub with_names : Hand → List SessionRow → List (List ℕ) → List SessionRow
+with_names hand rows names =
+    fold (λ so_far name. with_row so_far name (visit_in name hand)) rows names
+
+-- the steps of these names in the hand with this number
+abbrev pub steps_of_names : ℕ → Hand → List SessionRow → List (List ℕ) → List Step
+steps_of_names number hand rows names =
+    flat_map (λ name. visit_steps number (row_at rows name) (visit_in name hand)) names
+
+-- the most chips of all seats of a hand
+abbrev pub MOST_OF_HAND : ℕ
+MOST_OF_HAND = 10 * MOST_AMOUNT
+
+-- a number with a sign is no further from 0 than so many
+pub record IsWithin (most : ℕ) (number : ℤ) : Type 0 where
+  pub least : (pos 0 -ℤ pos most) ≤ℤ number
+  pub greatest : number ≤ℤ pos most
+
+-- a visit is of the chips of one hand
+pub record IsOfHand (visit : Visit) : Type 0 where
+  pub started : visit.started ≤ MOST_OF_HAND
+  pub finished : visit.finished ≤ MOST_OF_HAND
+
+-- a row is of no more than so many hands
+pub record IsOfHands (count : ℕ) (row : SessionRow) : Type 0 where
+  pub gaps : IsWithin (count * MOST_OF_HAND) row.gaps
+  pub net : IsWithin (count * MOST_OF_HAND) row.net
+  pub last : row.last ≤ MOST_OF_HAND
+  pub hands : row.hands ≤ count
+  pub entered : row.entered ≤ count
+  pub raised : row.raised ≤ count
+  pub shown : row.shown ≤ count
+  pub won : row.won ≤ count

@@ -1,0 +1,154 @@
+//! The rows of all names so far, each found by its name, and the steps so far.
+ghost use Rattle.std.specs.Prelude.{◌≡◌, ◌≤◌, ◌<◌, ◌-◌, ◌+◌, ◌++◌, ℕ, List, false, [], bytes_eq, map, Some, IfOk, OnOk};
+ghost use Rattle.std.specs.List.{list_any, position_from};
+ghost use Rattle.chip_ledger.specs.Seat.{seats_of};
+ghost use Rattle.first_fault.specs.declared.limits.TheConstants.{MOST_HANDS};
+ghost use Rattle.hand_records.specs.AllowedNotes.{name_written};
+ghost use Rattle.hand_session.specs.Hands.{hand_of, seated_in};
+ghost use Rattle.hand_session.specs.Sessions.{is_named, names_among};
+ghost use Rattle.hand_session.specs.Visits.{IsOfHand, IsOfHands, row_at, row_names, rows_after_seat, rows_with, steps_of_names, steps_of_seat, visit_steps, with_names, with_row};
+
+use crate::lists::{SessionRow, Step};
+use crate::rows::{add_visit, new_row, push_steps};
+use crate::seats::name_of;
+use crate::visits::{Visit, visit_of};
+use card_set::Memory;
+use chip_ledger::Seat;
+use hand_records::{Notes, Play};
+use name_index::NameIndex;
+use std::alloc::Global;
+
+/// The rows of names in the order in which they are first seen, an index of these names, and the
+/// steps.
+#[derive(Drop)]
+pub struct Ledger<'a> {
+    pub names: NameIndex<'a>,
+    pub rows: Vec<SessionRow>,
+    pub steps: Vec<Step>,
+}
+
+/// No names.
+pub fn new_ledger<'a>(alloc: Global) -> Ledger<'a>
+    ensures names { result.names ≡ [] }
+    ensures rows { result.rows.items ≡ [] }
+    ensures steps { result.steps.items ≡ [] }
+{
+    Ledger {
+        names: NameIndex::new(alloc),
+        rows: Vec::new(alloc),
+        steps: Vec::new(alloc),
+    }
+}
+
+/// Adds what each name did in a hand with this number, by the first seat of each name.
+pub fn add_hand<'a>(
+    alloc: Global,
+    ledger: &mut Ledger<'a>,
+    number: u32,
+    play: &'a Play,
+) -> Result<(), Memory>
+    requires names { ledger.old.names ≡ row_names ledger.old.rows.items }
+    requires first { 1 ≤ number }
+    requires few { number ≤ MOST_HANDS }
+    requires within { (name : List ℕ)
+        → IsOfHands (number - 1) (row_at ledger.old.rows.items name) }
+    ensures names { OnOk result (ledger.new.names ≡ row_names ledger.new.rows.items) }
+    ensures rows { OnOk result (ledger.new.rows.items
+        ≡ with_names (hand_of play.now) ledger.old.rows.items
+        (names_among (hand_of play.now).seats)) }
+    ensures steps { OnOk result (ledger.new.steps.items ≡ ledger.old.steps.items
+        ++ steps_of_names number (hand_of play.now) ledger.old.rows.items
+        (names_among (hand_of play.now).seats)) }
+{
+    for index in 0..play.trace.setup.stacks.seats {
+        add_seat(alloc, ledger, number, play, Seat { number: index + 1 })?;
+    }
+    Ok(())
+}
+
+// Adds what the name of a seat did in its hand, unless a seat before it has the same name.
+fn add_seat<'a>(
+    alloc: Global,
+    ledger: &mut Ledger<'a>,
+    number: u32,
+    play: &'a Play,
+    seat: Seat,
+) -> Result<(), Memory>
+    requires names { ledger.old.names ≡ row_names ledger.old.rows.items }
+    requires first { 1 ≤ number }
+    requires few { number ≤ MOST_HANDS }
+    requires within { list_any (is_named (seated_in play.now seat.number).name)
+        (map (seated_in play.now) (seats_of (seat.number - 1))) ≡ false
+        → IsOfHands (number - 1)
+        (row_at ledger.old.rows.items (seated_in play.now seat.number).name) }
+    ensures names { OnOk result (ledger.new.names ≡ row_names ledger.new.rows.items) }
+    ensures rows { OnOk result (ledger.new.rows.items
+        ≡ rows_after_seat (hand_of play.now)
+        (map (seated_in play.now) (seats_of (seat.number - 1)))
+        ledger.old.rows.items (seated_in play.now seat.number).name) }
+    ensures steps { OnOk result (ledger.new.steps.items ≡ ledger.old.steps.items
+        ++ steps_of_seat number (hand_of play.now)
+        (map (seated_in play.now) (seats_of (seat.number - 1)))
+        ledger.old.rows.items (seated_in play.now seat.number).name) }
+{
+    let name = name_of(&play.hand.notes, seat);
+    if is_name_before(play, name, seat) {
+        return Ok(());
+    }
+    add_visit_of(alloc, ledger, number, name, visit_of(play, name))
+}
+
+// A seat before this one has the name.
+fn is_name_before(play: &Play, name: &str, seat: Seat) -> bool
+    ensures { result ≡ list_any (is_named name.now)
+        (map (seated_in play.now) (seats_of (seat.number - 1))) }
+{
+    for index in 0..seat.number - 1 {
+        if name == name_of(&play.hand.notes, Seat { number: index + 1 }) {
+            return true;
+        }
+    }
+    false
+}
+
+// Adds a visit of a name in the hand with this number.
+fn add_visit_of<'a>(
+    alloc: Global,
+    ledger: &mut Ledger<'a>,
+    number: u32,
+    name: &'a str,
+    visit: Visit,
+) -> Result<(), Memory>
+    requires names { ledger.old.names ≡ row_names ledger.old.rows.items }
+    requires first { 1 ≤ number }
+    requires few { number ≤ MOST_HANDS }
+    requires within { IsOfHands (number - 1) (row_at ledger.old.rows.items name.now) }
+    requires visit { IsOfHand visit }
+    ensures names { OnOk result (ledger.new.names ≡ row_names ledger.new.rows.items) }
+    ensures rows { OnOk result (ledger.new.rows.items
+        ≡ with_row ledger.old.rows.items name.now visit) }
+    ensures steps { OnOk result (ledger.new.steps.items ≡ ledger.old.steps.items
+        ++ visit_steps number (row_at ledger.old.rows.items name.now) visit) }
+{
+    let place = row_place(alloc, ledger, name)?;
+    push_steps(alloc, &mut ledger.steps, number, &ledger.rows[place], visit)?;
+    add_visit(&mut ledger.rows[place], visit);
+    Ok(())
+}
+
+// The place of the row of a name, which is made where the name is new.
+fn row_place<'a>(alloc: Global, ledger: &mut Ledger<'a>, name: &'a str) -> Result<usize, Memory>
+    requires names { ledger.old.names ≡ row_names ledger.old.rows.items }
+    ensures names { OnOk result (ledger.new.names ≡ row_names ledger.new.rows.items) }
+    ensures rows { OnOk result (ledger.new.rows.items
+        ≡ rows_with ledger.old.rows.items name.now) }
+    ensures steps { OnOk result (ledger.new.steps ≡ ledger.old.steps) }
+    ensures place { IfOk result (λ place.
+        position_from (bytes_eq name.now) 0 (row_names ledger.new.rows.items) ≡ Some place) }
+{
+    let place = ledger.names.place_of(name)?;
+    if place == ledger.rows.len() {
+        ledger.rows.push(new_row(alloc, name)?)?;
+    }
+    Ok(place)
+}
