@@ -1,10 +1,10 @@
 -- The shares of each pot and its rake are its chips.
-use Rattle.std.proofs.Common.{◌≡◌, ◌≤◌, ℕ, zero, suc, ◌+◌, ◌-◌, ◌*◌, ◌==◌, Bool, if◌then◌else◌, length, inl, inr, List, [], ◌∷◌, All, slice_index, map, sum_by, refl, sym, ap, subst, ◌∙◌, arith}
+use Rattle.std.proofs.Common.{◌≡◌, ◌≤◌, ℕ, zero, suc, ◌+◌, ◌-◌, inl, inr, List, [], ◌∷◌, All, slice_index, map, sum_by, refl, sym, ap, subst, arith}
 use Rattle.chip_ledger.specs.declared.pots.Pot.{Pot}
 use Rattle.chip_ledger.specs.declared.rakes.RakeRow.{RakeRow}
 use Rattle.chip_ledger.specs.declared.rows.LiveRow.{LiveRow}
 use Rattle.chip_ledger.specs.declared.rows.SeatRow.{SeatRow}
-use Rattle.chip_ledger.specs.LiveRow.{flag_of, flagged}
+use Rattle.chip_ledger.specs.LiveRow.{flagged}
 use Rattle.chip_ledger.specs.PotRow.{plain, plain_pots, plain_shares, pots_in, shared_in, shares_in}
 use Rattle.chip_ledger.specs.RakeRow.{rake_of}
 use Rattle.chip_ledger.specs.Rakes.{HaveRakes, chips_in, less_rake, nets_from, nets_of}
@@ -18,28 +18,11 @@ use Rattle.hand_records.specs.declared.trace.Trace.{Trace}
 use Rattle.play_event.specs.declared.code.Code.{Code}
 use Rattle.play_event.specs.declared.setup.Setup.{Setup}
 use Rattle.play_event.specs.Past.{Past}
-use Rattle.chip_ledger.proofs.Seats.{sum-seats}
 use Rattle.showdown_split.proofs.FirstRake.{have_rakes}
-use Rattle.showdown_split.proofs.Flagged.{is_flagged-flag, length-flagged, sum_for_each}
-use Rattle.std.proofs.Math.Nat.{mul-one}
-use Rattle.std.specs.List.{list_any}
-use Rattle.variant_table.specs.Division.{count_to}
-use Rattle.trace_laws.proofs.ShareBounds.{pot_at, share_at}
-use Rattle.variant_table.specs.Shares.{AllShared, AreSharesOf, AreOfOne, AreOfShown, Showdown, is_contender, ranking_of}
+use Rattle.trace_laws.proofs.ShareBounds.{one_whole, pot_at, share_at}
+use Rattle.variant_table.specs.Shares.{AllShared, AreSharesOf, AreOfShown, Showdown, is_contender, ranking_of}
 use Rattle.chip_laws.proofs.JudgedSeats.{AreWhole, compared_high, compared_low}
 use Rattle.chip_laws.proofs.SomeWinner.{whole_halves, whole_parts}
-
--- a pot that one seat may win is its share
-one_whole : (seats : ℕ) (row : LiveRow) (pot : PlainPot) (share : ℕ → ℕ) → row.seats ≡ seats → pot.eligible ≡ flagged row → AreOfOne seats pot share → sum_by share (seats_of seats) ≡ pot.chips
-one_whole seats row pot share same is one =
-    let count : count_to (flag_of row) seats ≡ 1 = ap (count_to (flag_of row)) (sym same) ∙ sym (length-flagged row) ∙ ap length (sym is) ∙ one.one in
-    sum-seats share (λ n. if flag_of row n then pot.chips else 0) seats (λ n low high.
-    one.all n low high
-    ∙ ap (λ (ns : List ℕ). if list_any (λ m. m == n) ns then pot.chips else 0) is
-    ∙ ap (λ (b : Bool). if b then pot.chips else 0) (is_flagged-flag row n low))
-    ∙ sum_for_each (flag_of row) pot.chips seats
-    ∙ ap (λ (n : ℕ). pot.chips * n) count
-    ∙ mul-one pot.chips
 
 -- the shares of a pot for which several seats contend
 contested_whole : (code : Code) (showdown : Showdown) (pot : PlainPot) (share : ℕ → ℕ) → AreWhole code showdown

@@ -1,10 +1,9 @@
 -- At the end of a hand each shown seat has cards that the game's pick can use, and the rows show what the trace shows.
-use Rattle.std.proofs.Common.{◌≡◌, ℕ, ◌+◌, ◌≤◌, true, false, ◌&&◌, ◌==◌, not, nat_le, Some, None, List, [], ◌∷◌, ◌++◌, map, filter, length, refl, sym, ap, subst, ◌∙◌, arith}
-use Rattle.std.specs.List.{flat_map, list_any, range_with_len}
-use Rattle.std.proofs.lemmas.Bool.{and_parts, not-true}
-use Rattle.std.proofs.lemmas.List.{length-map, map-append}
-use Rattle.canon_blocks.proofs.TracedSlots.{dealt_same, discarded_same}
-use Rattle.canon_blocks.proofs.TraceOrder.{finals_group, finals_of, the_board}
+use Rattle.std.proofs.Common.{◌≡◌, ℕ, ◌+◌, ◌≤◌, true, false, ◌&&◌, ◌==◌, not, nat_le, Some, None, List, ◌++◌, filter, length, sym, ap, subst, ◌∙◌, arith}
+use Rattle.std.specs.List.{list_any}
+use Rattle.std.proofs.lemmas.List.{length-map}
+use Rattle.canon_blocks.proofs.TracedSlots.{discarded_same}
+use Rattle.canon_blocks.proofs.TraceOrder.{finals_of}
 use Rattle.canon_laws.proofs.HeldSame.{any_held, held_script}
 use Rattle.play_event.specs.Held.{held_slots}
 use Rattle.card_set.specs.declared.card.Card.{Card}
@@ -18,7 +17,6 @@ use Rattle.chip_ledger.specs.LiveRow.{flag_of, flagged}
 use Rattle.chip_ledger.specs.Seat.{seats_of}
 use Rattle.deal_core.specs.Board.{board_cards}
 use Rattle.deal_core.proofs.Boards.{board_held}
-use Rattle.canon_script.specs.CanonScript as canon
 use Rattle.hand_canon.specs.LegalHand.{showdown_in}
 use Rattle.canon_script.specs.TraceCore.{core_of}
 use Rattle.card_set.specs.declared.pick.Pick.{Pick}
@@ -29,30 +27,26 @@ use Rattle.play_event.specs.Due.{is_unfinished, turn}
 use Rattle.play_event.specs.Games.{game_of, street_count}
 use Rattle.play_event.specs.Laws.{AreLegal}
 use Rattle.play_event.specs.Past.{Past, moves_of}
-use Rattle.play_event.specs.Places.{Place, group_of}
 use Rattle.play_event.specs.Said.{Said}
 use Rattle.play_event.specs.Scripts.{past_of}
 use Rattle.play_event.specs.SeatSlots.{slots_of_hand}
 use Rattle.play_event.specs.Seats.{all_seats, is_live, live_count}
 use Rattle.play_event.specs.Showing.{has_mucked}
 use Rattle.play_event.specs.Table.{places_of}
-use Rattle.play_event.specs.Trace.{has_unknown_card, is_contested, is_mucked, is_shown, streets_of, traced_places}
-use Rattle.play_laws.proofs.LegalPlaces.{legal_past}
-use Rattle.list_laws.proofs.NumbersOfRange.{filter_range, flat_same}
-use Rattle.play_laws.proofs.UnknownOrder.{legal_sorted}
+use Rattle.play_event.specs.Trace.{has_unknown_card, is_contested, is_mucked, is_shown}
+use Rattle.list_laws.proofs.NumbersOfRange.{filter_range}
 use Rattle.showdown_laws.specs.ContestedEnd.{EndContested}
 use Rattle.showdown_laws.proofs.Different.{cards_differ}
-use Rattle.showdown_laws.proofs.StreetSplits.{by_streets}
-use Rattle.showdown_laws.proofs.WholeBoards.{board_is, whole_boards}
+use Rattle.showdown_laws.proofs.WholeBoards.{whole_boards}
 use Rattle.showdown_laws.proofs.WholeHands.{whole_hands}
 use Rattle.showdown_split.specs.Hands.{holding, showdown_of}
 use Rattle.showdown_split.specs.Playable.{ArePlayable}
 use Rattle.showdown_split.proofs.Flagged.{is_flagged-flag}
 use Rattle.chip_ledger.proofs.SeatLists.{count_seats}
+use Rattle.trace_laws.proofs.ShownAtEnd.{shown_seat, traced_board}
 use Rattle.variant_table.specs.Variants.{IsUsable}
 use Rattle.replay_core.specs.EndRows.{flag_count, is_mucked_by, is_shown_by}
 use Rattle.replay_core.specs.Showdowns.{ShowTheSame}
-use Rattle.list_laws.proofs.Numbers.{many_not_few}
 use Rattle.card_set.proofs.KnownCards.{all_known, all_known_length}
 
 -- a hand is played to its end, and the rows have what they say of it
@@ -97,19 +91,6 @@ mucked_are setup rules events live mucked unknown shown hands board row ends sam
     ∙ ap (λ b. is_contested setup (past_of setup events) && b && not (flag_of shown seat)) (ends.lives seat low most)
     ∙ ap (λ b. is_contested setup (past_of setup events) && is_live (moves_of (past_of setup events)) seat && not b) (shown_as setup rules events live mucked unknown shown hands board ends seat low most))
 
--- what a shown seat is
-record IsShownSeat (setup : Setup) (past : Past) (seat : ℕ) : Type 0 where
-  several : nat_le (live_count setup (moves_of past)) 1 ≡ false
-  live : is_live (moves_of past) seat ≡ true
-  known : has_unknown_card setup past seat ≡ false
-
-shown_seat : (setup : Setup) (past : Past) (seat : ℕ) → is_shown setup past seat ≡ true → IsShownSeat setup past seat
-shown_seat setup past seat is =
-    let last = and_parts (is_contested setup past && is_live (moves_of past) seat && not (has_mucked past seat)) (not (has_unknown_card setup past seat)) is in
-    let middle = and_parts (is_contested setup past && is_live (moves_of past) seat) (not (has_mucked past seat)) last.0 in
-    let first = and_parts (is_contested setup past) (is_live (moves_of past) seat) middle.0 in
-    record { several = many_not_few (live_count setup (moves_of past)) first.0; live = first.1; known = not-true (has_unknown_card setup past seat) last.1 }
-
 -- the cards of a shown seat are a whole hand
 whole_hand : (setup : Setup) (rules : Rules) (events : List Said) (seat : ℕ) → AreLegal setup rules events → is_unfinished (turn setup (past_of setup events)).1 ≡ false → 1 ≤ seat → seat ≤ setup.stacks.seats → is_shown setup (past_of setup events) seat ≡ true → length (known_cards (held_slots (Some seat) (places_of setup.code (past_of setup events)))) ≡ (game_of setup.code).hole
 whole_hand setup rules events seat legal finished low high is =
@@ -146,24 +127,6 @@ playable setup rules events live mucked unknown shown hands board held pick ends
           (ap (λ l. l ++ known_cards (held_slots None (places_of setup.code past))) (sym (same n low last)) ∙ ap (λ l. holding hands n ++ l) (board_known setup.code past ∙ sym ends.boards))
           (cards_differ setup rules events n ends.legal);
     }
-
--- the trace's order of the board
-map_flat : (f : ℕ → List Place) (keys : List ℕ) → flat_map (λ key. map (λ (place : Place). place.slot) (f key)) keys ≡ map (λ (place : Place). place.slot) (flat_map f keys)
-map_flat f [] = refl
-map_flat f (key ∷ keys) =
-    ap (λ l. map (λ (place : Place). place.slot) (f key) ++ l) (map_flat f keys)
-    ∙ sym (map-append (λ (place : Place). place.slot) (f key) (flat_map f keys))
-
-traced_board : (setup : Setup) (rules : Rules) (events : List Said) → AreLegal setup rules events → flat_map (canon.dealt_slots (traced_places setup (past_of setup events)) None) (streets_of setup) ≡ held_slots None (places_of setup.code (past_of setup events))
-traced_board setup rules events legal =
-    let past : Past = past_of setup events in
-    let placed : List Place = places_of setup.code past in
-    let count : ℕ = street_count setup.code in
-    flat_same (canon.dealt_slots (traced_places setup past) None) (λ street. map (λ (place : Place). place.slot) (group_of placed street None)) 1 count (λ street low high.
-    dealt_same (finals_of setup placed count) None street
-    ∙ ap (map (λ (place : Place). place.slot)) (finals_group setup placed None street count the_board low (omega (arith, high))))
-    ∙ map_flat (λ street. group_of placed street None) (range_with_len 1 count)
-    ∙ ap (map (λ (place : Place). place.slot)) (by_streets None count placed (legal_sorted setup rules events legal) (legal_past setup rules events legal).places.since ∙ sym (board_is setup rules events legal))
 
 -- the rows show what the trace shows
 pub rows_show : (setup : Setup) (rules : Rules) (events : List Said) (live mucked unknown shown : LiveRow) (hands : HandRow) (board : CardRow) → IsEnd setup rules events live mucked unknown shown hands board → ShowTheSame (showdown_of hands board shown) (showdown_in setup (core_of setup (past_of setup events)))

@@ -6,6 +6,5 @@ pub mod Events
 pub mod EndRows
 pub mod Showdowns
 pub mod AtEnd
-pub mod Conserved
 pub mod Replayed
 pub mod Faults

@@ -10,7 +10,7 @@ use Rattle.play_event.specs.declared.setup.Rules.{Rules}
 use Rattle.play_event.specs.declared.setup.Setup.{Setup}
 use Rattle.play_event.specs.Said.{Said}
 use Rattle.play_event.specs.Scripts.{past_at_end}
-use Rattle.replay_core.specs.Conserved.{IsConserved}
+use Rattle.trace_laws.specs.Conserved.{IsConserved}
 
 -- the hand is legal, and this is its trace
 pub record IsReplayOf (setup : Setup) (rules : Rules) (script : List Said) (replayed : Trace) : Type 0 where

@@ -56,12 +56,6 @@ pub use trace_laws::law_of_pots_and_returns;
 /// After legal events the finishing stacks and the pots are the starting stacks and the shares.
 pub use trace_laws::law_of_finishing_stacks;
 
-/// In a legal hand the shares of each pot and its rake are no more than its chips.
-pub use trace_laws::law_of_shares_within_pots;
-
-/// In a legal hand the finishing stacks and the rakes are no more than the starting stacks.
-pub use trace_laws::law_of_no_chips_made;
-
 /// Of a pot that two or more seats may win only shown ones of them get chips that no other shown one beats, in the first
 /// order or, where a low hand is shown, in the low order.
 pub use trace_laws::law_of_winners;

@@ -8,7 +8,7 @@ ghost use Rattle.hand_records.specs.TraceRows.{core_said};
 ghost use Rattle.hand_canon.specs.WholeTrace.{IsTraceOf};
 ghost use Rattle.play_event.specs.Scripts.{past_at_end};
 ghost use Rattle.play_event.specs.ValidSetup.{IsValid};
-ghost use Rattle.replay_core.specs.Conserved.{IsConserved};
+ghost use Rattle.trace_laws.specs.Conserved.{IsConserved};
 ghost use Rattle.replay_core.specs.Events.{said_by};
 ghost use Rattle.replay_core.specs.Faults.{IsFaultOf};
 ghost use Rattle.replay_core.specs.Replayed.{IsReplayOf};

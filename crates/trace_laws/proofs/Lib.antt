@@ -1,5 +1,5 @@
 -- Rows are equal where they say the same, shares are unique, and so a past has at most one whole trace; no chips are
--- made, and only unbeaten seats win contested pots.
+-- made or lost where shares and rakes are the pots, and only unbeaten seats win contested pots.
 pub mod Readings
 pub mod SameRows
 pub mod OneSharing
@@ -8,5 +8,6 @@ pub mod ShareBounds
 pub mod TraceChips
 pub mod TraceStacks
 pub mod TraceWinners
-pub mod NoChipsMade
+pub mod ConservedTraces
+pub mod ShownAtEnd
 pub mod SameShares

@@ -71,7 +71,7 @@ contested_within seats contending ranking chips share (inl whole) = parts_within
 contested_within seats contending ranking chips share (inr halves) = halves_within seats contending ranking.beats ranking.beats_low chips share halves.1
 
 -- a pot that one seat may win is its share
-one_whole : (seats : ℕ) (row : LiveRow) (pot : PlainPot) (share : ℕ → ℕ) → row.seats ≡ seats → pot.eligible ≡ flagged row → AreOfOne seats pot share → sum_by share (seats_of seats) ≡ pot.chips
+pub one_whole : (seats : ℕ) (row : LiveRow) (pot : PlainPot) (share : ℕ → ℕ) → row.seats ≡ seats → pot.eligible ≡ flagged row → AreOfOne seats pot share → sum_by share (seats_of seats) ≡ pot.chips
 one_whole seats row pot share same is one =
     let count : count_to (flag_of row) seats ≡ 1 = ap (count_to (flag_of row)) (sym same) ∙ sym (length-flagged row) ∙ ap length (sym is) ∙ one.one in
     sum-seats share (λ n. if flag_of row n then pot.chips else 0) seats (λ n low high.

@@ -1,2 +1,3 @@
--- What laws of whole traces say of the shares of pots.
+-- What laws of whole traces say of pots, shares and stacks.
 pub mod Winners
+pub mod Conserved

@@ -1,10 +1,9 @@
-//! Laws of the chips of a whole trace: none is made, and of contested pots only unbeaten shown hands get any.
-ghost use Rattle.std.specs.Prelude.{◌≡◌, ◌≤◌, ℕ, ◌+◌, List, length, sum_by};
-ghost use Rattle.std.specs.List.{range_with_len};
+//! Laws of the chips of a whole trace: pots and returns are what was put, what leaves the hand is
+//! the part of the pots that no seat gets, and of contested pots only unbeaten shown hands get any.
+ghost use Rattle.std.specs.Prelude.{◌≡◌, ◌+◌, List, sum_by};
 ghost use Rattle.chip_ledger.specs.declared.pots.Pot.{Pot};
-ghost use Rattle.chip_ledger.specs.PotRow.{plain_pots, plain_shares, pots_in, shared_in, shares_in};
-ghost use Rattle.chip_ledger.specs.RakeRow.{rake_of};
-ghost use Rattle.chip_ledger.specs.Rakes.{chips_in, nets_of};
+ghost use Rattle.chip_ledger.specs.PotRow.{plain_shares, pots_in, shares_in};
+ghost use Rattle.chip_ledger.specs.Rakes.{nets_of};
 ghost use Rattle.chip_ledger.specs.SeatRow.{total_of};
 ghost use Rattle.play_event.specs.Laws.{AreLegal};
 ghost use Rattle.play_event.specs.Past.{Past, moves_of};
@@ -14,7 +13,7 @@ ghost use Rattle.play_event.specs.Scripts.{past_of};
 ghost use Rattle.play_event.specs.ValidSetup.{IsValid};
 ghost use Rattle.play_event.specs.declared.setup.Rules.{Rules};
 ghost use Rattle.play_event.specs.declared.setup.Setup.{Setup};
-ghost use Rattle.hand_canon.specs.LegalHand.{IsShareable, showdown_in};
+ghost use Rattle.hand_canon.specs.LegalHand.{showdown_in};
 ghost use Rattle.canon_script.specs.TraceCore.{core_of};
 ghost use Rattle.hand_canon.specs.WholeTrace.{IsTraceOf};
 ghost use Rattle.hand_records.specs.declared.trace.Trace.{Trace};
@@ -35,27 +34,6 @@ pub fn law_of_finishing_stacks()
         → IsTraceOf setup (past_of setup events) trace
         → total_of trace.finish + sum_by (λ (pot : Pot). pot.chips) (pots_in trace.pots)
         ≡ total_of setup.stacks + sum_by total_of (shares_in trace.shares) }
-{}
-
-/// Where the pots can be shared, as in a legal hand, the shares of each pot and its rake are no more than its chips; the
-/// lowest pot has the number 1, and past the last one there are neither shares nor rakes.
-pub fn law_of_shares_within_pots()
-    ensures { (setup : Setup) (past : Past) (trace : Trace)
-        → IsShareable setup (core_of setup past) → IsTraceOf setup past trace
-        → (number : ℕ) → shared_in trace.shares number + rake_of setup.rakes number
-        ≤ chips_in (plain_pots trace.pots) number }
-{}
-
-/// After legal events, where the pots can be shared, as in a legal hand, the finishing stacks and the rakes of the pots are
-/// together no more than the starting stacks.
-pub fn law_of_no_chips_made()
-    ensures { (setup : Setup) (rules : Rules) (events : List Said) (trace : Trace)
-        → IsValid setup → AreLegal setup rules events
-        → IsShareable setup (core_of setup (past_of setup events))
-        → IsTraceOf setup (past_of setup events) trace
-        → total_of trace.finish
-        + sum_by (rake_of setup.rakes) (range_with_len 1 (length (pots_in trace.pots)))
-        ≤ total_of setup.stacks }
 {}
 
 /// A seat that gets chips of a pot that two or more seats may win is a shown one of them that no other shown one beats, in

@@ -1,11 +1,9 @@
-//! The laws of whole traces: a past has at most one, no chips are made, and only unbeaten shown hands win contested pots.
+//! The laws of whole traces: a past has at most one, its pots and returns are what was put, and only
+//! unbeaten shown hands win contested pots.
 #![tactic(auto)]
 
 mod conservation;
 mod laws;
 
-pub use conservation::{
-    law_of_finishing_stacks, law_of_no_chips_made, law_of_pots_and_returns,
-    law_of_shares_within_pots, law_of_winners,
-};
+pub use conservation::{law_of_finishing_stacks, law_of_pots_and_returns, law_of_winners};
 pub use laws::{law_of_canonical_hands, law_of_one_trace, law_of_places};

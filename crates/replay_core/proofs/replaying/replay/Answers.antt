@@ -6,7 +6,7 @@ use Rattle.canon_script.specs.Tidy.{IsTidy}
 use Rattle.hand_records.specs.TraceRows.{core_said}
 use Rattle.hand_canon.specs.WholeTrace.{IsTraceOf}
 use Rattle.play_event.specs.Scripts.{past_at_end}
-use Rattle.replay_core.specs.Conserved.{IsConserved}
+use Rattle.trace_laws.specs.Conserved.{IsConserved}
 use Rattle.replay_core.specs.Events.{said_by}
 use Rattle.replay_core.specs.Replayed.{IsReplayOf}
 use Rattle.replay_core.proofs.replaying.replay.Goals as goal

@@ -13,7 +13,8 @@ use Rattle.showdown_split.specs.Hands.{showdown_of}
 use Rattle.variant_table.specs.Shares.{AllShared}
 use Rattle.variant_table.specs.Variants.{IsUsable}
 use Rattle.replay_core.specs.Events.{said_by}
-use Rattle.replay_core.proofs.EndChips.{ante_within, conserved, put_within, whole_stack}
+use Rattle.replay_core.proofs.EndChips.{ante_within, put_within, whole_stack}
+use Rattle.trace_laws.proofs.ConservedTraces.{conserved}
 use Rattle.replay_core.proofs.FinishBound.{finish_within}
 use Rattle.replay_core.proofs.TraceAtEnd.{IsPaid, rake_is, unshown_is, whole_trace}
 use Rattle.replay_core.proofs.replaying.replay_of.Goals as goal
