@@ -8,7 +8,7 @@ mod trace;
 mod writing;
 
 pub use calendar::has_day;
-pub use notes::{Clock, NoteName, Notes};
+pub use notes::{Clock, NoteName, Notes, name_of};
 pub use record::{NetRow, Record, Records, Stated};
 pub use trace::{Moves, Places, Play, Trace};
 pub use writing::{Keep, Unspelled, WriteRefusal};

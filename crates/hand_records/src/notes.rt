@@ -1,4 +1,9 @@
 //! Notes are what a record says of a hand beside its play: who played it, where and when.
+ghost use Rattle.std.specs.Prelude.{◌≡◌};
+ghost use Rattle.chip_ledger.specs.SeatsSaid.{default_name as default_said};
+ghost use Rattle.hand_records.specs.AllowedNotes.{name_written};
+
+use chip_ledger::Seat;
 use first_fault::Text;
 
 /// A time of a day.
@@ -54,4 +59,33 @@ pub enum NoteName {
     Month,
     Day,
     Time,
+}
+
+/// The name of a seat's player: the one that is noted, or the default of the seat, as `p2`.
+pub fn name_of<'a>(notes: &'a Notes, seat: Seat) -> &'a str
+    ensures { result.now ≡ name_written notes.now seat.number }
+{
+    match &notes.names[seat.number as usize - 1] {
+        Some(name) => name.as_str(),
+        None => default_name(seat),
+    }
+}
+
+// The name of a seat where none is noted.
+#[tactic(auto, using(chip_ledger::proofs::DefaultNames::short_name, chip_ledger::proofs::DefaultNames::long_name))]
+fn default_name(seat: Seat) -> &'static str
+    ensures { result.now ≡ default_said seat.number }
+{
+    match seat.number {
+        1 => "p1",
+        2 => "p2",
+        3 => "p3",
+        4 => "p4",
+        5 => "p5",
+        6 => "p6",
+        7 => "p7",
+        8 => "p8",
+        9 => "p9",
+        _ => "p10",
+    }
 }

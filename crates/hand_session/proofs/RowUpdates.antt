@@ -14,7 +14,8 @@ use Rattle.hand_session.specs.declared.visits.Visit.{Visit}
 use Rattle.hand_session.specs.Hands.{Hand, Seated}
 use Rattle.hand_session.specs.Sessions.{is_named, names_among}
 use Rattle.hand_session.specs.Visits.{row_at, row_names, rows_after_seat, steps_of_names, steps_of_seat, visit_in, visit_steps, with_names, with_row, with_visit}
-use Rattle.hand_session.proofs.Distinct.{AreDistinct, any_names, bytes_flip, names_more}
+use Rattle.name_index.proofs.Distinct.{AreDistinct, bytes_flip}
+use Rattle.hand_session.proofs.SeatNames.{any_names, names_more}
 use Rattle.hand_session.proofs.RowPlaces.{names_after}
 
 -- the rows after a visit: the name has it, and the others have what they had

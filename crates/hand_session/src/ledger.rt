@@ -10,11 +10,10 @@ ghost use Rattle.hand_session.specs.Visits.{IsOfHand, IsOfHands, row_at, row_nam
 
 use crate::lists::{SessionRow, Step};
 use crate::rows::{add_visit, new_row, push_steps};
-use crate::seats::name_of;
 use crate::visits::{Visit, visit_of};
 use card_set::Memory;
 use chip_ledger::Seat;
-use hand_records::{Notes, Play};
+use hand_records::{Play, name_of};
 use name_index::NameIndex;
 use std::alloc::Global;
 

@@ -6,7 +6,8 @@ use Rattle.std.proofs.lemmas.List.{map-append}
 use Rattle.std.proofs.lemmas.List.Elements.{filter-append}
 use Rattle.std.proofs.lemmas.List.Sums.{fold-append, sum_by-cons, sum_by-append}
 use Rattle.list_laws.proofs.Counting.{count_by-cons}
-use Rattle.printed_report.specs.Report.{Hand, Seated, hands_with, name_line, names_of, net_of, seats_named, seats_of_all, with_name}
+use Rattle.name_index.specs.Names.{with_name}
+use Rattle.printed_report.specs.Report.{Hand, Seated, hands_with, name_line, names_of, net_of, seats_named, seats_of_all}
 use Rattle.printed_report.specs.Tallies.{row_names, tally_at, tally_line, with_hands, with_row, with_seat, with_seats}
 use Rattle.printed_report.specs.declared.tally.Tally.{Tally}
 use Rattle.printed_report.proofs.Rows.{at_row, names_insert, step}
@@ -20,7 +21,7 @@ names_seats number rows (seat ∷ seats) =
     ∙ ap (λ names. fold with_name names (map (λ seat. seat.name) seats)) (names_insert rows seat.name (with_seat number (tally_at rows seat.name) seat))
 
 -- and of more hands
-names_hands : (number : ℕ) (rows : List (List ℕ × Tally)) (hands : List Hand)
+pub names_hands : (number : ℕ) (rows : List (List ℕ × Tally)) (hands : List Hand)
     → row_names (with_hands number rows hands) ≡ fold with_name (row_names rows) (map (λ seat. seat.name) (seats_of_all hands))
 names_hands number rows [] = refl
 names_hands number rows (hand ∷ hands) =

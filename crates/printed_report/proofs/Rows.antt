@@ -1,36 +1,22 @@
 -- What is put into rows and found there.
-use Rattle.std.proofs.Common.{◌≡◌, ℕ, Bool, true, false, cond, ◌||◌, List, [], ◌∷◌, ◌++◌, map, Option, Some, unwrap_or, bytes_eq, refl, sym, ap, ◌∙◌, true≢false, Bor}
+use Rattle.std.proofs.Common.{◌≡◌, ℕ, Bool, true, false, cond, ◌||◌, List, [], ◌∷◌, ◌++◌, Option, Some, unwrap_or, bytes_eq, refl, sym, ap, ◌∙◌, true≢false}
 use Rattle.std.specs.Cmp.Lexicographic.{bytes_decides}
 use Rattle.std.specs.List.{list_any}
 use Rattle.std.specs.Map.{lookup}
 use Rattle.indexmap.specs.IndexMap.{insert_entry}
-use Rattle.printed_report.specs.Report.{Seated, with_name}
+use Rattle.name_index.specs.Names.{with_name}
+use Rattle.printed_report.specs.Report.{Seated}
 use Rattle.printed_report.specs.Tallies.{no_tally, row_names, tally_at, with_row, with_seat}
 use Rattle.printed_report.specs.declared.tally.Tally.{Tally}
 use Rattle.list_laws.proofs.Bytes.{same_key}
-use Rattle.list_laws.proofs.Lists.{longer_either, mapped_either}
-
--- a look-up in a map is one in its rows
-pub lookup_rows : (name : List ℕ) (entries : List (Bor (List ℕ) × Tally))
-    → lookup (λ key. bytes_eq name key.now) entries ≡ lookup (bytes_eq name) (map (λ entry. (entry.0.now, entry.1)) entries)
-lookup_rows name [] = refl
-lookup_rows name (entry ∷ entries) = ap (λ found. cond (bytes_eq name entry.0.now) (Some entry.1) found) (lookup_rows name entries)
-
--- what is put into a map is put into its rows
-pub insert_rows : (entries : List (Bor (List ℕ) × Tally)) (key : Bor (List ℕ)) (tally : Tally)
-    → map (λ entry. (entry.0.now, entry.1)) (insert_entry (λ x y. bytes_eq x.now y.now) entries key tally)
-    ≡ insert_entry bytes_eq (map (λ entry. (entry.0.now, entry.1)) entries) key.now tally
-insert_rows [] key tally = refl
-insert_rows (entry ∷ entries) key tally =
-    mapped_either (λ entry. (entry.0.now, entry.1)) (bytes_eq key.now entry.0.now) ((entry.0, tally) ∷ entries) (entry ∷ insert_entry (λ x y. bytes_eq x.now y.now) entries key tally)
-    ∙ ap (λ rest. cond (bytes_eq key.now entry.0.now) ((entry.0.now, tally) ∷ map (λ entry. (entry.0.now, entry.1)) entries) ((entry.0.now, entry.1) ∷ rest)) (insert_rows entries key tally)
+use Rattle.list_laws.proofs.Lists.{longer_either}
 
 found_or : (b : Bool) (tally other : Tally) (rest : Option Tally) → unwrap_or (cond b (Some tally) rest) other ≡ cond b tally (unwrap_or rest other)
 found_or true tally other rest = refl
 found_or false tally other rest = refl
 
 -- a row in front
-at_front : (row : List ℕ × Tally) (rows : List (List ℕ × Tally)) (asked : List ℕ)
+pub at_front : (row : List ℕ × Tally) (rows : List (List ℕ × Tally)) (asked : List ℕ)
     → tally_at (row ∷ rows) asked ≡ cond (bytes_eq asked row.0) row.1 (tally_at rows asked)
 at_front row rows asked = found_or (bytes_eq asked row.0) row.1 no_tally (lookup (bytes_eq asked) rows)
 

@@ -1,15 +1,16 @@
 -- The text of a report: a line for each game that was played, one for all hands, and one for each name.
-use Rattle.std.specs.Prelude.{ℕ, ◌-◌, ℤ, pos, ◌-ℤ◌, List, [], ◌∷◌, ◌++◌, length, map, filter, fold, flat_map, replicate, sum_by, count_by, codes, bytes_eq, slice_index_or, None, if◌then◌else◌}
+use Rattle.std.specs.Prelude.{ℕ, ℤ, pos, ◌-ℤ◌, List, [], ◌∷◌, ◌++◌, length, map, filter, fold, flat_map, sum_by, count_by, codes, bytes_eq}
 use Rattle.std.specs.Fmt.{decimal, signed_decimal}
 use Rattle.std.specs.List.{list_any}
-use Rattle.std.specs.Option.{unwrap_or}
 use Rattle.chip_ledger.specs.SeatRow.{amount_of}
 use Rattle.hand_canon.specs.Agreement.{pot_total_of}
+use Rattle.hand_records.specs.AllowedNotes.{name_written}
 use Rattle.hand_records.specs.declared.trace.Play.{Play}
+use Rattle.name_index.specs.Names.{with_name}
 use Rattle.play_event.specs.Code.{code_text}
 use Rattle.play_event.specs.Seats.{all_seats}
 use Rattle.play_event.specs.declared.code.Code.TheVariants as games
-use Rattle.chip_ledger.specs.SeatsSaid.{default_name}
+use Rattle.text_columns.specs.Columns.{left_in, right_in}
 
 -- a seat of a hand: the name of its player, and the chips that it started and finished with
 pub record Seated : Type 0 where
@@ -23,15 +24,11 @@ pub record Hand : Type 0 where
   pub pots : ℕ
   pub seats : List Seated
 
--- the name of a seat's player: the one that is noted, or its default
-abbrev pub name_in : Play → ℕ → List ℕ
-name_in play seat = unwrap_or (slice_index_or play.hand.notes.names (seat - 1) None) (default_name seat)
-
 -- a seat of a play
 abbrev pub seated_in : Play → ℕ → Seated
 seated_in play seat =
     record {
-      name = name_in play seat;
+      name = name_written play.hand.notes seat;
       started = amount_of play.trace.setup.stacks seat;
       finished = amount_of play.trace.finish seat;
     }
@@ -44,14 +41,6 @@ hand_of play =
       pots = pot_total_of play.trace;
       seats = map (seated_in play) (all_seats play.trace.setup);
     }
-
--- a text at the right of so many places; a longer one stands whole
-abbrev pub right_in : ℕ → List ℕ → List ℕ
-right_in places text = replicate (places - length text) 32 ++ text
-
--- a text at the left of so many places; a longer one stands whole
-abbrev pub left_in : ℕ → List ℕ → List ℕ
-left_in places text = text ++ replicate (places - length text) 32
 
 -- the line of some hands: its title, how many they are, and their pots together
 abbrev pub hands_line : List ℕ → List Hand → List ℕ
@@ -79,10 +68,6 @@ game_codes =
 -- the seats of all hands, from the first hand on and from p1 upward
 abbrev pub seats_of_all : List Hand → List Seated
 seats_of_all hands = flat_map (λ hand. hand.seats) hands
-
--- names with one more behind them, unless it is among them
-abbrev pub with_name : List (List ℕ) → List ℕ → List (List ℕ)
-with_name names name = if list_any (bytes_eq name) names then names else names ++ name ∷ []
 
 -- the names of all seats in the order in which they are first seen, each once
 abbrev pub names_of : List Hand → List (List ℕ)

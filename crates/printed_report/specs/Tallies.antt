@@ -1,9 +1,10 @@
 -- What is tallied of each name, hand after hand and seat after seat.
-use Rattle.std.specs.Prelude.{ℕ, ◌+◌, ◌*◌, ◌≤◌, ◌==◌, List, [], ◌∷◌, fold, map, bytes_eq, unwrap_or, if◌then◌else◌, pos, ◌-ℤ◌}
-use denote.Ref.{Bor}
+use Rattle.std.specs.Prelude.{◌≡◌, ℕ, ◌+◌, ◌*◌, ◌≤◌, ◌==◌, List, [], ◌∷◌, fold, map, bytes_eq, nat_eq, unwrap_or, if◌then◌else◌, pos, ◌-ℤ◌}
 use Rattle.std.specs.Map.{lookup}
-use Rattle.indexmap.specs.IndexMap.{IndexMap, insert_entry}
+use Rattle.std.specs.Option.{option_map_or}
+use Rattle.indexmap.specs.IndexMap.{insert_entry}
 use Rattle.chip_ledger.specs.declared.rows.TheConstants.{MOST_AMOUNT}
+use Rattle.printed_report.specs.declared.tally.NamedTally.{NamedTally}
 use Rattle.printed_report.specs.declared.tally.Tally.{Tally}
 use Rattle.printed_report.specs.Report.{Hand, Seated, name_line}
 
@@ -21,13 +22,29 @@ with_seat number tally seat =
       last = number;
     }
 
--- the names of a map, each with its tally
-abbrev pub rows_of : {S : Type 0} → IndexMap (Bor (List ℕ)) Tally S → List (List ℕ × Tally)
-rows_of tallies = map (λ entry. (entry.0.now, entry.1)) tallies.entries
+-- the names of a map's entries, each with its tally
+abbrev pub rows_of : List (ℕ × NamedTally) → List (List ℕ × Tally)
+rows_of entries = map (λ entry. (entry.1.name.now, entry.1.tally)) entries
+
+-- entries have the numbers from this one on as keys
+abbrev pub AreNumbered : ℕ → List (ℕ × NamedTally) → Type 0
+AreNumbered first [] = Unit {0}
+AreNumbered first (entry ∷ rest) = (entry.0 ≡ first) × AreNumbered (first + 1) rest
 
 -- the names of rows
 abbrev pub row_names : List (List ℕ × Tally) → List (List ℕ)
 row_names rows = map (λ row. row.0) rows
+
+-- the names of an index are those of the rows of some entries, and each entry has the place of its
+-- name as its key
+pub record AreTallied (indexed : List (List ℕ)) (entries : List (ℕ × NamedTally)) : Type 0 where
+  pub names : indexed ≡ row_names (rows_of entries)
+  pub places : AreNumbered 0 entries
+
+-- the tally under a place, or an empty one where there is none
+abbrev pub tally_under : List (ℕ × NamedTally) → ℕ → Tally
+tally_under entries place =
+    option_map_or (λ named. named.tally) (lookup (nat_eq place) entries) no_tally
 
 -- the tally of a name
 abbrev pub tally_at : List (List ℕ × Tally) → List ℕ → Tally
@@ -45,7 +62,8 @@ with_seats number rows seats = fold (with_row number) rows seats
 -- rows with the seats of more hands, the first of which has this number
 abbrev pub with_hands : ℕ → List (List ℕ × Tally) → List Hand → List (List ℕ × Tally)
 with_hands number rows [] = rows
-with_hands number rows (hand ∷ hands) = with_hands (number + 1) (with_seats number rows hand.seats) hands
+with_hands number rows (hand ∷ hands) =
+    with_hands (number + 1) (with_seats number rows hand.seats) hands
 
 -- the most seats of all hands: ten of each of 65,536 hands
 abbrev pub MOST_SEATS : ℕ
@@ -61,7 +79,14 @@ pub record IsWithin (seats : ℕ) (tally : Tally) : Type 0 where
 abbrev pub AreWithin : ℕ → List (List ℕ × Tally) → Type 0
 AreWithin seats rows = (name : List ℕ) → IsWithin seats (tally_at rows name)
 
+-- the tally of a row is of no more seats than all hands have
+abbrev pub IsRowWithin : (List ℕ × Tally) → Type 0
+IsRowWithin row = IsWithin MOST_SEATS row.1
+
+-- the line of a row
+abbrev pub row_line : (List ℕ × Tally) → List ℕ
+row_line row = name_line (pos row.1.finished -ℤ pos row.1.started) row.1.hands row.0
+
 -- the line of a name
 abbrev pub tally_line : List (List ℕ × Tally) → List ℕ → List ℕ
-tally_line rows name =
-    name_line (pos (tally_at rows name).finished -ℤ pos (tally_at rows name).started) (tally_at rows name).hands name
+tally_line rows name = row_line (name, tally_at rows name)

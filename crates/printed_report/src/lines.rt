@@ -1,12 +1,14 @@
-//! A line of a report has its numbers in columns, which are filled up with spaces.
-ghost use Rattle.std.specs.Prelude.{◌≡◌, ◌++◌, ◌-ℤ◌, pos, codes, replicate, OnOk, string_bytes};
-ghost use Rattle.std.specs.Fmt.{decimal, signed_decimal};
-ghost use Rattle.printed_report.specs.Report.{left_in, name_line, right_in};
+//! A line of a report has its numbers in columns.
+ghost use Rattle.std.specs.Prelude.{◌≡◌, ◌++◌, ◌-ℤ◌, pos, codes, OnOk, string_bytes};
+ghost use Rattle.std.specs.Fmt.{decimal};
+ghost use Rattle.printed_report.specs.Report.{name_line};
 ghost use Rattle.printed_report.specs.Tallies.{IsWithin, MOST_SEATS};
+ghost use Rattle.text_columns.specs.Columns.{left_in, right_in};
 
 use crate::tally::Tally;
 use card_set::Memory;
 use std::alloc::Global;
+use text_columns::{push_left, push_number, push_right, push_signed};
 
 /// Puts the line of some hands at the end of a text: a title, how many they are, and the chips of their pots together.
 pub fn push_hands_line(
@@ -28,15 +30,6 @@ pub fn push_hands_line(
     Ok(())
 }
 
-// Puts what is shown at the left of so many places.
-fn push_left(text: &mut String, shown: &str, places: usize) -> Result<(), Memory>
-    ensures { OnOk result (string_bytes text.new
-        ≡ string_bytes text.old ++ left_in places shown.now) }
-{
-    text.push_str(shown)?;
-    push_spaces(text, places.saturating_sub(shown.len()))
-}
-
 /// Puts the line of a name at the end of a text: its net chips, how many hands it has, and the name.
 pub fn push_name_line(
     alloc: Global,
@@ -56,48 +49,10 @@ pub fn push_name_line(
     Ok(())
 }
 
-// Puts a number with its sign at the right of so many places.
-fn push_signed(alloc: Global, text: &mut String, number: i64, places: usize) -> Result<(), Memory>
-    ensures { OnOk result (string_bytes text.new
-        ≡ string_bytes text.old ++ right_in places (signed_decimal number)) }
-{
-    let number = format!(in alloc; "{number}")?;
-    push_right(text, number.as_str(), places)
-}
-
 // What a name won or lost.
 fn net_of(tally: Tally) -> i64
     requires { IsWithin MOST_SEATS tally }
     ensures { result ≡ pos tally.finished -ℤ pos tally.started }
 {
     tally.finished as i64 - tally.started as i64
-}
-
-// Puts a number at the right of so many places.
-fn push_number(alloc: Global, text: &mut String, number: u64, places: usize) -> Result<(), Memory>
-    ensures { OnOk result (string_bytes text.new
-        ≡ string_bytes text.old ++ right_in places (decimal number)) }
-{
-    let number = format!(in alloc; "{number}")?;
-    push_right(text, number.as_str(), places)
-}
-
-// Puts what is shown at the right of so many places.
-fn push_right(text: &mut String, shown: &str, places: usize) -> Result<(), Memory>
-    ensures { OnOk result (string_bytes text.new
-        ≡ string_bytes text.old ++ right_in places shown.now) }
-{
-    push_spaces(text, places.saturating_sub(shown.len()))?;
-    text.push_str(shown)?;
-    Ok(())
-}
-
-// Puts so many spaces.
-fn push_spaces(text: &mut String, count: usize) -> Result<(), Memory>
-    ensures { OnOk result (string_bytes text.new ≡ string_bytes text.old ++ replicate count 32) }
-{
-    for _ in 0..count {
-        text.push_str(" ")?;
-    }
-    Ok(())
 }

@@ -1,14 +1,15 @@
 //! The report on hands: a line for each game that was played, one for all hands, and one for each name.
 ghost use Rattle.std.specs.Prelude.{◌≡◌, ◌≤◌, ◌<◌, ◌++◌, flat_map, length, option_to_list, slice_get, IfOk, OnOk, string_bytes};
+ghost use Rattle.std.specs.List.{AllByRecursion};
 ghost use Rattle.first_fault.specs.declared.limits.TheConstants.{MOST_HANDS};
 ghost use Rattle.indexmap.specs.IndexMap.{index_map_len};
 ghost use Rattle.printed_report.specs.Report.{report_said};
-ghost use Rattle.printed_report.specs.Tallies.{AreWithin, MOST_SEATS, row_names, rows_of, tally_line};
+ghost use Rattle.printed_report.specs.Tallies.{IsRowWithin, row_line, rows_of};
 
 use crate::games::push_games;
 use crate::lines::push_name_line;
 use crate::names::tally_hands;
-use crate::tally::Tally;
+use crate::tally::NamedTally;
 use card_set::Memory;
 use hand_records::Play;
 use indexmap::IndexMap;
@@ -36,11 +37,11 @@ pub fn report_text(alloc: Global, plays: &[Play]) -> Result<String, Memory>
 fn push_names(
     alloc: Global,
     text: &mut String,
-    tallies: &IndexMap<&str, Tally>,
+    tallies: &IndexMap<usize, NamedTally<'_>>,
 ) -> Result<(), Memory>
-    requires { AreWithin MOST_SEATS (rows_of tallies.now) }
+    requires { AllByRecursion IsRowWithin (rows_of tallies.now.entries) }
     ensures { OnOk result (string_bytes text.new ≡ string_bytes text.old
-        ++ flat_map (tally_line (rows_of tallies.now)) (row_names (rows_of tallies.now))) }
+        ++ flat_map row_line (rows_of tallies.now.entries)) }
 {
     for index in 0..tallies.len() {
         push_name(alloc, text, tallies, index)?;
@@ -48,20 +49,19 @@ fn push_names(
     Ok(())
 }
 
-// Puts the line of the name with this index.
-#[tactic(auto, using(crate::proofs::Entries::line_here, crate::proofs::Entries::tally_here))]
+// Puts the line of the name at this place.
+#[tactic(auto, using(crate::proofs::RowLines::line_here))]
 fn push_name(
     alloc: Global,
     text: &mut String,
-    tallies: &IndexMap<&str, Tally>,
+    tallies: &IndexMap<usize, NamedTally<'_>>,
     index: usize,
 ) -> Result<(), Memory>
-    requires within { AreWithin MOST_SEATS (rows_of tallies.now) }
+    requires within { AllByRecursion IsRowWithin (rows_of tallies.now.entries) }
     requires index { index < index_map_len tallies.now }
     ensures { OnOk result (string_bytes text.new ≡ string_bytes text.old
-        ++ flat_map (tally_line (rows_of tallies.now))
-        (option_to_list (slice_get (row_names (rows_of tallies.now)) index))) }
+        ++ flat_map row_line (option_to_list (slice_get (rows_of tallies.now.entries) index))) }
 {
-    let (name, tally) = tallies.get_index(index).unwrap();
-    push_name_line(alloc, text, *name, *tally)
+    let (_, named) = tallies.get_index(index).unwrap();
+    push_name_line(alloc, text, named.name, named.tally)
 }

@@ -1,7 +1,6 @@
 //! A tally adds up the seats of a name.
 ghost use Rattle.std.specs.Prelude.{◌≡◌, ◌==◌, ◌+◌, if◌then◌else◌};
-ghost use Rattle.chip_ledger.specs.SeatsSaid.{default_name as default_said};
-ghost use Rattle.printed_report.specs.Report.{name_in, seated_in};
+ghost use Rattle.printed_report.specs.Report.{seated_in};
 ghost use Rattle.printed_report.specs.Tallies.{IsWithin, MOST_SEATS, no_tally as empty, with_seat as with_seat_said};
 
 use chip_ledger::Seat;
@@ -18,6 +17,13 @@ pub struct Tally {
     pub hands: u64,
     /// The number of the last such hand, from 1.
     pub last: u64,
+}
+
+/// A name with its tally.
+#[derive(Clone, Copy, Debug)]
+pub struct NamedTally<'a> {
+    pub name: &'a str,
+    pub tally: Tally,
 }
 
 /// The tally of a name that is not seen yet.
@@ -55,34 +61,5 @@ fn more_hands(tally: Tally, number: u64) -> u64
         tally.hands
     } else {
         tally.hands + 1
-    }
-}
-
-/// The name of a seat's player: the one that is noted, or its default.
-pub fn name_of<'a>(play: &'a Play, seat: Seat) -> &'a str
-    ensures { result.now ≡ name_in play.now seat.number }
-{
-    match &play.hand.notes.names[seat.number as usize - 1] {
-        Some(name) => name.as_str(),
-        None => default_name(seat),
-    }
-}
-
-// The name of a seat where none is noted.
-#[tactic(auto, using(chip_ledger::proofs::DefaultNames::short_name, chip_ledger::proofs::DefaultNames::long_name))]
-fn default_name(seat: Seat) -> &'static str
-    ensures { result.now ≡ default_said seat.number }
-{
-    match seat.number {
-        1 => "p1",
-        2 => "p2",
-        3 => "p3",
-        4 => "p4",
-        5 => "p5",
-        6 => "p6",
-        7 => "p7",
-        8 => "p8",
-        9 => "p9",
-        _ => "p10",
     }
 }

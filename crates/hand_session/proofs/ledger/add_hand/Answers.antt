@@ -8,7 +8,7 @@ use Rattle.hand_session.specs.declared.lists.Step.{Step}
 use Rattle.hand_session.specs.Hands.{Seated, hand_of, seated_in}
 use Rattle.hand_session.specs.Sessions.{is_named, names_among}
 use Rattle.hand_session.specs.Visits.{IsOfHands, row_at, rows_after_seat, steps_of_names, steps_of_seat, with_names}
-use Rattle.hand_session.proofs.Distinct.{any_names}
+use Rattle.hand_session.proofs.SeatNames.{any_names}
 use Rattle.hand_session.proofs.RowUpdates.{at_others, rows_more, steps_more}
 use Rattle.hand_session.proofs.SeatBySeat.{seats_more}
 use Rattle.hand_session.proofs.ledger.add_hand.Goals as goal
