@@ -48,7 +48,8 @@ Status  0 done             1 a hand is refused    2 no command         3 the inp
         8 out of memory    9 no game file        10 a bad game file   11 the game file is not readable
 
 An example: handref check --from phh < examples/folds.phh
-Each message and what to do about it: docs/MESSAGES.md. The manual: man handref, or docs/handref.1.
+Each message and what to do about it: docs/MESSAGES.md, or share/doc/handref/MESSAGES.md where it is installed.
+The manual: man handref, or docs/handref.1.
 END
 }
 
