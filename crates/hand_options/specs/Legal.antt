@@ -77,8 +77,11 @@ is_in_set (sets.List count to) target = list_any (λ one. target == one) (take c
 
 -- so many targets are listed: one, or two that rise
 pub record AreListed (count : ℕ) (to : List ℕ) : Type 0 where
+  -- there is a target
   pub some : 1 ≤ count
+  -- and there are no more than two
   pub few : count ≤ 2
+  -- of two the first is the lesser
   pub rising : count ≡ 2 → slice_index to 0 < slice_index to 1
 
 -- a set has the form of its limit: in fixed limit it lists its targets, and in the other limits it
