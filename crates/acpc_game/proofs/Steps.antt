@@ -51,24 +51,24 @@ module _ (line most : ℕ) (numbers : List ℕ) (all : List (List ℕ)) (whole :
   unfolding numbers_after
   words_done none so_far = sym so_far ∙ ap (numbers_after line most numbers) none
 
-module _ (entries : List EntrySaid) (line : ℕ) (all : List (List ℕ)) (whole : Result (List EntrySaid) AcpcFault) where
+module _ (no_limit : Bool) (entries : List EntrySaid) (line : ℕ) (all : List (List ℕ)) (whole : Result (List EntrySaid) AcpcFault) where
   -- one more line was read
-  pub line_read : (text : List ℕ) (texts : List (List ℕ)) (more : List EntrySaid) → all ≡ text ∷ texts → entries_after_line entries line text ≡ Ok more
-      → entries_after entries line all ≡ whole → entries_after more (line + 1) texts ≡ whole
+  pub line_read : (text : List ℕ) (texts : List (List ℕ)) (more : List EntrySaid) → all ≡ text ∷ texts → entries_after_line no_limit entries line text ≡ Ok more
+      → entries_after no_limit entries line all ≡ whole → entries_after no_limit more (line + 1) texts ≡ whole
   unfolding entries_after
   line_read text texts more cut is so_far =
-      let one : entries_after entries line all ≡ entries_after more (line + 1) texts = rw (cut, is) refl in
+      let one : entries_after no_limit entries line all ≡ entries_after no_limit more (line + 1) texts = rw (cut, is) refl in
       sym one ∙ so_far
 
   -- a line was refused
-  pub line_fails : (stop : Stop AcpcFault) (text : List ℕ) (texts : List (List ℕ)) → all ≡ text ∷ texts → Fails stop (entries_after_line entries line text)
-      → entries_after entries line all ≡ whole → Fails stop whole
+  pub line_fails : (stop : Stop AcpcFault) (text : List ℕ) (texts : List (List ℕ)) → all ≡ text ∷ texts → Fails stop (entries_after_line no_limit entries line text)
+      → entries_after no_limit entries line all ≡ whole → Fails stop whole
   unfolding entries_after
   line_fails stop text texts cut fails so_far =
-      fails_at stop (entries_after entries line (text ∷ texts)) whole (ap (entries_after entries line) (sym cut) ∙ so_far)
-      (fails_first stop (entries_after_line entries line text) (λ more. entries_after more (line + 1) texts) fails)
+      fails_at stop (entries_after no_limit entries line (text ∷ texts)) whole (ap (entries_after no_limit entries line) (sym cut) ∙ so_far)
+      (fails_first stop (entries_after_line no_limit entries line text) (λ more. entries_after no_limit more (line + 1) texts) fails)
 
   -- no line is left
-  pub lines_done : all ≡ [] → entries_after entries line all ≡ whole → whole ≡ Ok entries
+  pub lines_done : all ≡ [] → entries_after no_limit entries line all ≡ whole → whole ≡ Ok entries
   unfolding entries_after
-  lines_done none so_far = sym so_far ∙ ap (entries_after entries line) none
+  lines_done none so_far = sym so_far ∙ ap (entries_after no_limit entries line) none

@@ -1,5 +1,5 @@
 -- The form of a line of a game file: a key alone, or a key, = and numbers divided by spaces.
-use Rattle.std.specs.Prelude.{ℕ, ◌-◌, ◌==◌, Bool, ◌||◌, ◌&&◌, bytes_eq, if◌then◌else◌, List, [], ◌∷◌, length, slice_index, codes, Option, Some, None, option_and_then}
+use Rattle.std.specs.Prelude.{ℕ, ◌-◌, ◌==◌, Bool, true, false, nat_lt, ◌||◌, bytes_eq, if◌then◌else◌, List, [], ◌∷◌, length, slice_index, codes, Option, Some, None, option_and_then}
 use Rattle.std.specs.List.{list_all}
 use Rattle.first_fault.specs.Digits.{are_digits}
 use Rattle.acpc_text.specs.Parts.{parts_of}
@@ -25,23 +25,35 @@ only_key words = None
 unfoldable pub key_before : List ℕ → Option GameKey
 key_before front = if is_space (slice_index front 0) then None else only_key (words_of front)
 
--- the numbers behind =, with spaces before them or none, as many as the key has
-unfoldable pub numbers_behind : GameKey → List ℕ → Option Form
-numbers_behind key behind =
+-- a key says the sizes of raises, in a game that has no limit
+abbrev pub is_unused : Bool → GameKey → Bool
+is_unused true keys.RaiseSize = true
+is_unused _ _ = false
+
+-- a key with its numbers, which are as many as the key has; sizes of raises of a game without limit are passed over, however many
+unfoldable pub form_with : Bool → GameKey → List (List ℕ) → Option Form
+form_with no_limit key words =
+    if is_unused no_limit key then (if nat_lt 0 (length words) then Some (keys.UnusedSizes, []) else None)
+    else if has_count key (length words) then Some (key, words)
+    else None
+
+-- the numbers behind =, with spaces before them or none
+unfoldable pub numbers_behind : Bool → GameKey → List ℕ → Option Form
+numbers_behind no_limit key behind =
     if is_space (slice_index behind (length behind - 1)) then None
-    else if list_all are_digits (words_of behind) && has_count key (length (words_of behind)) then Some (key, words_of behind)
+    else if list_all are_digits (words_of behind) then form_with no_limit key (words_of behind)
     else None
 
 -- a key, =, and numbers
-abbrev pub key_and_numbers : List (List ℕ) → Option Form
-key_and_numbers (front ∷ behind ∷ []) = option_and_then (λ key. numbers_behind key behind) (key_before front)
-key_and_numbers parts = None
+abbrev pub key_and_numbers : Bool → List (List ℕ) → Option Form
+key_and_numbers no_limit (front ∷ behind ∷ []) = option_and_then (λ key. numbers_behind no_limit key behind) (key_before front)
+key_and_numbers no_limit parts = None
 
--- the form of a line, if it has one
-unfoldable pub form_of : List ℕ → Option Form
-form_of line =
+-- the form of a line of a game that has a limit or none, if it has one
+unfoldable pub form_of : Bool → List ℕ → Option Form
+form_of no_limit line =
     if bytes_eq line (codes "GAMEDEF") then Some (keys.Begin, [])
     else if bytes_eq line (codes "END GAMEDEF") then Some (keys.End, [])
     else if is_word (codes "limit") line then Some (keys.Limit, [])
     else if is_word (codes "nolimit") line then Some (keys.NoLimit, [])
-    else key_and_numbers (parts_of 61 line)
+    else key_and_numbers no_limit (parts_of 61 line)

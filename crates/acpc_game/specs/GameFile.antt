@@ -1,5 +1,5 @@
 -- What a game file says: its entries, line by line, and the game that they come to, or the first fault.
-use Rattle.std.specs.Prelude.{ℕ, ◌+◌, ◌==◌, Bool, true, false, not, nat_lt, nat_le, max, ◌&&◌, ◌||◌, if◌then◌else◌, List, [], ◌∷◌, ◌++◌, length, replicate, find, slice_index, Option, Some, None, Result, Ok, Err}
+use Rattle.std.specs.Prelude.{ℕ, ◌+◌, ◌==◌, Bool, true, false, not, nat_lt, nat_le, max, ◌&&◌, ◌||◌, if◌then◌else◌, List, [], ◌∷◌, ◌++◌, length, replicate, find, slice_index, codes, Option, Some, None, Result, Ok, Err}
 use Rattle.std.specs.List.{list_all, list_any}
 use Rattle.std.specs.Option.{option_map, option_map_or}
 use Rattle.chip_ledger.specs.Greatest.{greatest}
@@ -10,7 +10,7 @@ use Rattle.acpc_text.specs.declared.fault.AcpcFault.TheVariants as faults
 use Rattle.acpc_text.specs.Parts.{lines_of}
 use Rattle.acpc_game.specs.declared.key.GameKey.{GameKey}
 use Rattle.acpc_game.specs.declared.key.GameKey.TheVariants as keys
-use Rattle.acpc_game.specs.Keys.{key_place, most_of, or_else}
+use Rattle.acpc_game.specs.Keys.{is_word, key_place, most_of, or_else}
 use Rattle.acpc_game.specs.Forms.{Form, form_of, is_passed_over}
 use Rattle.first_fault.specs.Numbers.{kept_number}
 use Rattle.first_fault.specs.Conditions.{first_where}
@@ -65,18 +65,26 @@ entries_with entries line (Some (key, words)) =
     then (numbers_after line (most_of key) [] words >>= λ numbers. Ok (entries ++ (record { key = key; line = line; numbers = numbers }) ∷ []))
     else bad_shape line
 
--- the entries after one more line
-unfoldable pub entries_after_line : List EntrySaid → ℕ → List ℕ → Result (List EntrySaid) AcpcFault
-entries_after_line entries line text = if is_passed_over text then Ok entries else entries_with entries line (form_of text)
+-- the entries after one more line of a game that has a limit or none
+unfoldable pub entries_after_line : Bool → List EntrySaid → ℕ → List ℕ → Result (List EntrySaid) AcpcFault
+entries_after_line no_limit entries line text = if is_passed_over text then Ok entries else entries_with entries line (form_of no_limit text)
 
 -- the entries after more lines, the first of which has this number
-unfoldable pub entries_after : List EntrySaid → ℕ → List (List ℕ) → Result (List EntrySaid) AcpcFault
-entries_after entries line [] = Ok entries
-entries_after entries line (text ∷ texts) = entries_after_line entries line text >>= λ more. entries_after more (line + 1) texts
+unfoldable pub entries_after : Bool → List EntrySaid → ℕ → List (List ℕ) → Result (List EntrySaid) AcpcFault
+entries_after no_limit entries line [] = Ok entries
+entries_after no_limit entries line (text ∷ texts) = entries_after_line no_limit entries line text >>= λ more. entries_after no_limit more (line + 1) texts
+
+-- some line says that the game has no limit
+abbrev pub says_no_limit : List (List ℕ) → Bool
+says_no_limit lines = list_any (is_word (codes "nolimit")) lines
+
+-- the entries of the lines of a game that has a limit or none, and how many lines there are
+abbrev pub entries_in : Bool → List (List ℕ) → Result (List EntrySaid × ℕ) AcpcFault
+entries_in no_limit lines = entries_after no_limit [] 1 lines >>= λ entries. Ok (entries, length lines)
 
 -- the entries of a file, and how many lines it has
 abbrev pub entries_said : List ℕ → Result (List EntrySaid × ℕ) AcpcFault
-entries_said bytes = entries_after [] 1 (lines_of bytes) >>= λ entries. Ok (entries, length (lines_of bytes))
+entries_said bytes = entries_in (says_no_limit (lines_of bytes)) (lines_of bytes)
 
 -- ---- what they say
 

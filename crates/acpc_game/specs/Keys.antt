@@ -39,7 +39,7 @@ chip_key_named word =
 abbrev pub key_named : List ℕ → Option GameKey
 key_named word = or_else (card_key_named word) (chip_key_named word)
 
--- where a key stands in the one spelling; limit and nolimit have one place
+-- where a key stands in the one spelling; limit and nolimit have one place, and so have sizes that are used or not
 abbrev pub key_place : GameKey → ℕ
 key_place keys.Begin = 0
 key_place keys.Limit = 1
@@ -49,6 +49,7 @@ key_place keys.NumRounds = 3
 key_place keys.Stack = 4
 key_place keys.Blind = 5
 key_place keys.RaiseSize = 6
+key_place keys.UnusedSizes = 6
 key_place keys.FirstPlayer = 7
 key_place keys.MaxRaises = 8
 key_place keys.NumSuits = 9
@@ -68,6 +69,7 @@ has_count keys.Begin count = count == 0
 has_count keys.End count = count == 0
 has_count keys.Limit count = count == 0
 has_count keys.NoLimit count = count == 0
+has_count keys.UnusedSizes count = count == 0
 has_count keys.Stack count = nat_lt 0 count
 has_count keys.Blind count = nat_lt 0 count
 has_count keys.RaiseSize count = count == 4

@@ -5,7 +5,7 @@ ghost use Rattle.acpc_text.specs.Parts.{parts_of};
 ghost use Rattle.first_fault.specs.Words.{is_space, words_of};
 ghost use Rattle.first_fault.specs.Digits.{are_digits as are_digits_said};
 ghost use Rattle.acpc_game.specs.Keys.{has_count};
-ghost use Rattle.acpc_game.specs.Forms.{form_of, is_passed_over as is_passed_over_said, key_and_numbers, key_before as key_before_said, numbers_behind};
+ghost use Rattle.acpc_game.specs.Forms.{form_of, form_with as form_with_said, is_passed_over as is_passed_over_said, is_unused as is_unused_said, key_and_numbers, key_before as key_before_said, numbers_behind};
 
 use crate::key::{GameKey, is_word, key_named};
 use acpc_text::{cut_at, next_word};
@@ -18,12 +18,14 @@ pub fn is_passed_over(line: &[u8]) -> bool
     line.is_empty() || line[0] == b'#'
 }
 
-/// The key of a line, and the text of its numbers, where the line has the form of one.
+/// The key of a line, and the text of its numbers, where the line has the form of one. Sizes of raises of a game that has no
+/// limit have no text: their numbers are passed over.
 #[tactic(auto, unfolding(crate::specs::Forms::form_of))]
-pub fn read_form(line: &[u8]) -> Option<(GameKey, &[u8])>
+pub fn read_form(no_limit: bool, line: &[u8]) -> Option<(GameKey, &[u8])>
     ensures fits { IfSome result (λ found. (list_all are_digits_said (words_of found.1.now) ≡ true)
         × (has_count found.0 (length (words_of found.1.now)) ≡ true)) }
-    ensures form { option_map (λ found. (found.0, words_of found.1.now)) result ≡ form_of line.now }
+    ensures form { option_map (λ found. (found.0, words_of found.1.now)) result
+        ≡ form_of no_limit line.now }
 {
     if line == b"GAMEDEF".as_slice() {
         Some((GameKey::Begin, &[]))
@@ -34,38 +36,38 @@ pub fn read_form(line: &[u8]) -> Option<(GameKey, &[u8])>
     } else if is_word("nolimit", line) {
         Some((GameKey::NoLimit, &[]))
     } else {
-        read_numbered(line)
+        read_numbered(no_limit, line)
     }
 }
 
 // A key, `=`, and numbers.
-fn read_numbered(line: &[u8]) -> Option<(GameKey, &[u8])>
+fn read_numbered(no_limit: bool, line: &[u8]) -> Option<(GameKey, &[u8])>
     ensures fits { IfSome result (λ found. (list_all are_digits_said (words_of found.1.now) ≡ true)
         × (has_count found.0 (length (words_of found.1.now)) ≡ true)) }
     ensures form { option_map (λ found. (found.0, words_of found.1.now)) result
-        ≡ key_and_numbers (parts_of 61 line.now) }
+        ≡ key_and_numbers no_limit (parts_of 61 line.now) }
 {
     let (front, rest) = cut_at(line, b'=');
     match rest {
-        Some(rest) => read_behind(front, rest),
+        Some(rest) => read_behind(no_limit, front, rest),
         None => None,
     }
 }
 
 // A key, and the numbers behind `=`, in which no second `=` stands.
 #[tactic(auto, using(crate::proofs::Forms::no_third_part))]
-fn read_behind<'a>(front: &[u8], rest: &'a [u8]) -> Option<(GameKey, &'a [u8])>
+fn read_behind<'a>(no_limit: bool, front: &[u8], rest: &'a [u8]) -> Option<(GameKey, &'a [u8])>
     ensures fits { IfSome result (λ found. (list_all are_digits_said (words_of found.1.now) ≡ true)
         × (has_count found.0 (length (words_of found.1.now)) ≡ true)) }
     ensures form { option_map (λ found. (found.0, words_of found.1.now)) result
-        ≡ key_and_numbers (front.now ∷ parts_of 61 rest.now) }
+        ≡ key_and_numbers no_limit (front.now ∷ parts_of 61 rest.now) }
 {
     let (behind, more) = cut_at(rest, b'=');
     match more {
         Some(_) => None,
         None => {
             let key = key_before(front)?;
-            numbers_of(key, behind)
+            numbers_of(no_limit, key, behind)
         }
     }
 }
@@ -92,22 +94,52 @@ fn begins_with_space(text: &[u8]) -> bool
     !text.is_empty() && text[0] == b' '
 }
 
-// The numbers behind `=`, as many as the key has.
+// The numbers behind `=`.
 #[tactic(auto, unfolding(crate::specs::Forms::numbers_behind))]
-fn numbers_of(key: GameKey, behind: &[u8]) -> Option<(GameKey, &[u8])>
+fn numbers_of(no_limit: bool, key: GameKey, behind: &[u8]) -> Option<(GameKey, &[u8])>
     ensures fits { IfSome result (λ found. (list_all are_digits_said (words_of found.1.now) ≡ true)
         × (has_count found.0 (length (words_of found.1.now)) ≡ true)) }
     ensures form { option_map (λ found. (found.0, words_of found.1.now)) result
-        ≡ numbers_behind key behind.now }
+        ≡ numbers_behind no_limit key behind.now }
 {
     if ends_with_space(behind) {
         return None;
     }
     let count = count_numbers(behind)?;
+    form_with(no_limit, key, count, behind)
+}
+
+// A key with so many numbers, which are as many as the key has; sizes of raises of a game without limit are passed over.
+#[tactic(auto, unfolding(crate::specs::Forms::form_with))]
+fn form_with(no_limit: bool, key: GameKey, count: usize, behind: &[u8]) -> Option<(GameKey, &[u8])>
+    requires digits { list_all are_digits_said (words_of behind.now) ≡ true }
+    requires count { count ≡ length (words_of behind.now) }
+    ensures fits { IfSome result (λ found. (list_all are_digits_said (words_of found.1.now) ≡ true)
+        × (has_count found.0 (length (words_of found.1.now)) ≡ true)) }
+    ensures form { option_map (λ found. (found.0, words_of found.1.now)) result
+        ≡ form_with_said no_limit key (words_of behind.now) }
+{
+    if is_unused(no_limit, key) {
+        return if count > 0 {
+            Some((GameKey::UnusedSizes, &[]))
+        } else {
+            None
+        };
+    }
     if key.has_count(count) {
         Some((key, behind))
     } else {
         None
+    }
+}
+
+// Whether the key says the sizes of raises, in a game that has no limit.
+fn is_unused(no_limit: bool, key: GameKey) -> bool
+    ensures { result ≡ is_unused_said no_limit key }
+{
+    match key {
+        GameKey::RaiseSize => no_limit,
+        _ => false,
     }
 }
 

@@ -18,6 +18,8 @@ pub enum GameKey {
     Stack,
     Blind,
     RaiseSize,
+    /// `raiseSize` of a game that has no limit: its numbers are passed over.
+    UnusedSizes,
     FirstPlayer,
     MaxRaises,
     NumSuits,
@@ -87,7 +89,8 @@ pub fn is_word(name: &str, text: &[u8]) -> bool
 }
 
 impl GameKey {
-    /// Where the key stands in the one spelling; `limit` and `nolimit` have one place.
+    /// Where the key stands in the one spelling; `limit` and `nolimit` have one place, and so have sizes of raises that are used
+    /// or not.
     pub fn place(self) -> u8
         ensures { result ≡ key_place self }
     {
@@ -100,6 +103,7 @@ impl GameKey {
             GameKey::Stack => 4,
             GameKey::Blind => 5,
             GameKey::RaiseSize => 6,
+            GameKey::UnusedSizes => 6,
             GameKey::FirstPlayer => 7,
             GameKey::MaxRaises => 8,
             GameKey::NumSuits => 9,
@@ -125,7 +129,11 @@ impl GameKey {
         ensures { result ≡ has_count_said self count }
     {
         match self {
-            GameKey::Begin | GameKey::End | GameKey::Limit | GameKey::NoLimit => count == 0,
+            GameKey::Begin
+            | GameKey::End
+            | GameKey::Limit
+            | GameKey::NoLimit
+            | GameKey::UnusedSizes => count == 0,
             GameKey::Stack | GameKey::Blind => count > 0,
             GameKey::RaiseSize
             | GameKey::FirstPlayer

@@ -4,14 +4,15 @@ ghost use Rattle.std.specs.List.{list_all};
 ghost use Rattle.first_fault.specs.Digits.{are_digits};
 ghost use Rattle.first_fault.specs.Reading.{Gives, Fails};
 ghost use Rattle.acpc_text.specs.Faults.{fault_in_line as fault_in_line_said};
+ghost use Rattle.acpc_text.specs.Parts.{lines_of};
 ghost use Rattle.first_fault.specs.Words.{words_of};
 ghost use Rattle.acpc_game.specs.Entries.{entry_said};
-ghost use Rattle.acpc_game.specs.GameFile.{entries_after_line, entries_said, may_stand as may_stand_said, number_said, numbers_after};
+ghost use Rattle.acpc_game.specs.GameFile.{entries_after_line, entries_in, entries_said, may_stand as may_stand_said, number_said, numbers_after, says_no_limit as says_no_limit_said};
 
 use crate::entry::Entry;
 use crate::form::{is_passed_over, read_form};
 use crate::found::has_key;
-use crate::key::GameKey;
+use crate::key::{GameKey, is_word};
 use acpc_text::{AcpcFault, LineFault, LineFaultKind, fault_in_line, next_line, next_word};
 use first_fault::{Stop, read_digits};
 use std::alloc::Global;
@@ -21,34 +22,62 @@ pub fn read_entries(alloc: Global, bytes: &[u8]) -> Result<(Vec<Entry>, u64), St
     ensures { Gives (λ found. (map entry_said found.0.items, found.1)) result
         (entries_said bytes.now) }
 {
+    read_lines(alloc, says_no_limit(bytes), bytes)
+}
+
+// The entries of the lines of a game that has a limit or none, and how many lines there are.
+fn read_lines(
+    alloc: Global,
+    no_limit: bool,
+    bytes: &[u8],
+) -> Result<(Vec<Entry>, u64), Stop<AcpcFault>>
+    ensures { Gives (λ found. (map entry_said found.0.items, found.1)) result
+        (entries_in no_limit (lines_of bytes.now)) }
+{
     let mut entries = Vec::new(alloc);
     let mut count = 0;
     let mut rest = bytes;
     while let Some((line, behind)) = next_line(rest) {
         count += 1;
-        take_line(alloc, &mut entries, count, line)?;
+        take_line(alloc, no_limit, &mut entries, count, line)?;
         rest = behind;
     }
     Ok((entries, count))
 }
 
-// One more line.
+// Whether some line says that the game has no limit.
+fn says_no_limit(bytes: &[u8]) -> bool
+    ensures { result ≡ says_no_limit_said (lines_of bytes.now) }
+{
+    let mut rest = bytes;
+    while let Some((line, behind)) = next_line(rest) {
+        if is_word("nolimit", line) {
+            return true;
+        }
+        rest = behind;
+    }
+    false
+}
+
+// One more line of a game that has a limit or none.
 #[tactic(auto, unfolding(crate::specs::GameFile::entries_after_line, crate::specs::GameFile::entries_with))]
 fn take_line(
     alloc: Global,
+    no_limit: bool,
     entries: &mut Vec<Entry>,
     line: u64,
     text: &[u8],
 ) -> Result<(), Stop<AcpcFault>>
-    ensures ok { OnOk result (entries_after_line (map entry_said entries.old.items) line text.now
+    ensures ok { OnOk result
+        (entries_after_line no_limit (map entry_said entries.old.items) line text.now
         ≡ Ok (map entry_said entries.new.items)) }
-    ensures err { IfErr result
-        (λ stop. Fails stop (entries_after_line (map entry_said entries.old.items) line text.now)) }
+    ensures err { IfErr result (λ stop. Fails stop
+        (entries_after_line no_limit (map entry_said entries.old.items) line text.now)) }
 {
     if is_passed_over(text) {
         return Ok(());
     }
-    let Some((key, words)) = read_form(text) else {
+    let Some((key, words)) = read_form(no_limit, text) else {
         return Err(wrong(LineFaultKind::GameShape, line));
     };
     if !may_stand(entries.as_slice(), key) {
