@@ -1,12 +1,10 @@
-//! The program `handref` once more, so that a second run of it is kept: a hand that is refused, with
-//! its status and an empty output.
+//! The program `handref` once more, so that a second run of it is kept: a log is converted under its game file, and refused for
+//! a fact that has no spelling, with its status and an empty output.
 #![tactic(auto)]
 
-use host_io::FileShelf;
 use poker_cli::run_process;
 use std::process::ExitCode;
 
 fn main(rt: HostRuntime) -> ExitCode {
-    let mut shelf = FileShelf::new(&rt);
-    run_process(&rt, rt.stdin(), &mut shelf, rt.stdout(), rt.stderr())
+    run_process(&rt, rt.stdin(), rt.stdout(), rt.stderr())
 }
