@@ -1,9 +1,9 @@
 //! A row is answered by the status, the output and the line of its run.
+use crate::known_run::run_on;
 use crate::pieces::Pieces;
 use crate::row::{ROOM, Row, read_row};
 use card_set::Memory;
 use host_io::{MemShelf, MemSink, MemSource};
-use poker_cli::run;
 use std::alloc::Global;
 
 /// The status of a row's run, and what it left in the output and in the sink for lines, where it
@@ -22,7 +22,7 @@ pub fn answer_to(alloc: Global, pieces: &Pieces, row: &str) -> Result<String, Me
     let mut shelf = MemShelf::new(files, fails.fetch);
     let mut out = MemSink::in_pieces(alloc, room, take.max(1), fails.write)?;
     let mut diag = MemSink::new(alloc, ROOM, fails.line)?;
-    let status = run(alloc, &words, &mut source, &mut shelf, &mut out, &mut diag);
+    let status = run_on(alloc, &words, &mut source, &mut shelf, &mut out, &mut diag);
     let status = status.number();
     let mut text = format!(in alloc; "status {status}")?;
     push_named(&mut text, "output", out.held())?;

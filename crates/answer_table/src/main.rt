@@ -3,6 +3,7 @@
 #![tactic(auto)]
 
 mod answer;
+mod known_run;
 mod made;
 mod parts;
 mod pieces;

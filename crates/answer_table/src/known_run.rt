@@ -1,0 +1,60 @@
+//! A run over the devices of the tables, with all that is promised of it: their bytes, files and faults are known.
+ghost use Rattle.std.specs.Prelude.{◌≡◌, ◌↔◌, map, None, Some, IfSome, string_bytes};
+ghost use Rattle.command_words.specs.Words.{request_said};
+ghost use Rattle.hand_records.specs.declared.writing.Keep.{Keep};
+ghost use Rattle.host_io.specs.Faults.{Rose};
+ghost use Rattle.host_io.specs.MemShelf.{shelf_files, shelf_plan};
+ghost use Rattle.host_io.specs.MemSink.{bytes_held, sink_plan};
+ghost use Rattle.host_io.specs.MemSource.{bytes_left, source_plan};
+ghost use Rattle.poker_cli.specs.Headline.{AsksToConvert, Headline};
+ghost use Rattle.poker_cli.specs.Run.{AskForNoGame, LacksGame, MakesHands, ReadsNothing, TellsLine, WhereTold, WritesNothing, change_of, fixed_line};
+ghost use Rattle.poker_cli.specs.Ways.{game_name, made_by};
+ghost use Rattle.poker_cli.specs.declared.task.Format.{Format};
+
+use host_io::{MemShelf, MemSink, MemSource};
+use poker_cli::{Status, run};
+use std::alloc::Global;
+
+/// Runs the program over devices in memory.
+pub fn run_on(
+    alloc: Global,
+    words: &[String],
+    input: &mut MemSource,
+    shelf: &mut MemShelf,
+    out: &mut MemSink,
+    diag: &mut MemSink,
+) -> Status
+    // Other words are Usage, and only they are.
+    ensures usage { (result ≡ Status.Usage) ↔ (request_said (map string_bytes words.now) ≡ None) }
+    // What a conversion comes to.
+    ensures headline { IfSome (request_said (map string_bytes words.now)) (λ request.
+        WhereTold request (Some (bytes_left input.old)) (Some (shelf_files shelf.old))
+        (λ files bytes. (from to : Format) (keep : Keep)
+        → AsksToConvert files request from to keep → Headline from to keep bytes
+        (change_of (λ (sink : MemSink). Some (bytes_held sink))
+        (λ (sink : MemSink). (sink_plan sink).faults) out.old out.new)
+        (change_of (λ (sink : MemSink). Some (bytes_held sink))
+        (λ (sink : MemSink). (sink_plan sink).faults) diag.old diag.new) result)) }
+    // A fault is told only where its device failed.
+    ensures read_fault { result ≡ Status.ReadFault
+        → Rose (source_plan input.old).faults (source_plan input.new).faults }
+    ensures write_fault { result ≡ Status.WriteFault
+        → Rose (sink_plan out.old).faults (sink_plan out.new).faults }
+    ensures shelf_fault { result ≡ Status.ShelfFault
+        → Rose (shelf_plan shelf.old).faults (shelf_plan shelf.new).faults }
+    ensures fixed_line { IfSome (fixed_line result)
+        (TellsLine (sink_plan diag.old).faults (sink_plan diag.new).faults
+        (Some (bytes_held diag.old)) (Some (bytes_held diag.new))) }
+    // Which devices a run leaves as they were.
+    ensures unread { ReadsNothing result → input.new ≡ input.old }
+    ensures nothing_written { WritesNothing result → out.new ≡ out.old }
+    ensures quiet { result ≡ Status.Done → diag.new ≡ diag.old }
+    ensures shelf { AskForNoGame (request_said (map string_bytes words.now))
+        → shelf.new ≡ shelf.old }
+    ensures without_game { IfSome (request_said (map string_bytes words.now)) (λ request.
+        LacksGame (game_name request) (Some (shelf_files shelf.old)) → input.new ≡ input.old) }
+    ensures without_input { IfSome (request_said (map string_bytes words.now)) (λ request.
+        MakesHands (made_by request) → input.new ≡ input.old) }
+{
+    run(alloc, words, input, shelf, out, diag)
+}
