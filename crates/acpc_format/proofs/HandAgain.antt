@@ -41,7 +41,9 @@ use Rattle.acpc_reading.specs.Logs.{HandSaid}
 use Rattle.acpc_reading.specs.RecordView.{IsOfGame, code_of, record_said, rules_of}
 use Rattle.acpc_format.specs.Again.{hand_again, numbered_from, script_again, street_again}
 use Rattle.hand_canon.specs.ReadAgain.{IsAgain}
-use Rattle.acpc_format.specs.KeptNotes.{KeepsNotes}
+use Rattle.acpc_format.specs.KeptNotes.{kept_in_acpc}
+use Rattle.acpc_format.proofs.KeptAgain.{keeps_said}
+use Rattle.hand_records.specs.SaidNotes.{KeepsNotes}
 use Rattle.acpc_format.proofs.HiddenMucks.{mucks_hide}
 use Rattle.acpc_format.proofs.Holdem.{IsHoldem, holdem}
 use Rattle.acpc_format.proofs.LetterEvents.{letters_same}
@@ -150,7 +152,7 @@ script_is no_limit place play hand same =
 
 -- the record that is read again of a play
 pub hand_is : (game : Game) (keep : Keep) (place : ℕ) (play : Play) (hand : Record) → IsSound play → unspelled game keep play ≡ None → IsOfGame game hand → record_said hand ≡ hand_again game.no_limit place play
-    → IsAgain (KeepsNotes place play.trace.setup.stacks.seats) play hand
+    → IsAgain (KeepsNotes kept_in_acpc place play.trace.setup.stacks.seats) play hand
 hand_is game keep place play hand sound none is same =
     let base = play.hand.setup in
     let words = script_again game.no_limit play.trace in
@@ -172,9 +174,9 @@ hand_is game keep place play hand sound none is same =
         agrees = values_agree play.trace hand.stated is.stated (ap (λ (said : HandSaid). said.values) same);
       };
       same_setup = setup;
-      notes = record {
+      notes = keeps_said place play.trace.setup.stacks.seats play.hand.notes hand.notes (record {
         names = sym (ap (λ (s : Setup). take s.stacks.seats hand.notes.names) setup) ∙ ap (λ (said : HandSaid). said.names) same;
         hand = ap (λ (said : HandSaid). said.hand) same;
         others = is.notes;
-      };
+      });
     }

@@ -15,7 +15,8 @@ use Rattle.acpc_reading.specs.RecordView.{IsOfGame, record_said}
 use Rattle.acpc_text.specs.declared.fault.AcpcFault.{AcpcFault}
 use Rattle.acpc_format.specs.Again.{hand_again, hands_again}
 use Rattle.hand_canon.specs.ReadAgain.{AreAgain}
-use Rattle.acpc_format.specs.KeptNotes.{KeepsNotes}
+use Rattle.acpc_format.specs.KeptNotes.{kept_in_acpc}
+use Rattle.hand_records.specs.SaidNotes.{KeepsNotes}
 use Rattle.acpc_format.proofs.HandAgain.{hand_is}
 use Rattle.acpc_format.proofs.SoundReads.{sound_again}
 use Rattle.hand_records.proofs.Refusals.{none_refused}
@@ -23,7 +24,7 @@ use Rattle.hand_records.specs.WriteRefusals.{refusal_from, first_refusal}
 use Rattle.hand_records.specs.Plays.{moves_written}
 
 all_again : (game : Game) (keep : Keep) (number place : ℕ) (plays : List Play) (records : List Record) → AllByRecursion IsSound plays → refusal_from (unspelled game keep) number plays ≡ None → AllByRecursion (IsOfGame game) records
-    → map record_said records ≡ hands_again game.no_limit place plays → AreAgain KeepsNotes place plays records
+    → map record_said records ≡ hands_again game.no_limit place plays → AreAgain (KeepsNotes kept_in_acpc) place plays records
 unfolding AreAgain
 all_again game keep number place [] [] sound none each same = tt
 all_again game keep number place [] (hand ∷ hands) sound none each same = absurd (cc)
@@ -43,6 +44,6 @@ same_hands a b same = cc
 
 -- what is read back of plays are their hands
 pub read_back : (game : Game) (keep : Keep) (plays : List Play) → length plays ≤ MOST_HANDS → AllByRecursion IsSound plays → AllByRecursion HasTexts plays → first_refusal (unspelled game keep) plays ≡ None → sum_by moves_written plays ≤ MOST_FILE_MOVES
-    → (records : List Record) → AllByRecursion (IsOfGame game) records → reading game (log_text game.no_limit plays) ≡ Ok (map record_said records) → AreAgain KeepsNotes 0 plays records
+    → (records : List Record) → AllByRecursion (IsOfGame game) records → reading game (log_text game.no_limit plays) ≡ Ok (map record_said records) → AreAgain (KeepsNotes kept_in_acpc) 0 plays records
 read_back game keep plays few sound texts none moves records each said =
     all_again game keep 1 0 plays records sound none each (same_hands (map record_said records) (hands_again game.no_limit 0 plays) (sym said ∙ sound_again game keep plays few sound texts none moves))

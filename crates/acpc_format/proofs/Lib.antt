@@ -22,8 +22,11 @@ pub mod SuitsGame
 pub mod HiddenMucks
 pub mod SetupsSame
 pub mod ValuesAgree
+pub mod KeptAgain
 pub mod HandAgain
 pub mod HandsAgain
+pub mod OneForm
+pub mod NoteFacts
 pub mod LogEvents
 pub mod LogPasts
 pub mod GameSetups

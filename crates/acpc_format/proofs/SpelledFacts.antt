@@ -17,6 +17,7 @@ use Rattle.acpc_writing.specs.Spelled.{unspelled, unspelled_note}
 use Rattle.list_laws.proofs.Options.{from_some_none}
 use Rattle.list_laws.proofs.Tests.{not_not}
 use Rattle.chip_ledger.specs.SeatRow.{amounts_in}
+use Rattle.hand_records.proofs.Refusals.{both_none}
 use Rattle.hand_records.specs.WriteRefusals.{or_behind}
 use Rattle.first_fault.specs.Conditions.{first_where}
 
@@ -30,11 +31,7 @@ pub record HasSetupOf (game : Game) (setup : Setup) : Type 0 where
   pub blinds : bytes_eq (amounts_in setup.blinds) (amounts_in game.blinds) ≡ true
   pub rakes : list_any (nat_lt 0) setup.rakes.rakes ≡ false
 
-or_none : (a b : Option Unspelled) → or_behind a b ≡ None → (a ≡ None) × (b ≡ None)
-or_none None b none = (refl, none)
-or_none (Some fact) b none = from_some_none none
-
-where_none : (condition : Bool) (fact : Unspelled) (rest : Option Unspelled) → (if condition then Some fact else rest) ≡ None → (condition ≡ false) × (rest ≡ None)
+pub where_none : (condition : Bool) (fact : Unspelled) (rest : Option Unspelled) → (if condition then Some fact else rest) ≡ None → (condition ≡ false) × (rest ≡ None)
 where_none true fact rest none = from_some_none none
 where_none false fact rest none = (refl, none)
 
@@ -82,6 +79,6 @@ pub record IsSpelled (game : Game) (play : Play) : Type 0 where
 pub spelled : (game : Game) (keep : Keep) (play : Play) → unspelled game keep play ≡ None → IsSpelled game play
 unfolding unspelled
 spelled game keep play none =
-    let first = or_none (first_where (setup_conditions game play.trace.setup)) (or_behind (first_where (play_conditions game play.trace)) (unspelled_note keep play.hand.notes)) none in
-    let second = or_none (first_where (play_conditions game play.trace)) (unspelled_note keep play.hand.notes) first.1 in
+    let first = both_none (first_where (setup_conditions game play.trace.setup)) (or_behind (first_where (play_conditions game play.trace)) (unspelled_note keep play.hand.notes)) none in
+    let second = both_none (first_where (play_conditions game play.trace)) (unspelled_note keep play.hand.notes) first.1 in
     record { setup = has_setup game play.trace.setup first.0; played = has_play game play.trace second.0 }

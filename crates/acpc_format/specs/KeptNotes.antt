@@ -1,12 +1,27 @@
--- What is kept of notes in lines that were written of plays.
-use Rattle.std.specs.Prelude.{◌≡◌, ℕ, map, take}
-use Rattle.chip_ledger.specs.Seat.{seats_of}
-use Rattle.hand_records.specs.declared.notes.Notes.{Notes}
-use Rattle.acpc_reading.specs.RecordView.{NotesNames}
-use Rattle.acpc_format.specs.Again.{kept_hand, name_again}
+-- Which notes logs keep: names of players and numbers of hands that a line spells.
+use Rattle.std.specs.Prelude.{ℕ, List, map, Option, Some, None, if◌then◌else◌, option_and_then}
+use Rattle.acpc_format.specs.Again.{kept_name}
+use Rattle.acpc_writing.specs.Names.{is_spelled_hand}
+use Rattle.hand_records.specs.SaidNotes.{SaidNotes}
 
--- the notes that are kept of a hand with so many seats, at a place of its file: the names and the number that a line spells
-pub record KeepsNotes (place count : ℕ) (notes again : Notes) : Type 0 where
-  pub names : take count again.names ≡ map (name_again notes) (seats_of count)
-  pub hand : again.hand ≡ kept_hand place notes.hand
-  pub others : NotesNames again
+-- a number of a hand that a line spells
+abbrev pub number_spelled : List ℕ → Option (List ℕ)
+number_spelled text = if is_spelled_hand text then Some text else None
+
+-- names and the number of the hand, where a line spells them
+abbrev pub kept_in_acpc : SaidNotes → SaidNotes
+kept_in_acpc notes =
+    record {
+      names = map kept_name notes.names;
+      seats = None;
+      seat_count = None;
+      hand = option_and_then number_spelled notes.hand;
+      table = None;
+      venue = None;
+      currency = None;
+      year = None;
+      month = None;
+      day = None;
+      time = None;
+      zone = None;
+    }

@@ -1,3 +1,3 @@
--- What is read again of plays that were written.
+-- What is read again of plays that were written, and which notes are kept.
 pub mod Again
 pub mod KeptNotes

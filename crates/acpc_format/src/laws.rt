@@ -16,7 +16,8 @@ ghost use Rattle.acpc_reading.specs.Logs.{reading};
 ghost use Rattle.acpc_reading.specs.RecordView.{IsOfGame, IsSetupOf, record_said};
 ghost use Rattle.acpc_format.specs.Again.{hands_again};
 ghost use Rattle.hand_canon.specs.ReadAgain.{AreAgain};
-ghost use Rattle.acpc_format.specs.KeptNotes.{KeepsNotes};
+ghost use Rattle.hand_records.specs.SaidNotes.{KeepsNotes};
+ghost use Rattle.acpc_format.specs.KeptNotes.{kept_in_acpc};
 ghost use Rattle.hand_canon.specs.Sharp.{IsOther, is_sharp};
 ghost use Rattle.hand_records.specs.WriteRefusals.{first_refusal};
 ghost use Rattle.hand_records.specs.Plays.{moves_written};
@@ -50,7 +51,7 @@ pub fn law_of_reading_back()
         → sum_by moves_written plays ≤ MOST_FILE_MOVES
         → (records : List Record) → AllByRecursion (IsOfGame game) records
         → reading game (log_text game.no_limit plays) ≡ Ok (map record_said records)
-        → AreAgain KeepsNotes 0 plays records }
+        → AreAgain (KeepsNotes kept_in_acpc) 0 plays records }
 {}
 
 /// Whatever bytes say records of a game, none of these is a legal hand with the trace of a play of which the logs of the game

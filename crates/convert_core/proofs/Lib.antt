@@ -1,5 +1,9 @@
--- Plays of records, as the loop over the records keeps them, and what records and bytes come to.
+-- Plays of records, as the loop over the records keeps them, what records and bytes come to, and what conversions have to do with
+-- one another.
 pub mod JudgedPlays
 pub mod OneOutcome
 pub mod OneConversion
 pub mod WrittenLines
+pub mod Paired
+pub mod LawfulNotations
+pub mod Conversions

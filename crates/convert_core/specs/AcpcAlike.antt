@@ -1,35 +1,23 @@
 -- Bytes of a log under a game say one list of records, as far as records can be told apart.
-use Rattle.std.proofs.Common.{◌≡◌, ℕ, suc, ◌≤◌, ◌||◌, Bool, true, false, ℤ, pos, List, [], ◌∷◌, map, length, take, get_or, slice_index_or, Option, Some, None, is_some, option_map, Ok, refl, sym, subst, ap, ap₂, ◌∙◌, inl, inr, arith}
-use Rattle.std.specs.List.{AllByRecursion, list_any}
+use Rattle.std.proofs.Common.{◌≡◌, ℕ, ◌≤◌, true, ℤ, pos, List, [], ◌∷◌, map, length, take, get_or, slice_index_or, Option, Some, None, is_some, option_map, Ok, refl, sym, subst, ap, ◌∙◌, inl, inr, arith}
+use Rattle.std.specs.List.{AllByRecursion}
 use Rattle.std.specs.Option.{option_map_or}
 use Rattle.std.proofs.Props.{props}
 use Rattle.std.proofs.lemmas.Bool.{cases_lt}
 use Rattle.std.proofs.lemmas.List.{ext_get_or, get_or-take, length-take-le}
 use Rattle.play_event.specs.declared.setup.Setup.{Setup}
-use Rattle.hand_records.specs.declared.notes.Notes.{Notes}
 use Rattle.hand_records.specs.declared.record.NetRow.{NetRow}
 use Rattle.hand_records.specs.declared.record.Record.{Record}
 use Rattle.hand_records.specs.declared.record.Stated.{Stated}
-use Rattle.hand_records.specs.declared.trace.Play.{Play}
-use Rattle.hand_records.specs.declared.trace.Trace.{Trace}
-use Rattle.hand_records.specs.declared.writing.Keep.{Keep}
-use Rattle.hand_records.specs.declared.writing.Keep.TheVariants as keeps
-use Rattle.hand_records.specs.declared.writing.Unspelled.{Unspelled}
 use Rattle.acpc_format.proofs.SetupsSame.{setups_same}
 use Rattle.acpc_game.specs.declared.game.Game.{Game}
-use Rattle.acpc_writing.specs.NoteFacts.{is_unspelled_name, text_conditions, time_conditions}
-use Rattle.acpc_writing.specs.PlayFacts.{play_conditions}
-use Rattle.acpc_writing.specs.SetupFacts.{setup_conditions}
-use Rattle.acpc_writing.specs.Spelled.{unspelled, unspelled_note}
 use Rattle.acpc_reading.specs.Logs.{HandSaid}
 use Rattle.acpc_reading.specs.RecordView.{IsOfGame, StatesValues, record_said}
 use Rattle.acpc_reading.specs.Views.{nets_in}
 use Rattle.convert_core.specs.Acpc.{Say}
 use Rattle.convert_core.specs.SameParts.{names_same, one_script}
-use Rattle.convert_core.specs.SameRecords.{AllAlike, AreAlike, ArePlayedAlike, NoteTheSame, number_at}
-use Rattle.hand_records.specs.WriteRefusals.{or_behind}
+use Rattle.convert_core.specs.SameRecords.{AllAlike, AreAlike, number_at}
 use Rattle.hand_records.specs.StatedFacts.{stated_from}
-use Rattle.first_fault.specs.Conditions.{first_where}
 
 -- what these numbers keep as the nets of so many seats
 record KeptNets (seats : ℕ) (nets : List ℤ) : Type 0 where
@@ -157,52 +145,3 @@ pub one_reading : (game : Game) (bytes : List ℕ) (records others : List Record
 one_reading game bytes records others say too =
     let same : Ok (map record_said records) ≡ Ok (map record_said others) = sym say.reads ∙ too.reads in
     all_alike game records others say.each too.each (cc)
-
--- a test that passes where nothing is said passes on lists alike where their items are alike
-names_alike : (p : Option (List ℕ) → Bool) → p None ≡ false → (xs ys : List (Option (List ℕ))) → ((index : ℕ) → slice_index_or xs index None ≡ slice_index_or ys index None) → list_any p xs ≡ list_any p ys
-names_alike p none [] [] same = refl
-names_alike p none [] (y ∷ ys) same =
-    let first : None ≡ y = same 0 in
-    cc (ap p first, none, names_alike p none [] ys (λ index. same (suc index)))
-names_alike p none (x ∷ xs) [] same =
-    let first : x ≡ None = same 0 in
-    cc (ap p first, none, names_alike p none xs [] (λ index. same (suc index)))
-names_alike p none (x ∷ xs) (y ∷ ys) same = ap₂ (λ first rest. p first || rest) (same 0) (names_alike p none xs ys (λ index. same (suc index)))
-
--- the numbers of the seats are said in both or in neither where they are alike
-numbers_alike : (x y : Option (List ℕ)) → ((index : ℕ) → number_at index x ≡ number_at index y) → is_some x ≡ is_some y
-numbers_alike None None same = refl
-numbers_alike None (Some b) same = absurd (let first = same 0 in cc)
-numbers_alike (Some a) None same = absurd (let first = same 0 in cc)
-numbers_alike (Some a) (Some b) same = refl
-
--- notes that are the same have the same facts of names, numbers and labels
-texts_alike : (count : ℕ) (a b : Notes) → NoteTheSame count a b → text_conditions a ≡ text_conditions b
-texts_alike count a b same =
-    cc (
-      names_alike is_unspelled_name refl a.names b.names same.names,
-      numbers_alike a.seats b.seats same.seats,
-      same.seat_count,
-      same.hand,
-      same.table,
-      same.venue,
-      same.currency,
-    )
-
--- notes that are the same have the same facts of day and time
-times_alike : (count : ℕ) (a b : Notes) → NoteTheSame count a b → time_conditions a ≡ time_conditions b
-times_alike count a b same = cc (same.zone, same.year, same.month, same.day, same.time)
-
--- notes that are the same have the same first fact without a spelling
-notes_alike : (keep : Keep) (count : ℕ) (a b : Notes) → NoteTheSame count a b → unspelled_note keep a ≡ unspelled_note keep b
-unfolding unspelled_note
-notes_alike keeps.All count a b same =
-    ap₂ (λ texts times. or_behind (first_where texts) (first_where times)) (texts_alike count a b same) (times_alike count a b same)
-notes_alike keeps.Spelled _ a b same = refl
-
--- which fact of a play has no spelling is told by its trace and its notes
-pub same_fact : (game : Game) (keep : Keep) (play other : Play) → ArePlayedAlike play other → unspelled game keep play ≡ unspelled game keep other
-unfolding unspelled
-same_fact game keep play other alike =
-    ap₂ (λ (trace : Trace) (note : Option Unspelled). or_behind (first_where (setup_conditions game trace.setup)) (or_behind (first_where (play_conditions game trace)) note))
-    alike.trace (notes_alike keep play.trace.setup.stacks.seats play.hand.notes other.hand.notes alike.notes)

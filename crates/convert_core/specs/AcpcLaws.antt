@@ -3,7 +3,10 @@ use Rattle.std.proofs.Common.{◌≡◌, ℕ, ◌+◌, ◌≤◌, Bool, true, Li
 use Rattle.std.specs.List.{AllByRecursion}
 use Rattle.std.proofs.lemmas.List.Sums.{sum_by-cons}
 use Rattle.acpc_format.specs.Again.{hands_again}
-use Rattle.acpc_format.specs.KeptNotes.{KeepsNotes}
+use Rattle.acpc_format.specs.KeptNotes.{kept_in_acpc}
+use Rattle.acpc_format.proofs.OneForm as forms
+use Rattle.hand_records.specs.SaidNotes.{KeepsNotes}
+use Rattle.hand_records.specs.SameHands.{AreSameHands}
 use Rattle.acpc_format.proofs.HandsAgain.{read_back}
 use Rattle.acpc_format.proofs.Sharpness.{sharpness}
 use Rattle.acpc_format.proofs.SoundReads.{sound_again}
@@ -64,7 +67,7 @@ same_count play sound =
     ∙ count_reversed is_move script
 
 -- of all plays as many moves are written as were played
-pub all_counted : (plays : List Play) → AllByRecursion IsSound plays → sum_by moves_written plays ≡ sum_by moves_played plays
+all_counted : (plays : List Play) → AllByRecursion IsSound plays → sum_by moves_written plays ≡ sum_by moves_played plays
 all_counted [] each = refl
 all_counted (play ∷ rest) each =
     omega (arith, sum_by-cons moves_written play rest, sum_by-cons moves_played play rest, same_count play each.0, all_counted rest each.1)
@@ -77,7 +80,7 @@ none_had game lines plays (formats.Acpc fault) read have = (let had = have.reads
 
 -- the lines of plays read back
 lines_back : (game : Game) (keep : Keep) (plays : List Play) → AreFew plays → AllByRecursion IsSound plays → AllByRecursion HasTexts plays → first_refusal (facts.unspelled game keep) plays ≡ None
-    → ReadBack (Say game (log_text game.no_limit plays)) (HaveFault game (log_text game.no_limit plays)) KeepsNotes plays
+    → ReadBack (Say game (log_text game.no_limit plays)) (HaveFault game (log_text game.no_limit plays)) (KeepsNotes kept_in_acpc) plays
 lines_back game keep plays few sound texts spelled =
     let none = spelled in
     let moves : sum_by moves_written plays ≤ MOST_FILE_MOVES = omega (arith, few.few_moves, all_counted plays sound) in
@@ -121,12 +124,27 @@ one_line_more game before play place old new many spell with_line one =
 
 -- what is written reads back
 pub reads_back : (game : Game) (keep : Keep) (plays : List Play) (bytes : List ℕ) → AreFew plays → AllByRecursion IsSound plays → first_refusal (facts.unspelled game keep) plays ≡ None → Spell game plays bytes
-    → ReadBack (Say game bytes) (HaveFault game bytes) KeepsNotes plays
+    → ReadBack (Say game bytes) (HaveFault game bytes) (KeepsNotes kept_in_acpc) plays
 reads_back game keep plays bytes few sound spelled spell =
-    subst (λ (written : List ℕ). ReadBack (Say game written) (HaveFault game written) KeepsNotes plays) (sym spell.lines)
+    subst (λ (written : List ℕ). ReadBack (Say game written) (HaveFault game written) (KeepsNotes kept_in_acpc) plays) (sym spell.lines)
     (lines_back game keep plays few sound spell.texts spelled)
 
 -- what is not spelled no bytes say, unless it is an odd chip or a note
 pub sharp : (game : Game) (keep : Keep) (play : Play) (fact : Unspelled) → facts.unspelled game keep play ≡ Some fact → is_sharp fact ≡ true
     → (bytes : List ℕ) (hands : List Record) → Say game bytes hands → AllByRecursion (IsOther play) hands
 sharp game keep play fact found is bytes hands say = sharpness game keep play fact found is bytes hands say.each say.reads
+
+-- hands that are the same are written as the same bytes
+pub one_spelling : (game : Game) (plays others : List Play) (bytes too : List ℕ) → Spell game plays bytes → Spell game others too
+    → AreSameHands kept_in_acpc plays others → bytes ≡ too
+one_spelling game plays others bytes too spell spell_too same =
+    spell.lines ∙ forms.one_text game.no_limit plays others same ∙ sym spell_too.lines
+
+-- what is written as the same bytes are the same hands
+pub same_hands : (game : Game) (keep : Keep) (plays others : List Play) (bytes too : List ℕ) → AreFew plays → AreFew others → AllByRecursion IsSound plays → AllByRecursion IsSound others
+    → first_refusal (facts.unspelled game keep) plays ≡ None → first_refusal (facts.unspelled game keep) others ≡ None
+    → Spell game plays bytes → Spell game others too → bytes ≡ too → AreSameHands kept_in_acpc plays others
+same_hands game keep plays others bytes too few few_too sound sound_too none none_too spell spell_too same =
+    forms.same_hands game keep plays others few.few few_too.few
+    (omega (arith, few.few_moves, all_counted plays sound)) (omega (arith, few_too.few_moves, all_counted others sound_too))
+    sound sound_too spell.texts spell_too.texts none none_too (sym spell.lines ∙ same ∙ spell_too.lines)

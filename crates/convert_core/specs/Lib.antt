@@ -1,4 +1,4 @@
--- What records come to, what a notation is, and what a conversion comes to.
+-- What records come to, what a notation is, what a conversion comes to, and when two conversions answer the same.
 pub mod Judged
 pub mod Faults
 pub mod Records
@@ -6,6 +6,8 @@ pub mod ReadBack
 pub mod SameRecords
 pub mod SameParts
 pub mod Conversion
+pub mod Answers
+pub mod SameAnswers
 pub mod Lines
 pub mod Phh
 pub mod PhhAlike

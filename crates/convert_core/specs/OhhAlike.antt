@@ -1,30 +1,21 @@
 -- Bytes of Open Hand History say one list of records in a dialect, as far as records can be told apart.
-use Rattle.std.proofs.Common.{◌≡◌, ℕ, Bool, ◌||◌, if◌then◌else◌, List, [], ◌∷◌, map, length, take, Option, Some, None, option_map, is_none, is_some, Ok, refl, sym, subst, ap, ◌∙◌, true, false, arith}
+use Rattle.std.proofs.Common.{◌≡◌, ℕ, List, [], ◌∷◌, map, length, take, Option, option_map, Ok, sym, subst, ap, ◌∙◌, arith}
 use Rattle.std.specs.List.{AllByRecursion}
 use Rattle.std.proofs.lemmas.List.{length-take-le}
-use Rattle.std.proofs.lemmas.Option.{same_Some}
 use Rattle.chip_ledger.specs.declared.rows.SeatRow.{SeatRow}
 use Rattle.hand_records.specs.AllowedNotes.{AreAllowed}
-use Rattle.hand_records.specs.declared.notes.Notes.{Notes}
 use Rattle.hand_records.specs.declared.record.Record.{Record}
 use Rattle.hand_records.specs.declared.record.Stated.{Stated}
-use Rattle.hand_records.specs.declared.trace.Play.{Play}
-use Rattle.hand_records.specs.declared.trace.Trace.{Trace}
-use Rattle.hand_records.specs.declared.writing.Keep.{Keep}
-use Rattle.hand_records.specs.declared.writing.Keep.TheVariants as keeps
-use Rattle.ohh_writing.specs.Seating.{is_circular, numbers_spelled}
-use Rattle.ohh_writing.specs.Spelled.{Tried, first_unspelled, note_facts, trace_facts, unspelled}
 use Rattle.ohh_members.specs.declared.dialect.Dialect.{Dialect}
 use Rattle.ohh_reading.specs.Hand.{PlainHand, plain}
 use Rattle.phh_fields.specs.NoteFields.{plain_notes}
 use Rattle.phh_reading.specs.Hand as in_phh
 use Rattle.phh_reading.proofs.SamePlay.{same_setup, same_stated}
 use Rattle.convert_core.specs.SameParts.{names_same, numbers_same, one_script}
-use Rattle.convert_core.specs.SameRecords.{AllAlike, AreAlike, ArePlayedAlike, NoteTheSame}
+use Rattle.convert_core.specs.SameRecords.{AllAlike, AreAlike}
 use Rattle.convert_core.specs.Ohh.{Say}
 use Rattle.chip_ledger.specs.SeatRow.{amounts_in}
 use Rattle.hand_records.specs.Histories.{IsHistory}
-use Rattle.hand_records.specs.WriteRefusals.{or_behind}
 
 -- the hand of a history that is that of a record, but for the setup and the count of names
 with_setup : Record → ℕ → PlainHand → in_phh.PlainHand
@@ -140,39 +131,3 @@ pub one_reading : (dialect : Dialect) (bytes : List ℕ) (records others : List 
 one_reading dialect bytes records others say too =
     let same : Ok (map plain records) ≡ Ok (map plain others) = sym say.reads ∙ too.reads in
     all_alike records others say.each too.each (cc)
-
--- what is spelled under tests that agree is spelled in both or in neither
-spelled_if : (g h : Bool) (a b : List ℕ) → g ≡ h → is_some (if g then Some a else None) ≡ is_some (if h then Some b else None)
-spelled_if true true a b goes = refl
-spelled_if false false a b goes = refl
-spelled_if true false a b goes = absurd (cc)
-spelled_if false true a b goes = absurd (cc)
-
--- the numbers of the seats are not said, or have a spelling
-has_numbers : ℕ → Option (List ℕ) → Bool
-has_numbers count said = is_none said || is_some (numbers_spelled count said)
-
--- numbers that are alike have a spelling in both hands or in neither
-numbers_alike : (count : ℕ) (x y : Option (List ℕ)) → option_map (take count) x ≡ option_map (take count) y → has_numbers count x ≡ has_numbers count y
-unfolding has_numbers
-numbers_alike count None None same = refl
-numbers_alike count None (Some b) same = absurd (cc)
-numbers_alike count (Some a) None same = absurd (cc)
-numbers_alike count (Some a) (Some b) same =
-    spelled_if (is_circular (take count a)) (is_circular (take count b)) a b (ap is_circular (same_Some (take count a) (take count b) same))
-
--- notes that are the same have the same facts
-notes_alike : (count : ℕ) (a b : Notes) → NoteTheSame count a b → note_facts count a ≡ note_facts count b
-unfolding has_numbers
-notes_alike count a b same =
-    cc (numbers_alike count a.seats b.seats same.all_seats, same.zone, same.year, same.month, same.day, same.time)
-
--- which fact of a play has no spelling is told by its trace and its notes
-pub same_fact : (keep : Keep) (play other : Play) → ArePlayedAlike play other → unspelled keep play ≡ unspelled keep other
-unfolding unspelled
-same_fact keeps.All play other alike =
-    ap (λ (tried : Tried). or_behind (first_unspelled (trace_facts play.trace)) (first_unspelled tried))
-    (notes_alike play.trace.setup.stacks.seats play.hand.notes other.hand.notes alike.notes)
-    ∙ ap (λ (trace : Trace). or_behind (first_unspelled (trace_facts trace)) (first_unspelled (note_facts trace.setup.stacks.seats other.hand.notes))) alike.trace
-same_fact keeps.Spelled play other alike =
-    ap (λ (trace : Trace). or_behind (first_unspelled (trace_facts trace)) None) alike.trace

@@ -9,7 +9,10 @@ use Rattle.hand_records.specs.declared.writing.Unspelled.{Unspelled}
 use Rattle.hand_records.specs.declared.writing.Unspelled.TheVariants as unspellables
 use Rattle.play_event.specs.HistoryRules.{history_rules}
 use Rattle.ohh_format.specs.Again.{hands_again}
-use Rattle.ohh_format.specs.KeptNotes.{KeepsNotes}
+use Rattle.ohh_format.specs.KeptNotes.{kept_in_ohh}
+use Rattle.ohh_format.proofs.OneForm as forms
+use Rattle.hand_records.specs.SaidNotes.{KeepsNotes}
+use Rattle.hand_records.specs.SameHands.{AreSameHands}
 use Rattle.ohh_format.specs.Sharp as sharp_trees
 use Rattle.ohh_format.proofs.ReadBack.{read_back}
 use Rattle.ohh_format.proofs.Sharpness.{sharpness}
@@ -42,7 +45,7 @@ no_lines dialect = record { lines = refl; trees = tt }
 
 -- what is written reads back
 pub reads_back : (dialect : Dialect) (keep : Keep) (plays : List Play) (bytes : List ℕ) → AreFew plays → AllByRecursion IsSound plays → first_refusal (facts.unspelled keep) plays ≡ None → Spell dialect plays bytes
-    → ReadBack (Say dialect bytes) (HaveFault dialect bytes) KeepsNotes plays
+    → ReadBack (Say dialect bytes) (HaveFault dialect bytes) (KeepsNotes kept_in_ohh) plays
 reads_back dialect keep plays bytes few sound spelled spell =
     let unrefused = spelled in
     let read : reading dialect bytes ≡ Ok (hands_again dialect 0 plays) = sound_again dialect keep plays bytes few.few sound unrefused few.few_moves spell in
@@ -66,3 +69,10 @@ sharp_too _ is = refl
 pub sharp : (dialect : Dialect) (keep : Keep) (play : Play) (fact : Unspelled) → facts.unspelled keep play ≡ Some fact → is_sharp fact ≡ true
     → (bytes : List ℕ) (hands : List Record) → Say dialect bytes hands → AllByRecursion (IsOther play) hands
 sharp dialect keep play fact found is bytes hands say = sharpness dialect keep play fact found (sharp_too fact is) bytes hands say.reads
+
+-- what is written as the same bytes are the same hands
+pub same_hands : (dialect : Dialect) (keep : Keep) (plays others : List Play) (bytes too : List ℕ) → AreFew plays → AreFew others → AllByRecursion IsSound plays → AllByRecursion IsSound others
+    → first_refusal (facts.unspelled keep) plays ≡ None → first_refusal (facts.unspelled keep) others ≡ None
+    → Spell dialect plays bytes → Spell dialect others too → bytes ≡ too → AreSameHands kept_in_ohh plays others
+same_hands dialect keep plays others bytes too few few_too sound sound_too none none_too spell spell_too same =
+    forms.same_hands dialect keep plays others bytes too few.few few_too.few few.few_moves few_too.few_moves sound sound_too none none_too spell spell_too same

@@ -1,18 +1,14 @@
 -- Bytes of a hand history say one list of records, as far as records can be told apart.
-use Rattle.std.proofs.Common.{◌≡◌, ℕ, List, [], ◌∷◌, map, take, Some, None, option_map, Ok, sym, subst, ap, ◌∙◌, if◌then◌else◌}
-use Rattle.std.specs.List.{AllByRecursion, list_any}
+use Rattle.std.proofs.Common.{◌≡◌, ℕ, List, [], ◌∷◌, map, take, option_map, Ok, sym, subst, ap, ◌∙◌}
+use Rattle.std.specs.List.{AllByRecursion}
 use Rattle.hand_records.specs.AllowedNotes.{AreAllowed}
 use Rattle.hand_records.specs.declared.record.Record.{Record}
-use Rattle.hand_records.specs.declared.trace.Play.{Play}
-use Rattle.hand_records.specs.declared.trace.Trace.{Trace}
-use Rattle.hand_records.specs.declared.writing.Unspelled.TheVariants as unspellables
 use Rattle.phh_reading.specs.Hand.{PlainHand, plain}
 use Rattle.phh_reading.proofs.SamePlay.{same_rules, same_script, same_setup, same_stated}
-use Rattle.phh_writing.specs.Spelled as facts
 use Rattle.play_event.specs.declared.setup.Setup.{Setup}
 use Rattle.convert_core.specs.Phh.{Say}
 use Rattle.convert_core.specs.SameParts.{names_same, numbers_same}
-use Rattle.convert_core.specs.SameRecords.{AllAlike, AreAlike, ArePlayedAlike}
+use Rattle.convert_core.specs.SameRecords.{AllAlike, AreAlike}
 use Rattle.hand_records.specs.Histories.{IsHistory}
 
 module _ (a b : Record) (is : IsHistory a) (it : IsHistory b) (same : plain a ≡ plain b) where
@@ -74,9 +70,3 @@ pub one_reading : (bytes : List ℕ) (records others : List Record) → Say byte
 one_reading bytes records others say too =
     let same : Ok (map plain records) ≡ Ok (map plain others) = sym say.reads ∙ too.reads in
     all_alike records others say.each too.each (cc)
-
--- which fact of a play has no spelling is told by its trace
-pub same_fact : (play other : Play) → ArePlayedAlike play other → facts.unspelled play ≡ facts.unspelled other
-unfolding facts.unspelled
-same_fact play other alike =
-    ap (λ (trace : Trace). if list_any (λ move. move.closed) trace.moves then Some unspellables.ReopenedShort else None) alike.trace

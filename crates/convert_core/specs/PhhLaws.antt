@@ -7,7 +7,11 @@ use Rattle.hand_records.specs.declared.trace.Play.{Play}
 use Rattle.hand_records.specs.declared.writing.Unspelled.{Unspelled}
 use Rattle.play_event.specs.HistoryRules.{history_rules}
 use Rattle.phh_format.specs.Again.{hands_again}
-use Rattle.phh_format.specs.KeptNotes.{KeepsNotes}
+use Rattle.phh_format.specs.KeptNotes.{kept_in_phh}
+use Rattle.phh_format.specs.SameTables.{AreSameTable}
+use Rattle.phh_format.proofs.OneForm as forms
+use Rattle.hand_records.specs.SaidNotes.{KeepsNotes}
+use Rattle.hand_records.specs.SameHands.{AreSameHands}
 use Rattle.phh_format.proofs.ReadBack.{read_back}
 use Rattle.phh_format.proofs.Sharpness.{unspelled_unsaid}
 use Rattle.phh_format.proofs.SoundPlays.{sound_again}
@@ -34,7 +38,7 @@ no_fault bytes hands (formats.Acpc fault) say have = have
 
 -- what is written reads back
 pub reads_back : (plays : List Play) (bytes : List ℕ) → AreFew plays → AllByRecursion IsSound plays → first_refusal facts.unspelled plays ≡ None → Spell plays bytes
-    → ReadBack (Say bytes) (HaveFault bytes) KeepsNotes plays
+    → ReadBack (Say bytes) (HaveFault bytes) (KeepsNotes kept_in_phh) plays
 reads_back plays bytes few sound spelled spell =
     let read : reading bytes ≡ Ok (hands_again 0 plays) = sound_again plays bytes few.few sound few.few_moves spell.document in
     record {
@@ -51,3 +55,15 @@ reads_back plays bytes few sound spelled spell =
 pub sharp : (play : Play) (fact : Unspelled) → facts.unspelled play ≡ Some fact → is_sharp fact ≡ true
     → (bytes : List ℕ) (hands : List Record) → Say bytes hands → AllByRecursion (IsOther play) hands
 sharp play fact found is bytes hands say = unspelled_unsaid play fact found bytes hands say.reads
+
+-- hands that are the same are written as one table
+pub one_spelling : (plays others : List Play) (bytes too : List ℕ) → AllByRecursion IsSound plays → AllByRecursion IsSound others → Spell plays bytes → Spell others too
+    → AreSameHands kept_in_phh plays others → AreSameTable bytes too
+one_spelling plays others bytes too sound sound_too spell spell_too same =
+    forms.one_table plays others bytes too sound sound_too spell.document spell_too.document same
+
+-- what is written as one table are the same hands
+pub same_hands : (plays others : List Play) (bytes too : List ℕ) → AreFew plays → AreFew others → AllByRecursion IsSound plays → AllByRecursion IsSound others
+    → Spell plays bytes → Spell others too → AreSameTable bytes too → AreSameHands kept_in_phh plays others
+same_hands plays others bytes too few few_too sound sound_too spell spell_too same =
+    forms.same_hands plays others bytes too few.few few_too.few few.few_moves few_too.few_moves sound sound_too spell.document spell_too.document same

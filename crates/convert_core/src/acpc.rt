@@ -1,7 +1,9 @@
 //! Logs of the competition, under a game.
 ghost use Rattle.std.specs.Prelude.{◌≡◌, ◌⊎◌, ◌≤◌, ◌++◌, [], ◌∷◌, true, List, length, None, Some, IfErr, IfOk, OnOk};
 ghost use Rattle.std.specs.List.{AllByRecursion};
-ghost use Rattle.acpc_format.specs.KeptNotes.{KeepsNotes as KeepsNames};
+ghost use Rattle.acpc_format.proofs.NoteFacts as note_facts;
+ghost use Rattle.acpc_format.proofs.OneForm as forms;
+ghost use Rattle.acpc_format.specs.KeptNotes.{kept_in_acpc};
 ghost use Rattle.acpc_writing.specs.Spelled as facts;
 ghost use Rattle.acpc_reading.specs.RecordView.{rules_of as rules_of_game};
 ghost use Rattle.first_fault.specs.declared.limits.TheConstants.{MOST_HANDS};
@@ -87,7 +89,9 @@ impl Notation for Acpc {
 
     ghost Spell = { λ log plays bytes. in_acpc.Spell log.game plays bytes };
 
-    ghost KeepsNotes = { λ _ place seats notes again. KeepsNames place seats notes again };
+    ghost kept = { λ _. kept_in_acpc };
+
+    ghost AreSame = { λ _ bytes too. bytes ≡ too };
 
     ghost reads_file = { λ log bytes hands say. laws.reads_file log.game bytes hands say };
 
@@ -97,9 +101,6 @@ impl Notation for Acpc {
     ghost one_reading = { λ log bytes hands others say too.
         alike.one_reading log.game bytes hands others say too };
 
-    ghost one_fact = { λ log keep play other same.
-        alike.same_fact log.game keep play other same };
-
     ghost sharp = { λ log keep play fact found is bytes hands say.
         laws.sharp log.game keep play fact found is bytes hands say };
 
@@ -107,6 +108,24 @@ impl Notation for Acpc {
 
     ghost reads_back = { λ log keep plays bytes few sound spelled spell.
         laws.reads_back log.game keep plays bytes few sound spelled spell };
+
+    ghost kept_again = { λ _ notes. forms.kept_again notes };
+
+    ghost same_fact = { λ log keep place play other few sound sound_too same.
+        note_facts.one_fact log.game keep place play other few sound sound_too same };
+
+    ghost trace_fact = { λ log play other same. note_facts.trace_fact log.game play other same };
+
+    ghost all_spelled = { λ log place play few sound.
+        note_facts.all_spelled log.game place play few sound };
+
+    ghost one_spelling = { λ log plays others bytes too _ _ spell spell_too same.
+        laws.one_spelling log.game plays others bytes too spell spell_too same };
+
+    ghost same_hands = { λ log keep plays others bytes too few few_too sound sound_too
+        none none_too spell spell_too same.
+        laws.same_hands log.game keep plays others bytes too few few_too sound sound_too
+        none none_too spell spell_too same };
 
     fn rules(&self) -> Rules {
         Rules {

@@ -2,6 +2,7 @@
 ghost use Rattle.std.specs.Prelude.{IfErr, IfOk};
 ghost use Rattle.std.specs.List.{AllByRecursion};
 ghost use Rattle.hand_canon.specs.Sound.{IsSound};
+ghost use Rattle.hand_records.specs.SaidNotes.{KeepsNotes};
 ghost use Rattle.convert_core.specs.Conversion.{IsConversion, IsPlaysRefusal, IsReadFault, ReadAsPlays};
 ghost use Rattle.convert_core.specs.ReadBack.{ReadBack};
 ghost use Rattle.convert_core.specs.Records.{AreFew};
@@ -31,7 +32,7 @@ pub fn convert<N: Notation, M: Notation>(
     ensures { IsConversion (N.Say from.now bytes.now) (N.HaveFault from.now bytes.now)
         (M.unspelled to.now keep) (M.Spell to.now)
         (λ plays output. ReadBack (M.Say to.now output) (M.HaveFault to.now output)
-        (M.KeepsNotes to.now) plays)
+        (KeepsNotes (M.kept to.now)) plays)
         (λ output. output.items) result }
 {
     if to.has_lines() {

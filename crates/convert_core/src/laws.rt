@@ -1,12 +1,18 @@
-//! Records come to one list of plays, or to one refusal; bytes come to one conversion; and what is not spelled is not said.
-ghost use Rattle.std.specs.Prelude.{◌≡◌, ℕ, true, List, None, Some, Result};
+//! Records come to one list of plays, or to one refusal; bytes come to one conversion; what is not
+//! spelled is not said; and equal hands come to equal outputs, by whatever way.
+ghost use Rattle.std.specs.Prelude.{◌≡◌, ◌↔◌, ℕ, true, List, None, Ok, Some, Result};
 ghost use Rattle.std.specs.List.{AllByRecursion};
+ghost use Rattle.hand_records.specs.SaidNotes.{KeepsNotes};
+ghost use Rattle.hand_records.specs.SameHands.{AreSameHands, kept_notes};
 ghost use Rattle.hand_records.specs.declared.record.Record.{Record};
 ghost use Rattle.hand_records.specs.declared.trace.Play.{Play};
+ghost use Rattle.hand_records.specs.declared.writing.Keep.TheVariants as keeps;
 ghost use Rattle.hand_records.specs.declared.writing.Unspelled.{Unspelled};
+ghost use Rattle.convert_core.specs.Answers.{Answers};
 ghost use Rattle.convert_core.specs.Conversion.{HasUnspelled, IsConversion, ReadAsPlays, ReadAsRefused, RefusesNothing};
 ghost use Rattle.convert_core.specs.Judged.{ArePlaysOf, IsFirstRefused};
 ghost use Rattle.convert_core.specs.ReadBack.{ReadBack};
+ghost use Rattle.convert_core.specs.SameAnswers.{AreSameAnswers};
 ghost use Rattle.hand_canon.specs.Sharp.{IsOther, is_sharp};
 ghost use Rattle.convert_core.specs.declared.convert_fault.ConvertFault.{ConvertFault};
 ghost use Rattle.convert_core.specs.declared.refusal.Refusal.{Refusal};
@@ -61,7 +67,7 @@ pub fn law_of_legal_conversions<N: Notation, M: Notation>(from: &N, to: &M, keep
         → IsConversion (N.Say from.now bytes) (N.HaveFault from.now bytes)
         (M.unspelled to.now keep) (M.Spell to.now)
         (λ read output. ReadBack (M.Say to.now output) (M.HaveFault to.now output)
-        (M.KeepsNotes to.now) read) (λ output. output) answer
+        (KeepsNotes (M.kept to.now)) read) (λ output. output) answer
         → RefusesNothing answer }
 {}
 
@@ -73,4 +79,55 @@ pub fn law_of_sharpness<N: Notation>(notation: &N, keep: Keep)
         → N.unspelled notation.now keep play ≡ Some fact → is_sharp fact ≡ true
         → (bytes : List ℕ) (hands : List Record) → N.Say notation.now bytes hands
         → AllByRecursion (IsOther play) hands }
+{}
+
+/// Equal outputs are those of equal hands. Two inputs, of any notations, are converted to one
+/// notation, with one choice of notes: their outputs are the same exactly where their hands have the
+/// same traces and the same kept notes, hand by hand. The function does nothing: its contract is a
+/// law.
+pub fn law_of_equal_outputs<A: Notation, B: Notation, N: Notation>(
+    from: &A,
+    other: &B,
+    to: &N,
+    keep: Keep,
+)
+    ensures { (bytes too output written : List ℕ) (plays others : List Play)
+        → ReadAsPlays (A.Say from.now bytes) plays → ReadAsPlays (B.Say other.now too) others
+        → Answers (A.Say from.now) (A.HaveFault from.now) (N.unspelled to.now) (N.Spell to.now)
+        (N.Say to.now) (N.HaveFault to.now) (N.kept to.now) keep bytes (Ok output)
+        → Answers (B.Say other.now) (B.HaveFault other.now) (N.unspelled to.now) (N.Spell to.now)
+        (N.Say to.now) (N.HaveFault to.now) (N.kept to.now) keep too (Ok written)
+        → AreSameHands (kept_notes keep (N.kept to.now)) plays others
+        ↔ N.AreSame to.now output written }
+{}
+
+/// An output is converted to its own notation once more as the same output, whichever notes are kept
+/// then, unless memory is wanting. The function does nothing: its contract is a law.
+pub fn law_of_converting_again<A: Notation, N: Notation>(from: &A, to: &N, keep: Keep, again: Keep)
+    ensures { (bytes output : List ℕ) (answer : Result (List ℕ) ConvertFault)
+        → Answers (A.Say from.now) (A.HaveFault from.now) (N.unspelled to.now) (N.Spell to.now)
+        (N.Say to.now) (N.HaveFault to.now) (N.kept to.now) keep bytes (Ok output)
+        → Answers (N.Say to.now) (N.HaveFault to.now) (N.unspelled to.now) (N.Spell to.now)
+        (N.Say to.now) (N.HaveFault to.now) (N.kept to.now) again output answer
+        → AreSameAnswers (N.AreSame to.now) (Ok output) answer }
+{}
+
+/// A conversion may go by another notation. Where bytes are converted with all notes, what becomes
+/// of the output in a third notation is what becomes of the bytes there, with each choice of notes:
+/// the same output, or the same hand and its same fact without a spelling; unless memory is wanting.
+/// The function does nothing: its contract is a law.
+pub fn law_of_converting_by_way<A: Notation, B: Notation, C: Notation>(
+    from: &A,
+    by: &B,
+    to: &C,
+    keep: Keep,
+)
+    ensures { (bytes output : List ℕ) (first second : Result (List ℕ) ConvertFault)
+        → Answers (A.Say from.now) (A.HaveFault from.now) (B.unspelled by.now) (B.Spell by.now)
+        (B.Say by.now) (B.HaveFault by.now) (B.kept by.now) keeps.All bytes (Ok output)
+        → Answers (A.Say from.now) (A.HaveFault from.now) (C.unspelled to.now) (C.Spell to.now)
+        (C.Say to.now) (C.HaveFault to.now) (C.kept to.now) keep bytes first
+        → Answers (B.Say by.now) (B.HaveFault by.now) (C.unspelled to.now) (C.Spell to.now)
+        (C.Say to.now) (C.HaveFault to.now) (C.kept to.now) keep output second
+        → AreSameAnswers (C.AreSame to.now) first second }
 {}

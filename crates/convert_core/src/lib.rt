@@ -20,6 +20,7 @@ pub use converting::{convert, plays};
 pub use format_fault::FormatFault;
 pub use judging::plays_of;
 pub use laws::{
+    law_of_converting_again, law_of_converting_by_way, law_of_equal_outputs,
     law_of_legal_conversions, law_of_one_conversion, law_of_one_outcome, law_of_sharpness,
 };
 pub use notation::Notation;

@@ -1,20 +1,22 @@
-//! What a notation is: it reads bytes as records, tells which facts of a play it does not spell, and writes plays as bytes that
-//! read back as these plays.
-ghost use Rattle.std.specs.Prelude.{◌≡◌, ◌⊎◌, ◌≤◌, ℕ, Bool, true, false, List, [], ◌∷◌, ◌++◌, length, Option, None, Some, IfErr, IfOk, OnOk};
+//! What a notation is: it reads bytes as records, tells which facts of a play it does not spell, and
+//! writes plays as bytes that read back as these plays, in one form for equal plays.
+ghost use Rattle.std.specs.Prelude.{◌≡◌, ◌⊎◌, ◌↔◌, ◌≤◌, ◌<◌, ℕ, Bool, true, false, List, [], ◌∷◌, ◌++◌, length, Option, None, Some, IfErr, IfOk, OnOk};
 ghost use Rattle.std.specs.List.{AllByRecursion};
 ghost use Rattle.first_fault.specs.declared.limits.TheConstants.{MOST_HANDS};
 ghost use Rattle.hand_canon.specs.Sound.{IsSound};
-ghost use Rattle.hand_records.specs.declared.notes.Notes.{Notes};
+ghost use Rattle.hand_records.specs.SaidNotes.{KeepsNotes, SaidNotes, notes_of};
+ghost use Rattle.hand_records.specs.SameHands.{AreSameHand, AreSameHands};
 ghost use Rattle.hand_records.specs.declared.record.Record.{Record};
 ghost use Rattle.hand_records.specs.declared.trace.Play.{Play as AnyPlay};
 ghost use Rattle.hand_records.specs.declared.writing.Keep.{Keep as AnyKeep};
+ghost use Rattle.hand_records.specs.declared.writing.Keep.TheVariants as keeps;
 ghost use Rattle.hand_records.specs.declared.writing.Unspelled.{Unspelled as Fact};
 ghost use Rattle.hand_records.specs.declared.writing.WriteRefusal.TheVariants as refusals;
 ghost use Rattle.play_event.specs.declared.setup.Rules.{Rules as AnyRules};
 ghost use Rattle.convert_core.specs.Faults.{is_want_of_memory};
 ghost use Rattle.convert_core.specs.ReadBack.{ReadBack};
 ghost use Rattle.convert_core.specs.Records.{AreFew, AreOfFile};
-ghost use Rattle.convert_core.specs.SameRecords.{AllAlike, ArePlayedAlike};
+ghost use Rattle.convert_core.specs.SameRecords.{AllAlike};
 ghost use Rattle.hand_canon.specs.Sharp.{IsOther, is_sharp};
 ghost use Rattle.convert_core.specs.declared.format_fault.FormatFault.{FormatFault as AnyFault};
 ghost use Rattle.hand_records.specs.WriteRefusals.{first_refusal};
@@ -44,8 +46,11 @@ pub trait Notation {
     /// Bytes are the spelling of plays.
     ghost Spell: { Self → List AnyPlay → List ℕ → Type 0 };
 
-    /// What is read again of notes, at a place of the file, from 0, and for so many seats.
-    ghost KeepsNotes: { Self → ℕ → ℕ → Notes → Notes → Type 0 };
+    /// Those notes, of all that are said, that it spells.
+    ghost kept: { Self → SaidNotes → SaidNotes };
+
+    /// Two files are the same: byte for byte, or as what they are read as.
+    ghost AreSame: { Self → List ℕ → List ℕ → Type 0 };
 
     /// The rules under which its hands are played, beyond those of their game.
     fn rules(&self) -> Rules
@@ -109,11 +114,6 @@ pub trait Notation {
     ghost one_reading: { (notation : Self) (bytes : List ℕ) (hands others : List Record)
         → Say notation bytes hands → Say notation bytes others → AllAlike hands others };
 
-    /// Plays that cannot be told apart have one first fact without a spelling.
-    ghost one_fact: { (notation : Self) (keep : AnyKeep) (play other : AnyPlay)
-        → ArePlayedAlike play other
-        → unspelled notation keep play ≡ unspelled notation keep other };
-
     /// Whatever bytes say records, none of these is a legal hand with the trace of a play that has a fact without a spelling,
     /// unless the fact is an odd chip or a note: a hand that is read may well have these.
     ghost sharp: { (notation : Self) (keep : AnyKeep) (play : AnyPlay) (fact : Fact)
@@ -129,5 +129,43 @@ pub trait Notation {
     ghost reads_back: { (notation : Self) (keep : AnyKeep) (plays : List AnyPlay) (bytes : List ℕ)
         → AreFew plays → AllByRecursion IsSound plays
         → first_refusal (unspelled notation keep) plays ≡ None → Spell notation plays bytes
-        → ReadBack (Say notation bytes) (HaveFault notation bytes) (KeepsNotes notation) plays };
+        → ReadBack (Say notation bytes) (HaveFault notation bytes)
+        (KeepsNotes (kept notation)) plays };
+
+    /// It spells the notes that it spells.
+    ghost kept_again: { (notation : Self) (notes : SaidNotes)
+        → kept notation (kept notation notes) ≡ kept notation notes };
+
+    /// Which fact of a play it does not spell is told by the trace and by what is said in the notes.
+    ghost same_fact: { (notation : Self) (keep : AnyKeep) (place : ℕ) (play other : AnyPlay)
+        → place < MOST_HANDS → IsSound play → IsSound other
+        → AreSameHand (λ notes. notes) place play other
+        → unspelled notation keep play ≡ unspelled notation keep other };
+
+    /// Where only those notes are kept that it spells, the trace alone tells it.
+    ghost trace_fact: { (notation : Self) (play other : AnyPlay) → play.trace ≡ other.trace
+        → unspelled notation keeps.Spelled play ≡ unspelled notation keeps.Spelled other };
+
+    /// It spells all notes of a play where those that it spells are all that are said.
+    ghost all_spelled: { (notation : Self) (place : ℕ) (play : AnyPlay)
+        → place < MOST_HANDS → IsSound play
+        → (unspelled notation keeps.All play ≡ None)
+        ↔ ((unspelled notation keeps.Spelled play ≡ None)
+        × (kept notation (notes_of place play) ≡ notes_of place play)) };
+
+    /// Plays that are the same, as far as it spells their notes, are written as the same file.
+    ghost one_spelling: { (notation : Self) (plays others : List AnyPlay) (bytes too : List ℕ)
+        → AllByRecursion IsSound plays → AllByRecursion IsSound others
+        → Spell notation plays bytes → Spell notation others too
+        → AreSameHands (kept notation) plays others → AreSame notation bytes too };
+
+    /// And plays that are written as the same file are the same.
+    ghost same_hands: { (notation : Self) (keep : AnyKeep)
+        (plays others : List AnyPlay) (bytes too : List ℕ)
+        → AreFew plays → AreFew others
+        → AllByRecursion IsSound plays → AllByRecursion IsSound others
+        → first_refusal (unspelled notation keep) plays ≡ None
+        → first_refusal (unspelled notation keep) others ≡ None
+        → Spell notation plays bytes → Spell notation others too
+        → AreSame notation bytes too → AreSameHands (kept notation) plays others };
 }

@@ -5,7 +5,9 @@ ghost use Rattle.first_fault.specs.declared.limits.TheConstants.{MOST_HANDS};
 ghost use Rattle.hand_canon.specs.Sound.{IsSound};
 ghost use Rattle.hand_records.specs.declared.trace.Play.{Play as AnyPlay};
 ghost use Rattle.hand_records.specs.declared.writing.WriteRefusal.TheVariants as refusals;
-ghost use Rattle.ohh_format.specs.KeptNotes.{KeepsNotes as KeepsSpelled};
+ghost use Rattle.ohh_format.proofs.NoteFacts as note_facts;
+ghost use Rattle.ohh_format.proofs.OneForm as forms;
+ghost use Rattle.ohh_format.specs.KeptNotes.{kept_in_ohh};
 ghost use Rattle.ohh_writing.specs.Spelled as facts;
 ghost use Rattle.play_event.specs.HistoryRules.{history_rules as rules_of_histories};
 ghost use Rattle.convert_core.specs.Faults.{is_want_of_memory};
@@ -88,7 +90,9 @@ impl Notation for Ohh {
 
     ghost Spell = { λ tree plays bytes. in_ohh.Spell tree.dialect plays bytes };
 
-    ghost KeepsNotes = { λ _ place seats notes again. KeepsSpelled place seats notes again };
+    ghost kept = { λ _. kept_in_ohh };
+
+    ghost AreSame = { λ _ bytes too. bytes ≡ too };
 
     ghost reads_file = { λ tree bytes hands say. laws.reads_file tree.dialect bytes hands say };
 
@@ -98,8 +102,6 @@ impl Notation for Ohh {
     ghost one_reading = { λ tree bytes hands others say too.
         alike.one_reading tree.dialect bytes hands others say too };
 
-    ghost one_fact = { λ _ keep play other same. alike.same_fact keep play other same };
-
     ghost sharp = { λ tree keep play fact found is bytes hands say.
         laws.sharp tree.dialect keep play fact found is bytes hands say };
 
@@ -107,6 +109,24 @@ impl Notation for Ohh {
 
     ghost reads_back = { λ tree keep plays bytes few sound spelled spell.
         laws.reads_back tree.dialect keep plays bytes few sound spelled spell };
+
+    ghost kept_again = { λ _ notes. forms.kept_again notes };
+
+    ghost same_fact = { λ _ keep place play other _ sound sound_too same.
+        note_facts.one_fact keep place play other sound sound_too same };
+
+    ghost trace_fact = { λ _ play other same. note_facts.trace_fact play other same };
+
+    ghost all_spelled = { λ _ place play _ sound. note_facts.all_spelled place play sound };
+
+    ghost one_spelling = { λ tree plays others bytes too sound sound_too spell spell_too same.
+        forms.one_spelling tree.dialect plays others bytes too
+        sound sound_too spell spell_too same };
+
+    ghost same_hands = { λ tree keep plays others bytes too few few_too sound sound_too
+        none none_too spell spell_too same.
+        laws.same_hands tree.dialect keep plays others bytes too few few_too sound sound_too
+        none none_too spell spell_too same };
 
     fn rules(&self) -> Rules {
         Rules {

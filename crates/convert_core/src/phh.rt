@@ -4,7 +4,9 @@ ghost use Rattle.std.specs.List.{AllByRecursion};
 ghost use Rattle.first_fault.specs.declared.limits.TheConstants.{MOST_HANDS};
 ghost use Rattle.hand_canon.specs.Sound.{IsSound};
 ghost use Rattle.hand_records.specs.declared.writing.WriteRefusal.TheVariants as refusals;
-ghost use Rattle.phh_format.specs.KeptNotes.{KeepsNotes as KeepsAll};
+ghost use Rattle.phh_format.proofs.OneForm as forms;
+ghost use Rattle.phh_format.specs.KeptNotes.{kept_in_phh};
+ghost use Rattle.phh_format.specs.SameTables.{AreSameTable};
 ghost use Rattle.phh_writing.specs.Spelled as facts;
 ghost use Rattle.play_event.specs.HistoryRules.{history_rules as rules_of_histories};
 ghost use Rattle.convert_core.specs.Faults.{is_want_of_memory};
@@ -60,7 +62,9 @@ impl Notation for Phh {
 
     ghost Spell = { λ _ plays bytes. in_phh.Spell plays bytes };
 
-    ghost KeepsNotes = { λ _ place seats notes again. KeepsAll place seats notes again };
+    ghost kept = { λ _. kept_in_phh };
+
+    ghost AreSame = { λ _ bytes too. AreSameTable bytes too };
 
     ghost reads_file = { λ _ bytes hands say. laws.reads_file bytes hands say };
 
@@ -69,8 +73,6 @@ impl Notation for Phh {
     ghost one_reading = { λ _ bytes hands others say too.
         alike.one_reading bytes hands others say too };
 
-    ghost one_fact = { λ _ _ play other same. alike.same_fact play other same };
-
     ghost sharp = { λ _ _ play fact found is bytes hands say.
         laws.sharp play fact found is bytes hands say };
 
@@ -78,6 +80,22 @@ impl Notation for Phh {
 
     ghost reads_back = { λ _ _ plays bytes few sound spelled spell.
         laws.reads_back plays bytes few sound spelled spell };
+
+    ghost kept_again = { λ _ notes. forms.kept_again notes };
+
+    ghost same_fact = { λ _ _ _ play other _ _ _ same.
+        forms.trace_fact play other same.trace };
+
+    ghost trace_fact = { λ _ play other same. forms.trace_fact play other same };
+
+    ghost all_spelled = { λ _ place play _ _. forms.all_spelled place play };
+
+    ghost one_spelling = { λ _ plays others bytes too sound sound_too spell spell_too same.
+        laws.one_spelling plays others bytes too sound sound_too spell spell_too same };
+
+    ghost same_hands = { λ _ _ plays others bytes too few few_too sound sound_too
+        _ _ spell spell_too same.
+        laws.same_hands plays others bytes too few few_too sound sound_too spell spell_too same };
 
     fn rules(&self) -> Rules {
         Rules {

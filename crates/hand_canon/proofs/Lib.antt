@@ -8,3 +8,4 @@ pub mod CanonParts
 pub mod StreetRows
 pub mod SameSetups
 pub mod SameTraces
+pub mod UnusualNumbers

@@ -1,10 +1,9 @@
 -- Hands that are read again of plays.
-use Rattle.std.specs.Prelude.{◌≡◌, ℕ, ◌+◌, List, [], ◌∷◌, None, Option, Some, bytes_eq, if◌then◌else◌}
+use Rattle.std.specs.Prelude.{◌≡◌, ℕ, ◌+◌, List, [], ◌∷◌}
 use Rattle.hand_records.specs.declared.notes.Notes.{Notes}
 use Rattle.hand_records.specs.declared.record.Record.{Record}
 use Rattle.hand_records.specs.declared.trace.Play.{Play}
 use Rattle.hand_canon.specs.Judged.{IsJudged}
-use Rattle.std.specs.Fmt.{decimal}
 
 -- a hand is that of a play again: it is legal under its own rules and comes to the whole trace of the play, what it states
 -- agrees, its setup is that of the play, and its notes are the kept ones
@@ -21,8 +20,3 @@ AreAgain keeps place [] (hand ∷ hands) = ⊥
 AreAgain keeps place (play ∷ plays) [] = ⊥
 AreAgain keeps place (play ∷ plays) (hand ∷ hands) =
     IsAgain (keeps place play.trace.setup.stacks.seats) play hand × AreAgain keeps (place + 1) plays hands
-
--- a label of a hand at a place of its file, from 0; a label that is that place is none
-abbrev pub kept_label : ℕ → Option (List ℕ) → Option (List ℕ)
-kept_label place None = None
-kept_label place (Some text) = if bytes_eq text (decimal place) then None else Some text

@@ -1,5 +1,6 @@
--- Laws of first refusals, the texts of notes, usual numbers of seats and dates.
+-- Laws of first refusals, the texts of notes, what is said of notes, usual numbers of seats and dates.
 pub mod Refusals
 pub mod NoteTexts
+pub mod NoteLaws
 pub mod Usual
 pub mod Dates

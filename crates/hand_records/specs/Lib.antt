@@ -1,7 +1,10 @@
--- Records and traces: what is said of their rows, which notes are allowed, and what a record is as a reader gives it.
+-- Records and traces: what is said of their rows, which notes are allowed and are said, what a record is as a reader gives it, and
+-- when hands are the same.
 pub mod NetRow
 pub mod TraceRows
 pub mod AllowedNotes
+pub mod SaidNotes
+pub mod SameHands
 pub mod SoundRecord
 pub mod Moves
 pub mod WriteRefusals

@@ -33,7 +33,10 @@ pub mod WordScript
 pub mod WordPlays
 pub mod SameSetups
 pub mod StatedAgrees
+pub mod KeptAgain
 pub mod ReadBack
+pub mod OneForm
+pub mod NoteFacts
 pub mod ToldHands
 pub mod ToldPosts
 pub mod ToldSetups

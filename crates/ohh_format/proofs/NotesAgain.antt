@@ -32,7 +32,7 @@ use Rattle.ohh_format.proofs.SeatingAgain.{players_from}
 use Rattle.list_laws.proofs.Bytes.{same_bytes}
 use Rattle.list_laws.proofs.Entries.{zero_taken_at}
 use Rattle.list_laws.proofs.Options.{from_none_some, none_anyway}
-use Rattle.hand_canon.specs.ReadAgain.{kept_label}
+use Rattle.hand_records.specs.SaidNotes.{kept_label}
 use Rattle.hand_records.proofs.NoteTexts.{not_empty, noted_again}
 use Rattle.chip_ledger.specs.SeatsSaid.{default_name}
 

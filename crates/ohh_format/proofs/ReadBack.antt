@@ -32,16 +32,18 @@ use Rattle.ohh_reading.specs.Hand.{PlainHand, plain}
 use Rattle.ohh_reading.specs.Reading.{reading}
 use Rattle.ohh_format.specs.Again.{hand_again, hands_again, is_told, notes_again, numbered_from, script_again}
 use Rattle.hand_canon.specs.ReadAgain.{AreAgain, IsAgain}
-use Rattle.ohh_format.specs.KeptNotes.{KeepsNotes}
+use Rattle.ohh_format.specs.KeptNotes.{kept_in_ohh}
+use Rattle.ohh_format.proofs.KeptAgain.{keeps_said}
+use Rattle.hand_records.specs.SaidNotes.{KeepsNotes}
 use Rattle.ohh_format.proofs.FlopGames.{flop_game}
 use Rattle.ohh_format.proofs.FrontAgain.{no_stud}
 use Rattle.ohh_format.proofs.SameSetups.{setups_same}
-use Rattle.ohh_format.proofs.SoundPlays.{fact_holds, first_none, sound_again, spelled_setup}
+use Rattle.ohh_format.proofs.SoundPlays.{fact_holds, sound_again, spelled_setup}
 use Rattle.ohh_format.proofs.StatedAgrees.{stated_agrees}
 use Rattle.ohh_format.proofs.WordPlays.{words_of, words_played}
 use Rattle.first_fault.specs.Numbers.{kept_number}
 use Rattle.hand_records.specs.Moves.{moves_played}
-use Rattle.hand_records.proofs.Refusals.{none_refused}
+use Rattle.hand_records.proofs.Refusals.{both_none, none_refused}
 use Rattle.play_event.proofs.ScriptLaws.{said_numbered}
 use Rattle.hand_records.specs.WriteRefusals.{refusal_from, first_refusal}
 use Rattle.hand_canon.proofs.SameTraces.{whole_same}
@@ -51,7 +53,7 @@ spelled_open : (keep : Keep) (play : Play) → unspelled keep play ≡ None → 
 unfolding unspelled
 spelled_open keep play none =
     let setup = play.trace.setup in
-    let all = first_none (first_unspelled (trace_facts play.trace)) (first_unspelled (kept_facts keep play)) none in
+    let all = (both_none (first_unspelled (trace_facts play.trace)) (first_unspelled (kept_facts keep play)) none).0 in
     let game = fact_holds (is_spelled_game setup.code) _ _ all in
     let sizes = fact_holds (has_spelled_sizes setup) _ _ game.1 in
     let antes = fact_holds (has_spelled_antes setup) _ _ sizes.1 in
@@ -102,7 +104,7 @@ script_is dialect place play hand same =
 
 -- a hand that is read of a play is that of the play again
 is_again : (dialect : Dialect) (keep : Keep) (place : ℕ) (play : Play) (hand : Record) → IsSound play → unspelled keep play ≡ None → plain hand ≡ hand_again dialect place play
-    → IsAgain (KeepsNotes place play.trace.setup.stacks.seats) play hand
+    → IsAgain (KeepsNotes kept_in_ohh place play.trace.setup.stacks.seats) play hand
 is_again dialect keep place play hand sound none same =
     let base = play.hand.setup in
     let words = script_again dialect play.trace in
@@ -130,14 +132,15 @@ is_again dialect keep place play hand sound none same =
       };
       same_setup = setup;
       notes =
-          subst (λ (s : Setup). plain_notes s.stacks.seats hand.notes ≡ notes_again place play.trace.setup.stacks.seats play.hand.notes) setup
-          (ap (λ (read : PlainHand). read.notes) same);
+          keeps_said place play.trace.setup.stacks.seats play.hand.notes hand.notes
+          (subst (λ (s : Setup). plain_notes s.stacks.seats hand.notes ≡ notes_again place play.trace.setup.stacks.seats play.hand.notes) setup
+          (ap (λ (read : PlainHand). read.notes) same));
     }
 
 -- ---- the hands
 
 are_again : (dialect : Dialect) (keep : Keep) (number place : ℕ) (plays : List Play) (hands : List Record) → AllByRecursion IsSound plays → refusal_from (unspelled keep) number plays ≡ None
-    → map plain hands ≡ hands_again dialect place plays → AreAgain KeepsNotes place plays hands
+    → map plain hands ≡ hands_again dialect place plays → AreAgain (KeepsNotes kept_in_ohh) place plays hands
 unfolding AreAgain
 are_again dialect keep number place [] [] each none same = tt
 are_again dialect keep number place [] (hand ∷ hands) each none same = absurd (cc)
@@ -150,7 +153,7 @@ are_again dialect keep number place (play ∷ plays) (hand ∷ hands) each none 
 
 -- the hands that are read of bytes that spell sound plays
 pub read_back : (dialect : Dialect) (keep : Keep) (plays : List Play) (bytes : List ℕ) → length plays ≤ MOST_HANDS → AllByRecursion IsSound plays → first_refusal (unspelled keep) plays ≡ None → sum_by moves_played plays ≤ MOST_FILE_MOVES → Spells dialect plays bytes
-    → (hands : List Record) → reading dialect bytes ≡ Ok (map plain hands) → AreAgain KeepsNotes 0 plays hands
+    → (hands : List Record) → reading dialect bytes ≡ Ok (map plain hands) → AreAgain (KeepsNotes kept_in_ohh) 0 plays hands
 read_back dialect keep plays bytes few each none moves spells hands reads =
     let again : Ok (map plain hands) ≡ Ok (hands_again dialect 0 plays) = sym reads ∙ sound_again dialect keep plays bytes few each none moves spells in
     are_again dialect keep 1 0 plays hands each none (cc)

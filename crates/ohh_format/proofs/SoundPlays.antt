@@ -15,6 +15,7 @@ use Rattle.chip_ledger.specs.SeatRow.{amount_of}
 use Rattle.chip_ledger.specs.declared.numbers.TheConstants.{MOST_CHIPS}
 use Rattle.first_fault.specs.declared.limits.TheConstants.{MOST_FILE_MOVES, MOST_HANDS}
 use Rattle.hand_canon.specs.Sound.{IsSound}
+use Rattle.hand_records.proofs.Refusals.{both_none, none_refused}
 use Rattle.hand_records.specs.AllowedNotes.{AreAllowed}
 use Rattle.hand_records.specs.SoundRecord.{script_said}
 use Rattle.hand_records.specs.TraceRows.{core_said}
@@ -66,17 +67,12 @@ use Rattle.ohh_format.proofs.WinsAgain.{seat_again}
 use Rattle.list_laws.proofs.Lists.{none_from_length}
 use Rattle.list_laws.proofs.Options.{from_some_none}
 use Rattle.hand_records.specs.Moves.{moves_played}
-use Rattle.hand_records.specs.WriteRefusals.{or_behind, refusal_from, first_refusal}
-use Rattle.hand_records.proofs.Refusals.{none_refused}
+use Rattle.hand_records.specs.WriteRefusals.{refusal_from, first_refusal}
 use Rattle.play_event.proofs.ScriptLaws.{at_end}
 use Rattle.hand_records.specs.Plays.{moves_written}
 use Rattle.play_event.proofs.TracedMoves.{as_many}
 
 -- ---- the facts that are spelled
-
-pub first_none : (one behind : Option Unspelled) → or_behind one behind ≡ None → one ≡ None
-first_none None behind none = refl
-first_none (Some fact) behind none = from_some_none none
 
 pub fact_holds : (holds : Bool) (fact : Unspelled) (rest : Option Unspelled) → (if holds then rest else Some fact) ≡ None → (holds ≡ true) × (rest ≡ None)
 fact_holds true fact rest none = (refl, none)
@@ -86,7 +82,7 @@ pub spelled_setup : (keep : Keep) (play : Play) → unspelled keep play ≡ None
 unfolding unspelled
 spelled_setup keep play none =
     let setup = play.trace.setup in
-    let all = first_none (first_unspelled (trace_facts play.trace)) (first_unspelled (kept_facts keep play)) none in
+    let all = (both_none (first_unspelled (trace_facts play.trace)) (first_unspelled (kept_facts keep play)) none).0 in
     let game = fact_holds (is_spelled_game setup.code) _ _ all in
     let sizes = fact_holds (has_spelled_sizes setup) _ _ game.1 in
     let antes = fact_holds (has_spelled_antes setup) _ _ sizes.1 in

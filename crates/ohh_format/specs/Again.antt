@@ -26,7 +26,7 @@ use Rattle.ohh_writing.specs.Moment.{moment_of}
 use Rattle.ohh_writing.specs.Seating.{numbers_spelled}
 use Rattle.ohh_reading.specs.Hand.{PlainHand, plain_setup}
 use Rattle.first_fault.specs.Numbers.{kept_number}
-use Rattle.hand_canon.specs.ReadAgain.{kept_label}
+use Rattle.hand_records.specs.SaidNotes.{kept_label}
 use Rattle.hand_records.specs.AllowedNotes.{unless_usual}
 
 -- ---- moves

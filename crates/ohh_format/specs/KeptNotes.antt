@@ -1,9 +1,33 @@
--- What is kept of notes in bytes that were written of plays.
-use Rattle.std.specs.Prelude.{◌≡◌, ℕ}
-use Rattle.hand_records.specs.declared.notes.Notes.{Notes}
-use Rattle.ohh_facts.specs.Notes.{plain_notes}
-use Rattle.ohh_format.specs.Again.{notes_again}
+-- Which notes the format keeps: numbers of seats that go round the table, a whole moment,
+-- and all other notes.
+use Rattle.std.specs.Prelude.{ℕ, List, if◌then◌else◌, Option, Some, None, option_and_then, option_map, codes}
+use Rattle.ohh_writing.specs.Moment.{moment_said}
+use Rattle.ohh_writing.specs.Seating.{is_circular}
+use Rattle.ohh_writing.specs.declared.moment.Moment.{Moment}
+use Rattle.hand_records.specs.SaidNotes.{SaidNotes}
 
--- the notes that are read again of a hand with so many seats, at a place of its file
-abbrev pub KeepsNotes : ℕ → ℕ → Notes → Notes → Type 0
-KeepsNotes place seats notes again = plain_notes seats again ≡ notes_again place seats notes
+-- numbers of seats that go round
+abbrev pub numbers_round : List ℕ → Option (List ℕ)
+numbers_round numbers = if is_circular numbers then Some numbers else None
+
+-- the moment of notes, where all of it is said, in the zone UTC
+abbrev pub moment_in_notes : SaidNotes → Option Moment
+moment_in_notes notes = moment_said notes.year notes.month notes.day notes.time notes.zone
+
+-- the notes that have a spelling
+abbrev pub kept_in_ohh : SaidNotes → SaidNotes
+kept_in_ohh notes =
+    record {
+      names = notes.names;
+      seats = option_and_then numbers_round notes.seats;
+      seat_count = notes.seat_count;
+      hand = notes.hand;
+      table = notes.table;
+      venue = notes.venue;
+      currency = notes.currency;
+      year = option_map (λ moment. moment.year) (moment_in_notes notes);
+      month = option_map (λ moment. moment.month) (moment_in_notes notes);
+      day = option_map (λ moment. moment.day) (moment_in_notes notes);
+      time = option_map (λ moment. moment.time) (moment_in_notes notes);
+      zone = option_map (λ moment. codes "UTC") (moment_in_notes notes);
+    }

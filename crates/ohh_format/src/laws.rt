@@ -15,7 +15,8 @@ ghost use Rattle.ohh_reading.specs.Reading.{reading};
 ghost use Rattle.ohh_format.specs.Again.{hands_again};
 ghost use Rattle.hand_records.specs.Moves.{moves_played};
 ghost use Rattle.hand_canon.specs.ReadAgain.{AreAgain};
-ghost use Rattle.ohh_format.specs.KeptNotes.{KeepsNotes};
+ghost use Rattle.hand_records.specs.SaidNotes.{KeepsNotes};
+ghost use Rattle.ohh_format.specs.KeptNotes.{kept_in_ohh};
 ghost use Rattle.ohh_format.specs.Sharp.{is_sharp};
 ghost use Rattle.hand_canon.specs.Sharp.{IsOther};
 ghost use Rattle.hand_records.specs.WriteRefusals.{first_refusal};
@@ -41,7 +42,7 @@ pub fn law_of_reading_back()
         → first_refusal (unspelled keep) plays ≡ None → sum_by moves_played plays ≤ MOST_FILE_MOVES
         → Spells dialect plays bytes
         → (hands : List Record) → reading dialect bytes ≡ Ok (map plain hands)
-        → AreAgain KeepsNotes 0 plays hands }
+        → AreAgain (KeepsNotes kept_in_ohh) 0 plays hands }
 {}
 
 /// Whatever bytes say records in a dialect, none of these is a legal hand with the trace of a play of which the format does not

@@ -31,7 +31,7 @@ use Rattle.phh_format.proofs.EventsAgain.{HaveRoom, counts_with, events_again}
 use Rattle.list_laws.proofs.Entries.{cut_zeros, each_taken}
 use Rattle.list_laws.proofs.Any.{zero_from_none_taken}
 use Rattle.chip_ledger.specs.SeatRow.{amounts_in}
-use Rattle.hand_canon.specs.ReadAgain.{kept_label}
+use Rattle.hand_records.specs.SaidNotes.{kept_label}
 use Rattle.hand_records.specs.AllowedNotes.{IsWithin}
 
 all_zero : (all : List ℕ) → length all ≡ 11 → ((k : ℕ) → get_or all k 0 ≡ 0) → all ≡ replicate 11 0

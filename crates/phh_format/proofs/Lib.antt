@@ -8,5 +8,7 @@ pub mod HandAgain
 pub mod OrderAgain
 pub mod FileAgain
 pub mod SoundPlays
+pub mod KeptAgain
 pub mod ReadBack
+pub mod OneForm
 pub mod Sharpness

@@ -18,7 +18,7 @@ use Rattle.phh_writing.specs.HandFields.{hand_field, label, local_time, number_f
 use Rattle.list_laws.proofs.Tests.{implied}
 use Rattle.list_laws.proofs.Digits.{all_digits, own_digits}
 use Rattle.list_laws.proofs.Options.{from_none_some}
-use Rattle.hand_canon.specs.ReadAgain.{kept_label}
+use Rattle.hand_records.specs.SaidNotes.{kept_label}
 use Rattle.hand_records.proofs.NoteTexts.{not_empty, noted_again}
 
 pub note_again : (default text : List ℕ) (place : FieldPlace) → IsNoteText text → bytes_eq text default ≡ false → note_said default place text ≡ Ok (Some text)

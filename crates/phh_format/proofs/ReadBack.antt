@@ -40,7 +40,9 @@ use Rattle.phh_writing.specs.HandFields.{script_of}
 use Rattle.phh_writing.specs.Spelled.{unspelled}
 use Rattle.phh_format.specs.Again.{hand_again, hands_again, notes_again, numbered_from}
 use Rattle.hand_canon.specs.ReadAgain.{AreAgain, IsAgain}
-use Rattle.phh_format.specs.KeptNotes.{KeepsNotes}
+use Rattle.phh_format.specs.KeptNotes.{kept_in_phh}
+use Rattle.phh_format.proofs.KeptAgain.{keeps_said}
+use Rattle.hand_records.specs.SaidNotes.{KeepsNotes}
 use Rattle.phh_format.proofs.RowsAgain.{amount_count}
 use Rattle.phh_format.proofs.SoundPlays.{same_script, sound_again}
 use Rattle.hand_records.specs.Moves.{moves_played}
@@ -122,7 +124,7 @@ unfolding finish_alone
 agrees trace = agree_from trace (all_seats trace.setup)
 
 -- the events of a script with numbers
-said_from : (n : ℕ) (events : List Said) → map (λ (event : Numbered). event.1) (numbered_from n events) ≡ events
+pub said_from : (n : ℕ) (events : List Said) → map (λ (event : Numbered). event.1) (numbered_from n events) ≡ events
 said_from n [] = refl
 said_from n (event ∷ rest) = ap (λ (events : List Said). event ∷ events) (said_from (n + 1) rest)
 
@@ -166,7 +168,7 @@ module _ (place : ℕ) (play : Play) (hand : Record) (same : plain hand ≡ hand
   rules_back = ap (λ (read : PlainHand). read.rules) same
 
 -- a hand that is read of a play is that of the play again
-is_again : (place : ℕ) (play : Play) (hand : Record) → IsSound play → unspelled play ≡ None → plain hand ≡ hand_again place play → IsAgain (KeepsNotes place play.trace.setup.stacks.seats) play hand
+is_again : (place : ℕ) (play : Play) (hand : Record) → IsSound play → unspelled play ≡ None → plain hand ≡ hand_again place play → IsAgain (KeepsNotes kept_in_phh place play.trace.setup.stacks.seats) play hand
 is_again place play hand sound spelled same =
     let setups = setup_back place play hand same in
     record {
@@ -177,11 +179,12 @@ is_again place play hand sound spelled same =
           };
       same_setup = setups;
       notes =
-          subst (λ (s : Setup). plain_notes s.stacks.seats hand.notes ≡ notes_again place play.trace.setup.stacks.seats play.hand.notes) setups
-          (ap (λ (read : PlainHand). read.notes) same);
+          keeps_said place play.trace.setup.stacks.seats play.hand.notes hand.notes
+          (subst (λ (s : Setup). plain_notes s.stacks.seats hand.notes ≡ notes_again place play.trace.setup.stacks.seats play.hand.notes) setups
+          (ap (λ (read : PlainHand). read.notes) same));
     }
 
-are_again : (number place : ℕ) (plays : List Play) (hands : List Record) → AllByRecursion IsSound plays → refusal_from unspelled number plays ≡ None → map plain hands ≡ hands_again place plays → AreAgain KeepsNotes place plays hands
+are_again : (number place : ℕ) (plays : List Play) (hands : List Record) → AllByRecursion IsSound plays → refusal_from unspelled number plays ≡ None → map plain hands ≡ hands_again place plays → AreAgain (KeepsNotes kept_in_phh) place plays hands
 unfolding AreAgain
 are_again number place [] [] each spelled same = tt
 are_again number place [] (hand ∷ hands) each spelled same = absurd (cc)
@@ -192,7 +195,7 @@ are_again number place (play ∷ plays) (hand ∷ hands) each spelled same =
 
 -- the hands that are read of bytes that spell sound plays
 pub read_back : (plays : List Play) (bytes : List ℕ) → length plays ≤ MOST_HANDS → AllByRecursion IsSound plays → sum_by moves_played plays ≤ MOST_FILE_MOVES → first_refusal unspelled plays ≡ None → Spells plays bytes
-    → (hands : List Record) → reading bytes ≡ Ok (map plain hands) → AreAgain KeepsNotes 0 plays hands
+    → (hands : List Record) → reading bytes ≡ Ok (map plain hands) → AreAgain (KeepsNotes kept_in_phh) 0 plays hands
 read_back plays bytes few each moves spelled spells hands reads =
     let again : Ok (map plain hands) ≡ Ok (hands_again 0 plays) = sym reads ∙ sound_again plays bytes few each moves spells in
     are_again 1 0 plays hands each spelled (cc)

@@ -12,7 +12,7 @@ use Rattle.phh_reading.specs.Hand.{PlainHand, finish_stated}
 use Rattle.phh_writing.specs.HandFields.{script_of}
 use Rattle.chip_ledger.specs.SeatRow.{amounts_in}
 use Rattle.first_fault.specs.Numbers.{kept_number}
-use Rattle.hand_canon.specs.ReadAgain.{kept_label}
+use Rattle.hand_records.specs.SaidNotes.{kept_label}
 use Rattle.hand_records.specs.AllowedNotes.{unless_usual}
 
 -- the kept notes of so many seats, at a place of the file

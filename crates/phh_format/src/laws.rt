@@ -13,7 +13,8 @@ ghost use Rattle.phh_writing.specs.Spelled.{unspelled};
 ghost use Rattle.phh_format.specs.Again.{hands_again};
 ghost use Rattle.hand_records.specs.Moves.{moves_played};
 ghost use Rattle.hand_canon.specs.ReadAgain.{AreAgain};
-ghost use Rattle.phh_format.specs.KeptNotes.{KeepsNotes};
+ghost use Rattle.hand_records.specs.SaidNotes.{KeepsNotes};
+ghost use Rattle.phh_format.specs.KeptNotes.{kept_in_phh};
 ghost use Rattle.hand_canon.specs.Sharp.{IsOther};
 ghost use Rattle.hand_records.specs.WriteRefusals.{first_refusal};
 
@@ -36,7 +37,7 @@ pub fn law_of_reading_back()
         → sum_by moves_played plays ≤ MOST_FILE_MOVES
         → first_refusal unspelled plays ≡ None → Spells plays bytes
         → (hands : List Record) → reading bytes ≡ Ok (map plain hands)
-        → AreAgain KeepsNotes 0 plays hands }
+        → AreAgain (KeepsNotes kept_in_phh) 0 plays hands }
 {}
 
 /// A play that the format does not spell is written in no bytes: no hand that any bytes say is legal with the trace of the play.

@@ -34,7 +34,8 @@ use Rattle.poker_cli.specs.declared.task.Format.TheVariants as readers
 use Rattle.poker_cli.specs.declared.task.Task.{Task}
 use Rattle.poker_cli.specs.declared.task.Task.TheVariants as tasks
 use Rattle.poker_cli.specs.declared.task.Way.{Way}
-use Rattle.poker_cli.proofs.OneAnswer.{in_way, legal_in_way, no_fault, no_missing}
+use Rattle.poker_cli.proofs.LawfulFormats.{no_fault}
+use Rattle.poker_cli.proofs.OneAnswer.{in_way, legal_in_way, no_missing}
 use Rattle.list_laws.proofs.Options.{some_more}
 
 -- the status of a fault of bytes is that of bad input or of a limit

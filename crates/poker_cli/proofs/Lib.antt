@@ -1,7 +1,6 @@
 -- How a run ends with the answer to its input, why an input has one answer, and what a conversion ends with.
 mod Answering
 mod AlikeGames
-mod AlikeNotes
-mod AlikeOutputs
+mod LawfulFormats
 mod OneAnswer
 mod Headline

@@ -24,24 +24,21 @@ use Rattle.printed_hands.specs.Check.{check_end, check_line, each_hand}
 use Rattle.printed_hands.specs.Steps.{replay_lines}
 use Rattle.printed_report.specs.Report.{Hand, Seated, hand_of, report_on, seated_in}
 use Rattle.hand_canon.specs.Judged.{IsJudged}
-use Rattle.convert_core.specs.PhhLaws as history_laws
 use Rattle.convert_core.specs.Judged.{ArePlaysOf, IsFirstRefused}
-use Rattle.convert_core.specs.AcpcLaws as acpc_laws
-use Rattle.convert_core.specs.OhhLaws as ohh_laws
 use Rattle.convert_core.specs.declared.refusal.Refusal.{Refusal}
 use Rattle.convert_core.specs.declared.format_fault.FormatFault.{FormatFault}
 use Rattle.convert_core.specs.declared.format_fault.FormatFault.TheVariants as formats
-use Rattle.convert_core.specs.PhhAlike as phh_alike
-use Rattle.convert_core.specs.AcpcAlike as acpc_alike
 use Rattle.convert_core.specs.SameRecords.{AllAlike, AreAlike, SayTheSame}
-use Rattle.convert_core.specs.OhhAlike as ohh_alike
-use Rattle.convert_core.proofs.OneConversion.{AllPlayedAlike, all_same, played_alike, IsReadAlike}
+use Rattle.convert_core.proofs.Conversions.{all_less, same_refusal}
+use Rattle.convert_core.proofs.LawfulNotations.{AreReadSame, all_read_same}
+use Rattle.convert_core.proofs.OneConversion.{all_same, IsReadAlike}
+use Rattle.convert_core.specs.Conversion.{ReadAsPlays}
 use Rattle.convert_core.proofs.OneOutcome.{AllTraced, no_plays, same_refused, same_traces}
 use Rattle.poker_cli.specs.Answer.{Answer, Files, GivesGame, GivesNoGame, IsAnswer, IsAnswerIn, IsAnswerTo, IsConversion, IsMadeOf, IsWay, done, most_input, text_of, to_excess, to_fault, to_first_game, to_refusal, to_unspelled, to_wrong_acpc, to_wrong_ohh, to_wrong_phh}
 use Rattle.poker_cli.specs.Answer as answers
 use Rattle.poker_cli.specs.Inputs.{HaveFault, SayRecords}
 use Rattle.poker_cli.specs.OneAnswer.{AreOneAnswer}
-use Rattle.poker_cli.specs.Outputs.{SpellPlays, first_refusal_in}
+use Rattle.poker_cli.specs.Outputs.{AreSameIn, first_refusal_in, kept_in, unspelled_in}
 use Rattle.poker_cli.specs.Ways.{game_name, kept, made_by, way, way_of}
 use Rattle.poker_cli.specs.Run.{Ends, IsGameMissing, NeedsNoInput, RefusesNothing, Sinks}
 use Rattle.poker_cli.specs.declared.status.Status.{Status}
@@ -52,7 +49,7 @@ use Rattle.poker_cli.specs.declared.task.Task.{Task}
 use Rattle.poker_cli.specs.declared.task.Task.TheVariants as tasks
 use Rattle.poker_cli.specs.declared.task.Way.{Way}
 use Rattle.poker_cli.proofs.AlikeGames.{one_game}
-use Rattle.poker_cli.proofs.AlikeOutputs.{document_same, lines_same, log_same, refusal_same}
+use Rattle.poker_cli.proofs.LawfulFormats.{no_fault, one_reading, one_spelling, read_by, same_fact}
 use Rattle.list_laws.proofs.NumbersOfRange.{map_agree}
 use Rattle.chip_ledger.specs.SeatsSaid.{default_name}
 use Rattle.hand_records.specs.Plays.{hands_of}
@@ -140,23 +137,21 @@ one_itself (tasks.Convert readers.Phh keep) answer other same =
       document = ap (λ (a : Answer). parse_document a.output) same;
     }
 
--- the same plays are written as one output
-one_output : (to : Format) (keep : Keep) (ps qs : List Play) (bytes others : List ℕ) → AllPlayedAlike ps qs
-    → SpellPlays to ps bytes → SpellPlays to qs others → AreOneAnswer (tasks.Convert to keep) (done bytes) (done others)
-one_output readers.Phh keep ps qs bytes others alike spell too =
-    record {
-      status = refl;
-      line = refl;
-      document = spell.document.table ∙ ap Some (document_same ps qs alike) ∙ sym too.document.table;
-    }
-one_output (readers.Ohh dialect) keep ps qs bytes others alike spell too = ap done (spell.lines ∙ lines_same dialect ps qs alike ∙ sym too.lines)
-one_output (readers.Acpc game) keep ps qs bytes others alike spell too = ap done (spell.lines ∙ log_same game.no_limit ps qs alike ∙ sym too.lines)
+-- the same output is one
+one_output : (to : Format) (keep : Keep) (bytes others : List ℕ) → AreSameIn to bytes others → AreOneAnswer (tasks.Convert to keep) (done bytes) (done others)
+one_output readers.Phh keep bytes others same = record { status = refl; line = refl; document = same.first ∙ sym same.second }
+one_output (readers.Ohh dialect) keep bytes others same = ap done same
+one_output (readers.Acpc game) keep bytes others same = ap done same
+
+-- plays that are the same are refused alike
+refusal_same : (to : Format) (keep : Keep) (ps qs : List Play) → AreReadSame ps qs → first_refusal_in to keep ps ≡ first_refusal_in to keep qs
+refusal_same to keep ps qs same = same_refusal (unspelled_in to keep) (same_fact to keep) ps qs same
 
 refusals_same : (number count : ℕ) (fact other : Unspelled) → refusals.Unspelled number fact ≡ refusals.Unspelled count other
     → to_unspelled number fact ≡ to_unspelled count other
 refusals_same number count fact other same = ap₂ to_unspelled (cc) (cc)
 
-one_conversion : (to : Format) (keep : Keep) (ps qs : List Play) (answer other : Answer) → AllPlayedAlike ps qs
+one_conversion : (to : Format) (keep : Keep) (ps qs : List Play) (answer other : Answer) → AreReadSame ps qs
     → IsConversion to keep ps answer → IsConversion to keep qs other → AreOneAnswer (tasks.Convert to keep) answer other
 one_conversion to keep ps qs _ _ alike (answers.NotSpelled number fact is) (answers.NotSpelled count more it) =
     one_itself (tasks.Convert to keep) (to_unspelled number fact) (to_unspelled count more)
@@ -167,15 +162,14 @@ one_conversion to keep ps qs _ _ alike (answers.NotSpelled number fact is) (answ
 one_conversion to keep ps qs _ _ alike (answers.Spelled none bytes spell back) (answers.NotSpelled number fact is) =
     let same = sym is ∙ sym (refusal_same to keep ps qs alike) ∙ none in absurd (cc (same))
 one_conversion to keep ps qs _ _ alike (answers.Spelled none bytes spell back) (answers.Spelled too others it again) =
-    one_output to keep ps qs bytes others alike spell it
+    one_output to keep bytes others (one_spelling to ps qs bytes others alike.sound alike.others_sound spell it (all_less (kept_in to) ps qs alike.hands))
 
 -- what is made of hands
-one_made : (task : Task) (ps qs : List Play) (answer other : Answer) → All IsJudged ps → AllTraced ps qs → AllAlike (hands_of ps) (hands_of qs)
+one_made : (task : Task) (ps qs : List Play) (answer other : Answer) → All IsJudged ps → AllTraced ps qs → AllAlike (hands_of ps) (hands_of qs) → AreReadSame ps qs
     → IsMadeOf task ps answer → IsMadeOf task qs other → AreOneAnswer task answer other
-one_made (tasks.Show command) ps qs answer other judged traced alike is it = is ∙ ap done (same_text command ps qs judged traced alike) ∙ sym it
-one_made tasks.GameFile ps qs answer other judged traced alike is it = is ∙ same_game ps qs traced ∙ sym it
-one_made (tasks.Convert to keep) ps qs answer other judged traced alike is it =
-    one_conversion to keep ps qs answer other (played_alike ps qs judged traced alike) is it
+one_made (tasks.Show command) ps qs answer other judged traced alike same is it = is ∙ ap done (same_text command ps qs judged traced alike) ∙ sym it
+one_made tasks.GameFile ps qs answer other judged traced alike same is it = is ∙ same_game ps qs traced ∙ sym it
+one_made (tasks.Convert to keep) ps qs answer other judged traced alike same is it = one_conversion to keep ps qs answer other same is it
 
 -- the hands of plays are alike where their records are
 alike_hands : (records others : List Record) (ps qs : List Play) → AllAlike records others → ArePlaysOf records ps → ArePlaysOf others qs
@@ -187,6 +181,9 @@ AllToldAlike : (FormatFault → Type 0) → Type 0
 AllToldAlike HaveFault =
     (fault other : FormatFault) (answer too : Answer) → HaveFault fault → HaveFault other → to_fault fault ≡ Some answer → to_fault other ≡ Some too → answer ≡ too
 
+AllReadSame : (List Record → Type 0) → Type 0
+AllReadSame Say = (plays others : List Play) → ReadAsPlays Say plays → ReadAsPlays Say others → AreReadSame plays others
+
 SayOrFault : (List Record → Type 0) → (FormatFault → Type 0) → Type 0
 SayOrFault Say HaveFault = (records : List Record) (fault : FormatFault) → Say records → HaveFault fault → ⊥
 
@@ -196,32 +193,32 @@ refused_or_played records others number why plays alike first are =
     no_plays records others number why plays (all_same records others alike) first are
 
 same_answer : (Say : List Record → Type 0) (HaveFault : FormatFault → Type 0) (task : Task) (answer other : Answer)
-    → IsReadAlike Say → AllToldAlike HaveFault → SayOrFault Say HaveFault
+    → IsReadAlike Say → AllReadSame Say → AllToldAlike HaveFault → SayOrFault Say HaveFault
     → IsAnswerTo Say HaveFault (IsMadeOf task) answer → IsAnswerTo Say HaveFault (IsMadeOf task) other → AreOneAnswer task answer other
-unfolding AllToldAlike SayOrFault
-same_answer Say HaveFault task answer other alike told apart (answers.Unread fault have _ is) (answers.Unread found has _ it) =
+unfolding AllReadSame AllToldAlike SayOrFault
+same_answer Say HaveFault task answer other alike same told apart (answers.Unread fault have _ is) (answers.Unread found has _ it) =
     one_itself task answer other (told fault found answer other have has is it)
-same_answer Say HaveFault task answer _ alike told apart (answers.Unread fault have _ is) (answers.Refused number why first) =
+same_answer Say HaveFault task answer _ alike same told apart (answers.Unread fault have _ is) (answers.Refused number why first) =
     absurd (apart first.records fault first.say have)
-same_answer Say HaveFault task answer other alike told apart (answers.Unread fault have _ is) (answers.Played plays read _ made) =
+same_answer Say HaveFault task answer other alike same told apart (answers.Unread fault have _ is) (answers.Played plays read _ made) =
     absurd (apart read.records fault read.say have)
-same_answer Say HaveFault task _ other alike told apart (answers.Refused number why first) (answers.Unread fault have _ is) =
+same_answer Say HaveFault task _ other alike same told apart (answers.Refused number why first) (answers.Unread fault have _ is) =
     absurd (apart first.records fault first.say have)
-same_answer Say HaveFault task _ _ alike told apart (answers.Refused number why first) (answers.Refused count reason next) =
+same_answer Say HaveFault task _ _ alike same told apart (answers.Refused number why first) (answers.Refused count reason next) =
     let one = same_refused first.records next.records number count why reason
     (all_same first.records next.records (alike first.records next.records first.say next.say)) first.first next.first in
     one_itself task (to_refusal number why) (to_refusal count reason) (ap₂ to_refusal one.0 one.1)
-same_answer Say HaveFault task _ other alike told apart (answers.Refused number why first) (answers.Played plays read _ made) =
+same_answer Say HaveFault task _ other alike same told apart (answers.Refused number why first) (answers.Played plays read _ made) =
     absurd (refused_or_played first.records read.records number why plays (alike first.records read.records first.say read.say) first.first read.are)
-same_answer Say HaveFault task answer other alike told apart (answers.Played plays read _ made) (answers.Unread fault have _ is) =
+same_answer Say HaveFault task answer other alike same told apart (answers.Played plays read _ made) (answers.Unread fault have _ is) =
     absurd (apart read.records fault read.say have)
-same_answer Say HaveFault task answer _ alike told apart (answers.Played plays read _ made) (answers.Refused number why first) =
+same_answer Say HaveFault task answer _ alike same told apart (answers.Played plays read _ made) (answers.Refused number why first) =
     absurd (refused_or_played first.records read.records number why plays (alike first.records read.records first.say read.say) first.first read.are)
-same_answer Say HaveFault task answer other alike told apart (answers.Played plays read _ made) (answers.Played too reads _ makes) =
+same_answer Say HaveFault task answer other alike same told apart (answers.Played plays read _ made) (answers.Played too reads _ makes) =
     let both = alike read.records reads.records read.say reads.say in
     one_made task plays too answer other read.are.judged
     (same_traces read.records reads.records plays too (all_same read.records reads.records both) read.are reads.are)
-    (alike_hands read.records reads.records plays too both read.are reads.are) made makes
+    (alike_hands read.records reads.records plays too both read.are reads.are) (same plays too read reads) made makes
 
 -- a fault of bytes is told in one way
 one_told : (reader : Format) (bytes : List ℕ) → AllToldAlike (HaveFault reader bytes)
@@ -257,19 +254,12 @@ one_told (readers.Acpc game) bytes (formats.Acpc fault) (formats.Ohh other) answ
 -- bytes with a fault say no records
 say_or_fault : (reader : Format) (bytes : List ℕ) → SayOrFault (SayRecords reader bytes) (HaveFault reader bytes)
 unfolding SayOrFault
-say_or_fault readers.Phh bytes records fault say have = history_laws.no_fault bytes records fault say have
-say_or_fault (readers.Ohh dialect) bytes records fault say have = ohh_laws.no_fault dialect bytes records fault say have
-say_or_fault (readers.Acpc game) bytes records fault say have = acpc_laws.no_fault game bytes records fault say have
+say_or_fault reader bytes records fault say have = no_fault reader bytes records fault say have
 
-pub no_fault : (reader : Format) (bytes : List ℕ) (records : List Record) (fault : FormatFault) → SayRecords reader bytes records → HaveFault reader bytes fault → ⊥
-unfolding SayOrFault
-no_fault reader bytes records fault say have = say_or_fault reader bytes records fault say have
-
--- the records of bytes are alike
-said_alike : (reader : Format) (bytes : List ℕ) → IsReadAlike (SayRecords reader bytes)
-said_alike readers.Phh bytes records others is it = phh_alike.one_reading bytes records others is it
-said_alike (readers.Ohh dialect) bytes records others is it = ohh_alike.one_reading dialect bytes records others is it
-said_alike (readers.Acpc game) bytes records others is it = acpc_alike.one_reading game bytes records others is it
+-- the plays of bytes are the same
+read_the_same : (reader : Format) (bytes : List ℕ) → AllReadSame (SayRecords reader bytes)
+unfolding AllReadSame
+read_the_same reader bytes plays others is it = all_read_same (read_by reader) bytes plays others is it
 
 pub one_answer : (task : Task) (reader : Format) (bytes : List ℕ) (answer other : Answer)
     → IsAnswer task reader bytes answer → IsAnswer task reader bytes other → AreOneAnswer task answer other
@@ -278,28 +268,28 @@ one_answer task reader bytes _ other (answers.TooLong many) (answers.Read few _ 
 one_answer task reader bytes answer _ (answers.Read few _ is) (answers.TooLong many) = absurd (omega (arith, many, few))
 one_answer task reader bytes answer other (answers.Read few _ is) (answers.Read less _ it) =
     same_answer (SayRecords reader bytes) (HaveFault reader bytes) task answer other
-    (said_alike reader bytes) (one_told reader bytes) (say_or_fault reader bytes) is it
+    (one_reading reader bytes) (read_the_same reader bytes) (one_told reader bytes) (say_or_fault reader bytes) is it
 
 -- what an input whose hands are all legal and agree is made of
 record IsMadeAlike (task : Task) (plays : List Play) (answer : Answer) : Type 0 where
   others : List Play
   traced : AllTraced plays others
-  alike : AllPlayedAlike plays others
+  same : AreReadSame plays others
   made : IsMadeOf task others answer
 
 made_of : (Say : List Record → Type 0) (HaveFault : FormatFault → Type 0) (task : Task) (records : List Record) (plays : List Play) (answer : Answer)
-    → IsReadAlike Say → SayOrFault Say HaveFault → Say records → ArePlaysOf records plays → IsAnswerTo Say HaveFault (IsMadeOf task) answer → IsMadeAlike task plays answer
-unfolding SayOrFault
-made_of Say HaveFault task records plays answer alike apart say are (answers.Unread fault have _ is) = absurd (apart records fault say have)
-made_of Say HaveFault task records plays _ alike apart say are (answers.Refused number why first) =
+    → IsReadAlike Say → AllReadSame Say → SayOrFault Say HaveFault → Say records → ArePlaysOf records plays → IsAnswerTo Say HaveFault (IsMadeOf task) answer → IsMadeAlike task plays answer
+unfolding AllReadSame SayOrFault
+made_of Say HaveFault task records plays answer alike same apart say are (answers.Unread fault have _ is) = absurd (apart records fault say have)
+made_of Say HaveFault task records plays _ alike same apart say are (answers.Refused number why first) =
     absurd (refused_or_played first.records records number why plays (alike first.records records first.say say) first.first are)
-made_of Say HaveFault task records plays answer alike apart say are (answers.Played too read _ makes) =
+made_of Say HaveFault task records plays answer alike same apart say are (answers.Played too read _ makes) =
     let both = alike records read.records say read.say in
     let traced = same_traces records read.records plays too (all_same records read.records both) are read.are in
     record {
       others = too;
       traced = traced;
-      alike = played_alike plays too are.judged traced (alike_hands records read.records plays too both are read.are);
+      same = same plays too (record { records = records; say = say; are = are }) read;
       made = makes;
     }
 
@@ -307,7 +297,7 @@ legal_made : (task : Task) (reader : Format) (bytes : List ℕ) (records : List 
     → SayRecords reader bytes records → ArePlaysOf records plays → IsAnswer task reader bytes answer → IsMadeAlike task plays answer
 legal_made task reader bytes records plays _ few is are (answers.TooLong many) = absurd (omega (arith, many, few))
 legal_made task reader bytes records plays answer few is are (answers.Read less _ to) =
-    made_of (SayRecords reader bytes) (HaveFault reader bytes) task records plays answer (said_alike reader bytes) (say_or_fault reader bytes) is are to
+    made_of (SayRecords reader bytes) (HaveFault reader bytes) task records plays answer (one_reading reader bytes) (read_the_same reader bytes) (say_or_fault reader bytes) is are to
 
 -- so its status is known
 shown_status : (command : Command) (plays : List Play) (answer : Answer) → IsMadeAlike (tasks.Show command) plays answer → answer.status ≡ statuses.Done
@@ -324,7 +314,7 @@ spelled_status to keep plays _ none (answers.Spelled spelled bytes spell back) =
 converted_status : (to : Format) (keep : Keep) (plays : List Play) (answer : Answer) → first_refusal_in to keep plays ≡ None
     → IsMadeAlike (tasks.Convert to keep) plays answer → answer.status ≡ statuses.Done
 converted_status to keep plays answer none is =
-    spelled_status to keep is.others answer (sym (refusal_same to keep plays is.others is.alike) ∙ none) is.made
+    spelled_status to keep is.others answer (sym (refusal_same to keep plays is.others is.same) ∙ none) is.made
 
 -- a file gives one game, or none
 no_game : (file : Option (List ℕ)) (game : AnyGame) (answer : Answer) → GivesGame file game → GivesNoGame file answer → ⊥

@@ -14,3 +14,4 @@ pub mod Lacking
 pub mod Told
 pub mod Run
 pub mod Headline
+pub mod RunTells

@@ -1,20 +1,21 @@
--- What plays are as they are written in a notation, the first of them that has no spelling there, and what it means that bytes read
--- back as them: the words of each notation.
-use Rattle.std.specs.Prelude.{ℕ, List, Option}
-use Rattle.acpc_format.specs.KeptNotes as kept_names
+-- What plays are as they are written in a notation, the first of them that has no spelling there, which notes are kept, when two
+-- files are the same, and what it means that bytes read back as plays: the words of each notation.
+use Rattle.std.specs.Prelude.{◌≡◌, ℕ, List, Option}
+use Rattle.acpc_format.specs.KeptNotes.{kept_in_acpc}
 use Rattle.acpc_writing.specs.Spelled as facts_in_acpc
 use Rattle.convert_core.specs.Phh as in_phh
 use Rattle.convert_core.specs.Acpc as in_acpc
 use Rattle.convert_core.specs.ReadBack.{ReadBack}
 use Rattle.convert_core.specs.Ohh as in_ohh
-use Rattle.hand_records.specs.declared.notes.Notes.{Notes}
+use Rattle.hand_records.specs.SaidNotes.{KeepsNotes, SaidNotes}
 use Rattle.hand_records.specs.declared.trace.Play.{Play}
 use Rattle.hand_records.specs.declared.writing.Keep.{Keep}
 use Rattle.hand_records.specs.declared.writing.Unspelled.{Unspelled}
 use Rattle.hand_records.specs.declared.writing.WriteRefusal.{WriteRefusal}
-use Rattle.ohh_format.specs.KeptNotes as kept_members
+use Rattle.ohh_format.specs.KeptNotes.{kept_in_ohh}
 use Rattle.ohh_writing.specs.Spelled as facts_in_ohh
-use Rattle.phh_format.specs.KeptNotes as kept_keys
+use Rattle.phh_format.specs.KeptNotes.{kept_in_phh}
+use Rattle.phh_format.specs.SameTables.{AreSameTable}
 use Rattle.phh_writing.specs.Spelled as history_facts
 use Rattle.poker_cli.specs.Inputs.{HaveFault, SayRecords}
 use Rattle.poker_cli.specs.declared.task.Format.{Format}
@@ -37,13 +38,19 @@ unspelled_in (readers.Acpc game) keep play = facts_in_acpc.unspelled game keep p
 abbrev pub first_refusal_in : Format → Keep → List Play → Option WriteRefusal
 first_refusal_in to keep plays = first_refusal (unspelled_in to keep) plays
 
--- what is read again of notes in a notation, at a place of the file, from 0, and for so many seats
-abbrev pub KeepsNotes : Format → ℕ → ℕ → Notes → Notes → Type 0
-KeepsNotes readers.Phh place seats notes again = kept_keys.KeepsNotes place seats notes again
-KeepsNotes (readers.Ohh dialect) place seats notes again = kept_members.KeepsNotes place seats notes again
-KeepsNotes (readers.Acpc game) place seats notes again = kept_names.KeepsNotes place seats notes again
+-- the notes that a notation spells
+abbrev pub kept_in : Format → SaidNotes → SaidNotes
+kept_in readers.Phh notes = kept_in_phh notes
+kept_in (readers.Ohh dialect) notes = kept_in_ohh notes
+kept_in (readers.Acpc game) notes = kept_in_acpc notes
+
+-- two files of a notation are the same: as tables, or byte for byte
+abbrev pub AreSameIn : Format → List ℕ → List ℕ → Type 0
+AreSameIn readers.Phh bytes too = AreSameTable bytes too
+AreSameIn (readers.Ohh dialect) bytes too = bytes ≡ too
+AreSameIn (readers.Acpc game) bytes too = bytes ≡ too
 
 -- bytes read back as plays in a notation: as many hands, each legal and with the whole trace of its play, stated facts that agree,
 -- and the kept notes
 abbrev pub ReadsBack : Format → List Play → List ℕ → Type 0
-ReadsBack to plays bytes = ReadBack (SayRecords to bytes) (HaveFault to bytes) (KeepsNotes to) plays
+ReadsBack to plays bytes = ReadBack (SayRecords to bytes) (HaveFault to bytes) (KeepsNotes (kept_in to)) plays

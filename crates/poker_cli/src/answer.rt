@@ -1,6 +1,7 @@
 //! The answer to the bytes of an input, as they are read and what is made of their hands.
 ghost use Rattle.std.specs.Prelude.{◌≡◌, ◌≤◌, All, Some, length, IfOk, string_bytes};
 ghost use Rattle.convert_core.specs.ReadBack.{ReadBack};
+ghost use Rattle.hand_records.specs.SaidNotes.{KeepsNotes};
 ghost use Rattle.first_fault.specs.declared.limits.TheConstants.{MOST_HANDS};
 ghost use Rattle.hand_canon.specs.Sound.{IsSound};
 ghost use Rattle.poker_cli.specs.Answer as definition;
@@ -159,7 +160,8 @@ fn answer_with_conversion<N: Notation, M: Notation>(
     ensures answer { IfOk result (λ answer. IsAnswerTo (N.Say from.now bytes.now)
         (N.HaveFault from.now bytes.now)
         (IsWritten (M.unspelled to.now keep) (M.Spell to.now) (λ plays output.
-        ReadBack (M.Say to.now output) (M.HaveFault to.now output) (M.KeepsNotes to.now) plays))
+        ReadBack (M.Say to.now output) (M.HaveFault to.now output)
+        (KeepsNotes (M.kept to.now)) plays))
         (answer_told answer)) }
     ensures own { IfOk result (λ answer. IsOfInput answer.status) }
 {

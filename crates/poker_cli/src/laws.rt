@@ -1,21 +1,29 @@
-//! An input has one answer, and none is refused whose hands are all legal.
-ghost use Rattle.std.specs.Prelude.{◌≡◌, ◌⊎◌, ◌≤◌, ℕ, List, None, length};
+//! An input has one answer, none is refused whose hands are all legal, and equal hands come to equal
+//! outputs, by whatever way.
+ghost use Rattle.std.specs.Prelude.{◌≡◌, ◌⊎◌, ◌↔◌, ◌≤◌, ℕ, List, None, Ok, length};
 ghost use Rattle.command_words.specs.Words.{Convert, Game, Load, NotationName, Show};
 ghost use Rattle.command_words.specs.declared.command.Command.{Command};
 ghost use Rattle.command_words.specs.declared.request.Keep.{Keep};
+ghost use Rattle.hand_records.specs.SameHands.{AreSameHands, kept_notes};
 ghost use Rattle.hand_records.specs.declared.record.Record.{Record};
 ghost use Rattle.hand_records.specs.declared.trace.Play.{Play};
+ghost use Rattle.hand_records.specs.declared.writing.Keep.{Keep as KeptNotes};
+ghost use Rattle.hand_records.specs.declared.writing.Keep.TheVariants as keeps;
 ghost use Rattle.poker_cli.specs.Answer.{Answer, Files, IsAnswer, IsWay, most_input, to_first_game};
+ghost use Rattle.poker_cli.specs.Headline.{ConversionEnds, ConvertsInto};
 ghost use Rattle.poker_cli.specs.Inputs.{SayRecords};
 ghost use Rattle.poker_cli.specs.OneAnswer.{AreOneAnswer};
-ghost use Rattle.poker_cli.specs.Outputs.{first_refusal_in};
+ghost use Rattle.poker_cli.specs.Outputs.{AreSameIn, first_refusal_in, kept_in};
 ghost use Rattle.poker_cli.specs.Run.{Ends, NeedsNoInput, RefusesNothing, Sinks};
+ghost use Rattle.poker_cli.specs.RunTells.{told_by};
 ghost use Rattle.poker_cli.specs.Ways.{kept, way};
 ghost use Rattle.poker_cli.specs.declared.status.Status.{Status};
 ghost use Rattle.poker_cli.specs.declared.task.Format.{Format};
 ghost use Rattle.poker_cli.specs.declared.task.Task.{Task};
 ghost use Rattle.poker_cli.specs.declared.task.Task.TheVariants as tasks;
+ghost use Rattle.convert_core.specs.Conversion.{ReadAsPlays};
 ghost use Rattle.convert_core.specs.Judged.{ArePlaysOf};
+ghost use Rattle.convert_core.specs.SameAnswers.{AreSameAnswers};
 
 /// The bytes of an input have one answer to a task, as they are read; where hands are written in the Poker Hand History
 /// format, TOML reads all answers alike. The function does nothing: its contract is a law.
@@ -57,4 +65,43 @@ pub fn law_of_legal_inputs()
     ensures load { (seed hands : ℕ) (files : Files) (bytes : List ℕ)
         → (out diag : Sinks) (status : Status)
         → Ends (Load seed hands) files bytes out diag status → NeedsNoInput status }
+{}
+
+/// Two inputs, in any notations, that are converted into one notation with one choice of notes: their
+/// outputs are the same exactly where their hands have the same traces and the same kept notes, hand
+/// by hand. The function does nothing: its contract is a law.
+pub fn law_of_equal_runs()
+    ensures { (from other to : Format) (keep : KeptNotes) (bytes too output written : List ℕ)
+        → (plays others : List Play)
+        → ReadAsPlays (SayRecords from bytes) plays → ReadAsPlays (SayRecords other too) others
+        → ConvertsInto from to keep bytes output → ConvertsInto other to keep too written
+        → AreSameHands (kept_notes keep (kept_in to)) plays others
+        ↔ AreSameIn to output written }
+{}
+
+/// An output is converted to its own notation once more as the same output, whichever notes are kept
+/// then, unless a device fails, memory is wanting, or the output is too long for an input. The
+/// function does nothing: its contract is a law.
+pub fn law_of_runs_again()
+    ensures { (from to : Format) (keep again : KeptNotes) (bytes output : List ℕ)
+        → ConvertsInto from to keep bytes output
+        → (out diag : Sinks) (status : Status)
+        → (ends : ConversionEnds to to again output out diag status)
+        → AreSameAnswers (AreSameIn to) (Ok output)
+        (told_by to to again output out diag status ends) }
+{}
+
+/// A conversion may go by another notation. Where bytes are converted with all notes, a run on the
+/// output and a run on the bytes, into a third notation and with one choice of notes, tell the same:
+/// the same output, or the same hand and its same fact without a spelling; unless a device fails,
+/// memory is wanting, or the output is too long for an input. The function does nothing: its contract
+/// is a law.
+pub fn law_of_runs_by_way()
+    ensures { (from by to : Format) (keep : KeptNotes) (bytes output : List ℕ)
+        → ConvertsInto from by keeps.All bytes output
+        → (out diag by_out by_diag : Sinks) (status by_status : Status)
+        → (straight : ConversionEnds from to keep bytes out diag status)
+        → (by_way : ConversionEnds by to keep output by_out by_diag by_status)
+        → AreSameAnswers (AreSameIn to) (told_by from to keep bytes out diag status straight)
+        (told_by by to keep output by_out by_diag by_status by_way) }
 {}

@@ -4,6 +4,7 @@ pub mod Readings
 pub mod SameRows
 pub mod OneSharing
 pub mod OneTrace
+pub mod SameWords
 pub mod ShareBounds
 pub mod TraceChips
 pub mod TraceStacks

@@ -1,10 +1,19 @@
+use Rattle.hand_records.specs.SaidNotes.{KeepsNotes}
 use Rattle.convert_core.specs.ReadBack.{ReadBack}
-use Rattle.convert_core.proofs.OneConversion.{converted_alone}
+use Rattle.convert_core.proofs.Conversions.{converted_alone}
+use Rattle.convert_core.proofs.LawfulNotations.{ReadNotation}
 use Rattle.convert_core.proofs.laws.law_of_legal_conversions.Goals as goal
 
 pub returns : goal.returns
 returns g c = λ bytes plays answer read spelled is.
-    converted_alone (g.N.Notation.Say c.args.from.now bytes) (g.N.Notation.HaveFault c.args.from.now bytes) (g.M.Notation.unspelled c.args.to.now c.args.keep) (g.M.Notation.Spell c.args.to.now)
-    (λ kept output. ReadBack (g.M.Notation.Say c.args.to.now output) (g.M.Notation.HaveFault c.args.to.now output) (g.M.Notation.KeepsNotes c.args.to.now) kept)
-    (g.met.N.Notation.one_reading c.args.from.now bytes) (g.met.N.Notation.no_fault c.args.from.now bytes) (g.met.M.Notation.one_fact c.args.to.now c.args.keep)
+    let from : ReadNotation = record {
+      rules = g.N.Notation.rules_of c.args.from.now;
+      Say = g.N.Notation.Say c.args.from.now;
+      HaveFault = g.N.Notation.HaveFault c.args.from.now;
+      reads_file = g.met.N.Notation.reads_file c.args.from.now;
+      no_fault = g.met.N.Notation.no_fault c.args.from.now;
+      one_reading = g.met.N.Notation.one_reading c.args.from.now;
+    } in
+    converted_alone from bytes (g.M.Notation.unspelled c.args.to.now c.args.keep) (g.met.M.Notation.same_fact c.args.to.now c.args.keep) (g.M.Notation.Spell c.args.to.now)
+    (λ kept output. ReadBack (g.M.Notation.Say c.args.to.now output) (g.M.Notation.HaveFault c.args.to.now output) (KeepsNotes (g.M.Notation.kept c.args.to.now)) kept)
     plays answer read spelled is

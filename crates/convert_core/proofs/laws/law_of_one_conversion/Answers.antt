@@ -1,4 +1,6 @@
-use Rattle.convert_core.proofs.OneConversion.{one_refused_hand, one_unspelled, refused_or_played, spelled_or_not}
+use Rattle.convert_core.proofs.Conversions.{one_unspelled, spelled_or_not}
+use Rattle.convert_core.proofs.LawfulNotations.{ReadNotation}
+use Rattle.convert_core.proofs.OneConversion.{one_refused_hand, refused_or_played}
 use Rattle.convert_core.proofs.laws.law_of_one_conversion.Goals as goal
 
 pub returns-clause-refused : goal.returns-clause-refused
@@ -11,8 +13,24 @@ returns-clause-played g c = λ bytes.
 
 pub returns-clause-unspelled : goal.returns-clause-unspelled
 returns-clause-unspelled g c = λ bytes.
-    one_unspelled (g.N.Notation.Say c.args.from.now bytes) (g.M.Notation.unspelled c.args.to.now c.args.keep) (g.met.N.Notation.one_reading c.args.from.now bytes) (g.met.M.Notation.one_fact c.args.to.now c.args.keep)
+    let from : ReadNotation = record {
+      rules = g.N.Notation.rules_of c.args.from.now;
+      Say = g.N.Notation.Say c.args.from.now;
+      HaveFault = g.N.Notation.HaveFault c.args.from.now;
+      reads_file = g.met.N.Notation.reads_file c.args.from.now;
+      no_fault = g.met.N.Notation.no_fault c.args.from.now;
+      one_reading = g.met.N.Notation.one_reading c.args.from.now;
+    } in
+    one_unspelled from bytes (g.M.Notation.unspelled c.args.to.now c.args.keep) (g.met.M.Notation.same_fact c.args.to.now c.args.keep)
 
 pub returns-clause-spelled : goal.returns-clause-spelled
 returns-clause-spelled g c = λ bytes.
-    spelled_or_not (g.N.Notation.Say c.args.from.now bytes) (g.M.Notation.unspelled c.args.to.now c.args.keep) (g.met.N.Notation.one_reading c.args.from.now bytes) (g.met.M.Notation.one_fact c.args.to.now c.args.keep)
+    let from : ReadNotation = record {
+      rules = g.N.Notation.rules_of c.args.from.now;
+      Say = g.N.Notation.Say c.args.from.now;
+      HaveFault = g.N.Notation.HaveFault c.args.from.now;
+      reads_file = g.met.N.Notation.reads_file c.args.from.now;
+      no_fault = g.met.N.Notation.no_fault c.args.from.now;
+      one_reading = g.met.N.Notation.one_reading c.args.from.now;
+    } in
+    spelled_or_not from bytes (g.M.Notation.unspelled c.args.to.now c.args.keep) (g.met.M.Notation.same_fact c.args.to.now c.args.keep)

@@ -1,0 +1,262 @@
+-- Bytes come to one conversion, equal outputs are those of equal hands, an output is converted to itself, and a conversion may go by
+-- another notation: from the laws that notations keep.
+use Rattle.std.proofs.Common.{◌≡◌, ℕ, ◌<◌, ◌≤◌, List, Option, Some, None, Result, Ok, Err, length, sym, ap, ◌∙◌, ◌↔◌, arith}
+use Rattle.std.specs.List.{AllByRecursion}
+use Rattle.first_fault.specs.declared.limits.TheConstants.{MOST_HANDS}
+use Rattle.hand_canon.specs.Sound.{IsSound}
+use Rattle.hand_records.specs.WriteRefusals.{first_refusal}
+use Rattle.hand_records.specs.declared.trace.Play.{Play}
+use Rattle.hand_records.specs.declared.writing.Keep.{Keep}
+use Rattle.hand_records.specs.declared.writing.Keep.TheVariants as keeps
+use Rattle.hand_records.specs.declared.writing.Unspelled.{Unspelled}
+use Rattle.hand_records.specs.declared.writing.WriteRefusal.TheVariants as refusals
+use Rattle.convert_core.specs.Conversion.{HasUnspelled, IsConversion, ReadAsPlays, RefusesNothing}
+use Rattle.convert_core.specs.ReadBack.{ReadBack}
+use Rattle.convert_core.specs.declared.convert_fault.ConvertFault.{ConvertFault}
+use Rattle.convert_core.specs.declared.convert_fault.ConvertFault.TheVariants as faults
+use Rattle.convert_core.proofs.OneConversion.{refused_or_played}
+use Rattle.hand_records.specs.SaidNotes.{KeepsNotes, SaidNotes, notes_of}
+use Rattle.convert_core.specs.SameAnswers.{AreSameAnswers}
+use Rattle.hand_records.specs.SameHands.{AllPaired, AreSameHand, kept_notes}
+use Rattle.convert_core.proofs.Paired.{each_both, each_second, each_spelled, none_unspelled, one_refusal, paired_below, paired_both, paired_more, paired_turned}
+use Rattle.convert_core.proofs.LawfulNotations.{AreReadSame, IsReadAgain, ReadNotation, WrittenNotation, all_read_same, never_refused, read_again, read_few, read_same, read_sound}
+
+-- the answer of a conversion between two notations
+abbrev pub Converts : ReadNotation → WrittenNotation → Keep → List ℕ → Result (List ℕ) ConvertFault → Type 0
+Converts a n keep bytes answer =
+    IsConversion (a.Say bytes) (a.HaveFault bytes) (n.unspelled keep) n.Spell
+    (λ plays output. ReadBack (n.source.Say output) (n.source.HaveFault output) (KeepsNotes n.kept) plays) (λ output. output) answer
+
+-- ---- pairs
+
+same_turned : (kept : SaidNotes → SaidNotes) (place : ℕ) (play other : Play) → AreSameHand kept place play other → AreSameHand kept place other play
+same_turned kept place play other same = record { trace = sym same.trace; notes = sym same.notes }
+
+same_both : (kept : SaidNotes → SaidNotes) (place : ℕ) (a b c : Play) → AreSameHand kept place a b → AreSameHand kept place b c → AreSameHand kept place a c
+same_both kept place a b c same more = record { trace = same.trace ∙ more.trace; notes = same.notes ∙ more.notes }
+
+-- what is the same is the same where less is kept
+same_less : (kept : SaidNotes → SaidNotes) (place : ℕ) (play other : Play) → AreSameHand (λ notes. notes) place play other → AreSameHand kept place play other
+same_less kept place play other same = record { trace = same.trace; notes = ap kept same.notes }
+
+all_turned : (kept : SaidNotes → SaidNotes) (plays others : List Play) → AllPaired (AreSameHand kept) 0 plays others → AllPaired (AreSameHand kept) 0 others plays
+all_turned kept plays others all = paired_turned (AreSameHand kept) (AreSameHand kept) (same_turned kept) 0 plays others all
+
+all_both : (kept : SaidNotes → SaidNotes) (plays others more : List Play) → AllPaired (AreSameHand kept) 0 plays others → AllPaired (AreSameHand kept) 0 others more → AllPaired (AreSameHand kept) 0 plays more
+all_both kept plays others more all rest = paired_both (AreSameHand kept) (AreSameHand kept) (AreSameHand kept) (same_both kept) 0 plays others more all rest
+
+pub all_less : (kept : SaidNotes → SaidNotes) (plays others : List Play) → AllPaired (AreSameHand (λ notes. notes)) 0 plays others → AllPaired (AreSameHand kept) 0 plays others
+all_less kept plays others all = paired_more (AreSameHand (λ notes. notes)) (AreSameHand kept) (same_less kept) 0 plays others all
+
+-- ---- notes that are kept
+
+module _ (n : WrittenNotation) where
+  -- a sound play of which each fact and note is spelled
+  abbrev IsWhole : Play → Type 0
+  IsWhole play = IsSound play × (n.unspelled keeps.All play ≡ None)
+
+  each_whole : (plays : List Play) → AllByRecursion IsSound plays → first_refusal (n.unspelled keeps.All) plays ≡ None → AllByRecursion IsWhole plays
+  each_whole plays sound none =
+      each_both IsSound (λ play. n.unspelled keeps.All play ≡ None) IsWhole (λ play is spelled. (is, spelled)) plays sound (each_spelled (n.unspelled keeps.All) 1 plays none)
+
+  -- plays of which all notes are spelled are the same where those are that the notation spells
+  hand_more : (place : ℕ) (play other : Play) → place < MOST_HANDS → IsWhole play → IsWhole other → AreSameHand n.kept place play other → AreSameHand (λ notes. notes) place play other
+  hand_more place play other early is it same =
+      record {
+        trace = same.trace;
+        notes = sym ((n.all_spelled place play early is.0).0 is.1).1 ∙ same.notes ∙ ((n.all_spelled place other early it.0).0 it.1).1;
+      }
+
+  all_more : (plays others : List Play) → length plays ≤ MOST_HANDS → AllByRecursion IsWhole plays → AllByRecursion IsWhole others
+      → AllPaired (AreSameHand n.kept) 0 plays others → AllPaired (AreSameHand (λ notes. notes)) 0 plays others
+  all_more plays others few each too all =
+      paired_below MOST_HANDS (AreSameHand n.kept) (AreSameHand (λ notes. notes)) IsWhole IsWhole hand_more 0 plays others (omega (arith, few)) each too all
+
+  -- so what is kept may be told by the choice of notes
+  to_kept : (keep : Keep) (plays others : List Play) → AllPaired (AreSameHand (kept_notes keep n.kept)) 0 plays others → AllPaired (AreSameHand n.kept) 0 plays others
+  to_kept keeps.All plays others all = all_less n.kept plays others all
+  to_kept keeps.Spelled plays others all = all
+
+  from_kept : (keep : Keep) (plays others : List Play) → length plays ≤ MOST_HANDS → AllByRecursion IsSound plays → AllByRecursion IsSound others
+      → first_refusal (n.unspelled keep) plays ≡ None → first_refusal (n.unspelled keep) others ≡ None
+      → AllPaired (AreSameHand n.kept) 0 plays others → AllPaired (AreSameHand (kept_notes keep n.kept)) 0 plays others
+  from_kept keeps.All plays others few sound too none no_other all = all_more plays others few (each_whole plays sound none) (each_whole others too no_other) all
+  from_kept keeps.Spelled plays others few sound too none no_other all = all
+
+  whole_kept : (keep : Keep) (plays others : List Play) → AllPaired (AreSameHand (λ notes. notes)) 0 plays others → AllPaired (AreSameHand (kept_notes keep n.kept)) 0 plays others
+  whole_kept keep plays others all = all_less (kept_notes keep n.kept) plays others all
+
+-- ---- one answer to bytes
+
+-- a fact without a spelling is told by the trace and by what is said in the notes
+abbrev pub IsToldByHand : (Play → Option Unspelled) → Type 0
+IsToldByHand unspelled = (place : ℕ) (play other : Play) → place < MOST_HANDS → IsSound play → IsSound other → AreSameHand (λ notes. notes) place play other
+    → unspelled play ≡ unspelled other
+
+-- plays that are the same have one first refusal
+pub same_refusal : (unspelled : Play → Option Unspelled) → IsToldByHand unspelled → (plays others : List Play) → AreReadSame plays others
+    → first_refusal unspelled plays ≡ first_refusal unspelled others
+same_refusal unspelled told plays others same =
+    one_refusal unspelled 1 0 plays others
+    (paired_below MOST_HANDS (AreSameHand (λ notes. notes)) (λ _ play other. unspelled play ≡ unspelled other) IsSound IsSound
+    (λ place play other early is it pair. told place play other early is it pair) 0 plays others
+    (omega (arith, same.few)) same.sound same.others_sound same.hands)
+
+module _ (n : ReadNotation) (bytes : List ℕ) (unspelled : Play → Option Unspelled) (told : IsToldByHand unspelled) where
+  -- the plays of bytes have one first refusal
+  first_of_bytes : (plays others : List Play) → ReadAsPlays (n.Say bytes) plays → ReadAsPlays (n.Say bytes) others → first_refusal unspelled plays ≡ first_refusal unspelled others
+  first_of_bytes plays others is it = same_refusal unspelled told plays others (all_read_same n bytes plays others is it)
+
+  pub one_unspelled : (number other : ℕ) (fact too : Unspelled) → HasUnspelled (n.Say bytes) unspelled number fact → HasUnspelled (n.Say bytes) unspelled other too → (number ≡ other) × (fact ≡ too)
+  one_unspelled number other fact too is it =
+      let same : Some (refusals.Unspelled number fact) ≡ Some (refusals.Unspelled other too) = sym is.first ∙ first_of_bytes is.plays it.plays is.read it.read ∙ it.first in
+      (cc, cc)
+
+  pub spelled_or_not : (number : ℕ) (fact : Unspelled) (plays : List Play) → HasUnspelled (n.Say bytes) unspelled number fact → ReadAsPlays (n.Say bytes) plays → first_refusal unspelled plays ≡ None → ⊥
+  spelled_or_not number fact plays is played spelled =
+      let same : Some (refusals.Unspelled number fact) ≡ None = sym is.first ∙ first_of_bytes is.plays plays is.read played ∙ spelled in
+      cc
+
+  -- bytes whose hands all have their plays, and each fact to be kept a spelling, are converted, unless memory is wanting
+  pub converted_alone : (Spell Back : List Play → List ℕ → Type 0) (plays : List Play) (answer : Result (List ℕ) ConvertFault) → ReadAsPlays (n.Say bytes) plays → first_refusal unspelled plays ≡ None
+      → IsConversion (n.Say bytes) (n.HaveFault bytes) unspelled Spell Back (λ output. output) answer → RefusesNothing answer
+  converted_alone Spell Back plays (Ok output) read spelled is = tt
+  converted_alone Spell Back plays (Err (faults.Format fault)) read spelled is = n.no_fault bytes read.records fault read.say is
+  converted_alone Spell Back plays (Err (faults.Refused number why)) read spelled is = refused_or_played (n.Say bytes) (n.one_reading bytes) number why plays is read
+  converted_alone Spell Back plays (Err (faults.Unspelled number fact)) read spelled is = spelled_or_not number fact plays is read spelled
+  converted_alone Spell Back plays (Err faults.Memory) read spelled is = tt
+
+-- ---- equal outputs, equal hands
+
+pub equal_outputs : (a b : ReadNotation) (n : WrittenNotation) (keep : Keep) (bytes too output written : List ℕ) (plays others : List Play)
+    → ReadAsPlays (a.Say bytes) plays → ReadAsPlays (b.Say too) others → Converts a n keep bytes (Ok output) → Converts b n keep too (Ok written)
+    → AllPaired (AreSameHand (kept_notes keep n.kept)) 0 plays others ↔ n.AreSame output written
+equal_outputs a b n keep bytes too output written plays others read other_read done other_done =
+    let kept : SaidNotes → SaidNotes = kept_notes keep n.kept in
+    let here = whole_kept n keep plays done.plays (read_same a bytes plays done.plays read done.read) in
+    let there = whole_kept n keep others other_done.plays (read_same b too others other_done.plays other_read other_done.read) in
+    let sound = read_sound a bytes done.plays done.read in
+    let other_sound = read_sound b too other_done.plays other_done.read in
+    let few = read_few a bytes done.plays done.read in
+    let other_few = read_few b too other_done.plays other_done.read in (
+      (λ same.
+          n.one_spelling done.plays other_done.plays output written sound other_sound done.spell other_done.spell
+          (to_kept n keep done.plays other_done.plays
+          (all_both kept done.plays plays other_done.plays (all_turned kept plays done.plays here) (all_both kept plays others other_done.plays same there)))),
+      (λ same.
+          let all = n.same_hands keep done.plays other_done.plays output written few other_few sound other_sound done.spelled other_done.spelled done.spell other_done.spell same in
+          let kept_all = from_kept n keep done.plays other_done.plays few.few sound other_sound done.spelled other_done.spelled all in
+          all_both kept plays done.plays others here (all_both kept done.plays other_done.plays others kept_all (all_turned kept others other_done.plays there))),
+    )
+
+-- ---- an output once more
+
+-- a play that is read again of one without an unspelled fact has none, whatever is kept
+fact_again : (n : WrittenNotation) (keep once : Keep) (place : ℕ) (play again : Play) → place < MOST_HANDS → IsSound play → IsSound again → n.unspelled once play ≡ None → IsReadAgain n.kept place play again
+    → n.unspelled keep again ≡ None
+fact_again n keep once place play again early sound too none is = by_keep keep
+  where
+    least : (once : Keep) → n.unspelled once play ≡ None → n.unspelled keeps.Spelled play ≡ None
+    least keeps.All spelled = ((n.all_spelled place play early sound).0 spelled).0
+    least keeps.Spelled spelled = spelled
+
+    here : n.unspelled keeps.Spelled again ≡ None
+    here = n.trace_fact again play is.trace ∙ least once none
+
+    notes : n.kept (notes_of place again) ≡ notes_of place again
+    notes = ap n.kept is.notes ∙ n.kept_again (notes_of place play) ∙ sym is.notes
+
+    by_keep : (keep : Keep) → n.unspelled keep again ≡ None
+    by_keep keeps.All = (n.all_spelled place again early too).1 (here, notes)
+    by_keep keeps.Spelled = here
+
+-- it is the same play, as far as notes are kept
+same_again : (n : WrittenNotation) (place : ℕ) (play again : Play) → IsReadAgain n.kept place play again → AreSameHand n.kept place play again
+same_again n place play again is = record { trace = sym is.trace; notes = sym (ap n.kept is.notes ∙ n.kept_again (notes_of place play)) }
+
+module _ (n : WrittenNotation) (keep once : Keep) (plays : List Play) (output : List ℕ) (few : length plays ≤ MOST_HANDS) (sound : AllByRecursion IsSound plays)
+    (spelled : first_refusal (n.unspelled once) plays ≡ None) (spell : n.Spell plays output) (back : ReadBack (n.source.Say output) (n.source.HaveFault output) (KeepsNotes n.kept) plays) where
+  none_again : (again : List Play) → ReadAsPlays (n.source.Say output) again → first_refusal (n.unspelled keep) again ≡ None
+  none_again again read =
+      let P : Play → Type 0 = λ play. IsSound play × (n.unspelled once play ≡ None) in
+      let pairs = read_again n plays again output back read in
+      let facts : AllPaired (λ _ _ other. n.unspelled keep other ≡ None) 0 plays again =
+      paired_below MOST_HANDS (IsReadAgain n.kept) (λ _ _ other. n.unspelled keep other ≡ None) P IsSound
+      (λ place play other early is it pair. fact_again n keep once place play other early is.0 it is.1 pair) 0 plays again (omega (arith, few))
+      (each_both IsSound (λ play. n.unspelled once play ≡ None) P (λ play is fact. (is, fact)) plays sound (each_spelled (n.unspelled once) 1 plays spelled))
+      (read_sound n.source output again read) pairs in
+      none_unspelled (n.unspelled keep) 1 again
+      (each_second (λ _ _ other. n.unspelled keep other ≡ None) (λ play. IsSound play) (λ other. n.unspelled keep other ≡ None) (λ place play other is fact. fact) 0 plays again sound facts)
+
+  pub answer_again : (answer : Result (List ℕ) ConvertFault) → Converts n.source n keep output answer → AreSameAnswers n.AreSame (Ok output) answer
+  answer_again (Ok written) done =
+      n.one_spelling plays done.plays output written sound (read_sound n.source output done.plays done.read) spell done.spell
+      (paired_more (IsReadAgain n.kept) (AreSameHand n.kept) (same_again n) 0 plays done.plays (read_again n plays done.plays output back done.read))
+  answer_again (Err (faults.Format fault)) have = back.no_fault fault have
+  answer_again (Err (faults.Refused number why)) refused = never_refused n plays output number why back refused
+  answer_again (Err (faults.Unspelled number fact)) has =
+      let none : first_refusal (n.unspelled keep) has.plays ≡ None = none_again has.plays has.read in
+      absurd (cc (none, has.first))
+  answer_again (Err faults.Memory) memory = tt
+
+pub output_again : (a : ReadNotation) (n : WrittenNotation) (once keep : Keep) (bytes output : List ℕ) (answer : Result (List ℕ) ConvertFault)
+    → Converts a n once bytes (Ok output) → Converts n.source n keep output answer → AreSameAnswers n.AreSame (Ok output) answer
+output_again a n once keep bytes output answer done again =
+    answer_again n keep once done.plays output (read_few a bytes done.plays done.read).few (read_sound a bytes done.plays done.read) done.spelled done.spell done.back answer again
+
+-- ---- by way of another notation
+
+-- a play that is read again of one whose notes are all spelled is the same
+whole_again : (n : WrittenNotation) (place : ℕ) (play again : Play) → place < MOST_HANDS → IsWhole n play → IsReadAgain n.kept place play again → AreSameHand (λ notes. notes) place play again
+whole_again n place play again early is pair =
+    record { trace = sym pair.trace; notes = sym (pair.notes ∙ ((n.all_spelled place play early is.0).0 is.1).1) }
+
+module _ (a : ReadNotation) (b c : WrittenNotation) (keep : Keep) (bytes output : List ℕ) (done : Converts a b keeps.All bytes (Ok output)) where
+  -- what the output reads as is what the bytes read as
+  by_way : (plays again : List Play) → ReadAsPlays (a.Say bytes) plays → ReadAsPlays (b.source.Say output) again → AllPaired (AreSameHand (λ notes. notes)) 0 plays again
+  by_way plays again read read_too =
+      let few = read_few a bytes done.plays done.read in
+      let each = each_whole b done.plays (read_sound a bytes done.plays done.read) done.spelled in
+      all_both (λ notes. notes) plays done.plays again (read_same a bytes plays done.plays read done.read)
+      (paired_below MOST_HANDS (IsReadAgain b.kept) (AreSameHand (λ notes. notes)) (IsWhole b) IsSound
+      (λ place play other early is it pair. whole_again b place play other early is pair) 0 done.plays again (omega (arith, few.few)) each
+      (read_sound b.source output again read_too) (read_again b done.plays again output done.back read_too))
+
+  -- so both have one first fact without a spelling
+  one_first : (plays again : List Play) → ReadAsPlays (a.Say bytes) plays → ReadAsPlays (b.source.Say output) again → first_refusal (c.unspelled keep) plays ≡ first_refusal (c.unspelled keep) again
+  one_first plays again read read_too =
+      one_refusal (c.unspelled keep) 1 0 plays again
+      (paired_below MOST_HANDS (AreSameHand (λ notes. notes)) (λ _ play other. c.unspelled keep play ≡ c.unspelled keep other) IsSound IsSound
+      (λ place play other early is it pair. c.same_fact keep place play other early is it pair) 0 plays again
+      (omega (arith, (read_few a bytes plays read).few)) (read_sound a bytes plays read) (read_sound b.source output again read_too) (by_way plays again read read_too))
+
+  done_or_not : (plays again : List Play) (number : ℕ) (fact : Unspelled) → ReadAsPlays (a.Say bytes) plays → ReadAsPlays (b.source.Say output) again
+      → first_refusal (c.unspelled keep) plays ≡ None → first_refusal (c.unspelled keep) again ≡ Some (refusals.Unspelled number fact) → ⊥
+  done_or_not plays again number fact read read_too none some = (let same = one_first plays again read read_too in cc)
+
+  not_or_done : (plays again : List Play) (number : ℕ) (fact : Unspelled) → ReadAsPlays (a.Say bytes) plays → ReadAsPlays (b.source.Say output) again
+      → first_refusal (c.unspelled keep) plays ≡ Some (refusals.Unspelled number fact) → first_refusal (c.unspelled keep) again ≡ None → ⊥
+  not_or_done plays again number fact read read_too some none = (let same = one_first plays again read read_too in cc)
+
+  pub same_answers : (first second : Result (List ℕ) ConvertFault) → Converts a c keep bytes first → Converts b.source c keep output second → AreSameAnswers c.AreSame first second
+  same_answers (Err (faults.Format fault)) second is it = absurd (a.no_fault bytes done.read.records fault done.read.say is)
+  same_answers (Err (faults.Refused number why)) second is it = absurd (refused_or_played (a.Say bytes) (a.one_reading bytes) number why done.plays is done.read)
+  same_answers (Ok written) (Ok again) is it =
+      c.one_spelling is.plays it.plays written again (read_sound a bytes is.plays is.read) (read_sound b.source output it.plays it.read) is.spell it.spell
+      (all_less c.kept is.plays it.plays (by_way is.plays it.plays is.read it.read))
+  same_answers (Ok written) (Err (faults.Format fault)) is it = done.back.no_fault fault it
+  same_answers (Ok written) (Err (faults.Refused number why)) is it = never_refused b done.plays output number why done.back it
+  same_answers (Ok written) (Err (faults.Unspelled number fact)) is it = done_or_not is.plays it.plays number fact is.read it.read is.spelled it.first
+  same_answers (Ok written) (Err faults.Memory) is it = tt
+  same_answers (Err (faults.Unspelled number fact)) (Ok again) is it = not_or_done is.plays it.plays number fact is.read it.read is.first it.spelled
+  same_answers (Err (faults.Unspelled number fact)) (Err (faults.Format other)) is it = done.back.no_fault other it
+  same_answers (Err (faults.Unspelled number fact)) (Err (faults.Refused other why)) is it = never_refused b done.plays output other why done.back it
+  same_answers (Err (faults.Unspelled number fact)) (Err (faults.Unspelled other too)) is it =
+      let same : Some (refusals.Unspelled number fact) ≡ Some (refusals.Unspelled other too) = sym is.first ∙ one_first is.plays it.plays is.read it.read ∙ it.first in
+      (cc, cc)
+  same_answers (Err (faults.Unspelled number fact)) (Err faults.Memory) is it = tt
+  same_answers (Err faults.Memory) (Ok again) is it = tt
+  same_answers (Err faults.Memory) (Err (faults.Format fault)) is it = done.back.no_fault fault it
+  same_answers (Err faults.Memory) (Err (faults.Refused number why)) is it = never_refused b done.plays output number why done.back it
+  same_answers (Err faults.Memory) (Err (faults.Unspelled number fact)) is it = tt
+  same_answers (Err faults.Memory) (Err faults.Memory) is it = tt

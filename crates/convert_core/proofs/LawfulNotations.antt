@@ -1,0 +1,192 @@
+-- A notation with the laws that it keeps, as one value, and what is read of its bytes.
+use Rattle.std.proofs.Common.{◌≡◌, ◌+◌, ◌-◌, ℕ, ◌<◌, ◌≤◌, length, List, [], ◌∷◌, Option, None, All, take, option_map, option_and_then, refl, sym, ap, subst, ◌∙◌, ◌↔◌}
+use Rattle.std.specs.List.{AllByRecursion}
+use Rattle.std.proofs.lemmas.List.Elements.{All-cons, All-nil, recursion_from_All}
+use Rattle.first_fault.specs.declared.limits.TheConstants.{MOST_HANDS}
+use Rattle.hand_canon.specs.Judged.{IsJudged}
+use Rattle.hand_canon.specs.ReadAgain.{AreAgain}
+use Rattle.hand_canon.specs.Sound.{IsSound}
+use Rattle.hand_records.specs.AllowedNotes.{unless_usual}
+use Rattle.hand_records.specs.Plays.{hands_of}
+use Rattle.hand_records.specs.WriteRefusals.{first_refusal}
+use Rattle.hand_records.specs.declared.notes.Notes.{Notes}
+use Rattle.hand_records.specs.declared.record.Record.{Record}
+use Rattle.hand_records.specs.declared.trace.Play.{Play}
+use Rattle.hand_records.specs.declared.trace.Trace.{Trace}
+use Rattle.hand_records.specs.declared.writing.Keep.{Keep}
+use Rattle.hand_records.specs.declared.writing.Keep.TheVariants as keeps
+use Rattle.hand_records.specs.declared.writing.Unspelled.{Unspelled}
+use Rattle.list_laws.proofs.NumbersOfRange.{map_agree}
+use Rattle.play_event.specs.declared.setup.Rules.{Rules}
+use Rattle.convert_core.specs.Conversion.{ReadAsPlays, ReadAsRefused}
+use Rattle.convert_core.specs.Judged.{ArePlaysOf}
+use Rattle.convert_core.specs.ReadBack.{ReadBack}
+use Rattle.convert_core.specs.Records.{AreFew, AreOfFile, IsUnder}
+use Rattle.convert_core.specs.SameRecords.{AllAlike, ArePlayedAlike, NoteTheSame}
+use Rattle.convert_core.specs.declared.refusal.Refusal.{Refusal}
+use Rattle.convert_core.specs.declared.format_fault.FormatFault.{FormatFault}
+use Rattle.convert_core.proofs.JudgedPlays.{judged_sound}
+use Rattle.convert_core.proofs.OneConversion.{AllPlayedAlike, plays_alike}
+use Rattle.convert_core.proofs.OneOutcome.{not_both, same_plays}
+use Rattle.convert_core.proofs.WrittenLines.{few_plays}
+use Rattle.hand_records.proofs.NoteLaws.{notes_same, said_taken}
+use Rattle.hand_records.specs.SaidNotes.{KeepsNotes, SaidNotes, kept_label, name_said, notes_of, numbers_said, said_notes}
+use Rattle.hand_records.specs.SameHands.{AllPaired, AreSameHand}
+
+-- what a notation says of bytes, with the laws of that
+pub record ReadNotation : Type 1 where
+  pub rules : Rules
+  pub Say : List ℕ → List Record → Type 0
+  pub HaveFault : List ℕ → FormatFault → Type 0
+  pub reads_file : (bytes : List ℕ) (hands : List Record) → Say bytes hands → AreOfFile rules hands
+  pub no_fault : (bytes : List ℕ) (hands : List Record) (fault : FormatFault) → Say bytes hands → HaveFault bytes fault → ⊥
+  pub one_reading : (bytes : List ℕ) (hands others : List Record) → Say bytes hands → Say bytes others → AllAlike hands others
+
+-- what a notation says of bytes, and how it writes plays, with the laws of both
+pub record WrittenNotation : Type 1 where
+  pub source : ReadNotation
+  pub unspelled : Keep → Play → Option Unspelled
+  pub Spell : List Play → List ℕ → Type 0
+  pub kept : SaidNotes → SaidNotes
+  pub AreSame : List ℕ → List ℕ → Type 0
+  pub kept_again : (notes : SaidNotes) → kept (kept notes) ≡ kept notes
+  pub same_fact : (keep : Keep) (place : ℕ) (play other : Play) → place < MOST_HANDS → IsSound play → IsSound other → AreSameHand (λ notes. notes) place play other
+      → unspelled keep play ≡ unspelled keep other
+  pub trace_fact : (play other : Play) → play.trace ≡ other.trace → unspelled keeps.Spelled play ≡ unspelled keeps.Spelled other
+  pub all_spelled : (place : ℕ) (play : Play) → place < MOST_HANDS → IsSound play
+      → (unspelled keeps.All play ≡ None) ↔ ((unspelled keeps.Spelled play ≡ None) × (kept (notes_of place play) ≡ notes_of place play))
+  pub one_spelling : (plays others : List Play) (bytes too : List ℕ) → AllByRecursion IsSound plays → AllByRecursion IsSound others → Spell plays bytes → Spell others too
+      → AllPaired (AreSameHand kept) 0 plays others → AreSame bytes too
+  pub same_hands : (keep : Keep) (plays others : List Play) (bytes too : List ℕ) → AreFew plays → AreFew others → AllByRecursion IsSound plays → AllByRecursion IsSound others
+      → first_refusal (unspelled keep) plays ≡ None → first_refusal (unspelled keep) others ≡ None → Spell plays bytes → Spell others too
+      → AreSame bytes too → AllPaired (AreSameHand kept) 0 plays others
+
+-- ---- plays that are read
+
+each_sound : (rules : Rules) (plays : List Play) → AllByRecursion (IsUnder rules) (hands_of plays) → AllByRecursion IsJudged plays → AllByRecursion IsSound plays
+each_sound rules [] each judged = tt
+each_sound rules (play ∷ plays) each judged = (judged_sound play each.0.sound judged.0, each_sound rules plays each.1 judged.1)
+
+-- plays that bytes read as are sound, and no more than a file may have
+pub read_sound : (n : ReadNotation) (bytes : List ℕ) (plays : List Play) → ReadAsPlays (n.Say bytes) plays → AllByRecursion IsSound plays
+read_sound n bytes plays read =
+    let file = n.reads_file bytes read.records read.say in
+    each_sound n.rules plays (subst (AllByRecursion (IsUnder n.rules)) (sym read.are.same) file.each) (recursion_from_All IsJudged plays read.are.judged)
+
+pub read_few : (n : ReadNotation) (bytes : List ℕ) (plays : List Play) → ReadAsPlays (n.Say bytes) plays → AreFew plays
+read_few n bytes plays read =
+    let file = n.reads_file bytes read.records read.say in
+    few_plays read.records plays read.are file.few file.few_moves
+
+-- ---- plays of one reading
+
+numbers_alike : (count : ℕ) (x y : Option (List ℕ)) → option_map (take count) x ≡ option_map (take count) y → numbers_said count x ≡ numbers_said count y
+numbers_alike count x y same = said_taken count x ∙ ap (option_and_then (unless_usual count)) same ∙ sym (said_taken count y)
+
+-- notes that are the same say the same
+note_said : (place count : ℕ) (a b : Notes) → NoteTheSame count a b → said_notes place count a ≡ said_notes place count b
+note_said place count a b same =
+    notes_same (said_notes place count a) (said_notes place count b) (record {
+      names = map_agree (name_said a.names) (name_said b.names) 1 count (λ seat _ _. same.names (seat - 1));
+      seats = numbers_alike count a.seats b.seats same.all_seats;
+      seat_count = same.seat_count;
+      hand = ap (kept_label place) same.hand;
+      table = same.table;
+      venue = same.venue;
+      currency = same.currency;
+      year = same.year;
+      month = same.month;
+      day = same.day;
+      time = same.time;
+      zone = same.zone;
+    })
+
+hand_same : (place : ℕ) (play other : Play) → ArePlayedAlike play other → AreSameHand (λ notes. notes) place play other
+hand_same place play other alike =
+    record {
+      trace = alike.trace;
+      notes =
+          note_said place play.trace.setup.stacks.seats play.hand.notes other.hand.notes alike.notes
+          ∙ ap (λ (trace : Trace). said_notes place trace.setup.stacks.seats other.hand.notes) alike.trace;
+    }
+
+all_same : (place : ℕ) (plays others : List Play) → AllPlayedAlike plays others → AllPaired (AreSameHand (λ notes. notes)) place plays others
+unfolding AllPlayedAlike AllPaired
+all_same place [] [] alike = tt
+all_same place [] (other ∷ others) alike = alike
+all_same place (play ∷ plays) [] alike = alike
+all_same place (play ∷ plays) (other ∷ others) alike = (hand_same place play other alike.0, all_same (place + 1) plays others alike.1)
+
+-- plays that one file reads as are the same
+pub read_same : (n : ReadNotation) (bytes : List ℕ) (plays others : List Play) → ReadAsPlays (n.Say bytes) plays → ReadAsPlays (n.Say bytes) others → AllPaired (AreSameHand (λ notes. notes)) 0 plays others
+read_same n bytes plays others read too =
+    all_same 0 plays others (plays_alike read.records too.records plays others (n.one_reading bytes read.records too.records read.say too.say) read.are too.are)
+
+-- plays that one file reads as: each is sound, they are no more than a file may have, and they are the same
+pub record AreReadSame (plays others : List Play) : Type 0 where
+  pub sound : AllByRecursion IsSound plays
+  pub others_sound : AllByRecursion IsSound others
+  pub few : length plays ≤ MOST_HANDS
+  pub hands : AllPaired (AreSameHand (λ notes. notes)) 0 plays others
+
+pub all_read_same : (n : ReadNotation) (bytes : List ℕ) (plays others : List Play) → ReadAsPlays (n.Say bytes) plays → ReadAsPlays (n.Say bytes) others → AreReadSame plays others
+all_read_same n bytes plays others read too =
+    record {
+      sound = read_sound n bytes plays read;
+      others_sound = read_sound n bytes others too;
+      few = (read_few n bytes plays read).few;
+      hands = read_same n bytes plays others read too;
+    }
+
+-- ---- plays that are read again
+
+-- a play is read again of another one: it has its trace, and its kept notes
+pub record IsReadAgain (kept : SaidNotes → SaidNotes) (place : ℕ) (play again : Play) : Type 0 where
+  pub trace : again.trace ≡ play.trace
+  pub notes : notes_of place again ≡ kept (notes_of place play)
+
+-- the hands that are read again, with the traces of the plays
+abbrev again_plays : List Play → List Record → List Play
+again_plays [] hands = []
+again_plays (play ∷ plays) [] = []
+again_plays (play ∷ plays) (hand ∷ hands) = record { hand = hand; trace = play.trace } ∷ again_plays plays hands
+
+again_hands : (keeps : ℕ → ℕ → Notes → Notes → Type 0) (place : ℕ) (plays : List Play) (hands : List Record) → AreAgain keeps place plays hands → hands_of (again_plays plays hands) ≡ hands
+unfolding AreAgain
+again_hands keeps place [] [] again = refl
+again_hands keeps place [] (hand ∷ hands) again = absurd again
+again_hands keeps place (play ∷ plays) [] again = absurd again
+again_hands keeps place (play ∷ plays) (hand ∷ hands) again = ap (λ (hs : List Record). hand ∷ hs) (again_hands keeps (place + 1) plays hands again.1)
+
+again_judged : (keeps : ℕ → ℕ → Notes → Notes → Type 0) (place : ℕ) (plays : List Play) (hands : List Record) → AreAgain keeps place plays hands → All IsJudged (again_plays plays hands)
+unfolding AreAgain
+again_judged keeps place [] hands again = All-nil IsJudged
+again_judged keeps place (play ∷ plays) [] again = All-nil IsJudged
+again_judged keeps place (play ∷ plays) (hand ∷ hands) again =
+    All-cons IsJudged (record { hand = hand; trace = play.trace }) (again_plays plays hands) again.0.judged (again_judged keeps (place + 1) plays hands again.1)
+
+-- they are the plays of these hands
+again_are : (keeps : ℕ → ℕ → Notes → Notes → Type 0) (place : ℕ) (plays : List Play) (hands : List Record) → AreAgain keeps place plays hands → ArePlaysOf hands (again_plays plays hands)
+again_are keeps place plays hands again = record { same = again_hands keeps place plays hands again; judged = again_judged keeps place plays hands again }
+
+again_paired : (n : WrittenNotation) (place : ℕ) (plays : List Play) (hands : List Record) → AreAgain (KeepsNotes n.kept) place plays hands → AllPaired (IsReadAgain n.kept) place plays (again_plays plays hands)
+unfolding AreAgain AllPaired
+again_paired n place [] [] again = tt
+again_paired n place [] (hand ∷ hands) again = absurd again
+again_paired n place (play ∷ plays) [] again = absurd again
+again_paired n place (play ∷ plays) (hand ∷ hands) again =
+    (record { trace = refl; notes = again.0.notes }, again_paired n (place + 1) plays hands again.1)
+
+-- what bytes read as that read back as plays
+pub read_again : (n : WrittenNotation) (plays others : List Play) (bytes : List ℕ) → ReadBack (n.source.Say bytes) (n.source.HaveFault bytes) (KeepsNotes n.kept) plays → ReadAsPlays (n.source.Say bytes) others
+    → AllPaired (IsReadAgain n.kept) 0 plays others
+read_again n plays others bytes back read =
+    let again = back.again read.records read.say in
+    subst (AllPaired (IsReadAgain n.kept) 0 plays) (same_plays read.records (again_plays plays read.records) others (again_are (KeepsNotes n.kept) 0 plays read.records again) read.are)
+    (again_paired n 0 plays read.records again)
+
+-- and they have no refused hand
+pub never_refused : (n : WrittenNotation) (plays : List Play) (bytes : List ℕ) (number : ℕ) (why : Refusal) → ReadBack (n.source.Say bytes) (n.source.HaveFault bytes) (KeepsNotes n.kept) plays → ReadAsRefused (n.source.Say bytes) number why → ⊥
+never_refused n plays bytes number why back refused =
+    let again = back.again refused.records refused.say in
+    not_both refused.records (again_plays plays refused.records) number why (again_are (KeepsNotes n.kept) 0 plays refused.records again) refused.first

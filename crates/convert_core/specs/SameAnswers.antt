@@ -1,0 +1,21 @@
+-- Two conversions that answer the same.
+use Rattle.std.specs.Prelude.{◌≡◌, ℕ, List, Result, Ok, Err}
+use Rattle.convert_core.specs.declared.convert_fault.ConvertFault.{ConvertFault}
+use Rattle.convert_core.specs.declared.convert_fault.ConvertFault.TheVariants as faults
+
+-- Two answers are the same: both are done, and their outputs are the same, or both name one hand,
+-- and its one fact without a spelling. Either may want memory, which says nothing. Neither is
+-- another refusal.
+abbrev pub AreSameAnswers : (AreSame : List ℕ → List ℕ → Type 0)
+    → (answer again : Result (List ℕ) ConvertFault) → Type 0
+AreSameAnswers AreSame (Ok output) (Ok again) = AreSame output again
+AreSameAnswers AreSame (Ok output) (Err faults.Memory) = Unit {0}
+AreSameAnswers AreSame (Ok output) (Err fault) = ⊥
+AreSameAnswers AreSame (Err faults.Memory) (Ok again) = Unit {0}
+AreSameAnswers AreSame (Err faults.Memory) (Err faults.Memory) = Unit {0}
+AreSameAnswers AreSame (Err faults.Memory) (Err (faults.Unspelled number fact)) = Unit {0}
+AreSameAnswers AreSame (Err faults.Memory) (Err fault) = ⊥
+AreSameAnswers AreSame (Err (faults.Unspelled number fact)) (Err (faults.Unspelled other too)) =
+    (number ≡ other) × (fact ≡ too)
+AreSameAnswers AreSame (Err (faults.Unspelled number fact)) (Err faults.Memory) = Unit {0}
+AreSameAnswers AreSame (Err fault) answer = ⊥

@@ -1,0 +1,66 @@
+-- The notes that are said of a hand, as one value: those that are no defaults.
+use Rattle.std.specs.Prelude.{◌≡◌, ℕ, ◌-◌, if◌then◌else◌, bytes_eq, List, map, take, slice_index_or, Option, Some, None, option_and_then}
+use Rattle.std.specs.Fmt.{decimal}
+use Rattle.chip_ledger.specs.Seat.{seats_of}
+use Rattle.hand_records.specs.AllowedNotes.{unless_usual}
+use Rattle.hand_records.specs.declared.notes.Clock.{Clock}
+use Rattle.hand_records.specs.declared.notes.Notes.{Notes}
+use Rattle.hand_records.specs.declared.trace.Play.{Play}
+
+-- the notes of a hand, each of which is said, and is then no default, or is not said; there is an
+-- entry for the name of each seat
+pub record SaidNotes : Type 0 where
+  pub names : List (Option (List ℕ))
+  pub seats : Option (List ℕ)
+  pub seat_count : Option ℕ
+  pub hand : Option (List ℕ)
+  pub table : Option (List ℕ)
+  pub venue : Option (List ℕ)
+  pub currency : Option (List ℕ)
+  pub year : Option ℕ
+  pub month : Option ℕ
+  pub day : Option ℕ
+  pub time : Option Clock
+  pub zone : Option (List ℕ)
+
+-- the name of a seat's player among names, where it is said
+abbrev pub name_said : List (Option (List ℕ)) → ℕ → Option (List ℕ)
+name_said names seat = slice_index_or names (seat - 1) None
+
+-- the numbers of so many seats, unless they are the usual ones
+abbrev pub numbers_said : ℕ → Option (List ℕ) → Option (List ℕ)
+numbers_said count numbers = option_and_then (λ said. unless_usual count (take count said)) numbers
+
+-- a label of a hand at a place of its file, from 0; a label that is that place is none
+abbrev pub kept_label : ℕ → Option (List ℕ) → Option (List ℕ)
+kept_label place None = None
+kept_label place (Some text) = if bytes_eq text (decimal place) then None else Some text
+
+-- the notes of so many seats, at a place of the file, from 0: a note that equals its default is
+-- none
+abbrev pub said_notes : ℕ → ℕ → Notes → SaidNotes
+said_notes place count notes =
+    record {
+      names = map (name_said notes.names) (seats_of count);
+      seats = numbers_said count notes.seats;
+      seat_count = notes.seat_count;
+      hand = kept_label place notes.hand;
+      table = notes.table;
+      venue = notes.venue;
+      currency = notes.currency;
+      year = notes.year;
+      month = notes.month;
+      day = notes.day;
+      time = notes.time;
+      zone = notes.zone;
+    }
+
+-- the notes of the play at a place of its file, from 0
+abbrev pub notes_of : ℕ → Play → SaidNotes
+notes_of place play = said_notes place play.trace.setup.stacks.seats play.hand.notes
+
+-- What is read again of the notes of so many seats, at a place of their file, from 0, is what is
+-- kept of them.
+abbrev pub KeepsNotes : (kept : SaidNotes → SaidNotes) → ℕ → ℕ → (notes again : Notes) → Type 0
+KeepsNotes kept place count notes again =
+    said_notes place count again ≡ kept (said_notes place count notes)
