@@ -2,7 +2,9 @@
 -- one another.
 pub mod JudgedPlays
 pub mod OneOutcome
+pub mod OneVerdict
 pub mod OneConversion
+pub mod Taken
 pub mod WrittenLines
 pub mod Paired
 pub mod LawfulNotations

@@ -105,7 +105,7 @@ not_legal a b fault trace same is it =
     no_fault b.setup b.rules b.script fault told.0 it.legal (fault_moved a b fault same told.1)
 
 -- a hand is refused for one thing
-one_refusal : (a b : Record) (why other : Refusal) → SayTheSame a b → IsRefusedFor a why → IsRefusedFor b other → why ≡ other
+pub one_refusal : (a b : Record) (why other : Refusal) → SayTheSame a b → IsRefusedFor a why → IsRefusedFor b other → why ≡ other
 one_refusal a b (refusals.Replay fault) (refusals.Replay other) same is it =
     let told = is_fault a fault is in
     let too = is_fault b other it in
@@ -115,7 +115,7 @@ one_refusal a b (refusals.Fact differs) (refusals.Replay fault) same is it = abs
 one_refusal a b (refusals.Fact differs) (refusals.Fact other) same is it = ap refusals.Fact (one_difference a b differs other same is it)
 
 -- and it has then no play
-not_judged : (a : Record) (play : Play) (why : Refusal) → SayTheSame a play.hand → IsRefusedFor a why → IsJudged play → ⊥
+pub not_judged : (a : Record) (play : Play) (why : Refusal) → SayTheSame a play.hand → IsRefusedFor a why → IsJudged play → ⊥
 not_judged a play (refusals.Replay fault) same is judged = not_legal a play.hand fault play.trace same is judged.traced
 not_judged a play (refusals.Fact differs) same is judged =
     cc (is.differs, judged.agrees, ap₂ first_difference (one_trace a play.hand is.trace play.trace same is.traced judged.traced) same.stated)

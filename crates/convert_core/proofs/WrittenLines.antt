@@ -1,42 +1,27 @@
--- What is written of one hand more, line by line.
-use Rattle.std.proofs.Common.{◌≡◌, true, false, ℕ, ◌+◌, ◌≤◌, ◌<◌, List, [], ◌∷◌, ◌++◌, Option, Some, None, All, Result, Ok, Err, length, sum_by, append_assoc, append-nil, length-append, refl, sym, ap, subst, ◌∙◌, arith}
+-- What is written of one hand more.
+use Rattle.std.proofs.Common.{◌≡◌, Bool, true, false, ℕ, ◌+◌, ◌≤◌, All, List, [], ◌∷◌, ◌++◌, Option, Some, None, Result, Ok, Err, length, sum_by, refl, sym, ap, subst, ◌∙◌, arith}
 use Rattle.std.specs.Option.{is_some}
-use Rattle.std.proofs.lemmas.List.{length-map, map-append}
-use Rattle.std.proofs.lemmas.List.Elements.{All-nil, All-push}
+use Rattle.hand_records.specs.WriteRefusals.{first_refusal, refusal_from, refused_at}
+use Rattle.std.proofs.lemmas.List.{length-map}
 use Rattle.first_fault.specs.declared.limits.TheConstants.{MOST_FILE_MOVES, MOST_HANDS}
-use Rattle.hand_canon.specs.Judged.{IsJudged}
 use Rattle.hand_canon.specs.Sound.{IsSound}
 use Rattle.hand_records.specs.Moves.{moves_of}
-use Rattle.hand_records.specs.Plays.{hands_of}
-use Rattle.hand_records.specs.WriteRefusals.{first_refusal, refusal_from, refused_at}
-use Rattle.hand_records.specs.SoundRecord.{IsSoundRecord}
 use Rattle.hand_records.specs.declared.record.Record.{Record}
 use Rattle.hand_records.specs.declared.trace.Play.{Play}
+use Rattle.list_laws.proofs.Sums.{sum_by-map}
+use Rattle.convert_core.specs.Conversion.{IsConversion}
+use Rattle.convert_core.specs.Judged.{ArePlaysOf}
+use Rattle.convert_core.specs.Records.{AreFew}
+use Rattle.convert_core.specs.declared.convert_fault.ConvertFault.{ConvertFault}
+use Rattle.convert_core.specs.declared.convert_fault.ConvertFault.TheVariants as faults
+use Rattle.convert_core.specs.declared.format_fault.FormatFault.{FormatFault}
 use Rattle.hand_records.specs.declared.writing.Unspelled.{Unspelled}
 use Rattle.hand_records.specs.declared.writing.WriteRefusal.{WriteRefusal}
 use Rattle.hand_records.specs.declared.writing.WriteRefusal.TheVariants as refusals
 use Rattle.hand_records.proofs.Refusals.{none_refused}
-use Rattle.convert_core.specs.Conversion.{IsConversion}
-use Rattle.convert_core.proofs.JudgedPlays.{first_refused, front_sound}
-use Rattle.convert_core.specs.Judged.{ArePlaysOf, IsFaultAt, IsFirstRefused}
-use Rattle.convert_core.specs.Lines.{AreWritten}
-use Rattle.convert_core.specs.Records.{AreFew}
-use Rattle.list_laws.proofs.Sums.{sum_by-map}
-use Rattle.convert_core.specs.declared.convert_fault.ConvertFault.{ConvertFault}
-use Rattle.convert_core.specs.declared.convert_fault.ConvertFault.TheVariants as faults
-use Rattle.convert_core.specs.declared.refusal.PlaysFault.TheVariants as plays_faults
-use Rattle.convert_core.specs.declared.refusal.Refusal.{Refusal}
-use Rattle.convert_core.specs.declared.format_fault.FormatFault.{FormatFault}
-use Rattle.convert_core.specs.declared.lines.Lines.{Lines}
-
--- plays and one more
-plays_more : (hands : List Record) (plays : List Play) (play : Play) → ArePlaysOf hands plays → IsJudged play
-    → ArePlaysOf (hands ++ play.hand ∷ []) (plays ++ play ∷ [])
-plays_more hands plays play are judged =
-    record {
-      same = map-append (λ (p : Play). p.hand) plays (play ∷ []) ∙ ap (λ (hs : List Record). hs ++ play.hand ∷ []) are.same;
-      judged = All-push IsJudged plays play are.judged judged;
-    }
+use Rattle.convert_core.proofs.Taken.{all_counted, legal_more}
+use Rattle.convert_core.specs.Verdicts.{AreLegalUnless, Legal, Verdict, legal_plays}
+use Rattle.convert_core.specs.Lines.{IsWritten}
 
 -- where one is refused already, it stays the first
 refused_first : (number : ℕ) (fact : Option Unspelled) (behind more : Option WriteRefusal) (refusal : WriteRefusal)
@@ -79,116 +64,53 @@ last_first unspelled number (p ∷ plays) play none =
     ∙ last_first unspelled (number + 1) plays play parts.1
     ∙ ap (λ (n : ℕ). refused_at n (unspelled play) None) here
 
--- a hand more, where it is known which one is refused now, and what is written where none is
-one_more : (unspelled : Play → Option Unspelled) (Spell : List Play → List ℕ → Type 0) (hands : List Record) (old new : Lines) (play : Play)
-    → (before : AreWritten unspelled Spell hands old) → IsJudged play → new.hands ≡ old.hands + 1
-    → first_refusal unspelled (before.plays ++ play ∷ []) ≡ new.refusal
-    → (new.refusal ≡ None → Spell (before.plays ++ play ∷ []) new.out.items)
-    → AreWritten unspelled Spell (hands ++ play.hand ∷ []) new
-one_more unspelled Spell hands old new play before judged more first spell =
-    record {
-      plays = before.plays ++ play ∷ [];
-      are = plays_more hands before.plays play before.are judged;
-      counted = omega (arith, more, before.counted, length-append before.plays (play ∷ []));
-      first = first;
-      spell = spell;
-    }
-
 -- a hand behind one that is refused
-pub behind_refused : (unspelled : Play → Option Unspelled) (Spell : List Play → List ℕ → Type 0) (hands : List Record) (old new : Lines) (play : Play)
-    → AreWritten unspelled Spell hands old → is_some old.refusal ≡ true → IsJudged play
-    → new.refusal ≡ old.refusal → new.hands ≡ old.hands + 1
-    → AreWritten unspelled Spell (hands ++ play.hand ∷ []) new
-behind_refused unspelled Spell hands old new play before refused judged same more =
-    one_more unspelled Spell hands old new play before judged more
-    (stays unspelled before.plays play old.refusal refused before.first ∙ sym same)
-    (λ none. absurd (some_is old.refusal refused (sym same ∙ none)))
+pub behind_refused : (is_lined : Bool) (unspelled : Play → Option Unspelled) (Spell : List Play → List ℕ → Type 0) (refusal : Option WriteRefusal) (out : List ℕ) (before : List Verdict) (play : Play)
+    → is_some refusal ≡ true → IsWritten is_lined unspelled Spell refusal out before → IsWritten is_lined unspelled Spell refusal out (before ++ Legal play ∷ [])
+behind_refused is_lined unspelled Spell refusal out before play some written =
+    record {
+      lined = written.lined;
+      first = ap (λ (ps : List Play). first_refusal unspelled ps) (legal_more before play) ∙ stays unspelled (legal_plays before) play refusal some written.first;
+      spell = λ none. absurd (some_is refusal some none);
+    }
 
 -- the first one that is refused
-pub now_refused : (unspelled : Play → Option Unspelled) (Spell : List Play → List ℕ → Type 0) (hands : List Record) (old new : Lines) (play : Play) (fact : Unspelled)
-    → AreWritten unspelled Spell hands old → old.refusal ≡ None → IsJudged play → unspelled play ≡ Some fact
-    → new.refusal ≡ Some (refusals.Unspelled (old.hands + 1) fact) → new.hands ≡ old.hands + 1
-    → AreWritten unspelled Spell (hands ++ play.hand ∷ []) new
-now_refused unspelled Spell hands old new play fact before none judged found told more =
-    let here : 1 + length before.plays ≡ old.hands + 1 = omega (arith, before.counted) in
-    one_more unspelled Spell hands old new play before judged more
-    (last_first unspelled 1 before.plays play (before.first ∙ none)
-    ∙ ap (λ (f : Option Unspelled). refused_at (1 + length before.plays) f None) found
-    ∙ ap (λ (n : ℕ). Some (refusals.Unspelled n fact)) here
-    ∙ sym told)
-    (λ is. absurd (cc (is, told)))
+pub now_refused : (is_lined : Bool) (unspelled : Play → Option Unspelled) (Spell : List Play → List ℕ → Type 0) (refusal : Option WriteRefusal) (out : List ℕ) (before : List Verdict) (play : Play) (place : ℕ) (fact : Unspelled)
+    → length before ≡ place → AreLegalUnless false before → refusal ≡ None → unspelled play ≡ Some fact → IsWritten is_lined unspelled Spell refusal out before
+    → IsWritten is_lined unspelled Spell (Some (refusals.Unspelled (place + 1) fact)) out (before ++ Legal play ∷ [])
+now_refused is_lined unspelled Spell refusal out before play place fact counted legal none found written =
+    let plays = legal_plays before in
+    let here : 1 + length plays ≡ place + 1 = omega (arith, counted, all_counted before (legal refl)) in
+    record {
+      lined = written.lined;
+      first = ap (λ (ps : List Play). first_refusal unspelled ps) (legal_more before play)
+          ∙ last_first unspelled 1 plays play (written.first ∙ none)
+          ∙ ap (λ (f : Option Unspelled). refused_at (1 + length plays) f None) found
+          ∙ ap (λ (n : ℕ). Some (refusals.Unspelled n fact)) here;
+      spell = λ is. absurd (cc (is));
+    }
 
 -- one that is spelled, behind others that are
-pub now_spelled : (unspelled : Play → Option Unspelled) (Spell : List Play → List ℕ → Type 0) (hands : List Record) (old new : Lines) (play : Play)
-    → (before : AreWritten unspelled Spell hands old) → old.refusal ≡ None → IsJudged play → unspelled play ≡ None
-    → new.refusal ≡ old.refusal → new.hands ≡ old.hands + 1 → Spell (before.plays ++ play ∷ []) new.out.items
-    → AreWritten unspelled Spell (hands ++ play.hand ∷ []) new
-now_spelled unspelled Spell hands old new play before none judged spelled same more spell =
-    one_more unspelled Spell hands old new play before judged more
-    (last_first unspelled 1 before.plays play (before.first ∙ none)
-    ∙ ap (λ (f : Option Unspelled). refused_at (1 + length before.plays) f None) spelled
-    ∙ sym (same ∙ none))
-    (λ _. spell)
+pub now_spelled : (is_lined : Bool) (unspelled : Play → Option Unspelled) (Spell : List Play → List ℕ → Type 0) (refusal : Option WriteRefusal) (out new : List ℕ) (before : List Verdict) (play : Play)
+    → refusal ≡ None → unspelled play ≡ None → IsWritten is_lined unspelled Spell refusal out before → Spell (legal_plays before ++ play ∷ []) new
+    → IsWritten is_lined unspelled Spell refusal new (before ++ Legal play ∷ [])
+now_spelled is_lined unspelled Spell refusal out new before play none spelled written spell =
+    let plays = legal_plays before in
+    record {
+      lined = written.lined;
+      first = ap (λ (ps : List Play). first_refusal unspelled ps) (legal_more before play)
+          ∙ last_first unspelled 1 plays play (written.first ∙ none)
+          ∙ ap (λ (f : Option Unspelled). refused_at (1 + length plays) f None) spelled
+          ∙ sym none;
+      spell = λ _. subst (λ (ps : List Play). Spell ps new) (sym (legal_more before play)) spell;
+    }
 
 -- before the first hand nothing is written
-pub none_written : (unspelled : Play → Option Unspelled) (Spell : List Play → List ℕ → Type 0) (lines : Lines)
-    → Spell [] [] → lines.refusal ≡ None → lines.hands ≡ 0 → lines.out.items ≡ [] → AreWritten unspelled Spell [] lines
-none_written unspelled Spell lines spell none no_hands empty =
-    record {
-      plays = [];
-      are = record { same = refl; judged = All-nil IsJudged };
-      counted = no_hands;
-      first = sym none;
-      spell = λ _. rw empty spell;
-    }
-
--- What is written of the records so far, and those that are left behind them.
-pub record AreOnTheWay (unspelled : Play → Option Unspelled) (Spell : List Play → List ℕ → Type 0) (records left : List Record) (lines : Lines) : Type 0 where
-  pub taken : List Record
-  pub written : AreWritten unspelled Spell taken lines
-  pub stands : taken ++ left ≡ records
-
--- the next of these records is written
-pub one_on : (unspelled : Play → Option Unspelled) (Spell : List Play → List ℕ → Type 0) (records left : List Record) (hand : Record) (old new : Lines)
-    → (way : AreOnTheWay unspelled Spell records (hand ∷ left) old)
-    → ((taken : List Record) → AreWritten unspelled Spell taken old → AreWritten unspelled Spell (taken ++ hand ∷ []) new)
-    → AreOnTheWay unspelled Spell records left new
-one_on unspelled Spell records left hand old new way more =
-    record {
-      taken = way.taken ++ hand ∷ [];
-      written = more way.taken way.written;
-      stands = append_assoc way.taken (hand ∷ []) left ∙ way.stands;
-    }
-
--- and it is no more than a file may have
-pub has_room : (unspelled : Play → Option Unspelled) (Spell : List Play → List ℕ → Type 0) (records left : List Record) (hand : Record) (lines : Lines) (most : ℕ)
-    → AreOnTheWay unspelled Spell records (hand ∷ left) lines → length records ≤ most → lines.hands < most
-has_room unspelled Spell records left hand lines most way few =
-    let written = way.written in
-    omega (arith, few, ap length way.stands, length-append way.taken (hand ∷ left), written.counted, ap length written.are.same, length-map written.plays (λ (p : Play). p.hand))
-
--- a hand without a play is the first refused one
-pub refused_on : (unspelled : Play → Option Unspelled) (Spell : List Play → List ℕ → Type 0) (records left : List Record) (hand : Record) (lines : Lines) (number : ℕ) (why : Refusal)
-    → AreOnTheWay unspelled Spell records (hand ∷ left) lines → IsFaultAt hand (lines.hands + 1) (plays_faults.Refused number why)
-    → IsFirstRefused records number why
-refused_on unspelled Spell records left hand lines number why way refused =
-    let written = way.written in
-    first_refused written.plays hand left records (lines.hands + 1) (plays_faults.Refused number why) written.are.judged
-    (ap (λ (hs : List Record). hs ++ hand ∷ left) written.are.same ∙ way.stands)
-    (ap (λ (n : ℕ). n + 1) written.counted) refused
-
--- at the end all records are written
-pub at_end : (unspelled : Play → Option Unspelled) (Spell : List Play → List ℕ → Type 0) (records left : List Record) (lines : Lines)
-    → AreOnTheWay unspelled Spell records left lines → left ≡ [] → AreWritten unspelled Spell records lines
-at_end unspelled Spell records left lines way none =
-    let all : way.taken ≡ records = sym (append-nil way.taken) ∙ ap (λ (l : List Record). way.taken ++ l) (sym none) ∙ way.stands in
-    subst (λ (hands : List Record). AreWritten unspelled Spell hands lines) all way.written
-
--- the plays of sound records are sound
-pub written_sound : (unspelled : Play → Option Unspelled) (Spell : List Play → List ℕ → Type 0) (records : List Record) (lines : Lines)
-    → (written : AreWritten unspelled Spell records lines) → All IsSoundRecord records → All IsSound written.plays
-written_sound unspelled Spell records lines written sound =
-    front_sound written.plays [] records (append-nil (hands_of written.plays) ∙ written.are.same) sound written.are.judged
+pub none_written : (is_lined : Bool) (unspelled : Play → Option Unspelled) (Spell : List Play → List ℕ → Type 0) (out : List ℕ)
+    → is_lined ≡ true → Spell [] [] → out ≡ [] → IsWritten is_lined unspelled Spell None out []
+unfolding legal_plays
+none_written is_lined unspelled Spell out lined spell empty =
+    record { lined = lined; first = refl; spell = λ _. subst (λ (o : List ℕ). Spell [] o) (sym empty) spell }
 
 -- they are no more than a file may have, nor are their moves
 pub few_plays : (records : List Record) (plays : List Play) → ArePlaysOf records plays

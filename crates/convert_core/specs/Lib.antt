@@ -6,6 +6,8 @@ pub mod ReadBack
 pub mod SameRecords
 pub mod SameParts
 pub mod Conversion
+pub mod Verdicts
+pub mod Taking
 pub mod Answers
 pub mod SameAnswers
 pub mod Lines

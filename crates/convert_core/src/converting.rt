@@ -5,10 +5,10 @@ ghost use Rattle.hand_canon.specs.Sound.{IsSound};
 ghost use Rattle.hand_records.specs.SaidNotes.{KeepsNotes};
 ghost use Rattle.convert_core.specs.Conversion.{IsConversion, IsPlaysRefusal, IsReadFault, ReadAsPlays};
 ghost use Rattle.convert_core.specs.ReadBack.{ReadBack};
-ghost use Rattle.convert_core.specs.Records.{AreFew};
+ghost use Rattle.convert_core.specs.Records.{AreFew, AreOfFile};
 
 use crate::convert_fault::ConvertFault;
-use crate::judging::plays_of;
+use crate::kept_plays::plays_of;
 use crate::lines::write_records;
 use crate::notation::Notation;
 use crate::refusal::PlaysFault;
@@ -73,9 +73,18 @@ pub fn plays<N: Notation>(alloc: Global, from: &N, bytes: &[u8]) -> Result<Vec<P
     }
 }
 
-// The records that bytes read as.
-fn read_records<N: Notation>(alloc: Global, from: &N, bytes: &[u8]) -> Result<Records, ConvertFault>
+/// The records that bytes read as, sound and no more than a file may have.
+///
+/// # Errors
+///
+/// The first fault of the bytes; or want of memory.
+pub fn read_records<N: Notation>(
+    alloc: Global,
+    from: &N,
+    bytes: &[u8],
+) -> Result<Records, ConvertFault>
     ensures said { IfOk result (N.Say from.now bytes.now) }
+    ensures of_file { IfOk result (AreOfFile (N.rules_of from.now)) }
     ensures refused { IfErr result (IsReadFault (N.HaveFault from.now bytes.now)) }
 {
     match from.read(alloc, bytes) {

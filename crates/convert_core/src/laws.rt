@@ -1,6 +1,6 @@
 //! Records come to one list of plays, or to one refusal; bytes come to one conversion; what is not
 //! spelled is not said; and equal hands come to equal outputs, by whatever way.
-ghost use Rattle.std.specs.Prelude.{◌≡◌, ◌↔◌, ℕ, true, List, None, Ok, Some, Result};
+ghost use Rattle.std.specs.Prelude.{◌≡◌, ◌↔◌, ℕ, true, List, None, Ok, Some, Result, map};
 ghost use Rattle.std.specs.List.{AllByRecursion};
 ghost use Rattle.hand_records.specs.SaidNotes.{KeepsNotes};
 ghost use Rattle.hand_records.specs.SameHands.{AreSameHands, kept_notes};
@@ -14,6 +14,7 @@ ghost use Rattle.convert_core.specs.Judged.{ArePlaysOf, IsFirstRefused};
 ghost use Rattle.convert_core.specs.ReadBack.{ReadBack};
 ghost use Rattle.convert_core.specs.SameAnswers.{AreSameAnswers};
 ghost use Rattle.hand_canon.specs.Sharp.{IsOther, is_sharp};
+ghost use Rattle.convert_core.specs.Verdicts.{AreVerdictsOn, IsFirstNotLegal, Legal, Verdict};
 ghost use Rattle.convert_core.specs.declared.convert_fault.ConvertFault.{ConvertFault};
 ghost use Rattle.convert_core.specs.declared.refusal.Refusal.{Refusal};
 ghost use Rattle.convert_core.specs.declared.format_fault.FormatFault.{FormatFault};
@@ -32,6 +33,18 @@ pub fn law_of_one_outcome()
         → (number ≡ other) × (why ≡ reason) }
     ensures either { (records : List Record) (plays : List Play) (number : ℕ) (why : Refusal)
         → ArePlaysOf records plays → IsFirstRefused records number why → ⊥ }
+{}
+
+/// The verdicts on hands are their plays exactly where all of them are legal; and the first that is not legal is on the first
+/// refused hand, with the same cause. So `check` is done exactly where `judge` tells all hands as legal, and else names the first
+/// that `judge` tells as refused. The function does nothing: its contract is a law.
+pub fn law_of_verdicts()
+    ensures legal { (records : List Record) (verdicts : List Verdict) (plays : List Play)
+        → AreVerdictsOn records verdicts
+        → ArePlaysOf records plays ↔ (verdicts ≡ map Legal plays) }
+    ensures refused { (records : List Record) (verdicts : List Verdict) (number : ℕ)
+        → (why : Refusal) → AreVerdictsOn records verdicts
+        → IsFirstRefused records number why ↔ IsFirstNotLegal verdicts number why }
 {}
 
 /// What bytes come to is one thing. Bytes with a fault say no records. Where they read as hands, one of these is the first that is

@@ -7,23 +7,29 @@ mod convert_fault;
 mod converting;
 mod format_fault;
 mod judging;
+mod kept_plays;
 mod laws;
 mod lines;
 mod notation;
 mod ohh;
 mod phh;
 mod refusal;
+mod taker;
+mod taking;
 
 pub use acpc::Acpc;
 pub use convert_fault::ConvertFault;
-pub use converting::{convert, plays};
+pub use converting::{convert, plays, read_records};
 pub use format_fault::FormatFault;
-pub use judging::plays_of;
+pub use kept_plays::plays_of;
 pub use laws::{
     law_of_converting_again, law_of_converting_by_way, law_of_equal_outputs,
     law_of_legal_conversions, law_of_one_conversion, law_of_one_outcome, law_of_sharpness,
+    law_of_verdicts,
 };
 pub use notation::Notation;
 pub use ohh::Ohh;
 pub use phh::Phh;
 pub use refusal::{PlaysFault, Refusal};
+pub use taker::Taker;
+pub use taking::take_each;

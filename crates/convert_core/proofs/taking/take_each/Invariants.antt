@@ -1,0 +1,16 @@
+-- The verdicts on the records so far were taken, and those that are left are behind them.
+use Rattle.std.proofs.Common.{◌≡◌, ◌+◌, All, length}
+use Rattle.std.specs.Vec.Iter.{into_iter_items}
+use Rattle.hand_records.specs.SoundRecord.{IsSoundRecord}
+use Rattle.convert_core.proofs.Taken.{AreOnTheWay}
+use Rattle.convert_core.proofs.taking.take_each.Given as goal
+
+abbrev pub invariant-loop-hand : goal.invariant-loop-hand
+invariant-loop-hand g l =
+    record {
+      can_next : (goal.iterator-loop-hand g).can_next l.hand-iterator;
+      is_finite : (goal.iterator-loop-hand g).is_finite l.hand-iterator;
+      way : AreOnTheWay g.T.Taker.GOES_ON g.T.Taker.KEEPS (g.T.Taker.Took l.initial.taker l.taker) l.fn.records (into_iter_items l.hand-iterator) l.place l.kept.items;
+      counted : l.place + length (into_iter_items l.hand-iterator) ≡ length l.fn.records;
+      sound : All IsSoundRecord (into_iter_items l.hand-iterator);
+    }

@@ -1,0 +1,60 @@
+//! The plays of records, and nothing else of them.
+ghost use Rattle.std.specs.Prelude.{◌≤◌, true, false, All, length, IfErr, IfOk, ⊤};
+ghost use Rattle.convert_core.specs.Judged.{ArePlaysOf, IsPlaysFaultOf};
+ghost use Rattle.first_fault.specs.declared.limits.TheConstants.{MOST_HANDS};
+ghost use Rattle.hand_canon.specs.Sound.{IsSound};
+ghost use Rattle.hand_records.specs.SoundRecord.{IsSoundRecord};
+
+use crate::taker::Taker;
+use crate::taking::take_each;
+use crate::refusal::{PlaysFault, Refusal};
+use hand_records::{Play, Records};
+use std::alloc::{AllocError, Global};
+
+// Nothing is made of the hands: their plays are kept.
+#[derive(Drop)]
+struct Keeper;
+
+impl Taker for Keeper {
+    ghost GOES_ON = { false };
+
+    ghost KEEPS = { true };
+
+    ghost Took = { λ _ _ _. ⊤ };
+
+    fn goes_on(&self) -> bool {
+        false
+    }
+
+    fn keeps(&self) -> bool {
+        true
+    }
+
+    fn take(&mut self, _: Global, _: usize, _: &Play) -> Result<(), AllocError> {
+        Ok(())
+    }
+
+    fn pass(&mut self, _: Global, _: usize, _: &Refusal) -> Result<(), AllocError> {
+        Ok(())
+    }
+}
+
+/// The plays of records, in their order: each record with the trace that its script comes to. A
+/// hand is refused where its script has no trace, or else where a stated fact differs from the
+/// trace.
+///
+/// # Errors
+///
+/// The first refused hand, with what is wrong with it first; or want of memory.
+pub fn plays_of(alloc: Global, records: Records) -> Result<Vec<Play>, PlaysFault>
+    requires sound { All IsSoundRecord records }
+    requires few { length records ≤ MOST_HANDS }
+    ensures plays { IfOk result (λ plays. ArePlaysOf records plays.items) }
+    ensures sound { IfOk result (λ plays. All IsSound plays.items) }
+    ensures refused { IfErr result (IsPlaysFaultOf records) }
+{
+    match take_each(alloc, &mut Keeper, records) {
+        Ok(plays) => Ok(plays),
+        Err(fault) => Err(fault),
+    }
+}
