@@ -9,7 +9,8 @@ use Rattle.clap.specs.declared.parser.matches.Found.{Found}
 use Rattle.command_words.specs.Requests.{IsSaidBy}
 use Rattle.clap.specs.Lexer.{strip_byte}
 use Rattle.clap.specs.Walk.{Text}
-use Rattle.command_words.specs.Words.{Options, Request, no_options, options_said, request_by, request_said}
+use Rattle.command_words.specs.Options.{Options, no_options, options_said}
+use Rattle.command_words.specs.Words.{Request, request_by, request_said}
 use Rattle.std.proofs.lemmas.Option.{same_Some}
 
 abbrev BeginsPlain : Text → Type 0
@@ -23,8 +24,10 @@ either word name false decides asked others plain other some = other some
 
 begins_by : (word : Text) (options : Options) → is_some (request_by word options) ≡ true → BeginsPlain word
 begins_by word options =
-    by (codes "check") _ _ refl (by (codes "replay") _ _ refl (by (codes "report") _ _ refl (by (codes "game") _ _ refl
-    (by (codes "convert") _ _ refl (by (codes "load") _ _ refl (λ some. cc))))))
+    by (codes "check") _ _ refl (by (codes "replay") _ _ refl (by (codes "report") _ _ refl
+    (by (codes "convert") _ _ refl (by (codes "game") _ _ refl (by (codes "load") _ _ refl
+    (by (codes "views") _ _ refl (by (codes "options") _ _ refl (by (codes "session") _ _ refl
+    (by (codes "equity") _ _ refl (by (codes "judge") _ _ refl (λ some. cc)))))))))))
   where
     by : (name : Text) (asked others : Option Request) → BeginsPlain name → (is_some others ≡ true → BeginsPlain word)
         → is_some (if bytes_eq word name then asked else others) ≡ true → BeginsPlain word

@@ -13,7 +13,7 @@ use Rattle.clap.specs.declared.parser.matches.ValueSource.TheVariants.{CommandLi
 use Rattle.clap.specs.Simple.{App, built, filled, help_rule, is_simple, matches_of, new_app, new_rule, with_index, with_rule}
 use Rattle.clap.proofs.OnLiterals.{clap_on_literals}
 use Rattle.command_words.specs.Requests.{flag_text}
-use Rattle.command_words.specs.Words.{Options, is_complete, is_flag, no_options, options_said, with_flag, with_option, with_word}
+use Rattle.command_words.specs.Options.{Options, is_complete, is_flag, no_options, options_said, with_flag, with_option, with_word}
 use Rattle.command_words.proofs.Finds.{Hold, Named, at_row-end, given, hold_given, row_named}
 use Rattle.command_words.proofs.Walking.{IsBetween, IsFlag, IsOption, alone, apart, first, joined}
 use Rattle.list_laws.proofs.Options.{followed, none_from_not}
@@ -32,7 +32,8 @@ without_own_name = let named = new_app (codes "handref") in record named { top =
 abbrev pub handref : App
 handref = fold with_rule without_own_name
     (new_rule (codes "command") ∷ option_rule (codes "from") ∷ option_rule (codes "to") ∷ option_rule (codes "game") ∷ option_rule (codes "seed")
-    ∷ option_rule (codes "hands") ∷ flag_rule ∷ [])
+    ∷ option_rule (codes "hands") ∷ option_rule (codes "seat") ∷ option_rule (codes "hand") ∷ option_rule (codes "after") ∷ option_rule (codes "street")
+    ∷ flag_rule ∷ [])
 
 -- the rows that it finds in words
 unfoldable pub rows_found : List Text → List Row
@@ -73,7 +74,9 @@ flag_row false = None
 abbrev values : Text → Options → Named
 values first options =
     (codes "command", Some (given_row command first)) ∷ option_row (codes "from") options.from ∷ option_row (codes "to") options.to
-    ∷ option_row (codes "game") options.game ∷ option_row (codes "seed") options.seed ∷ option_row (codes "hands") options.hands ∷ []
+    ∷ option_row (codes "game") options.game ∷ option_row (codes "seed") options.seed ∷ option_row (codes "hands") options.hands
+    ∷ option_row (codes "seat") options.seat ∷ option_row (codes "hand") options.hand ∷ option_row (codes "after") options.after
+    ∷ option_row (codes "street") options.street ∷ []
 
 abbrev named : Text → Options → Named
 named first options = (codes "drop-notes", flag_row options.drops_notes) ∷ values first options
@@ -149,6 +152,46 @@ hands_given options value none = record {
   same = λ first. refl;
 }
 
+seat_given : (options : Options) (value : Text) → options.seat ≡ None → IsGiven options (codes "seat") value (record options { seat = Some value })
+unfolding clap_on_literals
+seat_given options value none = record {
+  argument = option (codes "seat");
+  stands = record { by_name = refl; by_id = refl; takes = refl; most = refl; own = refl };
+  sets = refl;
+  empty = λ first rows held. held.1.1.1.1.1.1.1.0 ∙ ap (option_map (given_row (option (codes "seat")))) none;
+  same = λ first. refl;
+}
+
+hand_given : (options : Options) (value : Text) → options.hand ≡ None → IsGiven options (codes "hand") value (record options { hand = Some value })
+unfolding clap_on_literals
+hand_given options value none = record {
+  argument = option (codes "hand");
+  stands = record { by_name = refl; by_id = refl; takes = refl; most = refl; own = refl };
+  sets = refl;
+  empty = λ first rows held. held.1.1.1.1.1.1.1.1.0 ∙ ap (option_map (given_row (option (codes "hand")))) none;
+  same = λ first. refl;
+}
+
+after_given : (options : Options) (value : Text) → options.after ≡ None → IsGiven options (codes "after") value (record options { after = Some value })
+unfolding clap_on_literals
+after_given options value none = record {
+  argument = option (codes "after");
+  stands = record { by_name = refl; by_id = refl; takes = refl; most = refl; own = refl };
+  sets = refl;
+  empty = λ first rows held. held.1.1.1.1.1.1.1.1.1.0 ∙ ap (option_map (given_row (option (codes "after")))) none;
+  same = λ first. refl;
+}
+
+street_given : (options : Options) (value : Text) → options.street ≡ None → IsGiven options (codes "street") value (record options { street = Some value })
+unfolding clap_on_literals
+street_given options value none = record {
+  argument = option (codes "street");
+  stands = record { by_name = refl; by_id = refl; takes = refl; most = refl; own = refl };
+  sets = refl;
+  empty = λ first rows held. held.1.1.1.1.1.1.1.1.1.1.0 ∙ ap (option_map (given_row (option (codes "street")))) none;
+  same = λ first. refl;
+}
+
 -- an option is this one, or one of the others
 either : (options more taken : Options) (name own value : Text) (kept : Option Text) (others : Option Options) (is free : Bool)
     → Decides is (name ≡ own) → (free ≡ true → kept ≡ None) → (kept ≡ None → IsGiven options own value taken)
@@ -175,7 +218,11 @@ is_given options more name value e =
           (by (codes "to") options.to _ _ (to_given options value)
           (by (codes "game") options.game _ _ (game_given options value)
           (by (codes "seed") options.seed _ _ (seed_given options value)
-          (by (codes "hands") options.hands _ _ (hands_given options value) (λ none. cc)))))
+          (by (codes "hands") options.hands _ _ (hands_given options value)
+          (by (codes "seat") options.seat _ _ (seat_given options value)
+          (by (codes "hand") options.hand _ _ (hand_given options value)
+          (by (codes "after") options.after _ _ (after_given options value)
+          (by (codes "street") options.street _ _ (street_given options value) (λ none. cc)))))))))
           past.1,
     )
   where
@@ -304,7 +351,7 @@ begins word plain = record {
   rows = used command (word ∷ []) [];
   between = first arguments (walk_from nothing_held) [] word command (record { idle = refl; reading = refl; here = refl; rows = refl })
       refl plain refl refl refl refl refl;
-  held = (refl, (refl, (refl, (refl, (refl, (refl, (refl, _)))))));
+  held = (refl, (refl, (refl, (refl, (refl, (refl, (refl, (refl, (refl, (refl, (refl, _)))))))))));
 }
 
 -- an argument without defaults adds no row
@@ -371,6 +418,10 @@ pub record IsFound (first : Text) (options : Options) (rows : List Row) : Type 0
   pub game : first_of (codes "game") rows ≡ options.game
   pub seed : first_of (codes "seed") rows ≡ options.seed
   pub hands : first_of (codes "hands") rows ≡ options.hands
+  pub seat : first_of (codes "seat") rows ≡ options.seat
+  pub hand : first_of (codes "hand") rows ≡ options.hand
+  pub after : first_of (codes "after") rows ≡ options.after
+  pub street : first_of (codes "street") rows ≡ options.street
   pub flag : one_of (codes "drop-notes") rows ≡ Some (flag_text options.drops_notes)
 
 value_of_row : (argument : Rule) (value : Option Text) → option_and_then (λ (row : Row). slice_get row.values 0) (option_map (given_row argument) value) ≡ value
@@ -395,14 +446,19 @@ found_in first options rows held = record {
   game = value_of_option (codes "game") rows options.game held.1.1.1.1.0;
   seed = value_of_option (codes "seed") rows options.seed held.1.1.1.1.1.0;
   hands = value_of_option (codes "hands") rows options.hands held.1.1.1.1.1.1.0;
+  seat = value_of_option (codes "seat") rows options.seat held.1.1.1.1.1.1.1.0;
+  hand = value_of_option (codes "hand") rows options.hand held.1.1.1.1.1.1.1.1.0;
+  after = value_of_option (codes "after") rows options.after held.1.1.1.1.1.1.1.1.1.0;
+  street = value_of_option (codes "street") rows options.street held.1.1.1.1.1.1.1.1.1.1.0;
   flag = ap (option_and_then row_text) held.0 ∙ text_of_flag options.drops_notes;
 }
 
 one_has_a_default : (rows : List Row) → fold with_default rows arguments ≡ with_default rows flag
 unfolding clap_on_literals
 one_has_a_default rows = one_default
-    (command ∷ option (codes "from") ∷ option (codes "to") ∷ option (codes "game") ∷ option (codes "seed") ∷ option (codes "hands") ∷ [])
-    (filled help_rule ∷ []) flag rows (refl, (refl, (refl, (refl, (refl, (refl, _)))))) (refl, _)
+    (command ∷ option (codes "from") ∷ option (codes "to") ∷ option (codes "game") ∷ option (codes "seed") ∷ option (codes "hands")
+    ∷ option (codes "seat") ∷ option (codes "hand") ∷ option (codes "after") ∷ option (codes "street") ∷ [])
+    (filled help_rule ∷ []) flag rows (refl, (refl, (refl, (refl, (refl, (refl, (refl, (refl, (refl, (refl, _)))))))))) (refl, _)
 
 pub finds : (word : Text) (words : List Text) (options : Options) → strip_byte 45 word ≡ None → options_said no_options words ≡ Some options
     → IsFound word options (rows_found (word ∷ words))

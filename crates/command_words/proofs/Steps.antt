@@ -1,7 +1,7 @@
 -- The options of words are those of the first option and of the words behind it.
 use Rattle.std.proofs.Common.{◌≡◌, ℕ, false, List, [], ◌∷◌, Some, None, refl}
 use Rattle.clap.specs.Lexer.{long_of}
-use Rattle.command_words.specs.Words.{Options, is_flag, options_said, with_option, with_flag}
+use Rattle.command_words.specs.Options.{Options, is_flag, options_said, with_option, with_flag}
 use Rattle.std.specs.Prelude.{codes}
 
 pub behind_joined : (options more : Options) (word name value : List ℕ) (words : List (List ℕ)) → long_of word ≡ Some (name, Some value)

@@ -3,10 +3,9 @@ use Rattle.std.specs.Prelude.{◌≡◌, ℕ, Bool, true, false, List, Some, cod
 use Rattle.clap.specs.Words.{first_value}
 use Rattle.clap.specs.Matches.{one_text}
 use Rattle.clap.specs.declared.parser.matches.Found.{Found}
-use Rattle.command_words.specs.Words as words
-use Rattle.command_words.specs.Words.{no_options, options_said}
-use Rattle.command_words.specs.declared.notation.NotationName.{NotationName}
-use Rattle.command_words.specs.declared.notation.NotationName.TheVariants as notations
+use Rattle.command_words.specs.Options as words
+use Rattle.command_words.specs.Options.{no_options, options_said}
+use Rattle.command_words.specs.Words as said
 use Rattle.command_words.specs.declared.options.Options.{Options}
 use Rattle.command_words.specs.declared.request.Request.{Request}
 use Rattle.command_words.specs.declared.request.Request.TheVariants as requests
@@ -19,22 +18,18 @@ options_in options = record {
   game = option_map (λ text. text.now) options.game;
   seed = option_map (λ text. text.now) options.seed;
   hands = option_map (λ text. text.now) options.hands;
+  seat = option_map (λ text. text.now) options.seat;
+  hand = option_map (λ text. text.now) options.hand;
+  after = option_map (λ text. text.now) options.after;
+  street = option_map (λ text. text.now) options.street;
   drops_notes = options.drops_notes;
 }
 
--- a notation, with the name of its game's file
-abbrev pub notation_in : NotationName → words.NotationName
-notation_in notations.Phh = words.Phh
-notation_in notations.Ohh = words.Ohh
-notation_in notations.OhhTo = words.OhhTo
-notation_in (notations.Acpc game) = words.Acpc game.now
-
--- a request, with its notations and numbers
-abbrev pub request_in : Request → words.Request
-request_in (requests.Show command notation) = words.Show command (notation_in notation)
-request_in (requests.Game notation) = words.Game (notation_in notation)
-request_in (requests.Convert from to keep) = words.Convert (notation_in from) (notation_in to) keep
-request_in (requests.Load seed hands) = words.Load seed hands.number
+-- a request, with the name of its game's file and its number of hands
+abbrev pub request_in : Request → said.Request
+request_in (requests.Load seed hands) = said.Load seed hands.number
+request_in (requests.Plain from task) = said.Plain from task
+request_in (requests.Under game logs) = said.Under game.now logs
 
 -- the text of a flag
 abbrev pub flag_text : Bool → List ℕ
@@ -48,6 +43,10 @@ pub record AreFound (found : Found) (options : words.Options) : Type 0 where
   pub game : first_value found (codes "game") ≡ options.game
   pub seed : first_value found (codes "seed") ≡ options.seed
   pub hands : first_value found (codes "hands") ≡ options.hands
+  pub seat : first_value found (codes "seat") ≡ options.seat
+  pub hand : first_value found (codes "hand") ≡ options.hand
+  pub after : first_value found (codes "after") ≡ options.after
+  pub street : first_value found (codes "street") ≡ options.street
   pub flag : one_text found (codes "drop-notes") ≡ Some (flag_text options.drops_notes)
 
 -- What a parser of command lines found is what words say: the word of the command, and the options.

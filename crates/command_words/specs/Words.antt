@@ -1,195 +1,171 @@
--- Which words say what is asked for: the word of a command, and behind it its options, each once and in any order.
-use Rattle.std.specs.Prelude.{ℕ, ◌&&◌, ◌||◌, not, Bool, true, false, if◌then◌else◌, List, [], ◌∷◌, codes, Option, Some, None, is_some, length, nat_le, option_and_then, option_map}
+-- Which words say what is asked for: the word of a command, and behind it its options and no other.
+use Rattle.std.specs.Prelude.{ℕ, ◌&&◌, Bool, false, if◌then◌else◌, List, [], ◌∷◌, codes}
+use Rattle.std.specs.Prelude.{Option, Some, None, is_some, option_and_then}
 use Rattle.std.specs.Str.{bytes_eq}
-use Rattle.first_fault.specs.Digits.{are_digits, number_of}
-use Rattle.first_fault.specs.declared.limits.TheConstants.{MOST_HANDS}
-use Rattle.command_words.specs.declared.command.Command.{Command}
+use Rattle.command_words.specs.Numbers.{events_said, hand_said, hands_said, seat_said}
+use Rattle.command_words.specs.Numbers.{seed_said, street_said}
+use Rattle.command_words.specs.Options.{Options, are_none, no_options, options_said}
 use Rattle.command_words.specs.declared.command.Command.TheVariants as commands
-use Rattle.command_words.specs.declared.request.Keep.{Keep}
-use Rattle.command_words.specs.declared.request.Keep.TheVariants as keeps
-use Rattle.clap.specs.Lexer.{long_of, strip_byte}
+use Rattle.command_words.specs.declared.notation.NotationName.{NotationName}
+use Rattle.command_words.specs.declared.notation.NotationName.TheVariants as names
+use Rattle.command_words.specs.declared.notation.PlainNotation.{PlainNotation}
+use Rattle.command_words.specs.declared.notation.PlainNotation.TheVariants as notations
+use Rattle.command_words.specs.declared.request.Logs.{Logs}
+use Rattle.command_words.specs.declared.request.Logs.TheVariants as logs_are
+use Rattle.command_words.specs.declared.task.Question.{Question}
+use Rattle.command_words.specs.declared.task.Question.TheVariants as questions
+use Rattle.command_words.specs.declared.task.Task.{Task}
+use Rattle.command_words.specs.declared.task.Task.TheVariants as tasks
+use Rattle.chip_ledger.specs.declared.numbers.Seat.{Seat}
+use Rattle.hand_records.specs.declared.writing.Keep.{Keep}
+use Rattle.hand_records.specs.declared.writing.Keep.TheVariants as keeps
 
--- a notation of hands: the Poker Hand History format, Open Hand History in its two dialects, and the competition's logs; a
--- log is read and written under the game of a file, which has this name
-pub data NotationName : Type 0 where
-  Phh : NotationName
-  Ohh : NotationName
-  OhhTo : NotationName
-  Acpc : (game : List ℕ) → NotationName
-
--- what is asked for: what a command prints of hands in a notation, the game file of the first of them, hands of one notation
--- written in another with so many of their notes, the summary of so many hands that are made from a seed
+-- What is asked for: the summary of so many hands that are made from a seed, or what is made of the
+-- hands that are read. Hands of which logs are read or written are under the game of the file with
+-- this name; others have none.
 pub data Request : Type 0 where
-  Show : Command → NotationName → Request
-  Game : NotationName → Request
-  Convert : (from to : NotationName) → Keep → Request
   Load : (seed hands : ℕ) → Request
+  Plain : PlainNotation → Task PlainNotation → Request
+  Under : (game : List ℕ) → Logs → Request
 
--- the values of the options that are given
-pub record Options : Type 0 where
-  -- the notation of the input
-  pub from : Option (List ℕ)
-  -- the notation of the output
-  pub to : Option (List ℕ)
-  -- the name of the game's file
-  pub game : Option (List ℕ)
-  -- the number that hands are made from
-  pub seed : Option (List ℕ)
-  -- how many hands are made
-  pub hands : Option (List ℕ)
-  -- the flag by which notes without a spelling are dropped
-  pub drops_notes : Bool
-
--- none of them is given
-abbrev pub no_options : Options
-no_options = record { from = None; to = None; game = None; seed = None; hands = None; drops_notes = false }
-
--- the options with one more of this name and value; each stands once, and no value begins with a hyphen
-abbrev pub with_option : Options → List ℕ → List ℕ → Option Options
-with_option options name value =
-    if is_some (strip_byte 45 value) then None
-    else if bytes_eq name (codes "from") && not (is_some options.from) then Some (record options { from = Some value })
-    else if bytes_eq name (codes "to") && not (is_some options.to) then Some (record options { to = Some value })
-    else if bytes_eq name (codes "game") && not (is_some options.game) then Some (record options { game = Some value })
-    else if bytes_eq name (codes "seed") && not (is_some options.seed) then Some (record options { seed = Some value })
-    else if bytes_eq name (codes "hands") && not (is_some options.hands) then Some (record options { hands = Some value })
-    else None
-
--- the options with the flag, which stands once
-abbrev pub with_flag : Options → Option Options
-with_flag options = if options.drops_notes then None else Some (record options { drops_notes = true })
-
--- the flag has no value
-abbrev pub is_flag : List ℕ → Bool
-is_flag name = bytes_eq name (codes "drop-notes")
-
--- what a name gives whose value may stand behind it
-abbrev pub with_value : Options → List ℕ → Option (List ℕ) → Option Options
-with_value options name None = None
-with_value options name (Some value) = with_option options name value
-
--- what a word gives as an option, with the value that stands in it, or else with this value
-abbrev pub with_word : Options → Option (List ℕ × Option (List ℕ)) → Option (List ℕ) → Option Options
-with_word options None behind = None
-with_word options (Some (name, Some value)) behind = with_option options name value
-with_word options (Some (name, None)) behind = if is_flag name then with_flag options else with_value options name behind
-
--- a word is an option without the word behind it
-abbrev pub is_complete : Option (List ℕ × Option (List ℕ)) → Bool
-is_complete None = false
-is_complete (Some (name, value)) = is_some value || is_flag name
-
--- The options with those of these words. An option is the word --name=value, or the word --name and its value behind it, or
--- the flag.
-unfoldable pub options_said : Options → List (List ℕ) → Option Options
-options_said options [] = Some options
-options_said options (word ∷ []) = with_word options (long_of word) None
-options_said options (word ∷ value ∷ words) = option_and_then
-    (λ more. if is_complete (long_of word) then options_said more (value ∷ words) else options_said more words)
-    (with_word options (long_of word) (Some value))
-
--- the notation of a name; logs are read and written under the game that is given
-abbrev pub notation_of_name : List ℕ → Option (List ℕ) → Option NotationName
-notation_of_name name game =
-    if bytes_eq name (codes "phh") then Some Phh
-    else if bytes_eq name (codes "ohh") then Some Ohh
-    else if bytes_eq name (codes "ohh-to") then Some OhhTo
-    else if bytes_eq name (codes "acpc") then option_map Acpc game
+-- the notation of a name
+abbrev pub notation_of_name : List ℕ → Option NotationName
+notation_of_name name =
+    if bytes_eq name (codes "phh") then Some (names.Plain notations.Phh)
+    else if bytes_eq name (codes "ohh") then Some (names.Plain notations.Ohh)
+    else if bytes_eq name (codes "ohh-to") then Some (names.Plain notations.OhhTo)
+    else if bytes_eq name (codes "acpc") then Some names.Acpc
     else None
 
 -- the notation that is named, if one is
-abbrev pub notation_named : Option (List ℕ) → Option (List ℕ) → Option NotationName
-notation_named None game = None
-notation_named (Some name) game = notation_of_name name game
+abbrev pub notation_named : Option (List ℕ) → Option NotationName
+notation_named name = option_and_then notation_of_name name
 
--- the notation is that of logs
-abbrev pub is_logs : NotationName → Bool
-is_logs (Acpc game) = true
-is_logs notation = false
+-- What is made of hands in a notation: plain ones stand without a game, and logs under the game
+-- that is given, whose name is not empty.
+abbrev pub reading_of : NotationName → (game : Option (List ℕ)) → Task PlainNotation
+    → Task NotationName → Option Request
+reading_of (names.Plain from) None plain logs = Some (Plain from plain)
+reading_of (names.Plain from) (Some game) plain logs = None
+reading_of names.Acpc None plain logs = None
+reading_of names.Acpc (Some []) plain logs = None
+reading_of names.Acpc (Some (first ∷ others)) plain logs =
+    Some (Under (first ∷ others) (logs_are.Read logs))
 
--- a game is given exactly where there are logs, and its name is not empty
-abbrev pub is_game_right : (logs : Bool) → (game : Option (List ℕ)) → Bool
-is_game_right logs None = not logs
-is_game_right logs (Some []) = false
-is_game_right logs (Some (first ∷ others)) = logs
+-- What a seat saw of the hands of logs, under the game that is given, whose name is not empty.
+abbrev pub views_of : NotationName → (game : Option (List ℕ)) → Seat → Option Request
+views_of (names.Plain from) game seat = None
+views_of names.Acpc None seat = None
+views_of names.Acpc (Some []) seat = None
+views_of names.Acpc (Some (first ∷ others)) seat =
+    Some (Under (first ∷ others) (logs_are.Viewed seat))
 
--- an option of what is read is given
-abbrev pub has_input : Options → Bool
-has_input options = is_some options.from || is_some options.game
+-- The hands of one notation in another: between plain ones without a game, and else, from logs or
+-- to logs, under the game that is given, whose name is not empty.
+abbrev pub conversion_of : (from to : NotationName) → (game : Option (List ℕ)) → Keep
+    → Option Request
+conversion_of (names.Plain from) (names.Plain to) None keep =
+    Some (Plain from (tasks.Convert to keep))
+conversion_of (names.Plain from) (names.Plain to) (Some game) keep = None
+conversion_of from to None keep = None
+conversion_of from to (Some []) keep = None
+conversion_of (names.Plain from) names.Acpc (Some (first ∷ others)) keep =
+    Some (Under (first ∷ others) (logs_are.Written from keep))
+conversion_of names.Acpc to (Some (first ∷ others)) keep =
+    Some (Under (first ∷ others) (logs_are.Read (tasks.Convert to keep)))
 
--- an option of what is written is given
-abbrev pub has_output : Options → Bool
-has_output options = is_some options.to || options.drops_notes
+-- what two values give, where both are there
+abbrev pub with_both : {X Y : Type 0} → (X → Y → Option Request) → Option X → Option Y
+    → Option Request
+with_both give None second = None
+with_both give (Some x) None = None
+with_both give (Some x) (Some y) = give x y
 
--- an option of hands that are made is given
-abbrev pub has_number : Options → Bool
-has_number options = is_some options.seed || is_some options.hands
+-- a question about the hands that are read, in the notation that is given
+abbrev pub asked : Options → Question → Option Request
+asked options question =
+    option_and_then (λ from. reading_of from options.game (tasks.Ask question) (tasks.Ask question))
+    (notation_named options.from)
 
--- the notation, where the game is given that it needs and no other
-abbrev pub under_game : Option (List ℕ) → NotationName → Option NotationName
-under_game game notation = if is_game_right (is_logs notation) game then Some notation else None
+-- `check`, `replay`, `report` and `session` take --from, and --game for logs
+abbrev pub question_asked : Question → Options → Option Request
+question_asked question options =
+    if are_none (record options { from = None; game = None }) then asked options question else None
 
--- the notation of the hands of a command that prints of them: it has the options of what is read alone
-abbrev pub input_said : Options → Option NotationName
-input_said options =
-    if has_output options || has_number options then None
-    else option_and_then (under_game options.game) (notation_named options.from options.game)
-
--- a game file is made of hands that have none
-abbrev pub game_asked : NotationName → Option Request
-game_asked (Acpc game) = None
-game_asked notation = Some (Game notation)
+-- `judge` takes --from, and --game for logs
+abbrev pub judge_asked : Options → Option Request
+judge_asked options =
+    if are_none (record options { from = None; game = None })
+    then option_and_then (λ from. reading_of from options.game tasks.Judge tasks.Judge)
+    (notation_named options.from)
+    else None
 
 -- which notes are kept: those that have a spelling, where the flag stands
 abbrev pub keep_said : Bool → Keep
 keep_said drops_notes = if drops_notes then keeps.Spelled else keeps.All
 
--- hands of one notation are written in another, in logs under the game that is given
-abbrev pub conversion : Options → Option NotationName → Option NotationName → Option Request
-conversion options None to = None
-conversion options (Some from) None = None
-conversion options (Some from) (Some to) =
-    if is_game_right (is_logs from || is_logs to) options.game then Some (Convert from to (keep_said options.drops_notes)) else None
+-- `convert` takes --from, --to, --game for logs, and the flag
+abbrev pub conversion_asked : Options → Option Request
+conversion_asked options =
+    if are_none (record options { from = None; to = None; game = None; drops_notes = false })
+    then with_both (λ from to. conversion_of from to options.game (keep_said options.drops_notes))
+    (notation_named options.from) (notation_named options.to)
+    else None
 
--- what `convert` asks for: it has no option of hands that are made
-abbrev pub conversion_said : Options → Option Request
-conversion_said options =
-    if has_number options then None
-    else conversion options (notation_named options.from options.game) (notation_named options.to options.game)
+-- `game` takes --from, which is not of logs: they have no game without a file
+abbrev pub game_asked : Options → Option Request
+game_asked options =
+    if are_none (record options { from = None }) then asked options questions.GameFile else None
 
--- the number that a text of one to so many decimal digits says, if it is no more than this
-abbrev pub number_said : (digits most : ℕ) → List ℕ → Option ℕ
-number_said digits most text = if are_digits text && nat_le (length text) digits then number_of most text else None
+-- `load` takes --seed and --hands
+abbrev pub load_asked : Options → Option Request
+load_asked options =
+    if are_none (record options { seed = None; hands = None })
+    then with_both (λ seed hands. Some (Load seed hands))
+    (option_and_then seed_said options.seed) (option_and_then hands_said options.hands)
+    else None
 
--- a seed has at most nine digits
-abbrev pub seed_said : List ℕ → Option ℕ
-seed_said text = number_said 9 999999999 text
+-- `views` takes --from, which is of logs, --game and --seat
+abbrev pub views_asked : Options → Option Request
+views_asked options =
+    if are_none (record options { from = None; game = None; seat = None })
+    then with_both (λ from seat. views_of from options.game seat)
+    (notation_named options.from) (option_and_then seat_said options.seat)
+    else None
 
--- hands are at most as many as those of a file, in at most five digits
-abbrev pub hands_said : List ℕ → Option ℕ
-hands_said text = number_said 5 MOST_HANDS text
+-- `options` takes --from, --game for logs, --hand and --after
+abbrev pub options_asked : Options → Option Request
+options_asked options =
+    if are_none (record options { from = None; game = None; hand = None; after = None })
+    then with_both (λ hand events. asked options (questions.Options hand events))
+    (option_and_then hand_said options.hand) (option_and_then events_said options.after)
+    else None
 
--- so many hands are made from a seed, where both are given
-abbrev pub made : Option ℕ → Option ℕ → Option Request
-made None hands = None
-made (Some seed) None = None
-made (Some seed) (Some hands) = Some (Load seed hands)
-
--- what `load` asks for: it has the options of hands that are made alone
-abbrev pub load_said : Options → Option Request
-load_said options =
-    if has_input options || has_output options then None
-    else made (option_and_then seed_said options.seed) (option_and_then hands_said options.hands)
+-- `equity` takes --from, --game for logs, --hand and --street
+abbrev pub equity_asked : Options → Option Request
+equity_asked options =
+    if are_none (record options { from = None; game = None; hand = None; street = None })
+    then with_both (λ hand street. asked options (questions.Equity hand street))
+    (option_and_then hand_said options.hand) (option_and_then street_said options.street)
+    else None
 
 -- what the word of a command asks for with these options
 abbrev pub request_by : List ℕ → Options → Option Request
 request_by word options =
-    if bytes_eq word (codes "check") then option_map (Show commands.Check) (input_said options)
-    else if bytes_eq word (codes "replay") then option_map (Show commands.Replay) (input_said options)
-    else if bytes_eq word (codes "report") then option_map (Show commands.Report) (input_said options)
-    else if bytes_eq word (codes "game") then option_and_then game_asked (input_said options)
-    else if bytes_eq word (codes "convert") then conversion_said options
-    else if bytes_eq word (codes "load") then load_said options
+    if bytes_eq word (codes "check") then question_asked (questions.Show commands.Check) options
+    else if bytes_eq word (codes "replay")
+    then question_asked (questions.Show commands.Replay) options
+    else if bytes_eq word (codes "report")
+    then question_asked (questions.Show commands.Report) options
+    else if bytes_eq word (codes "convert") then conversion_asked options
+    else if bytes_eq word (codes "game") then game_asked options
+    else if bytes_eq word (codes "load") then load_asked options
+    else if bytes_eq word (codes "views") then views_asked options
+    else if bytes_eq word (codes "options") then options_asked options
+    else if bytes_eq word (codes "session")
+    then question_asked (questions.Show commands.Session) options
+    else if bytes_eq word (codes "equity") then equity_asked options
+    else if bytes_eq word (codes "judge") then judge_asked options
     else None
 
 -- what words ask for, if they ask for something

@@ -1,4 +1,4 @@
-//! The commands that print something of each hand.
+//! The commands that print something of all hands, where each of them is legal.
 
 /// What is printed of hands.
 #[derive(Clone, Copy, Debug, PartialEq, Eq)]
@@ -9,4 +9,6 @@ pub enum Command {
     Replay,
     /// Hands and pots by game, and chips by name.
     Report,
+    /// How the stacks of each name went over the hands, and how often it played and won.
+    Session,
 }

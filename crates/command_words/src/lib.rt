@@ -7,9 +7,11 @@ mod numbers;
 mod options;
 mod reading;
 mod request;
+mod task;
 
 pub use command::Command;
-pub use notation::NotationName;
+pub use notation::{NotationName, PlainNotation};
 pub use numbers::HandCount;
 pub use reading::read_words;
-pub use request::{Keep, Request};
+pub use request::{Logs, Request};
+pub use task::{Question, Task};

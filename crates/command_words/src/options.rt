@@ -2,7 +2,7 @@
 ghost use Rattle.std.specs.Prelude.{◌≡◌, option_map, map, string_bytes};
 ghost use Rattle.clap.specs.Lexer.{long_of, name_and_value, strip_byte};
 ghost use Rattle.command_words.specs.Requests.{options_in};
-ghost use Rattle.command_words.specs.Words.{no_options, options_said, with_flag as with_flag_said, with_option as with_option_said};
+ghost use Rattle.command_words.specs.Options.{no_options, options_said, with_flag as with_flag_said, with_new as with_new_said, with_option as with_option_said};
 
 /// The values of the options that are given.
 #[derive(Clone, Copy, Debug, PartialEq, Eq)]
@@ -17,12 +17,20 @@ pub struct Options<'a> {
     pub seed: Option<&'a str>,
     /// How many hands are made.
     pub hands: Option<&'a str>,
+    /// The number of a seat.
+    pub seat: Option<&'a str>,
+    /// The number of a hand.
+    pub hand: Option<&'a str>,
+    /// How many events of that hand come first.
+    pub after: Option<&'a str>,
+    /// The number of a street of that hand.
+    pub street: Option<&'a str>,
     /// Whether notes without a spelling are dropped.
     pub drops_notes: bool,
 }
 
 /// The options that the words say, or `None` where one of them is none, or stands twice.
-#[tactic(auto, unfolding(crate::specs::Words::options_said))]
+#[tactic(auto, unfolding(crate::specs::Options::options_said))]
 pub fn read_options(words: &[String]) -> Option<Options<'_>>
     ensures { option_map options_in result ≡ options_said no_options (map string_bytes words.now) }
 {
@@ -32,6 +40,10 @@ pub fn read_options(words: &[String]) -> Option<Options<'_>>
         game: None,
         seed: None,
         hands: None,
+        seat: None,
+        hand: None,
+        after: None,
+        street: None,
         drops_notes: false,
     };
     let mut rest = words;
@@ -83,7 +95,7 @@ fn split_value(text: &str) -> (&str, Option<&str>)
     }
 }
 
-// The options with one more.
+// The options with one more, whose value begins with no hyphen.
 fn with_option<'a>(options: Options<'a>, name: &str, value: &'a str) -> Option<Options<'a>>
     ensures { option_map options_in result
         ≡ with_option_said (options_in options.entry) name.now value.now }
@@ -91,6 +103,14 @@ fn with_option<'a>(options: Options<'a>, name: &str, value: &'a str) -> Option<O
     if value.starts_with('-') {
         return None;
     }
+    with_new(options, name, value)
+}
+
+// The options with one more that does not stand yet.
+fn with_new<'a>(options: Options<'a>, name: &str, value: &'a str) -> Option<Options<'a>>
+    ensures { option_map options_in result
+        ≡ with_new_said (options_in options.entry) name.now value.now }
+{
     let value = Some(value);
     match name {
         "from" if options.from.is_none() => Some(Options {
@@ -111,6 +131,22 @@ fn with_option<'a>(options: Options<'a>, name: &str, value: &'a str) -> Option<O
         }),
         "hands" if options.hands.is_none() => Some(Options {
             hands: value,
+            ..options
+        }),
+        "seat" if options.seat.is_none() => Some(Options {
+            seat: value,
+            ..options
+        }),
+        "hand" if options.hand.is_none() => Some(Options {
+            hand: value,
+            ..options
+        }),
+        "after" if options.after.is_none() => Some(Options {
+            after: value,
+            ..options
+        }),
+        "street" if options.street.is_none() => Some(Options {
+            street: value,
             ..options
         }),
         _ => None,

@@ -3,7 +3,8 @@ ghost use Rattle.std.specs.Prelude.{◌≡◌, map, option_map, string_bytes, If
 ghost use Rattle.clap.specs.Simple.{new_rule};
 ghost use Rattle.clap.specs.Words.{found_of, rule_of};
 ghost use Rattle.command_words.specs.Requests.{AreFound, IsSaidBy, options_in, request_in};
-ghost use Rattle.command_words.specs.Words.{Options as OptionsSaid, request_said};
+ghost use Rattle.command_words.specs.Options.{Options as OptionsSaid};
+ghost use Rattle.command_words.specs.Words.{request_said};
 
 use crate::options::{Options, read_options};
 use crate::request::{Request, request_of};
@@ -11,8 +12,8 @@ use card_set::Memory;
 use clap::{Arg, ArgAction, ArgMatches};
 use std::alloc::Global;
 
-/// What the words ask for, or `None` where they ask for nothing. Only where they ask for something is
-/// memory taken.
+/// What the words ask for, or `None` where they ask for nothing. Only where they ask for something
+/// is memory taken.
 pub fn read_words<'a>(alloc: Global, words: &'a [String]) -> Result<Option<Request<'a>>, Memory>
     ensures read { IfOk result (λ request. option_map request_in request
         ≡ request_said (map string_bytes words.now)) }
@@ -29,7 +30,7 @@ pub fn read_words<'a>(alloc: Global, words: &'a [String]) -> Result<Option<Reque
 }
 
 // What the words ask for, told without memory.
-#[tactic(auto, unfolding(crate::specs::Words::options_said))]
+#[tactic(auto, unfolding(crate::specs::Options::options_said))]
 fn request_in_words(words: &[String]) -> Option<Request<'_>>
     ensures { option_map request_in result ≡ request_said (map string_bytes words.now) }
 {
@@ -38,7 +39,8 @@ fn request_in_words(words: &[String]) -> Option<Request<'_>>
     request_of(word.as_str(), options)
 }
 
-// The words of a command, by the names of what they are. Every error of the parser is told as want of memory.
+// The words of a command, by the names of what they are. Every error of the parser is told as want
+// of memory.
 fn parsed<'a>(alloc: Global, words: &'a [String]) -> Result<ArgMatches<'a>, Memory>
     requires { is_some (request_said (map string_bytes words.now)) ≡ true }
     ensures { IfOk result (λ matches. IsSaidBy (map string_bytes words.now) (found_of matches)) }
@@ -53,6 +55,10 @@ fn parsed<'a>(alloc: Global, words: &'a [String]) -> Result<ArgMatches<'a>, Memo
         .arg(option(alloc, "game"))?
         .arg(option(alloc, "seed"))?
         .arg(option(alloc, "hands"))?
+        .arg(option(alloc, "seat"))?
+        .arg(option(alloc, "hand"))?
+        .arg(option(alloc, "after"))?
+        .arg(option(alloc, "street"))?
         .arg(flag)?;
     match handref.try_get_matches_from(words) {
         Ok(matches) => Ok(matches),
@@ -79,6 +85,10 @@ fn options_found<'a>(matches: &ArgMatches<'a>) -> Options<'a>
         game: matches.get_str("game"),
         seed: matches.get_str("seed"),
         hands: matches.get_str("hands"),
+        seat: matches.get_str("seat"),
+        hand: matches.get_str("hand"),
+        after: matches.get_str("after"),
+        street: matches.get_str("street"),
         drops_notes: matches.get_flag("drop-notes"),
     }
 }

@@ -1,40 +1,48 @@
 //! A command's word and its options ask for something, or for nothing.
 ghost use Rattle.std.specs.Prelude.{◌≡◌, option_map};
-ghost use Rattle.command_words.specs.Requests.{notation_in, options_in, request_in};
-ghost use Rattle.command_words.specs.Words.{conversion_said, game_asked, has_input as has_input_said, has_number as has_number_said, has_output as has_output_said, input_said, keep_said, load_said, request_by};
+ghost use Rattle.command_words.specs.Options.{are_none as are_none_said, lack_counts as lack_counts_said, lack_names as lack_names_said, lack_places as lack_places_said};
+ghost use Rattle.command_words.specs.Requests.{options_in, request_in};
+ghost use Rattle.command_words.specs.Words.{asked as asked_said, conversion_asked, conversion_of as conversion_of_said, equity_asked, game_asked, judge_asked, keep_said, load_asked, options_asked, question_asked, reading_of as reading_of_said, request_by, views_asked, views_of as views_of_said};
 
 use crate::command::Command;
-use crate::notation::{NotationName, is_game_right, notation_named};
-use crate::numbers::{HandCount, read_count, read_seed};
+use crate::notation::{NotationName, PlainNotation, notation_named};
+use crate::numbers::{
+    HandCount, read_count, read_events, read_hand, read_seat, read_seed, read_street,
+};
 use crate::options::Options;
-
-/// Which notes of a hand are kept.
-#[derive(Clone, Copy, Debug, PartialEq, Eq)]
-pub enum Keep {
-    /// All of them.
-    All,
-    /// Those that have a spelling.
-    Spelled,
-}
+use crate::task::{Question, Task};
+use chip_ledger::Seat;
+use hand_records::Keep;
 
 /// What the program is asked for.
 #[derive(Clone, Copy, Debug, PartialEq, Eq)]
 pub enum Request<'a> {
-    /// What a command prints of hands in a notation.
-    Show(Command, NotationName<'a>),
-    /// The game file that fits the first of hands in a notation, which is not that of logs.
-    Game(NotationName<'a>),
-    /// Hands of one notation in another, under the same game where both are logs.
-    Convert {
-        from: NotationName<'a>,
-        to: NotationName<'a>,
-        keep: Keep,
-    },
     /// The summary of so many hands that are made from a seed.
     Load {
         seed: u64,
         hands: HandCount,
     },
+    /// What is made of hands without a game: neither notation is that of logs.
+    Plain {
+        from: PlainNotation,
+        task: Task<PlainNotation>,
+    },
+    /// What is made of hands where logs are under the game of the file with this name.
+    Under {
+        game: &'a str,
+        logs: Logs,
+    },
+}
+
+/// Which logs are under a game.
+#[derive(Clone, Copy, Debug, PartialEq, Eq)]
+pub enum Logs {
+    /// Logs are read, and this is made of their hands.
+    Read(Task<NotationName>),
+    /// Logs are read, and the messages that a seat received are told.
+    Viewed { seat: Seat },
+    /// Hands in another notation are written as logs, with so many of their notes.
+    Written { from: PlainNotation, keep: Keep },
 }
 
 /// What a command's word asks for with these options, or `None` where that is no command.
@@ -42,61 +50,210 @@ pub fn request_of<'a>(word: &str, options: Options<'a>) -> Option<Request<'a>>
     ensures { option_map request_in result ≡ request_by word.now (options_in options.entry) }
 {
     match word {
-        "check" => Some(Request::Show(Command::Check, input_of(options)?)),
-        "replay" => Some(Request::Show(Command::Replay, input_of(options)?)),
-        "report" => Some(Request::Show(Command::Report, input_of(options)?)),
-        "game" => game_file(input_of(options)?),
+        "check" => question_alone(Question::Show(Command::Check), options),
+        "replay" => question_alone(Question::Show(Command::Replay), options),
+        "report" => question_alone(Question::Show(Command::Report), options),
         "convert" => conversion(options),
+        "game" => game_file(options),
         "load" => load(options),
+        "views" => views(options),
+        "options" => legal_moves(options),
+        "session" => question_alone(Question::Show(Command::Session), options),
+        "equity" => equity(options),
+        "judge" => judgement(options),
         _ => None,
     }
 }
 
-// The notation of the hands of a command that prints of them.
-fn input_of<'a>(options: Options<'a>) -> Option<NotationName<'a>>
-    ensures { option_map notation_in result ≡ input_said (options_in options.entry) }
+// A question to which the notation and the game are the only options.
+fn question_alone<'a>(question: Question, options: Options<'a>) -> Option<Request<'a>>
+    ensures { option_map request_in result ≡ question_asked question (options_in options.entry) }
 {
-    if has_output(options) || has_number(options) {
+    let others = Options {
+        from: None,
+        game: None,
+        ..options
+    };
+    if !are_none(others) {
         return None;
     }
-    let notation = notation_named(options.from, options.game)?;
-    if !is_game_right(notation.is_logs(), options.game) {
+    asked(options, question)
+}
+
+// The verdict on each hand, to which the notation and the game are the only options.
+fn judgement<'a>(options: Options<'a>) -> Option<Request<'a>>
+    ensures { option_map request_in result ≡ judge_asked (options_in options.entry) }
+{
+    let others = Options {
+        from: None,
+        game: None,
+        ..options
+    };
+    if !are_none(others) {
         return None;
     }
-    Some(notation)
+    let from = notation_named(options.from)?;
+    reading_of(from, options.game, Task::Judge, Task::Judge)
 }
 
 // A game file is made of hands that have none.
-fn game_file<'a>(notation: NotationName<'a>) -> Option<Request<'a>>
-    ensures { option_map request_in result ≡ game_asked (notation_in notation.entry) }
+fn game_file<'a>(options: Options<'a>) -> Option<Request<'a>>
+    ensures { option_map request_in result ≡ game_asked (options_in options.entry) }
 {
-    if notation.is_logs() {
+    let others = Options {
+        from: None,
+        ..options
+    };
+    if !are_none(others) {
         return None;
     }
-    Some(Request::Game(notation))
+    asked(options, Question::GameFile)
+}
+
+// What a seat saw, of logs alone.
+fn views<'a>(options: Options<'a>) -> Option<Request<'a>>
+    ensures { option_map request_in result ≡ views_asked (options_in options.entry) }
+{
+    let others = Options {
+        from: None,
+        game: None,
+        seat: None,
+        ..options
+    };
+    if !are_none(others) {
+        return None;
+    }
+    let from = notation_named(options.from)?;
+    let seat = read_seat(options.seat?)?;
+    views_of(from, options.game, seat)
+}
+
+// What a seat saw of the hands of logs, under the game that is given.
+fn views_of<'a>(from: NotationName, game: Option<&'a str>, seat: Seat) -> Option<Request<'a>>
+    ensures { option_map request_in result
+        ≡ views_of_said from (option_map (λ s. s.now) game.entry) seat }
+{
+    match (from, game) {
+        (NotationName::Acpc, Some(game)) if !game.is_empty() => Some(Request::Under {
+            game,
+            logs: Logs::Viewed { seat },
+        }),
+        _ => None,
+    }
+}
+
+// The legal moves at a point of a hand.
+fn legal_moves<'a>(options: Options<'a>) -> Option<Request<'a>>
+    ensures { option_map request_in result ≡ options_asked (options_in options.entry) }
+{
+    let others = Options {
+        from: None,
+        game: None,
+        hand: None,
+        after: None,
+        ..options
+    };
+    if !are_none(others) {
+        return None;
+    }
+    let hand = read_hand(options.hand?)?;
+    let events = read_events(options.after?)?;
+    asked(options, Question::Options { hand, events })
+}
+
+// How often each live hand would win from a street on.
+fn equity<'a>(options: Options<'a>) -> Option<Request<'a>>
+    ensures { option_map request_in result ≡ equity_asked (options_in options.entry) }
+{
+    let others = Options {
+        from: None,
+        game: None,
+        hand: None,
+        street: None,
+        ..options
+    };
+    if !are_none(others) {
+        return None;
+    }
+    let hand = read_hand(options.hand?)?;
+    let street = read_street(options.street?)?;
+    asked(options, Question::Equity { hand, street })
+}
+
+// A question about the hands that are read, in the notation that is given.
+fn asked<'a>(options: Options<'a>, question: Question) -> Option<Request<'a>>
+    ensures { option_map request_in result ≡ asked_said (options_in options.entry) question }
+{
+    let from = notation_named(options.from)?;
+    reading_of(from, options.game, Task::Ask(question), Task::Ask(question))
+}
+
+// What is made of hands in a notation, of which logs are under the game that is given.
+fn reading_of<'a>(
+    from: NotationName,
+    game: Option<&'a str>,
+    plain: Task<PlainNotation>,
+    logs: Task<NotationName>,
+) -> Option<Request<'a>>
+    ensures { option_map request_in result
+        ≡ reading_of_said from (option_map (λ s. s.now) game.entry) plain logs }
+{
+    match (from, game) {
+        (NotationName::Plain(from), None) => Some(Request::Plain { from, task: plain }),
+        (NotationName::Acpc, Some(game)) if !game.is_empty() => Some(Request::Under {
+            game,
+            logs: Logs::Read(logs),
+        }),
+        _ => None,
+    }
 }
 
 // Hands of one notation are written in another.
 fn conversion<'a>(options: Options<'a>) -> Option<Request<'a>>
-    ensures { option_map request_in result ≡ conversion_said (options_in options.entry) }
+    ensures { option_map request_in result ≡ conversion_asked (options_in options.entry) }
 {
-    if has_number(options) {
+    let others = Options {
+        from: None,
+        to: None,
+        game: None,
+        drops_notes: false,
+        ..options
+    };
+    if !are_none(others) {
         return None;
     }
-    let from = notation_named(options.from, options.game)?;
-    let to = notation_named(options.to, options.game)?;
-    if !is_game_right(from.is_logs() || to.is_logs(), options.game) {
-        return None;
-    }
-    let keep = keep_of(options.drops_notes);
-    Some(Request::Convert { from, to, keep })
+    let from = notation_named(options.from)?;
+    let to = notation_named(options.to)?;
+    conversion_of(from, to, options.game, keep_of(options.drops_notes))
 }
 
-// Whether an option of hands that are made is given.
-fn has_number(options: Options<'_>) -> bool
-    ensures { result ≡ has_number_said (options_in options.entry) }
+// The hands of one notation in another, of which logs are under the game that is given.
+fn conversion_of<'a>(
+    from: NotationName,
+    to: NotationName,
+    game: Option<&'a str>,
+    keep: Keep,
+) -> Option<Request<'a>>
+    ensures { option_map request_in result
+        ≡ conversion_of_said from to (option_map (λ s. s.now) game.entry) keep }
 {
-    options.seed.is_some() || options.hands.is_some()
+    match (from, to, game) {
+        (NotationName::Plain(from), NotationName::Plain(to), None) => Some(Request::Plain {
+            from,
+            task: Task::Convert { to, keep },
+        }),
+        (NotationName::Plain(from), NotationName::Acpc, Some(game)) if !game.is_empty() => {
+            Some(Request::Under {
+                game,
+                logs: Logs::Written { from, keep },
+            })
+        }
+        (NotationName::Acpc, to, Some(game)) if !game.is_empty() => Some(Request::Under {
+            game,
+            logs: Logs::Read(Task::Convert { to, keep }),
+        }),
+        _ => None,
+    }
 }
 
 // Which notes are kept, as the flag stands.
@@ -112,9 +269,14 @@ fn keep_of(drops_notes: bool) -> Keep
 
 // Hands are made from a seed.
 fn load<'a>(options: Options<'a>) -> Option<Request<'a>>
-    ensures { option_map request_in result ≡ load_said (options_in options.entry) }
+    ensures { option_map request_in result ≡ load_asked (options_in options.entry) }
 {
-    if has_input(options) || has_output(options) {
+    let others = Options {
+        seed: None,
+        hands: None,
+        ..options
+    };
+    if !are_none(others) {
         return None;
     }
     let seed = read_seed(options.seed?)?;
@@ -122,16 +284,33 @@ fn load<'a>(options: Options<'a>) -> Option<Request<'a>>
     Some(Request::Load { seed, hands })
 }
 
-// Whether an option of what is read is given.
-fn has_input(options: Options<'_>) -> bool
-    ensures { result ≡ has_input_said (options_in options.entry) }
+// Whether no option is given.
+fn are_none(options: Options<'_>) -> bool
+    ensures { result ≡ are_none_said (options_in options.entry) }
 {
-    options.from.is_some() || options.game.is_some()
+    lack_names(options) && lack_counts(options) && lack_places(options) && !options.drops_notes
 }
 
-// Whether an option of what is written is given.
-fn has_output(options: Options<'_>) -> bool
-    ensures { result ≡ has_output_said (options_in options.entry) }
+// Whether neither a notation nor a game is given.
+fn lack_names(options: Options<'_>) -> bool
+    ensures { result ≡ lack_names_said (options_in options.entry) }
 {
-    options.to.is_some() || options.drops_notes
+    options.from.is_none() && options.to.is_none() && options.game.is_none()
+}
+
+// Whether nothing is given of hands that are made.
+fn lack_counts(options: Options<'_>) -> bool
+    ensures { result ≡ lack_counts_said (options_in options.entry) }
+{
+    options.seed.is_none() && options.hands.is_none()
+}
+
+// Whether neither a seat nor a hand is given, nor a place in a hand.
+fn lack_places(options: Options<'_>) -> bool
+    ensures { result ≡ lack_places_said (options_in options.entry) }
+{
+    options.seat.is_none()
+        && options.hand.is_none()
+        && options.after.is_none()
+        && options.street.is_none()
 }

@@ -3,7 +3,7 @@ use Rattle.std.proofs.Common.{rules, ◌≡◌, false, ◌∷◌, map, string_by
 use Rattle.std.proofs.lemmas.List.{nil_from_length}
 use Rattle.clap.specs.Lexer.{long_of}
 use Rattle.command_words.specs.Requests.{options_in}
-use Rattle.command_words.specs.Words.{is_flag, options_said, with_flag, with_option}
+use Rattle.command_words.specs.Options.{is_flag, options_said, with_flag, with_option}
 use Rattle.command_words.proofs.Steps.{behind_apart, behind_flag, behind_joined, nothing_behind}
 use Rattle.command_words.proofs.options.read_options.Goals as goal
 

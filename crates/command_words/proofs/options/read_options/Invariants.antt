@@ -1,7 +1,7 @@
 -- The options so far, with those of the words that are left, are those of all words.
 use Rattle.std.proofs.Common.{◌≡◌, map, string_bytes, length}
 use Rattle.command_words.specs.Requests.{options_in}
-use Rattle.command_words.specs.Words.{no_options, options_said}
+use Rattle.command_words.specs.Options.{no_options, options_said}
 use Rattle.command_words.proofs.options.read_options.Given as goal
 
 abbrev pub invariant-loop-word : goal.invariant-loop-word

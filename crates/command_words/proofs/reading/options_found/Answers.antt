@@ -13,6 +13,10 @@ returns c options found =
       c.get_str-3.ensures ∙ found.game,
       c.get_str-4.ensures ∙ found.seed,
       c.get_str-5.ensures ∙ found.hands,
+      c.get_str-6.ensures ∙ found.seat,
+      c.get_str-7.ensures ∙ found.hand,
+      c.get_str-8.ensures ∙ found.after,
+      c.get_str-9.ensures ∙ found.street,
       flag options.drops_notes found.flag,
     ) refl
   where

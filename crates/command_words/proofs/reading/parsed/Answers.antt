@@ -5,7 +5,8 @@ use Rattle.clap.specs.Words.{App, Row, Text, app_of, first_of, found_of, is_simp
 use Rattle.clap.specs.declared.builder.action.ArgAction.TheVariants.{SetTrue}
 use Rattle.clap.specs.declared.builder.arg.Arg.{Arg}
 use Rattle.clap.proofs.WalkLemmas.{first_value-rows, one_text-rows}
-use Rattle.command_words.specs.Words.{Options, no_options, options_said, request_said}
+use Rattle.command_words.specs.Options.{Options, no_options, options_said}
+use Rattle.command_words.specs.Words.{request_said}
 use Rattle.command_words.proofs.Asked.{is_asked}
 use Rattle.command_words.proofs.Parses.{IsFound, finds, flag_rule, handref, handref_is_simple, rows_found, without_own_name}
 use Rattle.command_words.proofs.reading.parsed.Goals as goal
@@ -55,8 +56,12 @@ returns-in-Ok c =
     let four = c.in_ok-arg-4.ensures.shape c.option-4.ensures.local ∙ ap₂ with_rule three c.option-4.ensures.rule in
     let five = c.in_ok-arg-5.ensures.shape c.option-5.ensures.local ∙ ap₂ with_rule four c.option-5.ensures.rule in
     let six = c.in_ok-arg-6.ensures.shape c.option-6.ensures.local ∙ ap₂ with_rule five c.option-6.ensures.rule in
+    let seven = c.in_ok-arg-7.ensures.shape c.option-7.ensures.local ∙ ap₂ with_rule six c.option-7.ensures.rule in
+    let eight = c.in_ok-arg-8.ensures.shape c.option-8.ensures.local ∙ ap₂ with_rule seven c.option-8.ensures.rule in
+    let nine = c.in_ok-arg-9.ensures.shape c.option-9.ensures.local ∙ ap₂ with_rule eight c.option-9.ensures.rule in
+    let ten = c.in_ok-arg-10.ensures.shape c.option-10.ensures.local ∙ ap₂ with_rule nine c.option-10.ensures.rule in
     let handref_is : app_of c.in_ok-handref.handref ≡ handref = c.in_ok-handref.ensures.shape (ap (λ (argument : Arg). argument.global) c.action-flag.ensures ∙ c.option.ensures.local)
-    ∙ ap₂ with_rule six flag_is in
+    ∙ ap₂ with_rule ten flag_is in
     let words : List Text = map string_bytes c.args.words.now in
     let found = found_of c.in-Ok.matches in
     let rows : rows_of found ≡ rows_found words =
@@ -73,6 +78,10 @@ returns-in-Ok c =
         game = value (codes "game") ∙ of_words.found.game;
         seed = value (codes "seed") ∙ of_words.found.seed;
         hands = value (codes "hands") ∙ of_words.found.hands;
+        seat = value (codes "seat") ∙ of_words.found.seat;
+        hand = value (codes "hand") ∙ of_words.found.hand;
+        after = value (codes "after") ∙ of_words.found.after;
+        street = value (codes "street") ∙ of_words.found.street;
         flag = one_text-rows found (codes "drop-notes") ∙ ap (one_of (codes "drop-notes")) rows ∙ of_words.found.flag;
       };
     }

@@ -1,5 +1,7 @@
 -- What the parser found asks for what the words ask for.
-use Rattle.std.proofs.Common.{rules, ◌≡◌, ◌∙◌, ap, codes, map, string_bytes, Some}
+use Rattle.std.proofs.Common.{rules, ◌≡◌, ◌∙◌, ap, codes, map, string_bytes, option_map, Option, Some, None, true, false, is_none, refl}
+use Rattle.command_words.specs.Requests.{request_in}
+use Rattle.command_words.specs.declared.request.Request.{Request}
 use Rattle.clap.specs.Words.{first_value, found_of}
 use Rattle.command_words.specs.Words.{request_by}
 use Rattle.command_words.proofs.Asked.{said_again}
@@ -13,3 +15,14 @@ returns-clause-read c =
     c.request_of.ensures
     ∙ ap (request_by c.in-Some.word.now) (c.options_found.ensures said.options said.values)
     ∙ said_again (map string_bytes c.args.words.now) found c.in-Some.word.now said first
+
+-- what asks for nothing is no request
+none_in : (request : Option Request) → option_map request_in request ≡ None → is_none request ≡ true
+none_in None none = refl
+none_in (Some request) none = cc
+
+pub returns-clause-none : goal.returns-clause-none
+returns-clause-none c none =
+    let found : is_none c.request_in_words.result ≡ true = none_in c.request_in_words.result (c.request_in_words.ensures ∙ none) in
+    let other : is_none c.request_in_words.result ≡ false = search rules in
+    cc

@@ -1,0 +1,124 @@
+-- Which words are options: each stands once, in any order, with its value in its word or behind it.
+use Rattle.std.specs.Prelude.{◌&&◌, ◌||◌, not, Bool, true, false, if◌then◌else◌, List, [], ◌∷◌, ℕ}
+use Rattle.std.specs.Prelude.{codes, Option, Some, None, is_some, is_none, option_and_then}
+use Rattle.std.specs.Str.{bytes_eq}
+use Rattle.clap.specs.Lexer.{long_of, strip_byte}
+
+-- the values of the options that are given
+pub record Options : Type 0 where
+  -- the notation of the input
+  pub from : Option (List ℕ)
+  -- the notation of the output
+  pub to : Option (List ℕ)
+  -- the name of the game's file
+  pub game : Option (List ℕ)
+  -- the number that hands are made from
+  pub seed : Option (List ℕ)
+  -- how many hands are made
+  pub hands : Option (List ℕ)
+  -- the number of a seat
+  pub seat : Option (List ℕ)
+  -- the number of a hand
+  pub hand : Option (List ℕ)
+  -- how many events of that hand come first
+  pub after : Option (List ℕ)
+  -- the number of a street of that hand
+  pub street : Option (List ℕ)
+  -- the flag by which notes without a spelling are dropped
+  pub drops_notes : Bool
+
+-- no options
+abbrev pub no_options : Options
+no_options = record {
+  from = None;
+  to = None;
+  game = None;
+  seed = None;
+  hands = None;
+  seat = None;
+  hand = None;
+  after = None;
+  street = None;
+  drops_notes = false;
+}
+
+-- neither a notation nor a game is given
+abbrev pub lack_names : Options → Bool
+lack_names options = is_none options.from && is_none options.to && is_none options.game
+
+-- nothing is given of hands that are made
+abbrev pub lack_counts : Options → Bool
+lack_counts options = is_none options.seed && is_none options.hands
+
+-- neither a seat nor a hand is given, nor a place in a hand
+abbrev pub lack_places : Options → Bool
+lack_places options =
+    is_none options.seat && is_none options.hand && is_none options.after && is_none options.street
+
+-- none of them is given
+abbrev pub are_none : Options → Bool
+are_none options =
+    lack_names options && lack_counts options && lack_places options && not options.drops_notes
+
+-- an option has this name, and does not stand yet
+abbrev pub is_new : (name own : List ℕ) → Option (List ℕ) → Bool
+is_new name own given = bytes_eq name own && not (is_some given)
+
+-- the options with one more of this name and value; each stands once
+abbrev pub with_new : Options → List ℕ → List ℕ → Option Options
+with_new options name value =
+    if is_new name (codes "from") options.from then Some (record options { from = Some value })
+    else if is_new name (codes "to") options.to then Some (record options { to = Some value })
+    else if is_new name (codes "game") options.game then Some (record options { game = Some value })
+    else if is_new name (codes "seed") options.seed then Some (record options { seed = Some value })
+    else if is_new name (codes "hands") options.hands
+    then Some (record options { hands = Some value })
+    else if is_new name (codes "seat") options.seat then Some (record options { seat = Some value })
+    else if is_new name (codes "hand") options.hand then Some (record options { hand = Some value })
+    else if is_new name (codes "after") options.after
+    then Some (record options { after = Some value })
+    else if is_new name (codes "street") options.street
+    then Some (record options { street = Some value })
+    else None
+
+-- the same, where the value is one: none begins with a hyphen
+abbrev pub with_option : Options → List ℕ → List ℕ → Option Options
+with_option options name value =
+    if is_some (strip_byte 45 value) then None else with_new options name value
+
+-- the options with the flag, which stands once
+abbrev pub with_flag : Options → Option Options
+with_flag options =
+    if options.drops_notes then None else Some (record options { drops_notes = true })
+
+-- the flag has no value
+abbrev pub is_flag : List ℕ → Bool
+is_flag name = bytes_eq name (codes "drop-notes")
+
+-- what a name gives whose value may stand behind it
+abbrev pub with_value : Options → List ℕ → Option (List ℕ) → Option Options
+with_value options name None = None
+with_value options name (Some value) = with_option options name value
+
+-- what a word gives as an option, with the value that stands in it, or else with this value
+abbrev pub with_word : Options → Option (List ℕ × Option (List ℕ)) → Option (List ℕ)
+    → Option Options
+with_word options None behind = None
+with_word options (Some (name, Some value)) behind = with_option options name value
+with_word options (Some (name, None)) behind =
+    if is_flag name then with_flag options else with_value options name behind
+
+-- a word is an option without the word behind it
+abbrev pub is_complete : Option (List ℕ × Option (List ℕ)) → Bool
+is_complete None = false
+is_complete (Some (name, value)) = is_some value || is_flag name
+
+-- The options with those of these words. An option is the word --name=value, or the word --name and
+-- its value behind it, or the flag.
+unfoldable pub options_said : Options → List (List ℕ) → Option Options
+options_said options [] = Some options
+options_said options (word ∷ []) = with_word options (long_of word) None
+options_said options (word ∷ value ∷ words) = option_and_then
+    (λ more. if is_complete (long_of word) then options_said more (value ∷ words)
+    else options_said more words)
+    (with_word options (long_of word) (Some value))
