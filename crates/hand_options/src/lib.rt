@@ -3,6 +3,7 @@
 
 mod asking;
 mod choices;
+mod laws;
 mod now;
 mod playing;
 mod printing;
@@ -11,4 +12,5 @@ mod targets;
 
 pub use asking::options;
 pub use choices::{Options, RaiseSet};
+pub use laws::law_of_one_text;
 pub use printing::options_text;

@@ -1,0 +1,160 @@
+-- What is legal at a point of a hand has one text, whatever told it.
+use Rattle.std.proofs.Common.{◌≡◌, ◌⊎◌, ℕ, zero, suc, ◌<◌, ◌≤◌, Bool, true, false, ◌||◌, ◌&&◌, ◌==◌, nat_le, List, [], ◌∷◌, ◌++◌, flat_map, take, slice_index, refl, sym, ap, ap₂, subst, ◌∙◌, inl, inr, arith}
+use Rattle.std.specs.List.{list_any}
+use Rattle.std.proofs.lemmas.Bool.{eq-eqb, eqb-true, false≢true, le-leb, leb-true}
+use Rattle.chip_ledger.specs.SeatsSaid.{seat_said}
+use Rattle.hand_options.specs.Legal.{AreListed, AreOptions, IsSetOf, is_in_set}
+use Rattle.hand_options.specs.Printed.{options_said, raise_lines, target_line}
+use Rattle.hand_options.specs.declared.choices.Options.{Options}
+use Rattle.hand_options.specs.declared.choices.RaiseSet.{RaiseSet}
+use Rattle.hand_options.specs.declared.choices.RaiseSet.TheVariants as sets
+use Rattle.play_event.specs.Past.{Past}
+use Rattle.play_event.specs.Streets.{limit_of}
+use Rattle.play_event.specs.declared.limit.Limit.{Limit}
+use Rattle.play_event.specs.declared.setup.Rules.{Rules}
+use Rattle.play_event.specs.declared.setup.Setup.{Setup}
+
+-- a number is one of a list
+abbrev is_one : ℕ → List ℕ → Bool
+is_one target listed = list_any (λ one. target == one) listed
+
+-- two lists have the same numbers
+abbrev HaveTheSame : List ℕ → List ℕ → Type 0
+HaveTheSame xs ys = (target : ℕ) → is_one target xs ≡ is_one target ys
+
+or_false : (b : Bool) → (b || false) ≡ true → b ≡ true
+or_false true is = refl
+or_false false is = is
+
+or_true : (b : Bool) → (b || true) ≡ true
+or_true true = refl
+or_true false = refl
+
+either : (b c : Bool) → (b || c) ≡ true → (b ≡ true) ⊎ (c ≡ true)
+either true c is = inl refl
+either false c is = inr is
+
+both : (b c : Bool) → (b && c) ≡ true → (b ≡ true) × (c ≡ true)
+both true c is = (refl, is)
+both false c is = absurd (false≢true is)
+
+-- the first of a list is one of it, and so is a second
+first_is : (x : ℕ) (xs : List ℕ) → is_one x (x ∷ xs) ≡ true
+first_is x xs = ap (λ (b : Bool). b || is_one x xs) (eq-eqb x x refl)
+
+second_is : (x y : ℕ) → is_one y (x ∷ y ∷ []) ≡ true
+second_is x y = ap (λ (b : Bool). (y == x) || b) (first_is y []) ∙ or_true (y == x)
+
+-- of one number there is no other, and of two the one or the other
+of_one : (target x : ℕ) → is_one target (x ∷ []) ≡ true → target ≡ x
+of_one target x is = eqb-true target x (or_false (target == x) is)
+
+of_two : (target x y : ℕ) → is_one target (x ∷ y ∷ []) ≡ true → (target ≡ x) ⊎ (target ≡ y)
+of_two target x y is =
+    elim (either (target == x) (is_one target (y ∷ [])) is)
+    [ inl here ↦ inl (eqb-true target x here) | inr there ↦ inr (of_one target y there) ]
+
+-- what is listed is nothing, one number, or two that rise
+data IsShort (xs : List ℕ) : Type 0 where
+  None : xs ≡ [] → IsShort xs
+  One : (x : ℕ) → xs ≡ x ∷ [] → IsShort xs
+  Two : (x y : ℕ) → x < y → xs ≡ x ∷ y ∷ [] → IsShort xs
+
+is_short : (count : ℕ) (to : List ℕ) → AreListed count to → IsShort (take count to)
+is_short zero to are = absurd (omega (arith, are.some))
+is_short (suc zero) [] are = None refl
+is_short (suc zero) (x ∷ rest) are = One x refl
+is_short (suc (suc zero)) [] are = None refl
+is_short (suc (suc zero)) (x ∷ []) are = One x refl
+is_short (suc (suc zero)) (x ∷ y ∷ rest) are = Two x y (are.rising refl) refl
+is_short (suc (suc (suc count))) to are = absurd (omega (arith, are.few))
+
+nothing_in : (x : ℕ) (xs : List ℕ) → HaveTheSame [] (x ∷ xs) → ⊥
+nothing_in x xs same = false≢true (same x ∙ first_is x xs)
+
+one_in_two : (x y z : ℕ) → y < z → HaveTheSame (x ∷ []) (y ∷ z ∷ []) → ⊥
+one_in_two x y z rising same =
+    omega (arith, rising, of_one y x (same y ∙ first_is y (z ∷ [])), of_one z x (same z ∙ second_is y z))
+
+two_in_two : (x y u v : ℕ) → x < y → u < v → (x ≡ u) ⊎ (x ≡ v) → (y ≡ u) ⊎ (y ≡ v) → (u ≡ x) ⊎ (u ≡ y) → (x ≡ u) × (y ≡ v)
+two_in_two x y u v rising rises (inl a) (inl b) c = absurd (omega (arith, rising, a, b))
+two_in_two x y u v rising rises (inl a) (inr b) c = (a, b)
+two_in_two x y u v rising rises (inr a) b (inl c) = absurd (omega (arith, rises, a, c))
+two_in_two x y u v rising rises (inr a) b (inr c) = absurd (omega (arith, rising, rises, a, c))
+
+-- short lists with the same numbers are the same
+same_short : (xs ys : List ℕ) → IsShort xs → IsShort ys → HaveTheSame xs ys → xs ≡ ys
+same_short xs ys (None a) (None b) same = a ∙ sym b
+same_short xs ys (None a) (One y b) same =
+    absurd (nothing_in y [] (λ target. sym (ap (is_one target) a) ∙ same target ∙ ap (is_one target) b))
+same_short xs ys (None a) (Two y z rising b) same =
+    absurd (nothing_in y (z ∷ []) (λ target. sym (ap (is_one target) a) ∙ same target ∙ ap (is_one target) b))
+same_short xs ys (One x a) (None b) same =
+    absurd (nothing_in x [] (λ target. sym (ap (is_one target) b) ∙ sym (same target) ∙ ap (is_one target) a))
+same_short xs ys (Two x y rising a) (None b) same =
+    absurd (nothing_in x (y ∷ []) (λ target. sym (ap (is_one target) b) ∙ sym (same target) ∙ ap (is_one target) a))
+same_short xs ys (One x a) (One y b) same =
+    let here : HaveTheSame (x ∷ []) (y ∷ []) = λ target. sym (ap (is_one target) a) ∙ same target ∙ ap (is_one target) b in
+    let one : x ≡ y = of_one x y (sym (here x) ∙ first_is x []) in
+    a ∙ ap (λ (n : ℕ). n ∷ []) one ∙ sym b
+same_short xs ys (One x a) (Two y z rising b) same =
+    absurd (one_in_two x y z rising (λ target. sym (ap (is_one target) a) ∙ same target ∙ ap (is_one target) b))
+same_short xs ys (Two y z rising a) (One x b) same =
+    absurd (one_in_two x y z rising (λ target. sym (ap (is_one target) b) ∙ sym (same target) ∙ ap (is_one target) a))
+same_short xs ys (Two x y rising a) (Two u v rises b) same =
+    let here : HaveTheSame (x ∷ y ∷ []) (u ∷ v ∷ []) = λ target. sym (ap (is_one target) a) ∙ same target ∙ ap (is_one target) b in
+    let one = two_in_two x y u v rising rises
+    (of_two x u v (sym (here x) ∙ first_is x (y ∷ []))) (of_two y u v (sym (here y) ∙ second_is x y)) (of_two u x y (here u ∙ first_is u (v ∷ []))) in
+    a ∙ ap₂ (λ (n m : ℕ). n ∷ m ∷ []) one.0 one.1 ∙ sym b
+
+-- the ends of a range are in it
+least_in : (least greatest : ℕ) → least ≤ greatest → is_in_set (sets.Range least greatest) least ≡ true
+least_in least greatest order =
+    ap (λ (b : Bool). b && nat_le least greatest) (le-leb least least (omega arith)) ∙ le-leb least greatest order
+
+greatest_in : (least greatest : ℕ) → least ≤ greatest → is_in_set (sets.Range least greatest) greatest ≡ true
+greatest_in least greatest order =
+    ap (λ (b : Bool). b && nat_le greatest greatest) (le-leb least greatest order) ∙ le-leb greatest greatest (omega arith)
+
+within : (target least greatest : ℕ) → is_in_set (sets.Range least greatest) target ≡ true → (least ≤ target) × (target ≤ greatest)
+within target least greatest is =
+    let parts = both (nat_le least target) (nat_le target greatest) is in
+    (leb-true least target parts.0, leb-true target greatest parts.1)
+
+-- sets of the same targets, in the form of one limit, have the same lines
+same_raises : (limit : Limit) (a b : RaiseSet) → ((target : ℕ) → is_in_set a target ≡ is_in_set b target)
+    → IsSetOf limit a → IsSetOf limit b → raise_lines a ≡ raise_lines b
+same_raises limit sets.None sets.None same is it = refl
+same_raises limit sets.None (sets.Range least greatest) same is it =
+    absurd (false≢true (same least ∙ least_in least greatest it.1))
+same_raises limit (sets.Range least greatest) sets.None same is it =
+    absurd (false≢true (sym (same least) ∙ least_in least greatest is.1))
+same_raises limit sets.None (sets.List count to) same is it =
+    ap (flat_map target_line) (same_short [] (take count to) (None refl) (is_short count to it.1) same)
+same_raises limit (sets.List count to) sets.None same is it =
+    ap (flat_map target_line) (same_short (take count to) [] (is_short count to is.1) (None refl) same)
+same_raises limit (sets.Range least greatest) (sets.List count to) same is it = absurd (false≢true (sym is.0 ∙ it.0))
+same_raises limit (sets.List count to) (sets.Range least greatest) same is it = absurd (false≢true (sym it.0 ∙ is.0))
+same_raises limit (sets.List count to) (sets.List other too) same is it =
+    ap (flat_map target_line) (same_short (take count to) (take other too) (is_short count to is.1) (is_short other too it.1) same)
+same_raises limit (sets.Range least greatest) (sets.Range first last) same is it =
+    let a = within least first last (sym (same least) ∙ least_in least greatest is.1) in
+    let b = within greatest first last (sym (same greatest) ∙ greatest_in least greatest is.1) in
+    let c = within first least greatest (same first ∙ least_in first last it.1) in
+    let d = within last least greatest (same last ∙ greatest_in first last it.1) in
+    let begins : least ≡ first = omega (arith, a.0, c.0) in
+    let ends : greatest ≡ last = omega (arith, b.1, d.1) in
+    ap₂ (λ (l g : ℕ). raise_lines (sets.Range l g)) begins ends
+
+-- so options have one text
+pub one_text : (hand events : ℕ) (setup : Setup) (rules : Rules) (past : Past) (a b : Options)
+    → AreOptions setup rules past a → AreOptions setup rules past b → options_said hand events a ≡ options_said hand events b
+one_text hand events setup rules past a b is it =
+    let due : a.due ≡ b.due = is.due ∙ sym it.due in
+    let seat : seat_said a.seat ≡ seat_said b.seat = is.seat ∙ sym it.seat in
+    let fold : a.fold ≡ b.fold = is.fold ∙ sym it.fold in
+    let call : a.call ≡ b.call = is.call ∙ sym it.call in
+    let bring_in : a.bring_in ≡ b.bring_in = is.bring_in ∙ sym it.bring_in in
+    let raise : raise_lines a.raise ≡ raise_lines b.raise =
+    same_raises (limit_of setup.code) a.raise b.raise (λ target. is.raise target ∙ sym (it.raise target)) is.form it.form in
+    cc (due, seat, fold, call, bring_in, raise)
