@@ -3,9 +3,10 @@ use Rattle.std.proofs.Common.{◌≡◌, ◌⊎◌, ℕ, ◌<◌, true, List, le
 use Rattle.acpc_game.specs.declared.game.Game.{Game}
 use Rattle.acpc_text.specs.declared.fault.AcpcFault.{AcpcFault}
 use Rattle.acpc_text.specs.declared.fault.AcpcFault.TheVariants as in_acpc
-use Rattle.command_words.specs.Words.{Convert, Load, NotationName, Request, Show}
-use Rattle.command_words.specs.Words as words
-use Rattle.convert_core.specs.Conversion.{IsConversion as IsConverting, IsConverted, IsPlaysRefusal, ReadAsRefused}
+use Rattle.command_words.specs.Words.{Load, Plain, Request, Under}
+use Rattle.command_words.specs.declared.request.Logs.{Logs}
+use Rattle.poker_cli.specs.declared.task.Task.{Task}
+use Rattle.convert_core.specs.Conversion.{IsConversion as IsConverting, IsConverted, IsPlaysRefusal, IsReadFault, ReadAsRefused}
 use Rattle.convert_core.specs.Faults.{is_want_in_acpc, is_want_in_ohh, is_want_in_phh, is_want_of_memory}
 use Rattle.convert_core.specs.declared.convert_fault.ConvertFault.{ConvertFault}
 use Rattle.convert_core.specs.declared.convert_fault.ConvertFault.TheVariants as convert_faults
@@ -20,23 +21,20 @@ use Rattle.ohh_reading.specs.declared.fault.OhhFault.{OhhFault}
 use Rattle.ohh_reading.specs.declared.fault.OhhFault.TheVariants as in_ohh
 use Rattle.phh_reading.specs.declared.fault.PhhFault.{PhhFault}
 use Rattle.phh_reading.specs.declared.fault.PhhFault.TheVariants as in_phh
-use Rattle.poker_cli.specs.Answer.{Answer, Files, GivesGame, GivesNoGame, IsAnswer, IsAnswerIn, IsAnswerTo, IsSummed, IsToldOf, IsWay, IsWritten, done, most_input, to_excess, to_fault, to_refusal}
+use Rattle.poker_cli.specs.Answer.{Answer, Files, GivesGame, GivesNoGame, IsAnswer, IsAnswerBy, IsAnswerIn, IsAnswerTo, IsAnswerUnder, IsJudgement, IsToldOf, IsWritten, done, most_input, to_excess, to_fault, to_refusal}
 use Rattle.poker_cli.specs.Answer as answers
 use Rattle.poker_cli.specs.Lacking.{IsLackTold, Lacks}
 use Rattle.poker_cli.specs.Told.{answer_told}
-use Rattle.poker_cli.specs.Ways.{conversion_way, file_of, game_name, kept, made_by, or_file, reader_with, way, way_of}
 use Rattle.poker_cli.specs.declared.answer.Answer as made
 use Rattle.poker_cli.specs.declared.entry.NoAnswer.{NoAnswer}
 use Rattle.poker_cli.specs.declared.games.Lack.{Lack}
 use Rattle.poker_cli.specs.declared.games.Lack.TheVariants as lacks
-use Rattle.poker_cli.specs.Run.{Ends, IsOfInput, IsOwn, MayEnd, ReadsNothing, Sinks, TellsLine, Writes, bytes_told, files_told, line_of}
+use Rattle.poker_cli.specs.Run.{Ends, IsOfInput, IsOwn, MayEnd, ReadsNothing, Sinks, TellsLine, Writes, WhereTold, line_of}
 use Rattle.poker_cli.specs.declared.status.Status.{Status}
 use Rattle.poker_cli.specs.declared.status.Status.TheVariants as statuses
 use Rattle.poker_cli.specs.declared.task.Format.{Format}
-use Rattle.poker_cli.specs.declared.task.Task.{Task}
-use Rattle.poker_cli.specs.declared.task.Task.TheVariants as tasks
 use Rattle.poker_cli.specs.declared.task.Way.{Way}
-use Rattle.list_laws.proofs.Options.{some_always, some_mapped}
+use Rattle.poker_cli.specs.Ways.{way_under}
 
 -- the bytes that were read are those that the source had left
 pub answer_within : (task : Task) (reader : Format) (left : Option (List ℕ)) (bytes : List ℕ) (answer : Answer)
@@ -116,6 +114,21 @@ module _ (Say : List Record → Type 0) (HaveFault : FormatFault → Type 0) whe
     answer_unplayed (convert_faults.Unspelled number fact) is told = absurd is
     answer_unplayed convert_faults.Memory is told = absurd told
 
+  -- bytes that do not read have no hands
+  pub answer_wrong : (IsMade : List Play → Answer → Type 0) (answer : Answer) (fault : ConvertFault) → IsReadFault HaveFault fault
+      → IsToldOf fault answer → IsAnswerTo Say HaveFault IsMade answer
+  answer_wrong IsMade answer (convert_faults.Format fault) have told = answers.Unread fault have answer told
+  answer_wrong IsMade answer (convert_faults.Refused number why) have told = absurd have
+  answer_wrong IsMade answer (convert_faults.Unspelled number fact) have told = absurd have
+  answer_wrong IsMade answer convert_faults.Memory have told = absurd told
+
+  -- and no verdicts
+  pub not_judged : (answer : Answer) (fault : ConvertFault) → IsReadFault HaveFault fault → IsToldOf fault answer → IsJudgement Say HaveFault answer
+  not_judged answer (convert_faults.Format fault) have told = answers.NotJudged fault have answer told
+  not_judged answer (convert_faults.Refused number why) have told = absurd have
+  not_judged answer (convert_faults.Unspelled number fact) have told = absurd have
+  not_judged answer convert_faults.Memory have told = absurd told
+
   module _ (unspelled : Play → Option Unspelled) (Spell Back : List Play → List ℕ → Type 0) (answer : Answer) where
     -- bytes are not converted
     pub answer_unconverted : {X : Type 0} (view : X → List ℕ) (fault : ConvertFault) → IsConverting Say HaveFault unspelled Spell Back view (Err fault)
@@ -156,20 +169,41 @@ ends_with request files bytes out diag answer statuses.Unspelled is own ends wri
     record { answer = answer; to_input = is; ends = ends; written = written; line = line }
 ends_with request files bytes out diag answer statuses.Limit is own ends written line =
     record { answer = answer; to_input = is; ends = ends; written = written; line = line }
+ends_with request files bytes out diag answer statuses.NoSuch is own ends written line =
+    record { answer = answer; to_input = is; ends = ends; written = written; line = line }
 ends_with request files bytes out diag answer statuses.GameMissing is own ends written line = absurd (subst IsOwn ends own)
 ends_with request files bytes out diag answer statuses.BadGame is own ends written line =
     record { answer = answer; to_input = is; ends = ends; written = written; line = line }
 
+-- what follows of files and bytes, where they are told
+pub where_told : (request : Request) (left : Option (List ℕ)) (told : Option Files) (P Q : Files → List ℕ → Type 0)
+    → ((files : Files) (bytes : List ℕ) → P files bytes → Q files bytes) → WhereTold request left told P → WhereTold request left told Q
+where_told (Load seed hands) left told P Q more is = more _ _ is
+where_told (Plain from task) (Some bytes) told P Q more is = more _ bytes is
+where_told (Plain from task) None told P Q more is = tt
+where_told (Under name logs) (Some bytes) (Some files) P Q more is = more files bytes is
+where_told (Under name logs) (Some bytes) None P Q more is = tt
+where_told (Under name logs) None told P Q more is = tt
+
+-- of all files and bytes
+always_told : (request : Request) (left : Option (List ℕ)) (told : Option Files) (P : Files → List ℕ → Type 0)
+    → ((files : Files) (bytes : List ℕ) → P files bytes) → WhereTold request left told P
+always_told (Load seed hands) left told P each = each _ _
+always_told (Plain from task) (Some bytes) told P each = each _ bytes
+always_told (Plain from task) None told P each = tt
+always_told (Under name logs) (Some bytes) (Some files) P each = each files bytes
+always_told (Under name logs) (Some bytes) None P each = tt
+always_told (Under name logs) None told P each = tt
+
 -- where the source tells what it has left, and the shelf its files
-pub ends_where_told : (request : Request) (told : Option Files) (left : Option (List ℕ)) (out diag : Sinks) (answer : Answer) (status : Status)
-    → IfSome left (λ bytes. IfSome told (λ files. IsAnswerIn request files bytes answer))
+pub ends_where_told : (request : Request) (left : Option (List ℕ)) (told : Option Files) (out diag : Sinks) (answer : Answer) (status : Status)
+    → WhereTold request left told (λ files bytes. IsAnswerIn request files bytes answer)
     → IsOwn answer.status → MayEnd answer status → Writes out.held out.holds answer status
     → TellsLine diag.before diag.now diag.held diag.holds (line_of answer status)
-    → IfSome left (λ bytes. IfSome told (λ files. Ends request files bytes out diag status))
-ends_where_told request (Some files) (Some bytes) out diag answer status is own ends written line =
-    ends_with request files bytes out diag answer status is own ends written line
-ends_where_told request None (Some bytes) out diag answer status is own ends written line = tt
-ends_where_told request told None out diag answer status is own ends written line = tt
+    → WhereTold request left told (λ files bytes. Ends request files bytes out diag status)
+ends_where_told request left told out diag answer status is own ends written line =
+    where_told request left told (λ files bytes. IsAnswerIn request files bytes answer) (λ files bytes. Ends request files bytes out diag status)
+    (λ files bytes it. ends_with request files bytes out diag answer status it own ends written line) is
 
 -- What is known of a status of an answer where nothing is written.
 pub record IsTold (answer : Answer) (status : Status) (held : Option (List ℕ)) : Type 0 where
@@ -192,6 +226,8 @@ told_alone answer statuses.Limit held same own undone =
     record { no_read = λ e. cc; no_write = λ e. cc; undone = undone; ends = same; written = tt; line = refl }
 told_alone answer statuses.BadGame held same own undone =
     record { no_read = λ e. cc; no_write = λ e. cc; undone = undone; ends = same; written = tt; line = refl }
+told_alone answer statuses.NoSuch held same own undone =
+    record { no_read = λ e. cc; no_write = λ e. cc; undone = undone; ends = same; written = tt; line = refl }
 told_alone answer statuses.Done held same own undone = absurd (undone refl)
 told_alone answer statuses.Usage held same own undone = absurd own
 told_alone answer statuses.ReadFault held same own undone = absurd own
@@ -207,6 +243,7 @@ own_of_input statuses.Refused of = tt
 own_of_input statuses.BadInput of = tt
 own_of_input statuses.Limit of = tt
 own_of_input statuses.Unspelled of = tt
+own_of_input statuses.NoSuch of = tt
 own_of_input statuses.Usage of = absurd of
 own_of_input statuses.ReadFault of = absurd of
 own_of_input statuses.WriteFault of = absurd of
@@ -221,6 +258,7 @@ read_of_input statuses.Refused of nothing = nothing
 read_of_input statuses.BadInput of nothing = nothing
 read_of_input statuses.Limit of nothing = nothing
 read_of_input statuses.Unspelled of nothing = nothing
+read_of_input statuses.NoSuch of nothing = nothing
 read_of_input statuses.Usage of nothing = of
 read_of_input statuses.ReadFault of nothing = of
 read_of_input statuses.WriteFault of nothing = of
@@ -229,81 +267,15 @@ read_of_input statuses.ShelfFault of nothing = of
 read_of_input statuses.GameMissing of nothing = of
 read_of_input statuses.BadGame of nothing = of
 
-some_reader : (notation : NotationName) → file_of notation ≡ None → is_some (reader_with None notation) ≡ true
-some_reader words.Phh none = refl
-some_reader words.Ohh none = refl
-some_reader words.OhhTo none = refl
-some_reader (words.Acpc name) none = cc
-
-game_reader : (game : Game) (notation : NotationName) → is_some (reader_with (Some game) notation) ≡ true
-game_reader game words.Phh = refl
-game_reader game words.Ohh = refl
-game_reader game words.OhhTo = refl
-game_reader game (words.Acpc name) = refl
-
-some_conversion : (keep : Keep) (from to : Option Format) → is_some from ≡ true → is_some to ≡ true → is_some (conversion_way keep from to) ≡ true
-some_conversion keep (Some from) (Some to) some other = refl
-some_conversion keep None to some other = cc
-some_conversion keep (Some from) None some other = cc
-
-first_none : (name other : Option (List ℕ)) → or_file name other ≡ None → name ≡ None
-first_none None other none = refl
-first_none (Some name) other none = cc
-
-second_none : (name other : Option (List ℕ)) → or_file name other ≡ None → other ≡ None
-second_none None other none = none
-second_none (Some name) other none = cc
-
-pub plain_way : (request : Request) → made_by request ≡ None → game_name request ≡ None → is_some (way_of None request) ≡ true
-plain_way (Load seed hands) reads none = cc (reads)
-plain_way (Show command notation) reads none = some_mapped (way (tasks.Show command)) (reader_with None notation) (some_reader notation none)
-plain_way (words.Game notation) reads none = some_mapped (way tasks.GameFile) (reader_with None notation) (some_reader notation none)
-plain_way (Convert from to keep) reads none =
-    some_conversion (kept keep) (reader_with None from) (reader_with None to)
-    (some_reader from (first_none (file_of from) (file_of to) none)) (some_reader to (second_none (file_of from) (file_of to) none))
-
-pub game_way : (game : Game) (request : Request) (name : List ℕ) → game_name request ≡ Some name → is_some (way_of (Some game) request) ≡ true
-game_way game (Load seed hands) name named = cc (named)
-game_way game (Show command notation) name named = some_mapped (way (tasks.Show command)) (reader_with (Some game) notation) (game_reader game notation)
-game_way game (words.Game notation) name named = some_mapped (way tasks.GameFile) (reader_with (Some game) notation) (game_reader game notation)
-game_way game (Convert from to keep) name named =
-    some_conversion (kept keep) (reader_with (Some game) from) (reader_with (Some game) to) (game_reader game from) (game_reader game to)
-
--- an input is answered in the way that is found
-IsFoundAnswer : Option Way → List ℕ → Answer → Type 0
-IsFoundAnswer found bytes answer = IfSome found (λ way. IsAnswer way.task way.reader bytes answer)
-
-in_way : (request : Request) (files : Files) (bytes : List ℕ) (answer : Answer) (found : Option Way)
-    → ((way : Way) → found ≡ Some way → IsWay files request way) → is_some found ≡ true → IsFoundAnswer found bytes answer
-    → IsAnswerIn request files bytes answer
-unfolding IsFoundAnswer
-in_way request files bytes answer (Some way) each some is = answers.OfInput way (each way refl) answer is
-in_way request files bytes answer None each some is = cc
-
--- the answer to a request that asks for no game asks for no file
-pub plain_reply : (request : Request) (told : Option Files) (left : Option (List ℕ)) (result : Result made.Answer NoAnswer)
-    → made_by request ≡ None → game_name request ≡ None
-    → IfOk result (λ answer. IfSome left (λ bytes. IfSome (way_of None request) (λ way. IsAnswer way.task way.reader bytes (answer_told answer))))
-    → IfOk result (λ answer. IfSome left (λ bytes. IfSome told (λ files. IsAnswerIn request files bytes (answer_told answer))))
-unfolding IsFoundAnswer
-plain_reply request told None (Ok answer) reads none is = tt
-plain_reply request told left (Err why) reads none is = tt
-plain_reply request told (Some bytes) (Ok answer) reads none is =
-    some_always told (λ files. IsAnswerIn request files bytes (answer_told answer))
-    (λ files. in_way request files bytes (answer_told answer) (way_of None request) (λ way found. answers.Plain none found) (plain_way request reads none) is)
-
--- the answer to any other is by the game that its file gives
-pub game_reply : (request : Request) (told : Option Files) (left : Option (List ℕ)) (name : List ℕ) (game : Game) (result : Result made.Answer NoAnswer)
-    → game_name request ≡ Some name → IfSome told (λ files. GivesGame (files name) game)
-    → IfOk result (λ answer. IfSome left (λ bytes. IfSome (way_of (Some game) request) (λ way. IsAnswer way.task way.reader bytes (answer_told answer))))
-    → IfOk result (λ answer. IfSome left (λ bytes. IfSome told (λ files. IsAnswerIn request files bytes (answer_told answer))))
-unfolding IsFoundAnswer
-game_reply request (Some files) (Some bytes) name game (Ok answer) named gives is =
-    in_way request files bytes (answer_told answer) (way_of (Some game) request) (λ way found. answers.Under name named game gives found)
-    (game_way game request name named) is
-game_reply request None (Some bytes) name game (Ok answer) named gives is = tt
-game_reply request told None name game (Ok answer) named gives is = tt
-game_reply request told left name game (Err why) named gives is = tt
+-- where logs are under a game, the answer is by the game that its file gives
+pub game_reply : (told : Option Files) (left : Option (List ℕ)) (name : List ℕ) (logs : Logs) (game : Game) (result : Result made.Answer NoAnswer)
+    → IfSome told (λ files. GivesGame (files name) game)
+    → IfOk result (λ answer. IfSome left (λ bytes. IsAnswerBy (way_under game logs) bytes (answer_told answer)))
+    → IfOk result (λ answer. IfSome left (λ bytes. IfSome told (λ files. IsAnswerUnder (files name) logs bytes (answer_told answer))))
+game_reply (Some files) (Some bytes) name logs game (Ok answer) gives is = answers.OfInput game gives (answer_told answer) is
+game_reply None (Some bytes) name logs game (Ok answer) gives is = tt
+game_reply told None name logs game (Ok answer) gives is = tt
+game_reply told left name logs game (Err why) gives is = tt
 
 -- or tells what the file lacks
 no_game : (file : Option (List ℕ)) (lack : Lack) (answer : Answer) → Lacks file lack → IsLackTold lack answer → GivesNoGame file answer
@@ -311,38 +283,23 @@ no_game file lacks.TooLong answer is told = subst (λ (a : Answer). GivesNoGame 
 no_game file (lacks.Bad fault) answer is told =
     subst (λ (a : Answer). GivesNoGame file a) (sym told) (answers.BadGame is.0 is.1.0 is.1.1.0 fault is.1.1.1)
 
-pub lack_reply : (request : Request) (told : Option Files) (left : Option (List ℕ)) (name : List ℕ) (lack : Lack) (answer : Answer)
-    → game_name request ≡ Some name → IfSome told (λ files. Lacks (files name) lack) → IsLackTold lack answer
-    → IfSome left (λ bytes. IfSome told (λ files. IsAnswerIn request files bytes answer))
-lack_reply request (Some files) (Some bytes) name lack answer named is tells =
-    answers.NoGame name named answer (no_game (files name) lack answer is tells)
-lack_reply request None (Some bytes) name lack answer named is tells = tt
-lack_reply request told None name lack answer named is tells = tt
+pub lack_reply : (told : Option Files) (left : Option (List ℕ)) (name : List ℕ) (logs : Logs) (lack : Lack) (answer : Answer)
+    → IfSome told (λ files. Lacks (files name) lack) → IsLackTold lack answer
+    → IfSome left (λ bytes. IfSome told (λ files. IsAnswerUnder (files name) logs bytes answer))
+lack_reply (Some files) (Some bytes) name logs lack answer is tells = answers.NoGame answer (no_game (files name) lack answer is tells)
+lack_reply None (Some bytes) name logs lack answer is tells = tt
+lack_reply told None name logs lack answer is tells = tt
 
--- where hands are made, the answer is their summary, whatever files and bytes there are
-pub load_reply : (request : Request) (told : Option Files) (left : Option (List ℕ)) (seed hands : ℕ) (answer : Answer)
-    → made_by request ≡ Some (seed, hands) → IsSummed seed hands answer
-    → IfSome left (λ bytes. IfSome told (λ files. IsAnswerIn request files bytes answer))
-load_reply request told left seed hands answer made is =
-    some_always left (λ bytes. IfSome told (λ files. IsAnswerIn request files bytes answer))
-    (λ bytes. some_always told (λ files. IsAnswerIn request files bytes answer) (λ files. answers.Summed seed hands made answer is))
-
--- and where none are made, it is to the bytes that the source has left
-pub reading_reply : (request : Request) (told : Option Files) (left : Option (List ℕ)) (result : Result made.Answer NoAnswer)
-    → made_by request ≡ None
-    → IfOk result (λ answer. IfSome left (λ bytes. IfSome told (λ files. IsAnswerIn request files bytes (answer_told answer))))
-    → IfOk result (λ answer. IfSome (bytes_told (made_by request) left) (λ bytes. IfSome told (λ files. IsAnswerIn request files bytes (answer_told answer))))
-reading_reply request told left result reads is =
-    subst (λ (m : Option (ℕ × ℕ)). IfOk result (λ answer. IfSome (bytes_told m left) (λ bytes. IfSome told (λ files. IsAnswerIn request files bytes (answer_told answer)))))
-    (sym reads) is
+-- what is known of the files is so whatever bytes there are
+pub of_files : (left : Option (List ℕ)) (told : Option Files) (P : Files → Type 0) → IfSome told P → IfSome left (λ bytes. IfSome told P)
+of_files (Some bytes) told P is = is
+of_files None told P is = tt
 
 -- want of memory says nothing of files and bytes, and leaves the input
 pub ends_unread : (said : Option Request) (left : Option (List ℕ)) (told : Option Files)
-    → IfSome said (λ request. IfSome (bytes_told (made_by request) left) (λ bytes. IfSome (files_told (game_name request) told) (λ files. Unit {0})))
+    → IfSome said (λ request. WhereTold request left told (λ files bytes. Unit {0}))
 ends_unread None left told = tt
-ends_unread (Some request) left told =
-    some_always (bytes_told (made_by request) left) (λ bytes. IfSome (files_told (game_name request) told) (λ files. Unit {0}))
-    (λ bytes. some_always (files_told (game_name request) told) (λ files. Unit {0}) (λ files. tt))
+ends_unread (Some request) left told = always_told request left told (λ files bytes. Unit {0}) (λ files bytes. tt)
 
 pub kept_unread : {X : Type 0} (said : Option Request) (asks : Request → Type 0) (input : X) → IfSome said (λ request. asks request → input ≡ input)
 kept_unread None asks input = tt

@@ -5,8 +5,10 @@ use Rattle.std.proofs.lemmas.Option.{same_Some}
 use Rattle.acpc_game.specs.declared.game.Game.{Game}
 use Rattle.acpc_text.specs.declared.fault.AcpcFault.{AcpcFault}
 use Rattle.acpc_text.specs.declared.fault.AcpcFault.TheVariants as in_acpc
-use Rattle.command_words.specs.Words.{Convert, Load, NotationName, Request, Show}
-use Rattle.command_words.specs.Words as words
+use Rattle.command_words.specs.Words.{Load, Plain, Request, Under}
+use Rattle.command_words.specs.declared.request.Logs.TheVariants as logs_are
+use Rattle.poker_cli.specs.declared.task.Task.{Task}
+use Rattle.poker_cli.specs.declared.task.Task.TheVariants as tasks
 use Rattle.convert_core.specs.declared.format_fault.FormatFault.{FormatFault}
 use Rattle.convert_core.specs.declared.format_fault.FormatFault.TheVariants as formats
 use Rattle.hand_records.specs.declared.record.Record.{Record}
@@ -24,16 +26,15 @@ use Rattle.poker_cli.specs.Answer as answers
 use Rattle.poker_cli.specs.PhhFaults.{phh_status}
 use Rattle.poker_cli.specs.Headline.{AsksToConvert, CanConvert, ConversionEnds, ConvertsInto, Headline, IsOfHands, IsOfLogs, NamesFault, IsTooLong, NamesRefused, NamesUnspelled, TellsAlone}
 use Rattle.poker_cli.specs.Inputs.{SayRecords}
-use Rattle.poker_cli.specs.Run.{AsksForGame, Ends, RefusesNothing, Sinks, TellsLine, WritesNothing, bytes_told, files_told, fixed_line}
+use Rattle.poker_cli.specs.Run.{AsksForGame, Ends, RefusesNothing, Sinks, TellsLine, WhereTold, WritesNothing, fixed_line}
 use Rattle.poker_cli.specs.OhhFaults.{ohh_status}
-use Rattle.poker_cli.specs.Ways.{conversion_way, file_of, game_name, kept, made_by, or_file, reader_with, way, way_of}
+use Rattle.poker_cli.specs.Ways.{way}
 use Rattle.poker_cli.specs.declared.status.Status.{Status}
 use Rattle.poker_cli.specs.declared.status.Status.TheVariants as statuses
 use Rattle.poker_cli.specs.declared.task.Format.{Format}
 use Rattle.poker_cli.specs.declared.task.Format.TheVariants as readers
-use Rattle.poker_cli.specs.declared.task.Task.{Task}
-use Rattle.poker_cli.specs.declared.task.Task.TheVariants as tasks
 use Rattle.poker_cli.specs.declared.task.Way.{Way}
+use Rattle.poker_cli.proofs.Answering.{where_told}
 use Rattle.poker_cli.proofs.LawfulFormats.{no_fault}
 use Rattle.poker_cli.proofs.OneAnswer.{in_way, legal_in_way, no_missing}
 use Rattle.list_laws.proofs.Options.{some_more}
@@ -158,6 +159,15 @@ module _ (from to : Format) (keep : Keep) (bytes : List ℕ) where
     limit_so _ (answers.Read few _ (answers.Played plays read _ (answers.NotSpelled number fact is))) same told = absurd (cc (same))
     limit_so _ (answers.Read few _ (answers.Played plays read _ (answers.Spelled none output spell back))) same told = absurd (cc (same))
 
+  -- nothing is asked of one hand
+  never_none : (answer : Answer) → IsAnswer (tasks.Convert to keep) from bytes answer → answer.status ≡ statuses.NoSuch → ⊥
+  unfolding IsUnread
+  never_none _ (answers.TooLong many) same = cc (same)
+  never_none answer (answers.Read few _ (answers.Unread fault have _ is)) same = not_unread fault answer statuses.NoSuch (λ un. un) is same
+  never_none _ (answers.Read few _ (answers.Refused number why first)) same = cc (same)
+  never_none _ (answers.Read few _ (answers.Played plays read _ (answers.NotSpelled number fact is))) same = cc (same)
+  never_none _ (answers.Read few _ (answers.Played plays read _ (answers.Spelled none output spell back))) same = cc (same)
+
   -- the file of a game has no part in it
   never_game : (answer : Answer) → IsAnswer (tasks.Convert to keep) from bytes answer → answer.status ≡ statuses.BadGame → ⊥
   unfolding IsUnread
@@ -168,48 +178,20 @@ module _ (from to : Format) (keep : Keep) (bytes : List ℕ) where
   never_game _ (answers.Read few _ (answers.Played plays read _ (answers.Spelled none output spell back))) same = cc (same)
 
 -- where a shelf is asked for a game, a notation is that of logs
-first_or_second : (name other : Option (List ℕ)) (file : List ℕ) → or_file name other ≡ Some file → (name ≡ Some file) ⊎ (other ≡ Some file)
-first_or_second (Some name) other file is = inl is
-first_or_second None other file is = inr is
-
-of_logs : (game : Game) (notation : NotationName) (reader : Format) (file : List ℕ) → reader_with (Some game) notation ≡ Some reader
-    → file_of notation ≡ Some file → IsOfLogs reader
-of_logs game words.Phh reader file reads named = absurd (cc (named))
-of_logs game words.Ohh reader file reads named = absurd (cc (named))
-of_logs game words.OhhTo reader file reads named = absurd (cc (named))
-of_logs game (words.Acpc name) reader file reads named = subst IsOfLogs (same_Some (readers.Acpc game) reader reads) tt
-
-mapped_task : (task : Task) (found : Option Format) (by : Way) → option_map (way task) found ≡ Some by → by.task ≡ task
-mapped_task task (Some reader) by is = ap (λ (w : Way). w.task) (sym (same_Some (way task reader) by is))
-mapped_task task None by is = absurd (cc (is))
-
-same_readers : (keep asked : Keep) (first second : Option Format) (from to : Format)
-    → conversion_way asked first second ≡ Some (way (tasks.Convert to keep) from) → (first ≡ Some from) × (second ≡ Some to)
-same_readers keep asked (Some reader) (Some target) from to is =
-    let same : way (tasks.Convert target asked) reader ≡ way (tasks.Convert to keep) from =
-    same_Some (way (tasks.Convert target asked) reader) (way (tasks.Convert to keep) from) is in
-    let task : tasks.Convert target asked ≡ tasks.Convert to keep = ap (λ (w : Way). w.task) same in
-    let written : target ≡ to = cc (task) in
-    (ap (λ (w : Way). Some w.reader) same, ap Some written)
-same_readers keep asked (Some reader) None from to is = absurd (cc (is))
-same_readers keep asked None second from to is = absurd (cc (is))
-
-under_game : (request : Request) (game : Game) (file : List ℕ) (from to : Format) (keep : Keep) → game_name request ≡ Some file
-    → way_of (Some game) request ≡ Some (way (tasks.Convert to keep) from) → IsOfLogs from ⊎ IsOfLogs to
-under_game (Load seed hands) game file from to keep named is = absurd (cc (is))
-under_game (Show command notation) game file from to keep named is =
-    let task = mapped_task (tasks.Show command) (reader_with (Some game) notation) (way (tasks.Convert to keep) from) is in absurd (cc (task))
-under_game (words.Game notation) game file from to keep named is =
-    let task = mapped_task tasks.GameFile (reader_with (Some game) notation) (way (tasks.Convert to keep) from) is in absurd (cc (task))
-under_game (Convert first second asked) game file from to keep named is =
-    let both = same_readers keep (kept asked) (reader_with (Some game) first) (reader_with (Some game) second) from to is in
-    elim (first_or_second (file_of first) (file_of second) file named)
-    [ inl is_first ↦ inl (of_logs game first from file both.0 is_first) | inr is_second ↦ inr (of_logs game second to file both.1 is_second) ]
-
 asks_for_logs : (files : Files) (request : Request) (from to : Format) (keep : Keep) → AsksToConvert files request from to keep
-    → AsksForGame (game_name request) → IsOfLogs from ⊎ IsOfLogs to
-asks_for_logs files request from to keep (answers.Plain none is) asks = absurd (subst AsksForGame none asks)
-asks_for_logs files request from to keep (answers.Under file named game gives is) asks = under_game request game file from to keep named is
+    → AsksForGame request → IsOfLogs from ⊎ IsOfLogs to
+asks_for_logs files (Load seed hands) from to keep found asks = absurd found
+asks_for_logs files (Plain notation task) from to keep found asks = absurd asks
+asks_for_logs files (Under name (logs_are.Read task)) from to keep found asks =
+    let read : from ≡ readers.Acpc found.game = ap (λ (w : Way). w.reader) found.same in
+    inl (subst IsOfLogs (sym read) tt)
+asks_for_logs files (Under name (logs_are.Viewed seat)) from to keep found asks =
+    let read : from ≡ readers.Acpc found.game = ap (λ (w : Way). w.reader) found.same in
+    inl (subst IsOfLogs (sym read) tt)
+asks_for_logs files (Under name (logs_are.Written notation keeps)) from to keep found asks =
+    let task : tasks.Convert to keep ≡ tasks.Convert (readers.Acpc found.game) keeps = ap (λ (w : Way). w.task) found.same in
+    let written : to ≡ readers.Acpc found.game = cc (task) in
+    inr (subst IsOfLogs (sym written) tt)
 
 -- What is known besides the answer of how a run left its sinks.
 pub record IsLeft (out diag : Sinks) (status : Status) : Type 0 where
@@ -260,6 +242,9 @@ module _ (request : Request) (files : Files) (from to : Format) (keep : Keep) (b
   conversion_ends statuses.BadGame found ends left =
       never_game from to keep bytes ends.answer (in_way request files bytes (way (tasks.Convert to keep) from) ends.answer found ends.to_input) ends.ends
 
+  conversion_ends statuses.NoSuch found ends left =
+      never_none from to keep bytes ends.answer (in_way request files bytes (way (tasks.Convert to keep) from) ends.answer found ends.to_input) ends.ends
+
   -- an input that reads as hands is not told as bad input or as a limit
   conversion_reads : (status : Status) → ConversionEnds from to keep bytes out diag status → length bytes ≤ most_input
       → (records : List Record) → SayRecords from bytes records → IsOfHands status
@@ -273,6 +258,7 @@ module _ (request : Request) (files : Files) (from to : Format) (keep : Keep) (b
   conversion_reads statuses.Usage ends few records say = ends
   conversion_reads statuses.GameMissing ends few records say = ends
   conversion_reads statuses.BadGame ends few records say = ends
+  conversion_reads statuses.NoSuch ends few records say = ends
   conversion_reads statuses.BadInput ends few records say = no_fault from bytes records ends.fault say ends.have
   conversion_reads statuses.Limit (inl ends) few records say = let beyond = ends.beyond in absurd (omega (arith, beyond, few))
   conversion_reads statuses.Limit (inr ends) few records say = no_fault from bytes records ends.fault say ends.have
@@ -293,21 +279,19 @@ module _ (request : Request) (files : Files) (from to : Format) (keep : Keep) (b
 -- where the source tells its bytes, and the shelf its files
 abbrev pub EndsTold : Option Request → Option (List ℕ) → Option Files → (out diag : Sinks) → Status → Type 0
 EndsTold said left told out diag status =
-    IfSome said (λ request. IfSome (bytes_told (made_by request) left) (λ bytes. IfSome (files_told (game_name request) told) (λ files.
-    Ends request files bytes out diag status)))
+    IfSome said (λ request. WhereTold request left told (λ files bytes. Ends request files bytes out diag status))
 
 abbrev pub HeadlineTold : Option Request → Option (List ℕ) → Option Files → (out diag : Sinks) → Status → Type 0
 HeadlineTold said left told out diag status =
-    IfSome said (λ request. IfSome (bytes_told (made_by request) left) (λ bytes. IfSome (files_told (game_name request) told) (λ files.
-    (from to : Format) (keep : Keep) → AsksToConvert files request from to keep → Headline from to keep bytes out diag status)))
+    IfSome said (λ request. WhereTold request left told (λ files bytes.
+    (from to : Format) (keep : Keep) → AsksToConvert files request from to keep → Headline from to keep bytes out diag status))
 
 pub headline_told : (said : Option Request) (left : Option (List ℕ)) (told : Option Files) (out diag : Sinks) (status : Status)
     → EndsTold said left told out diag status → IsLeft out diag status → HeadlineTold said left told out diag status
 headline_told said left told out diag status ends is_left =
     some_more said _ _
-    (λ request. some_more (bytes_told (made_by request) left) _ _
-    (λ bytes. some_more (files_told (game_name request) told) _ _
-    (λ files so. λ from to keep. headline request files from to keep bytes out diag status so is_left))) ends
+    (λ request. where_told request left told _ _
+    (λ files bytes so. λ from to keep. headline request files from to keep bytes out diag status so is_left)) ends
 
 -- of the request that the words are read as
 pub headline_read : (request : Request) (said : Option Request) (left : Option (List ℕ)) (told : Option Files) (out diag : Sinks) (status : Status)

@@ -2,5 +2,10 @@
 mod Answering
 mod AlikeGames
 mod LawfulFormats
+mod JudgedLines
+mod PrintedLines
+mod OneJudgement
+mod Numbered
+mod OneReply
 mod OneAnswer
 mod Headline

@@ -1,5 +1,5 @@
 -- An input has one answer, and none is refused whose hands are all legal.
-use Rattle.std.proofs.Common.{◌≡◌, ◌⊎◌, ℕ, ◌+◌, ◌-◌, ◌<◌, ◌≤◌, suc, All, List, [], ◌∷◌, ◌++◌, length, map, Option, Some, None, Ok, refl, sym, subst, ap, ap₂, ◌∙◌, inl, inr, arith}
+use Rattle.std.proofs.Common.{◌≡◌, ◌⊎◌, ℕ, ◌+◌, ◌-◌, ◌<◌, ◌≤◌, suc, All, List, [], ◌∷◌, ◌++◌, length, map, Option, Some, None, IfSome, Ok, refl, sym, subst, ap, ap₂, ◌∙◌, inl, inr, arith}
 use Rattle.std.specs.List.{range_with_len}
 use Rattle.toml.specs.Parse.{parse_document}
 use Rattle.std.specs.Option.{option_map, unwrap_or}
@@ -8,10 +8,14 @@ use Rattle.std.proofs.lemmas.Option.{same_Some}
 use Rattle.acpc_game.specs.declared.game.Game.{Game as AnyGame}
 use Rattle.acpc_game.specs.GameFile.{game_said}
 use Rattle.acpc_game.specs.GameView.{game_in}
-use Rattle.command_words.specs.Words.{Convert, Game, Load, NotationName, Request, Show}
+use Rattle.command_words.specs.Words.{Load, Plain, Request, Under}
 use Rattle.command_words.specs.declared.command.Command.{Command}
 use Rattle.command_words.specs.declared.command.Command.TheVariants as commands
-use Rattle.command_words.specs.declared.request.Keep.{Keep as KeepAsked}
+use Rattle.command_words.specs.declared.request.Logs.{Logs}
+use Rattle.command_words.specs.declared.task.Question.{Question}
+use Rattle.command_words.specs.declared.task.Question.TheVariants as questions
+use Rattle.poker_cli.specs.declared.task.Task.{Task}
+use Rattle.poker_cli.specs.declared.task.Task.TheVariants as tasks
 use Rattle.hand_records.specs.declared.record.Record.{Record}
 use Rattle.hand_records.specs.declared.writing.Keep.{Keep}
 use Rattle.hand_records.specs.declared.writing.Unspelled.{Unspelled}
@@ -34,22 +38,27 @@ use Rattle.convert_core.proofs.LawfulNotations.{AreReadSame, all_read_same}
 use Rattle.convert_core.proofs.OneConversion.{all_same, IsReadAlike}
 use Rattle.convert_core.specs.Conversion.{ReadAsPlays}
 use Rattle.convert_core.proofs.OneOutcome.{AllTraced, no_plays, same_refused, same_traces}
-use Rattle.poker_cli.specs.Answer.{Answer, Files, GivesGame, GivesNoGame, IsAnswer, IsAnswerIn, IsAnswerTo, IsConversion, IsMadeOf, IsWay, done, most_input, text_of, to_excess, to_fault, to_first_game, to_refusal, to_unspelled, to_wrong_acpc, to_wrong_ohh, to_wrong_phh}
+use Rattle.poker_cli.specs.Answer.{Answer, Files, GivesGame, GivesNoGame, IsAnswer, IsAnswerBy, IsAnswerIn, IsAnswerOf, IsAnswerTo, IsAnswerUnder, IsConversion, IsJudgement, IsReply, IsWay, IsWayUnder, done, most_input, text_of, to_excess, to_fault, to_first_game, to_refusal, to_unspelled, to_wrong_acpc, to_wrong_ohh, to_wrong_phh}
 use Rattle.poker_cli.specs.Answer as answers
 use Rattle.poker_cli.specs.Inputs.{HaveFault, SayRecords}
 use Rattle.poker_cli.specs.OneAnswer.{AreOneAnswer}
 use Rattle.poker_cli.specs.Outputs.{AreSameIn, first_refusal_in, kept_in, unspelled_in}
-use Rattle.poker_cli.specs.Ways.{game_name, kept, made_by, way, way_of}
-use Rattle.poker_cli.specs.Run.{Ends, IsGameMissing, NeedsNoInput, RefusesNothing, Sinks}
+use Rattle.poker_cli.specs.Ways.{way, way_under}
+use Rattle.poker_cli.specs.Run.{Ends, GivesNone, IsGameMissing, NeedsNoInput, RefusesNothing, Sinks}
 use Rattle.poker_cli.specs.declared.status.Status.{Status}
 use Rattle.poker_cli.specs.declared.status.Status.TheVariants as statuses
 use Rattle.poker_cli.specs.declared.task.Format.{Format}
 use Rattle.poker_cli.specs.declared.task.Format.TheVariants as readers
-use Rattle.poker_cli.specs.declared.task.Task.{Task}
-use Rattle.poker_cli.specs.declared.task.Task.TheVariants as tasks
 use Rattle.poker_cli.specs.declared.task.Way.{Way}
 use Rattle.poker_cli.proofs.AlikeGames.{one_game}
 use Rattle.poker_cli.proofs.LawfulFormats.{no_fault, one_reading, one_spelling, read_by, same_fact}
+use Rattle.hand_session.specs.Hands.{Hand as SessionHand}
+use Rattle.hand_session.specs.Printed.{session_printed}
+use Rattle.hand_session.specs.Sessions.{session_of}
+use Rattle.chip_ledger.specs.declared.numbers.Seat.{Seat}
+use Rattle.poker_cli.specs.Replies.{AreViews}
+use Rattle.poker_cli.proofs.OneReply.{one_equity, one_options, one_view, same_sessions}
+use Rattle.poker_cli.proofs.OneJudgement.{same_judged}
 use Rattle.list_laws.proofs.NumbersOfRange.{map_agree}
 use Rattle.chip_ledger.specs.SeatsSaid.{default_name}
 use Rattle.hand_records.specs.Plays.{hands_of}
@@ -115,6 +124,7 @@ same_text commands.Check ps qs judged traced alike =
     (same_lines check_line same_check_line 1 ps qs traced) (same_count ps qs traced)
 same_text commands.Replay ps qs judged traced alike = same_lines replay_lines same_replay_lines 1 ps qs traced
 same_text commands.Report ps qs judged traced alike = ap report_on (same_hands ps qs judged traced alike)
+same_text commands.Session ps qs judged traced alike = ap (λ (hands : List SessionHand). session_printed (session_of hands)) (same_sessions ps qs traced alike)
 
 -- the game of the first hand
 same_game : (ps qs : List Play) → AllTraced ps qs → to_first_game ps ≡ to_first_game qs
@@ -126,8 +136,9 @@ same_game (p ∷ ps) (q ∷ qs) traced = ap (λ (trace : Trace). to_first_game (
 
 -- the same answer is one
 one_itself : (task : Task) (answer other : Answer) → answer ≡ other → AreOneAnswer task answer other
-one_itself (tasks.Show command) answer other same = same
-one_itself tasks.GameFile answer other same = same
+one_itself (tasks.Ask question) answer other same = same
+one_itself tasks.Judge answer other same = same
+one_itself (tasks.Views game seat) answer other same = same
 one_itself (tasks.Convert (readers.Ohh dialect) keep) answer other same = same
 one_itself (tasks.Convert (readers.Acpc game) keep) answer other same = same
 one_itself (tasks.Convert readers.Phh keep) answer other same =
@@ -164,12 +175,13 @@ one_conversion to keep ps qs _ _ alike (answers.Spelled none bytes spell back) (
 one_conversion to keep ps qs _ _ alike (answers.Spelled none bytes spell back) (answers.Spelled too others it again) =
     one_output to keep bytes others (one_spelling to ps qs bytes others alike.sound alike.others_sound spell it (all_less (kept_in to) ps qs alike.hands))
 
--- what is made of hands
-one_made : (task : Task) (ps qs : List Play) (answer other : Answer) → All IsJudged ps → AllTraced ps qs → AllAlike (hands_of ps) (hands_of qs) → AreReadSame ps qs
-    → IsMadeOf task ps answer → IsMadeOf task qs other → AreOneAnswer task answer other
-one_made (tasks.Show command) ps qs answer other judged traced alike same is it = is ∙ ap done (same_text command ps qs judged traced alike) ∙ sym it
-one_made tasks.GameFile ps qs answer other judged traced alike same is it = is ∙ same_game ps qs traced ∙ sym it
-one_made (tasks.Convert to keep) ps qs answer other judged traced alike same is it = one_conversion to keep ps qs answer other same is it
+-- the reply to a question about hands
+one_reply : (question : Question) (ps qs : List Play) (answer other : Answer) → All IsJudged ps → AllTraced ps qs → AllAlike (hands_of ps) (hands_of qs)
+    → IsReply question ps answer → IsReply question qs other → answer ≡ other
+one_reply (questions.Show command) ps qs answer other judged traced alike is it = is ∙ ap done (same_text command ps qs judged traced alike) ∙ sym it
+one_reply questions.GameFile ps qs answer other judged traced alike is it = is ∙ same_game ps qs traced ∙ sym it
+one_reply (questions.Options hand events) ps qs answer other judged traced alike is it = one_options hand events ps qs answer other traced is it
+one_reply (questions.Equity hand street) ps qs answer other judged traced alike is it = one_equity hand street ps qs answer other traced is it
 
 -- the hands of plays are alike where their records are
 alike_hands : (records others : List Record) (ps qs : List Play) → AllAlike records others → ArePlaysOf records ps → ArePlaysOf others qs
@@ -192,33 +204,53 @@ refused_or_played : (records others : List Record) (number : ℕ) (why : Refusal
 refused_or_played records others number why plays alike first are =
     no_plays records others number why plays (all_same records others alike) first are
 
-same_answer : (Say : List Record → Type 0) (HaveFault : FormatFault → Type 0) (task : Task) (answer other : Answer)
-    → IsReadAlike Say → AllReadSame Say → AllToldAlike HaveFault → SayOrFault Say HaveFault
-    → IsAnswerTo Say HaveFault (IsMadeOf task) answer → IsAnswerTo Say HaveFault (IsMadeOf task) other → AreOneAnswer task answer other
+-- What is made of plays is one thing, by what two answers are one.
+record IsOneMade (IsMade : List Play → Answer → Type 0) (One : Answer → Answer → Type 0) : Type 0 where
+  itself : (answer other : Answer) → answer ≡ other → One answer other
+  made : (ps qs : List Play) (answer other : Answer) → All IsJudged ps → AllTraced ps qs → AllAlike (hands_of ps) (hands_of qs) → AreReadSame ps qs
+      → IsMade ps answer → IsMade qs other → One answer other
+
+same_answer : (Say : List Record → Type 0) (HaveFault : FormatFault → Type 0) (IsMade : List Play → Answer → Type 0) (One : Answer → Answer → Type 0) (answer other : Answer)
+    → IsOneMade IsMade One → IsReadAlike Say → AllReadSame Say → AllToldAlike HaveFault → SayOrFault Say HaveFault
+    → IsAnswerTo Say HaveFault IsMade answer → IsAnswerTo Say HaveFault IsMade other → One answer other
 unfolding AllReadSame AllToldAlike SayOrFault
-same_answer Say HaveFault task answer other alike same told apart (answers.Unread fault have _ is) (answers.Unread found has _ it) =
-    one_itself task answer other (told fault found answer other have has is it)
-same_answer Say HaveFault task answer _ alike same told apart (answers.Unread fault have _ is) (answers.Refused number why first) =
+same_answer Say HaveFault IsMade One answer other one alike same told apart (answers.Unread fault have _ is) (answers.Unread found has _ it) =
+    one.itself answer other (told fault found answer other have has is it)
+same_answer Say HaveFault IsMade One answer _ one alike same told apart (answers.Unread fault have _ is) (answers.Refused number why first) =
     absurd (apart first.records fault first.say have)
-same_answer Say HaveFault task answer other alike same told apart (answers.Unread fault have _ is) (answers.Played plays read _ made) =
+same_answer Say HaveFault IsMade One answer other one alike same told apart (answers.Unread fault have _ is) (answers.Played plays read _ made) =
     absurd (apart read.records fault read.say have)
-same_answer Say HaveFault task _ other alike same told apart (answers.Refused number why first) (answers.Unread fault have _ is) =
+same_answer Say HaveFault IsMade One _ other one alike same told apart (answers.Refused number why first) (answers.Unread fault have _ is) =
     absurd (apart first.records fault first.say have)
-same_answer Say HaveFault task _ _ alike same told apart (answers.Refused number why first) (answers.Refused count reason next) =
-    let one = same_refused first.records next.records number count why reason
+same_answer Say HaveFault IsMade One _ _ one alike same told apart (answers.Refused number why first) (answers.Refused count reason next) =
+    let both = same_refused first.records next.records number count why reason
     (all_same first.records next.records (alike first.records next.records first.say next.say)) first.first next.first in
-    one_itself task (to_refusal number why) (to_refusal count reason) (ap₂ to_refusal one.0 one.1)
-same_answer Say HaveFault task _ other alike same told apart (answers.Refused number why first) (answers.Played plays read _ made) =
+    one.itself (to_refusal number why) (to_refusal count reason) (ap₂ to_refusal both.0 both.1)
+same_answer Say HaveFault IsMade One _ other one alike same told apart (answers.Refused number why first) (answers.Played plays read _ made) =
     absurd (refused_or_played first.records read.records number why plays (alike first.records read.records first.say read.say) first.first read.are)
-same_answer Say HaveFault task answer other alike same told apart (answers.Played plays read _ made) (answers.Unread fault have _ is) =
+same_answer Say HaveFault IsMade One answer other one alike same told apart (answers.Played plays read _ made) (answers.Unread fault have _ is) =
     absurd (apart read.records fault read.say have)
-same_answer Say HaveFault task answer _ alike same told apart (answers.Played plays read _ made) (answers.Refused number why first) =
+same_answer Say HaveFault IsMade One answer _ one alike same told apart (answers.Played plays read _ made) (answers.Refused number why first) =
     absurd (refused_or_played first.records read.records number why plays (alike first.records read.records first.say read.say) first.first read.are)
-same_answer Say HaveFault task answer other alike same told apart (answers.Played plays read _ made) (answers.Played too reads _ makes) =
+same_answer Say HaveFault IsMade One answer other one alike same told apart (answers.Played plays read _ made) (answers.Played too reads _ makes) =
     let both = alike read.records reads.records read.say reads.say in
-    one_made task plays too answer other read.are.judged
+    one.made plays too answer other read.are.judged
     (same_traces read.records reads.records plays too (all_same read.records reads.records both) read.are reads.are)
     (alike_hands read.records reads.records plays too both read.are reads.are) (same plays too read reads) made makes
+
+-- the verdicts on hands are one
+same_judgement : (Say : List Record → Type 0) (HaveFault : FormatFault → Type 0) (answer other : Answer)
+    → IsReadAlike Say → AllToldAlike HaveFault → SayOrFault Say HaveFault
+    → IsJudgement Say HaveFault answer → IsJudgement Say HaveFault other → answer ≡ other
+unfolding AllToldAlike SayOrFault
+same_judgement Say HaveFault answer other alike told apart (answers.NotJudged fault have _ is) (answers.NotJudged found has _ it) =
+    told fault found answer other have has is it
+same_judgement Say HaveFault answer _ alike told apart (answers.NotJudged fault have _ is) (answers.Judged records say verdicts are) =
+    absurd (apart records fault say have)
+same_judgement Say HaveFault _ other alike told apart (answers.Judged records say verdicts are) (answers.NotJudged fault have _ is) =
+    absurd (apart records fault say have)
+same_judgement Say HaveFault _ _ alike told apart (answers.Judged records say verdicts are) (answers.Judged others says too is) =
+    ap done (same_judged records others verdicts too (all_same records others (alike records others say says)) are is)
 
 -- a fault of bytes is told in one way
 one_told : (reader : Format) (bytes : List ℕ) → AllToldAlike (HaveFault reader bytes)
@@ -261,50 +293,107 @@ read_the_same : (reader : Format) (bytes : List ℕ) → AllReadSame (SayRecords
 unfolding AllReadSame
 read_the_same reader bytes plays others is it = all_read_same (read_by reader) bytes plays others is it
 
+-- what is made of hands is one thing
+one_question : (question : Question) → IsOneMade (IsReply question) (λ answer other. answer ≡ other)
+one_question question =
+    record { itself = λ answer other same. same; made = λ ps qs answer other judged traced alike same is it. one_reply question ps qs answer other judged traced alike is it }
+
+one_written : (to : Format) (keep : Keep) → IsOneMade (IsConversion to keep) (AreOneAnswer (tasks.Convert to keep))
+one_written to keep =
+    record {
+      itself = one_itself (tasks.Convert to keep);
+      made = λ ps qs answer other judged traced alike same is it. one_conversion to keep ps qs answer other same is it;
+    }
+
+one_read : (task : Task) (reader : Format) (bytes : List ℕ) (answer other : Answer)
+    → IsAnswerOf task (SayRecords reader bytes) (HaveFault reader bytes) answer
+    → IsAnswerOf task (SayRecords reader bytes) (HaveFault reader bytes) other → AreOneAnswer task answer other
+one_read (tasks.Ask question) reader bytes answer other is it =
+    same_answer (SayRecords reader bytes) (HaveFault reader bytes) (IsReply question) (λ one too. one ≡ too) answer other
+    (one_question question) (one_reading reader bytes) (read_the_same reader bytes) (one_told reader bytes) (say_or_fault reader bytes) is it
+one_read tasks.Judge reader bytes answer other is it =
+    same_judgement (SayRecords reader bytes) (HaveFault reader bytes) answer other
+    (one_reading reader bytes) (one_told reader bytes) (say_or_fault reader bytes) is it
+one_read (tasks.Views game seat) reader bytes answer other is it =
+    same_answer (SayRecords reader bytes) (HaveFault reader bytes) (AreViews game seat) (λ one too. one ≡ too) answer other
+    (record { itself = λ one too same. same; made = λ ps qs one too judged traced alike same so it_is. one_view game seat ps qs one too traced alike so it_is })
+    (one_reading reader bytes) (read_the_same reader bytes) (one_told reader bytes) (say_or_fault reader bytes) is it
+one_read (tasks.Convert to keep) reader bytes answer other is it =
+    same_answer (SayRecords reader bytes) (HaveFault reader bytes) (IsConversion to keep) (AreOneAnswer (tasks.Convert to keep)) answer other
+    (one_written to keep) (one_reading reader bytes) (read_the_same reader bytes) (one_told reader bytes) (say_or_fault reader bytes) is it
+
 pub one_answer : (task : Task) (reader : Format) (bytes : List ℕ) (answer other : Answer)
     → IsAnswer task reader bytes answer → IsAnswer task reader bytes other → AreOneAnswer task answer other
 one_answer task reader bytes _ _ (answers.TooLong many) (answers.TooLong too) = one_itself task to_excess to_excess refl
 one_answer task reader bytes _ other (answers.TooLong many) (answers.Read few _ is) = absurd (omega (arith, many, few))
 one_answer task reader bytes answer _ (answers.Read few _ is) (answers.TooLong many) = absurd (omega (arith, many, few))
-one_answer task reader bytes answer other (answers.Read few _ is) (answers.Read less _ it) =
-    same_answer (SayRecords reader bytes) (HaveFault reader bytes) task answer other
-    (one_reading reader bytes) (read_the_same reader bytes) (one_told reader bytes) (say_or_fault reader bytes) is it
+one_answer task reader bytes answer other (answers.Read few _ is) (answers.Read less _ it) = one_read task reader bytes answer other is it
 
 -- what an input whose hands are all legal and agree is made of
-record IsMadeAlike (task : Task) (plays : List Play) (answer : Answer) : Type 0 where
+record IsMadeAlike (IsMade : List Play → Answer → Type 0) (plays : List Play) (answer : Answer) : Type 0 where
   others : List Play
   traced : AllTraced plays others
   same : AreReadSame plays others
-  made : IsMadeOf task others answer
+  judged : All IsJudged plays
+  hands : AllAlike (hands_of plays) (hands_of others)
+  made : IsMade others answer
 
-made_of : (Say : List Record → Type 0) (HaveFault : FormatFault → Type 0) (task : Task) (records : List Record) (plays : List Play) (answer : Answer)
-    → IsReadAlike Say → AllReadSame Say → SayOrFault Say HaveFault → Say records → ArePlaysOf records plays → IsAnswerTo Say HaveFault (IsMadeOf task) answer → IsMadeAlike task plays answer
+made_of : (Say : List Record → Type 0) (HaveFault : FormatFault → Type 0) (IsMade : List Play → Answer → Type 0) (records : List Record) (plays : List Play) (answer : Answer)
+    → IsReadAlike Say → AllReadSame Say → SayOrFault Say HaveFault → Say records → ArePlaysOf records plays → IsAnswerTo Say HaveFault IsMade answer → IsMadeAlike IsMade plays answer
 unfolding AllReadSame SayOrFault
-made_of Say HaveFault task records plays answer alike same apart say are (answers.Unread fault have _ is) = absurd (apart records fault say have)
-made_of Say HaveFault task records plays _ alike same apart say are (answers.Refused number why first) =
+made_of Say HaveFault IsMade records plays answer alike same apart say are (answers.Unread fault have _ is) = absurd (apart records fault say have)
+made_of Say HaveFault IsMade records plays _ alike same apart say are (answers.Refused number why first) =
     absurd (refused_or_played first.records records number why plays (alike first.records records first.say say) first.first are)
-made_of Say HaveFault task records plays answer alike same apart say are (answers.Played too read _ makes) =
+made_of Say HaveFault IsMade records plays answer alike same apart say are (answers.Played too read _ makes) =
     let both = alike records read.records say read.say in
     let traced = same_traces records read.records plays too (all_same records read.records both) are read.are in
+    let hands = alike_hands records read.records plays too both are read.are in
     record {
       others = too;
       traced = traced;
       same = same plays too (record { records = records; say = say; are = are }) read;
+      judged = are.judged;
+      hands = hands;
       made = makes;
     }
 
-legal_made : (task : Task) (reader : Format) (bytes : List ℕ) (records : List Record) (plays : List Play) (answer : Answer) → length bytes ≤ most_input
-    → SayRecords reader bytes records → ArePlaysOf records plays → IsAnswer task reader bytes answer → IsMadeAlike task plays answer
-legal_made task reader bytes records plays _ few is are (answers.TooLong many) = absurd (omega (arith, many, few))
-legal_made task reader bytes records plays answer few is are (answers.Read less _ to) =
-    made_of (SayRecords reader bytes) (HaveFault reader bytes) task records plays answer (one_reading reader bytes) (read_the_same reader bytes) (say_or_fault reader bytes) is are to
+legal_asked : (question : Question) (reader : Format) (bytes : List ℕ) (records : List Record) (plays : List Play) (answer : Answer) → length bytes ≤ most_input
+    → SayRecords reader bytes records → ArePlaysOf records plays → IsAnswer (tasks.Ask question) reader bytes answer → IsMadeAlike (IsReply question) plays answer
+legal_asked question reader bytes records plays _ few is are (answers.TooLong many) = absurd (omega (arith, many, few))
+legal_asked question reader bytes records plays answer few is are (answers.Read less _ to) =
+    made_of (SayRecords reader bytes) (HaveFault reader bytes) (IsReply question) records plays answer (one_reading reader bytes) (read_the_same reader bytes) (say_or_fault reader bytes) is are to
+
+legal_viewed : (game : AnyGame) (seat : Seat) (reader : Format) (bytes : List ℕ) (records : List Record) (plays : List Play) (answer : Answer) → length bytes ≤ most_input
+    → SayRecords reader bytes records → ArePlaysOf records plays → IsAnswer (tasks.Views game seat) reader bytes answer → IsMadeAlike (AreViews game seat) plays answer
+legal_viewed game seat reader bytes records plays _ few is are (answers.TooLong many) = absurd (omega (arith, many, few))
+legal_viewed game seat reader bytes records plays answer few is are (answers.Read less _ to) =
+    made_of (SayRecords reader bytes) (HaveFault reader bytes) (AreViews game seat) records plays answer (one_reading reader bytes) (read_the_same reader bytes) (say_or_fault reader bytes) is are to
+
+legal_written : (to : Format) (keep : Keep) (reader : Format) (bytes : List ℕ) (records : List Record) (plays : List Play) (answer : Answer) → length bytes ≤ most_input
+    → SayRecords reader bytes records → ArePlaysOf records plays → IsAnswer (tasks.Convert to keep) reader bytes answer → IsMadeAlike (IsConversion to keep) plays answer
+legal_written to keep reader bytes records plays _ few is are (answers.TooLong many) = absurd (omega (arith, many, few))
+legal_written to keep reader bytes records plays answer few is are (answers.Read less _ is_made) =
+    made_of (SayRecords reader bytes) (HaveFault reader bytes) (IsConversion to keep) records plays answer (one_reading reader bytes) (read_the_same reader bytes) (say_or_fault reader bytes) is are is_made
 
 -- so its status is known
-shown_status : (command : Command) (plays : List Play) (answer : Answer) → IsMadeAlike (tasks.Show command) plays answer → answer.status ≡ statuses.Done
+shown_status : (command : Command) (plays : List Play) (answer : Answer) → IsMadeAlike (IsReply (questions.Show command)) plays answer → answer.status ≡ statuses.Done
 shown_status command plays answer is = ap (λ (a : Answer). a.status) is.made
 
-game_status : (plays : List Play) (answer : Answer) → IsMadeAlike tasks.GameFile plays answer → answer.status ≡ (to_first_game plays).status
-game_status plays answer is = ap (λ (a : Answer). a.status) (is.made ∙ sym (same_game plays is.others is.traced))
+asked_status : (question : Question) (plays : List Play) (answer reply : Answer) → IsReply question plays reply
+    → IsMadeAlike (IsReply question) plays answer → answer.status ≡ reply.status
+asked_status question plays answer reply to is =
+    ap (λ (a : Answer). a.status) (sym (one_reply question plays is.others reply answer is.judged is.traced is.hands to is.made))
+
+viewed_status : (game : AnyGame) (seat : Seat) (plays : List Play) (answer reply : Answer) → AreViews game seat plays reply
+    → IsMadeAlike (AreViews game seat) plays answer → answer.status ≡ reply.status
+viewed_status game seat plays answer reply to is =
+    ap (λ (a : Answer). a.status) (sym (one_view game seat plays is.others reply answer is.traced is.hands to is.made))
+
+judged_status : (reader : Format) (bytes : List ℕ) (records : List Record) (answer : Answer) → length bytes ≤ most_input
+    → SayRecords reader bytes records → IsAnswer tasks.Judge reader bytes answer → answer.status ≡ statuses.Done
+judged_status reader bytes records _ few say (answers.TooLong many) = absurd (omega (arith, many, few))
+judged_status reader bytes records answer few say (answers.Read less _ (answers.NotJudged fault have _ is)) = absurd (no_fault reader bytes records fault say have)
+judged_status reader bytes records _ few say (answers.Read less _ (answers.Judged others says verdicts are)) = refl
 
 spelled_status : (to : Format) (keep : Keep) (plays : List Play) (answer : Answer) → first_refusal_in to keep plays ≡ None
     → IsConversion to keep plays answer → answer.status ≡ statuses.Done
@@ -312,7 +401,7 @@ spelled_status to keep plays _ none (answers.NotSpelled number fact is) = absurd
 spelled_status to keep plays _ none (answers.Spelled spelled bytes spell back) = refl
 
 converted_status : (to : Format) (keep : Keep) (plays : List Play) (answer : Answer) → first_refusal_in to keep plays ≡ None
-    → IsMadeAlike (tasks.Convert to keep) plays answer → answer.status ≡ statuses.Done
+    → IsMadeAlike (IsConversion to keep) plays answer → answer.status ≡ statuses.Done
 converted_status to keep plays answer none is =
     spelled_status to keep is.others answer (sym (refusal_same to keep plays is.others is.same) ∙ none) is.made
 
@@ -327,6 +416,16 @@ no_game file game _ gives (answers.BadGame text there short fault is) =
     let says : game_said text ≡ Ok (game_in game) = subst (λ (t : List ℕ). game_said t ≡ Ok (game_in game)) same gives.says in
     absurd (cc (says, is))
 
+-- where a file gives a game, it does not lack one
+lacks_none : (file : Option (List ℕ)) (game : AnyGame) → GivesGame file game → GivesNone file → ⊥
+lacks_none file game gives (inl none) = let there = gives.there in cc (none, there)
+lacks_none file game gives (inr lacks) = no_game file game lacks.0 gives lacks.1
+
+pub not_lacking : {X : Type 0} (told : Option Files) (name : List ℕ) (game : AnyGame) (input read : X)
+    → IfSome told (λ files. GivesGame (files name) game) → IfSome told (λ files. GivesNone (files name) → read ≡ input)
+not_lacking (Some files) name game input read gives = λ lacks. absurd (lacks_none (files name) game gives lacks)
+not_lacking None name game input read gives = tt
+
 games_same : (file : Option (List ℕ)) (game other : AnyGame) → GivesGame file game → GivesGame file other → game ≡ other
 games_same file game other gives too =
     let same : gives.text ≡ too.text = same_Some gives.text too.text (sym gives.there ∙ too.there) in
@@ -335,63 +434,25 @@ games_same file game other gives too =
     one_game game other (cc (says, it))
 
 -- a request is answered in one way
-some_name : (request : Request) (name other : List ℕ) → game_name request ≡ Some name → game_name request ≡ Some other → name ≡ other
-some_name request name other is it = same_Some name other (sym is ∙ it)
-
-one_way : (files : Files) (request : Request) (way other : Way) → IsWay files request way → IsWay files request other → way ≡ other
-one_way files request way other (answers.Plain none found) (answers.Plain nothing finds) = same_Some way other (sym found ∙ finds)
-one_way files request way other (answers.Plain none found) (answers.Under name named game gives finds) = absurd (cc (none, named))
-one_way files request way other (answers.Under name named game gives found) (answers.Plain none finds) = absurd (cc (none, named))
-one_way files request way other (answers.Under name named game gives found) (answers.Under called calls played says finds) =
-    let same : name ≡ called = some_name request name called named calls in
-    let one : game ≡ played = games_same (files called) game played (subst (λ (n : List ℕ). GivesGame (files n) game) same gives) says in
-    same_Some way other (sym found ∙ ap (λ (g : AnyGame). way_of (Some g) request) one ∙ finds)
-
-no_lack : (files : Files) (request : Request) (way : Way) (name : List ℕ) (answer : Answer) → IsWay files request way
-    → game_name request ≡ Some name → GivesNoGame (files name) answer → ⊥
-no_lack files request way name answer (answers.Plain none found) named lacks = cc (none, named)
-no_lack files request way name answer (answers.Under called calls game gives found) named lacks =
-    no_game (files name) game answer (subst (λ (n : List ℕ). GivesGame (files n) game) (some_name request called name calls named) gives) lacks
-
--- hands that are made are not read
-no_way : (game : Option AnyGame) (request : Request) (way : Way) (made : ℕ × ℕ) → made_by request ≡ Some made → way_of game request ≡ Some way → ⊥
-no_way game (Show command notation) way made makes found = cc (makes)
-no_way game (Game notation) way made makes found = cc (makes)
-no_way game (Convert from to keep) way made makes found = cc (makes)
-no_way game (Load seed hands) way made makes found = cc (found)
-
-not_read : (files : Files) (request : Request) (way : Way) (made : ℕ × ℕ) → made_by request ≡ Some made → IsWay files request way → ⊥
-not_read files request way made makes (answers.Plain none found) = no_way None request way made makes found
-not_read files request way made makes (answers.Under name named game gives found) = no_way (Some game) request way made makes found
-
-pub in_way : (request : Request) (files : Files) (bytes : List ℕ) (way : Way) (answer : Answer) → IsWay files request way
-    → IsAnswerIn request files bytes answer → IsAnswer way.task way.reader bytes answer
-in_way request files bytes way answer is (answers.NoGame name named _ lacks) = absurd (no_lack files request way name answer is named lacks)
-in_way request files bytes way answer is (answers.OfInput other it _ to) =
-    subst (λ (w : Way). IsAnswer w.task w.reader bytes answer) (one_way files request other way it is) to
-in_way request files bytes way answer is (answers.Summed seed hands makes _ to) = absurd (not_read files request way (seed, hands) makes is)
+pub in_way : (request : Request) (files : Files) (bytes : List ℕ) (by : Way) (answer : Answer) → IsWay files request by
+    → IsAnswerIn request files bytes answer → IsAnswerBy by bytes answer
+in_way (Load seed hands) files bytes by answer found is = absurd found
+in_way (Plain from task) files bytes by answer found is = subst (λ (w : Way). IsAnswerBy w bytes answer) (sym found) is
+in_way (Under name logs) files bytes by answer found (answers.NoGame _ lacks) = absurd (no_game (files name) found.game answer found.gives lacks)
+in_way (Under name logs) files bytes by answer found (answers.OfInput game gives _ to) =
+    subst (λ (w : Way). IsAnswerBy w bytes answer)
+    (ap (λ (g : AnyGame). way_under g logs) (games_same (files name) game found.game gives found.gives) ∙ sym found.same) to
 
 -- a request that is answered in a way lacks no game
-there_is_none : (asked : Option (List ℕ)) (files : Files) → asked ≡ None → IsGameMissing asked files → ⊥
-there_is_none None files none missing = missing
-there_is_none (Some name) files none missing = cc (none)
-
-there_is_one : (asked : Option (List ℕ)) (files : Files) (name text : List ℕ) → asked ≡ Some name → files name ≡ Some text → IsGameMissing asked files → ⊥
-there_is_one None files name text named there missing = missing
-there_is_one (Some other) files name text named there missing =
-    let same = same_Some other name named in
-    let gone : files name ≡ None = subst (λ (n : List ℕ). files n ≡ None) same missing in
-    cc (there, gone)
-
-pub no_missing : (files : Files) (request : Request) (way : Way) → IsWay files request way → IsGameMissing (game_name request) files → ⊥
-no_missing files request way (answers.Plain none found) missing = there_is_none (game_name request) files none missing
-no_missing files request way (answers.Under name named game gives found) missing =
-    there_is_one (game_name request) files name gives.text named gives.there missing
+pub no_missing : (files : Files) (request : Request) (by : Way) → IsWay files request by → IsGameMissing request files → ⊥
+no_missing files (Load seed hands) by found missing = missing
+no_missing files (Plain from task) by found missing = missing
+no_missing files (Under name logs) by found missing = let there = found.gives.there in cc (there, missing)
 
 -- a run whose answers all have one status, and that lacks no game, ends with it, or a device failed, or memory ran out
 ends_so : (request : Request) (files : Files) (bytes : List ℕ) (out diag : Sinks) (status own : Status)
     → ((answer : Answer) → IsAnswerIn request files bytes answer → answer.status ≡ own)
-    → (IsGameMissing (game_name request) files → ⊥)
+    → (IsGameMissing request files → ⊥)
     → Ends request files bytes out diag status → RefusesNothing status ⊎ (own ≡ status)
 ends_so request files bytes out diag statuses.Done own each there ends = inl tt
 ends_so request files bytes out diag statuses.ReadFault own each there ends = inl tt
@@ -405,37 +466,60 @@ ends_so request files bytes out diag statuses.BadInput own each there ends = inr
 ends_so request files bytes out diag statuses.Limit own each there ends = inr (sym (each ends.answer ends.to_input) ∙ ends.ends)
 ends_so request files bytes out diag statuses.Unspelled own each there ends = inr (sym (each ends.answer ends.to_input) ∙ ends.ends)
 ends_so request files bytes out diag statuses.BadGame own each there ends = inr (sym (each ends.answer ends.to_input) ∙ ends.ends)
+ends_so request files bytes out diag statuses.NoSuch own each there ends = inr (sym (each ends.answer ends.to_input) ∙ ends.ends)
 
 done_so : (status : Status) → RefusesNothing status ⊎ (statuses.Done ≡ status) → RefusesNothing status
 done_so status (inl is) = is
 done_so status (inr same) = subst RefusesNothing same tt
 
 -- so a run on such an input refuses nothing
-pub legal_shown : (command : Command) (notation : NotationName) (reader : Format) (files : Files) (bytes : List ℕ) (records : List Record) (plays : List Play)
-    → (out diag : Sinks) (status : Status) → IsWay files (Show command notation) (way (tasks.Show command) reader)
+pub legal_shown : (request : Request) (command : Command) (reader : Format) (files : Files) (bytes : List ℕ) (records : List Record) (plays : List Play)
+    → (out diag : Sinks) (status : Status) → IsWay files request (way (tasks.Ask (questions.Show command)) reader)
     → length bytes ≤ most_input → SayRecords reader bytes records → ArePlaysOf records plays
-    → Ends (Show command notation) files bytes out diag status → RefusesNothing status
-legal_shown command notation reader files bytes records plays out diag status found few is are ends =
-    let by = way (tasks.Show command) reader in
-    let request = Show command notation in
+    → Ends request files bytes out diag status → RefusesNothing status
+legal_shown request command reader files bytes records plays out diag status found few is are ends =
+    let by = way (tasks.Ask (questions.Show command)) reader in
     done_so status
     (ends_so request files bytes out diag status statuses.Done
     (λ answer to. shown_status command plays answer
-    (legal_made (tasks.Show command) reader bytes records plays answer few is are (in_way request files bytes by answer found to)))
+    (legal_asked (questions.Show command) reader bytes records plays answer few is are (in_way request files bytes by answer found to)))
     (no_missing files request by found) ends)
 
--- the game file of the first hand is that of its play
-pub legal_game : (notation : NotationName) (reader : Format) (files : Files) (bytes : List ℕ) (records : List Record) (plays : List Play)
-    → (out diag : Sinks) (status : Status) → IsWay files (Game notation) (way tasks.GameFile reader)
-    → length bytes ≤ most_input → SayRecords reader bytes records → ArePlaysOf records plays
-    → Ends (Game notation) files bytes out diag status → RefusesNothing status ⊎ ((to_first_game plays).status ≡ status)
-legal_game notation reader files bytes records plays out diag status found few is are ends =
-    let by = way tasks.GameFile reader in
-    let request = Game notation in
-    ends_so request files bytes out diag status (to_first_game plays).status
-    (λ answer to. game_status plays answer
-    (legal_made tasks.GameFile reader bytes records plays answer few is are (in_way request files bytes by answer found to)))
+-- what is asked of the hands is answered as it is of their plays
+pub legal_asks : (request : Request) (question : Question) (reader : Format) (files : Files) (bytes : List ℕ) (records : List Record) (plays : List Play) (reply : Answer)
+    → (out diag : Sinks) (status : Status) → IsWay files request (way (tasks.Ask question) reader)
+    → length bytes ≤ most_input → SayRecords reader bytes records → ArePlaysOf records plays → IsReply question plays reply
+    → Ends request files bytes out diag status → RefusesNothing status ⊎ (reply.status ≡ status)
+legal_asks request question reader files bytes records plays reply out diag status found few is are to ends =
+    let by = way (tasks.Ask question) reader in
+    ends_so request files bytes out diag status reply.status
+    (λ answer given. asked_status question plays answer reply to
+    (legal_asked question reader bytes records plays answer few is are (in_way request files bytes by answer found given)))
     (no_missing files request by found) ends
+
+-- and so is what a seat saw of them
+pub legal_views : (request : Request) (game : AnyGame) (seat : Seat) (reader : Format) (files : Files) (bytes : List ℕ) (records : List Record) (plays : List Play) (reply : Answer)
+    → (out diag : Sinks) (status : Status) → IsWay files request (way (tasks.Views game seat) reader)
+    → length bytes ≤ most_input → SayRecords reader bytes records → ArePlaysOf records plays → AreViews game seat plays reply
+    → Ends request files bytes out diag status → RefusesNothing status ⊎ (reply.status ≡ status)
+legal_views request game seat reader files bytes records plays reply out diag status found few is are to ends =
+    let by = way (tasks.Views game seat) reader in
+    ends_so request files bytes out diag status reply.status
+    (λ answer given. viewed_status game seat plays answer reply to
+    (legal_viewed game seat reader bytes records plays answer few is are (in_way request files bytes by answer found given)))
+    (no_missing files request by found) ends
+
+-- hands are judged, also refused ones
+pub all_judged : (request : Request) (reader : Format) (files : Files) (bytes : List ℕ) (records : List Record)
+    → (out diag : Sinks) (status : Status) → IsWay files request (way tasks.Judge reader)
+    → length bytes ≤ most_input → SayRecords reader bytes records
+    → Ends request files bytes out diag status → RefusesNothing status
+all_judged request reader files bytes records out diag status found few is ends =
+    let by = way tasks.Judge reader in
+    done_so status
+    (ends_so request files bytes out diag status statuses.Done
+    (λ answer to. judged_status reader bytes records answer few is (in_way request files bytes by answer found to))
+    (no_missing files request by found) ends)
 
 -- and hands whose facts are all spelled are converted
 pub legal_in_way : (request : Request) (reader target : Format) (keep : Keep) (files : Files) (bytes : List ℕ) (records : List Record) (plays : List Play)
@@ -448,22 +532,12 @@ legal_in_way request reader target keep files bytes records plays out diag statu
     done_so status
     (ends_so request files bytes out diag status statuses.Done
     (λ answer given. converted_status target keep plays answer none
-    (legal_made (tasks.Convert target keep) reader bytes records plays answer few is are (in_way request files bytes by answer found given)))
+    (legal_written target keep reader bytes records plays answer few is are (in_way request files bytes by answer found given)))
     (no_missing files request by found) ends)
-
-pub legal_converted : (from to : NotationName) (keep : KeepAsked) (reader target : Format) (files : Files) (bytes : List ℕ) (records : List Record) (plays : List Play)
-    → (out diag : Sinks) (status : Status) → IsWay files (Convert from to keep) (way (tasks.Convert target (kept keep)) reader)
-    → length bytes ≤ most_input → SayRecords reader bytes records → ArePlaysOf records plays
-    → first_refusal_in target (kept keep) plays ≡ None
-    → Ends (Convert from to keep) files bytes out diag status → RefusesNothing status
-legal_converted from to keep reader target files bytes records plays out diag status found few is are none ends =
-    legal_in_way (Convert from to keep) reader target (kept keep) files bytes records plays out diag status found few is are none ends
 
 -- the answer to hands that are made is done, and a run on them needs no input
 load_done : (seed hands : ℕ) (files : Files) (bytes : List ℕ) (answer : Answer) → IsAnswerIn (Load seed hands) files bytes answer → answer.status ≡ statuses.Done
-load_done seed hands files bytes answer (answers.NoGame name named _ lacks) = absurd (cc (named))
-load_done seed hands files bytes answer (answers.OfInput way is _ to) = absurd (not_read files (Load seed hands) way (seed, hands) refl is)
-load_done seed hands files bytes answer (answers.Summed number count makes _ is) = ap (λ (a : Answer). a.status) is.told
+load_done seed hands files bytes answer is = ap (λ (a : Answer). a.status) is.told
 
 not_done : (seed hands : ℕ) (files : Files) (bytes : List ℕ) (answer : Answer) (status : Status) → IsAnswerIn (Load seed hands) files bytes answer
     → answer.status ≡ status → NeedsNoInput status
@@ -482,4 +556,5 @@ legal_load seed hands files bytes out diag statuses.Refused ends = not_done seed
 legal_load seed hands files bytes out diag statuses.BadInput ends = not_done seed hands files bytes ends.answer statuses.BadInput ends.to_input ends.ends
 legal_load seed hands files bytes out diag statuses.Limit ends = not_done seed hands files bytes ends.answer statuses.Limit ends.to_input ends.ends
 legal_load seed hands files bytes out diag statuses.Unspelled ends = not_done seed hands files bytes ends.answer statuses.Unspelled ends.to_input ends.ends
+legal_load seed hands files bytes out diag statuses.NoSuch ends = not_done seed hands files bytes ends.answer statuses.NoSuch ends.to_input ends.ends
 legal_load seed hands files bytes out diag statuses.BadGame ends = not_done seed hands files bytes ends.answer statuses.BadGame ends.to_input ends.ends

@@ -1,4 +1,5 @@
 -- What the program answers to the bytes of its input, and of the file of a game.
+pub use Rattle.poker_cli.specs.AnswerParts.{Answer, done, refusal}
 use Rattle.std.specs.Prelude.{◌≡◌, ℕ, ◌<◌, ◌≤◌, List, [], ◌∷◌, length, codes, Option, Some, None, option_map, Result, Ok, Err}
 use Rattle.acpc_game.specs.GameFile.{GameSaid, game_said}
 use Rattle.acpc_game.specs.GameText.{game_text}
@@ -7,12 +8,19 @@ use Rattle.acpc_game.specs.declared.game.Game.{Game}
 use Rattle.acpc_writing.specs.GameOf.{game_of}
 use Rattle.acpc_text.specs.declared.fault.AcpcFault.{AcpcFault}
 use Rattle.acpc_text.specs.declared.fault.AcpcFault.TheVariants as acpc_faults
-use Rattle.command_words.specs.Words.{Request}
+use Rattle.command_words.specs.Words.{Request, Load, Plain, Under}
 use Rattle.command_words.specs.declared.command.Command.{Command}
 use Rattle.command_words.specs.declared.command.Command.TheVariants as commands
+use Rattle.command_words.specs.declared.request.Logs.{Logs}
+use Rattle.command_words.specs.declared.task.Question.{Question}
+use Rattle.command_words.specs.declared.task.Question.TheVariants as questions
+use Rattle.poker_cli.specs.declared.task.Task.{Task}
+use Rattle.poker_cli.specs.declared.task.Task.TheVariants as tasks
 use Rattle.hand_gen.specs.Load.{IsLoad, summary_text}
 use Rattle.hand_gen.specs.declared.summary.Summary.{Summary}
 use Rattle.hand_records.specs.declared.record.Record.{Record}
+use Rattle.hand_session.specs.Printed.{session_printed}
+use Rattle.hand_session.specs.Sessions.{session_said}
 use Rattle.hand_records.specs.declared.trace.Play.{Play}
 use Rattle.hand_records.specs.declared.writing.Keep.{Keep}
 use Rattle.hand_records.specs.declared.writing.Unspelled.{Unspelled}
@@ -23,6 +31,7 @@ use Rattle.printed_report.specs.Report.{report_said}
 use Rattle.ohh_reading.specs.Reading as in_ohh
 use Rattle.phh_reading.specs.Reading as in_phh
 use Rattle.convert_core.specs.Conversion.{ReadAsPlays, ReadAsRefused}
+use Rattle.convert_core.specs.Verdicts.{AreVerdictsOn, Verdict}
 use Rattle.convert_core.specs.declared.convert_fault.ConvertFault.{ConvertFault}
 use Rattle.convert_core.specs.declared.convert_fault.ConvertFault.TheVariants as convert_faults
 use Rattle.convert_core.specs.declared.refusal.Refusal.{Refusal}
@@ -31,32 +40,21 @@ use Rattle.convert_core.specs.declared.format_fault.FormatFault.TheVariants as f
 use Rattle.poker_cli.specs.PhhFaults.{phh_fault_line, phh_status}
 use Rattle.poker_cli.specs.Inputs.{HaveFault, SayRecords}
 use Rattle.poker_cli.specs.Refusals.{refused_line}
+use Rattle.poker_cli.specs.Replies.{AreOptionsAt, AreViews, IsEquityAt}
 use Rattle.poker_cli.specs.AcpcFaults.{acpc_fault_line, acpc_status, bad_game_line}
 use Rattle.poker_cli.specs.Outputs.{ReadsBack, SpellPlays, unspelled_in}
 use Rattle.poker_cli.specs.OhhFaults.{ohh_fault_line, ohh_status}
 use Rattle.poker_cli.specs.Unspelled.{unspelled_line}
-use Rattle.poker_cli.specs.Ways.{game_name, made_by, way_of}
-use Rattle.poker_cli.specs.declared.status.Status.{Status}
+use Rattle.poker_cli.specs.Verdicts.{judged_said}
+use Rattle.poker_cli.specs.Ways.{plain_way, way_under}
 use Rattle.poker_cli.specs.declared.status.Status.TheVariants as statuses
 use Rattle.poker_cli.specs.declared.task.Format.{Format}
-use Rattle.poker_cli.specs.declared.task.Task.{Task}
-use Rattle.poker_cli.specs.declared.task.Task.TheVariants as tasks
 use Rattle.poker_cli.specs.declared.task.Way.{Way}
 use Rattle.hand_records.specs.WriteRefusals.{first_refusal}
 
 -- the most bytes of an input
 abbrev pub most_input : ℕ
 most_input = 16777216
-
--- an answer: its status, what goes to the output, and the line that is told beside it
-pub record Answer : Type 0 where
-  pub status : Status
-  pub output : List ℕ
-  pub line : List ℕ
-
--- an answer without output
-abbrev pub refusal : Status → List ℕ → Answer
-refusal status line = record { status = status; output = []; line = line }
 
 -- the answer to an input that is too long
 abbrev pub to_excess : Answer
@@ -90,10 +88,7 @@ abbrev pub text_of : Command → List Play → List ℕ
 text_of commands.Check plays = check_said plays
 text_of commands.Replay plays = replay_said plays
 text_of commands.Report plays = report_said plays
-
--- an answer with its output
-abbrev pub done : List ℕ → Answer
-done output = record { status = statuses.Done; output = output; line = [] }
+text_of commands.Session plays = session_printed (session_said plays)
 
 -- the answer where a fact of the hand with this number has no spelling
 abbrev pub to_unspelled : ℕ → Unspelled → Answer
@@ -123,11 +118,12 @@ pub data IsWritten (unspelled : Play → Option Unspelled) (Spell Back : List Pl
 abbrev pub IsConversion : Format → Keep → List Play → Answer → Type 0
 IsConversion to keep plays answer = IsWritten (unspelled_in to keep) (SpellPlays to) (ReadsBack to) plays answer
 
--- the answer to an input whose hands are all legal and agree
-abbrev pub IsMadeOf : Task → List Play → Answer → Type 0
-IsMadeOf (tasks.Show command) plays answer = answer ≡ done (text_of command plays)
-IsMadeOf tasks.GameFile plays answer = answer ≡ to_first_game plays
-IsMadeOf (tasks.Convert to keep) plays answer = IsConversion to keep plays answer
+-- the answer to a question about hands that are all legal and agree
+abbrev pub IsReply : Question → List Play → Answer → Type 0
+IsReply (questions.Show command) plays answer = answer ≡ done (text_of command plays)
+IsReply questions.GameFile plays answer = answer ≡ to_first_game plays
+IsReply (questions.Options hand events) plays answer = AreOptionsAt hand events plays answer
+IsReply (questions.Equity hand street) plays answer = IsEquityAt hand street plays answer
 
 -- The answer to bytes, of which a notation tells what they say and which fault they have, where this is made of their plays.
 pub data IsAnswerTo (Say : List Record → Type 0) (HaveFault : FormatFault → Type 0) (IsMade : List Play → Answer → Type 0) : Answer → Type 0 where
@@ -138,13 +134,34 @@ pub data IsAnswerTo (Say : List Record → Type 0) (HaveFault : FormatFault → 
   -- all hands are legal and agree
   Played : (plays : List Play) → ReadAsPlays Say plays → (answer : Answer) → IsMade plays answer → IsAnswerTo Say HaveFault IsMade answer
 
+-- The answer to bytes where each hand is judged, of which a notation tells what they say and which fault they have.
+pub data IsJudgement (Say : List Record → Type 0) (HaveFault : FormatFault → Type 0) : Answer → Type 0 where
+  -- they do not read as hands
+  NotJudged : (fault : FormatFault) → HaveFault fault → (answer : Answer) → to_fault fault ≡ Some answer
+      → IsJudgement Say HaveFault answer
+  -- the verdict on each hand is told, legal or refused
+  Judged : (records : List Record) → Say records → (verdicts : List Verdict) → AreVerdictsOn records verdicts
+      → IsJudgement Say HaveFault (done (judged_said verdicts))
+
+-- the answer to bytes by what is made of their hands
+abbrev pub IsAnswerOf : Task → (List Record → Type 0) → (FormatFault → Type 0) → Answer → Type 0
+IsAnswerOf (tasks.Ask question) Say HaveFault answer = IsAnswerTo Say HaveFault (IsReply question) answer
+IsAnswerOf tasks.Judge Say HaveFault answer = IsJudgement Say HaveFault answer
+IsAnswerOf (tasks.Convert to keep) Say HaveFault answer = IsAnswerTo Say HaveFault (IsConversion to keep) answer
+IsAnswerOf (tasks.Views game seat) Say HaveFault answer = IsAnswerTo Say HaveFault (AreViews game seat) answer
+
 -- The answer to the bytes of an input, as they are read and what is made of them.
 pub data IsAnswer (task : Task) (reader : Format) (bytes : List ℕ) : Answer → Type 0 where
   -- they are too many
   TooLong : most_input < length bytes → IsAnswer task reader bytes to_excess
   -- they are read
-  Read : length bytes ≤ most_input → (answer : Answer) → IsAnswerTo (SayRecords reader bytes) (HaveFault reader bytes) (IsMadeOf task) answer
+  Read : length bytes ≤ most_input → (answer : Answer)
+      → IsAnswerOf task (SayRecords reader bytes) (HaveFault reader bytes) answer
       → IsAnswer task reader bytes answer
+
+-- the answer to the bytes of an input in a way
+abbrev pub IsAnswerBy : Way → List ℕ → Answer → Type 0
+IsAnswerBy by bytes answer = IsAnswer by.task by.reader bytes answer
 
 -- an answer tells why bytes are not converted, or have no plays; want of memory has no answer
 abbrev pub IsToldOf : ConvertFault → Answer → Type 0
@@ -180,13 +197,18 @@ pub record GivesGame (file : Option (List ℕ)) (game : Game) : Type 0 where
 abbrev pub Files : Type 0
 Files = List ℕ → Option (List ℕ)
 
--- How a request is answered by the files of a shelf: so its hands are read, and this is made of them.
-pub data IsWay (files : Files) (request : Request) (way : Way) : Type 0 where
-  -- it asks for no game
-  Plain : game_name request ≡ None → way_of None request ≡ Some way → IsWay files request way
-  -- its hands are under the game that a file gives
-  Under : (name : List ℕ) → game_name request ≡ Some name → (game : Game) → GivesGame (files name) game
-      → way_of (Some game) request ≡ Some way → IsWay files request way
+-- Hands are read so, and this is made of them, where logs are under the game of this file.
+pub record IsWayUnder (file : Option (List ℕ)) (logs : Logs) (way : Way) : Type 0 where
+  pub game : Game
+  pub gives : GivesGame file game
+  pub same : way ≡ way_under game logs
+
+-- how a request is answered by the files of a shelf: so its hands are read, and this is made of them; hands that are made
+-- are not read
+abbrev pub IsWay : Files → Request → Way → Type 0
+IsWay files (Load seed hands) way = ⊥
+IsWay files (Plain from task) way = way ≡ plain_way from task
+IsWay files (Under name logs) way = IsWayUnder (files name) logs way
 
 -- An answer is the summary of so many hands that are made from a seed.
 pub record IsSummed (seed hands : ℕ) (answer : Answer) : Type 0 where
@@ -194,14 +216,16 @@ pub record IsSummed (seed hands : ℕ) (answer : Answer) : Type 0 where
   pub load : IsLoad seed hands summary
   pub told : answer ≡ done (summary_text summary)
 
--- The answer to a request, by the files of a shelf and the bytes of an input.
-pub data IsAnswerIn (request : Request) (files : Files) (bytes : List ℕ) : Answer → Type 0 where
-  -- the file of its game gives none
-  NoGame : (name : List ℕ) → game_name request ≡ Some name → (answer : Answer) → GivesNoGame (files name) answer
-      → IsAnswerIn request files bytes answer
-  -- the input is answered
-  OfInput : (way : Way) → IsWay files request way → (answer : Answer) → IsAnswer way.task way.reader bytes answer
-      → IsAnswerIn request files bytes answer
-  -- hands are made and summed, and neither files nor input come in
-  Summed : (seed hands : ℕ) → made_by request ≡ Some (seed, hands) → (answer : Answer) → IsSummed seed hands answer
-      → IsAnswerIn request files bytes answer
+-- The answer to bytes where logs are under the game of this file.
+pub data IsAnswerUnder (file : Option (List ℕ)) (logs : Logs) (bytes : List ℕ) : Answer → Type 0 where
+  -- the file gives no game
+  NoGame : (answer : Answer) → GivesNoGame file answer → IsAnswerUnder file logs bytes answer
+  -- the input is answered under the game that it gives
+  OfInput : (game : Game) → GivesGame file game → (answer : Answer) → IsAnswerBy (way_under game logs) bytes answer
+      → IsAnswerUnder file logs bytes answer
+
+-- the answer to a request, by the files of a shelf and the bytes of an input: neither comes in where hands are made
+abbrev pub IsAnswerIn : Request → Files → List ℕ → Answer → Type 0
+IsAnswerIn (Load seed hands) files bytes answer = IsSummed seed hands answer
+IsAnswerIn (Plain from task) files bytes answer = IsAnswerBy (plain_way from task) bytes answer
+IsAnswerIn (Under name logs) files bytes answer = IsAnswerUnder (files name) logs bytes answer

@@ -122,6 +122,7 @@ ConversionEnds from to keep bytes out diag statuses.ShelfFault = (IsOfLogs from 
 ConversionEnds from to keep bytes out diag statuses.Usage = ⊥
 ConversionEnds from to keep bytes out diag statuses.GameMissing = ⊥
 ConversionEnds from to keep bytes out diag statuses.BadGame = ⊥
+ConversionEnds from to keep bytes out diag statuses.NoSuch = ⊥
 
 -- a status where an input within the limit reads as hands: all is done, or a hand is refused or unspelled, or a device failed, or
 -- memory ran out

@@ -1,6 +1,10 @@
 -- What the program answers, prints and leaves.
 pub mod Status
+pub mod AnswerParts
+pub mod Replies
 pub mod Refusals
+pub mod Verdicts
+pub mod Printed
 pub mod PhhFaults
 pub mod OhhFaults
 pub mod AcpcFaults
@@ -9,6 +13,7 @@ pub mod Inputs
 pub mod Outputs
 pub mod Ways
 pub mod Answer
+pub mod Asked
 pub mod OneAnswer
 pub mod Lacking
 pub mod Told

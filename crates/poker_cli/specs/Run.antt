@@ -1,17 +1,16 @@
 -- What a run of the program tells and leaves.
 use Rattle.std.specs.Prelude.{◌≡◌, ◌⊎◌, ℕ, List, [], codes, Option, Some, None, IfSome, unwrap_or}
 use Rattle.std.specs.Io.KnownBytes.{Appends}
-use Rattle.command_words.specs.Words.{Request}
+use Rattle.command_words.specs.Words.{Load, Plain, Request, Under}
 use Rattle.host_io.specs.Faults.{Rose}
 use Rattle.host_io.specs.Bytes.{AppendsPart}
 use Rattle.poker_cli.specs.declared.status.Status.{Status}
 use Rattle.poker_cli.specs.declared.status.Status.TheVariants as statuses
 use Rattle.poker_cli.specs.Answer.{Answer, Files, GivesNoGame, IsAnswerIn}
-use Rattle.poker_cli.specs.Ways.{game_name, made_by}
 
 -- the line where the words are no command
 abbrev pub usage_line : List ℕ
-usage_line = codes "usage: handref check|replay|report|convert|game|load [options]\n"
+usage_line = codes "usage: handref check|replay|report|convert|game|load|views|options|session|equity|judge [options]\n"
 
 -- A run may end with this status where this is the answer to its input: with the answer's own, or with that of a
 -- fault of writing, where there is something to write.
@@ -56,55 +55,50 @@ pub record Sinks : Type 0 where
 abbrev pub change_of : {K : Type 0} → (K → Option (List ℕ)) → (K → ℕ) → K → K → Sinks
 change_of held faults old new = record { held = held old; holds = held new; before = faults old; now = faults new }
 
--- the files of a shelf, where it tells them and a file of this name is asked for; where none is, nothing is asked of it
-abbrev pub files_told : Option (List ℕ) → Option Files → Option Files
-files_told (Some name) told = told
-files_told None told = Some (λ (name : List ℕ). None)
+-- no file is on a shelf
+abbrev pub no_files : Files
+no_files name = None
 
--- the bytes that a source has left, where it tells them and they are read; where hands are made, nothing is asked of it
-abbrev pub bytes_told : (made : Option (ℕ × ℕ)) → Option (List ℕ) → Option (List ℕ)
-bytes_told (Some made) told = Some []
-bytes_told None told = told
-
--- what holds of the files and the bytes of a request, where the shelf and the source tell them
+-- What holds of the files and the bytes of a request, where the shelf and the source tell them. Where hands are made, nothing
+-- is asked of either, and where no log is read or written, nothing of the shelf.
 abbrev pub WhereTold : Request → Option (List ℕ) → Option Files → (Files → List ℕ → Type 0) → Type 0
-WhereTold request left told P =
-    IfSome (bytes_told (made_by request) left) (λ bytes. IfSome (files_told (game_name request) told) (λ files. P files bytes))
+WhereTold (Load seed hands) left told P = P no_files []
+WhereTold (Plain from task) left told P = IfSome left (λ bytes. P no_files bytes)
+WhereTold (Under name logs) left told P = IfSome left (λ bytes. IfSome told (λ files. P files bytes))
 
 -- hands are made
-abbrev pub MakesHands : Option (ℕ × ℕ) → Type 0
-MakesHands (Some made) = Unit {0}
-MakesHands None = ⊥
+abbrev pub MakesHands : Request → Type 0
+MakesHands (Load seed hands) = Unit {0}
+MakesHands request = ⊥
 
--- no hands are made, and so the input is read
-abbrev pub MakesNone : Option (ℕ × ℕ) → Type 0
-MakesNone (Some made) = ⊥
-MakesNone None = Unit {0}
+-- hands are read
+abbrev pub ReadsHands : Request → Type 0
+ReadsHands (Load seed hands) = ⊥
+ReadsHands request = Unit {0}
 
 -- a file of a game is asked for
-abbrev pub AsksForGame : Option (List ℕ) → Type 0
-AsksForGame (Some name) = Unit {0}
-AsksForGame None = ⊥
-
--- no file of a game is asked for
-abbrev pub AsksForNoGame : Option (List ℕ) → Type 0
-AsksForNoGame (Some name) = ⊥
-AsksForNoGame None = Unit {0}
+abbrev pub AsksForGame : Request → Type 0
+AsksForGame (Under name logs) = Unit {0}
+AsksForGame request = ⊥
 
 -- words ask for no file of a game
 abbrev pub AskForNoGame : Option Request → Type 0
-AskForNoGame None = Unit {0}
-AskForNoGame (Some request) = AsksForNoGame (game_name request)
+AskForNoGame (Some (Under name logs)) = ⊥
+AskForNoGame said = Unit {0}
 
 -- the file of the game that is asked for is not there
-abbrev pub IsGameMissing : Option (List ℕ) → Files → Type 0
-IsGameMissing (Some name) files = files name ≡ None
-IsGameMissing None files = ⊥
+abbrev pub IsGameMissing : Request → Files → Type 0
+IsGameMissing (Under name logs) files = files name ≡ None
+IsGameMissing request files = ⊥
+
+-- a file is not there, or gives no game
+abbrev pub GivesNone : Option (List ℕ) → Type 0
+GivesNone file = (file ≡ None) ⊎ ((answer : Answer) × GivesNoGame file answer)
 
 -- the shelf tells that the file of the game that is asked for is not there, or gives no game
-abbrev pub LacksGame : Option (List ℕ) → Option Files → Type 0
-LacksGame (Some name) (Some files) = (files name ≡ None) ⊎ ((answer : Answer) × GivesNoGame (files name) answer)
-LacksGame name told = ⊥
+abbrev pub LacksGame : Request → Option Files → Type 0
+LacksGame (Under name logs) (Some files) = GivesNone (files name)
+LacksGame request told = ⊥
 
 -- A run that got to its answer: the answer to its files and its input, the status that follows from it, what was written of
 -- its output, and its line.
@@ -119,10 +113,10 @@ pub record Answers (request : Request) (files : Files) (bytes : List ℕ) (out d
 -- game is not there, a file or the input could not be read, or memory ran out.
 abbrev pub Ends : Request → Files → List ℕ → Sinks → Sinks → Status → Type 0
 Ends request files bytes out diag statuses.Usage = ⊥
-Ends request files bytes out diag statuses.ReadFault = MakesNone (made_by request)
+Ends request files bytes out diag statuses.ReadFault = ReadsHands request
 Ends request files bytes out diag statuses.Memory = Unit {0}
-Ends request files bytes out diag statuses.ShelfFault = AsksForGame (game_name request)
-Ends request files bytes out diag statuses.GameMissing = IsGameMissing (game_name request) files
+Ends request files bytes out diag statuses.ShelfFault = AsksForGame request
+Ends request files bytes out diag statuses.GameMissing = IsGameMissing request files
 Ends request files bytes out diag status = Answers request files bytes out diag status
 
 -- a status after which nothing was written
@@ -139,6 +133,7 @@ IsOwn statuses.BadInput = Unit {0}
 IsOwn statuses.Limit = Unit {0}
 IsOwn statuses.Unspelled = Unit {0}
 IsOwn statuses.BadGame = Unit {0}
+IsOwn statuses.NoSuch = Unit {0}
 IsOwn _ = ⊥
 
 -- a status that an answer to what was read of the input has
@@ -148,6 +143,7 @@ IsOfInput statuses.Refused = Unit {0}
 IsOfInput statuses.BadInput = Unit {0}
 IsOfInput statuses.Limit = Unit {0}
 IsOfInput statuses.Unspelled = Unit {0}
+IsOfInput statuses.NoSuch = Unit {0}
 IsOfInput _ = ⊥
 
 -- a status that refuses nothing of the input: all is done, or a device failed, or memory ran out

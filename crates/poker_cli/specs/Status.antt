@@ -17,6 +17,7 @@ status_number statuses.Memory = 8
 status_number statuses.GameMissing = 9
 status_number statuses.BadGame = 10
 status_number statuses.ShelfFault = 11
+status_number statuses.NoSuch = 13
 
 -- the number of a status
 abbrev pub IsStatusNumber : ℕ → Type 0

@@ -1,28 +1,36 @@
 //! The answer to the bytes of an input, as they are read and what is made of their hands.
 ghost use Rattle.std.specs.Prelude.{◌≡◌, ◌≤◌, All, Some, length, IfOk, string_bytes};
+ghost use Rattle.command_words.specs.declared.command.Command.TheVariants as commands;
+ghost use Rattle.command_words.specs.declared.task.Question.TheVariants as questions;
 ghost use Rattle.convert_core.specs.ReadBack.{ReadBack};
 ghost use Rattle.hand_records.specs.SaidNotes.{KeepsNotes};
 ghost use Rattle.first_fault.specs.declared.limits.TheConstants.{MOST_HANDS};
 ghost use Rattle.hand_canon.specs.Sound.{IsSound};
+ghost use Rattle.hand_records.specs.SoundRecord.{IsSoundRecord};
 ghost use Rattle.poker_cli.specs.Answer as definition;
-ghost use Rattle.poker_cli.specs.Answer.{IsAnswer, IsAnswerTo, IsMadeOf, IsToldOf, IsWritten, most_input};
+ghost use Rattle.poker_cli.specs.Answer.{IsAnswer, IsAnswerOf, IsAnswerTo, IsConversion, IsJudgement, IsReply, IsToldOf, IsWritten, most_input};
+ghost use Rattle.poker_cli.specs.Asked.{IsAsked};
+ghost use Rattle.poker_cli.specs.Printed.{command_of};
 ghost use Rattle.poker_cli.specs.Run.{IsOfInput};
 ghost use Rattle.poker_cli.specs.Told.{answer_told};
 
 use crate::acpc_faults::answer_to_acpc_fault;
+use crate::judging::judge_text;
 use crate::ohh_faults::answer_to_ohh_fault;
 use crate::phh_faults::answer_to_phh_fault;
-use crate::printing::print_plays;
+use crate::printing::{Lines, print_each};
 use crate::refusals::refused_line;
+use crate::replies::{PlayQuestion, answer_to_plays};
 use crate::status::Status;
 use crate::task::{Format, Task};
 use crate::unspelled::unspelled_line;
-use acpc_game::write_game;
-use acpc_writing::game_of;
 use card_set::Memory;
-use command_words::Command;
-use convert_core::{Acpc, ConvertFault, FormatFault, Notation, Ohh, Phh, Refusal, convert, plays};
-use hand_records::{Keep, Play, Unspelled};
+use command_words::{Command, Question};
+use convert_core::{
+    Acpc, ConvertFault, FormatFault, Notation, Ohh, Phh, PlaysFault, Refusal, convert, plays,
+    read_records,
+};
+use hand_records::{Keep, Unspelled};
 use std::alloc::Global;
 
 /// An answer: its status, what goes to the output, and the line that is told beside it.
@@ -37,7 +45,12 @@ pub struct Answer {
 pub const MOST_INPUT: usize = 16_777_216;
 
 /// The answer to bytes that are not too many, as they are read.
-pub fn answer_to(alloc: Global, task: Task, reader: &Format, bytes: &[u8]) -> Result<Answer, Memory>
+pub fn answer_to(
+    alloc: Global,
+    task: Task,
+    reader: &Format,
+    bytes: &[u8],
+) -> Result<Answer, Memory>
     requires { length bytes.now ≤ most_input }
     ensures answer { IfOk result (λ answer.
         IsAnswer task reader.now bytes.now (answer_told answer)) }
@@ -57,71 +70,105 @@ fn answer_from<N: Notation>(
     from: &N,
     bytes: &[u8],
 ) -> Result<Answer, Memory>
-    ensures answer { IfOk result (λ answer. IsAnswerTo (N.Say from.now bytes.now)
-        (N.HaveFault from.now bytes.now) (IsMadeOf task) (answer_told answer)) }
+    ensures answer { IfOk result (λ answer. IsAnswerOf task (N.Say from.now bytes.now)
+        (N.HaveFault from.now bytes.now) (answer_told answer)) }
     ensures own { IfOk result (λ answer. IsOfInput answer.status) }
 {
     match task {
-        Task::Show(command) => answer_with_text(alloc, command, from, bytes),
-        Task::GameFile => answer_with_game(alloc, from, bytes),
+        Task::Ask(question) => answer_to_question(alloc, question, from, bytes),
+        Task::Judge => answer_with_verdicts(alloc, from, bytes),
         Task::Convert { to, keep } => answer_with_hands(alloc, from, &to, keep, bytes),
+        Task::Views { game, seat } => {
+            answer_with_plays(alloc, PlayQuestion::Views { game, seat }, from, bytes)
+        }
     }
 }
 
-// The answer with what a command prints of the hands of bytes.
-fn answer_with_text<N: Notation>(
+// The answer to a question about the hands of bytes.
+fn answer_to_question<N: Notation>(
     alloc: Global,
-    command: Command,
+    question: Question,
     from: &N,
     bytes: &[u8],
 ) -> Result<Answer, Memory>
     ensures answer { IfOk result (λ answer. IsAnswerTo (N.Say from.now bytes.now)
-        (N.HaveFault from.now bytes.now) (IsMadeOf (Task.Show command)) (answer_told answer)) }
+        (N.HaveFault from.now bytes.now) (IsReply question) (answer_told answer)) }
     ensures own { IfOk result (λ answer. IsOfInput answer.status) }
 {
-    match plays(alloc, from, bytes) {
-        Ok(plays) => answer_with_lines(alloc, command, &plays),
+    match question {
+        Question::Show(Command::Check) => answer_with_lines(alloc, Lines::Check, from, bytes),
+        Question::Show(Command::Replay) => answer_with_lines(alloc, Lines::Replay, from, bytes),
+        Question::Show(Command::Report) => {
+            answer_with_plays(alloc, PlayQuestion::Report, from, bytes)
+        }
+        Question::Show(Command::Session) => {
+            answer_with_plays(alloc, PlayQuestion::Session, from, bytes)
+        }
+        Question::GameFile => answer_with_plays(alloc, PlayQuestion::GameFile, from, bytes),
+        Question::Options { hand, events } => {
+            answer_with_plays(alloc, PlayQuestion::Options { hand, events }, from, bytes)
+        }
+        Question::Equity { hand, street } => {
+            answer_with_plays(alloc, PlayQuestion::Equity { hand, street }, from, bytes)
+        }
+    }
+}
+
+// The answer with the verdict on each hand of bytes.
+fn answer_with_verdicts<N: Notation>(
+    alloc: Global,
+    from: &N,
+    bytes: &[u8],
+) -> Result<Answer, Memory>
+    ensures answer { IfOk result (λ answer. IsJudgement (N.Say from.now bytes.now)
+        (N.HaveFault from.now bytes.now) (answer_told answer)) }
+    ensures own { IfOk result (λ answer. IsOfInput answer.status) }
+{
+    match read_records(alloc, from, bytes) {
+        Ok(records) => {
+            let text = judge_text(alloc, records)?;
+            Ok(done_with(alloc, text))
+        }
         Err(fault) => answer_to_fault(alloc, &fault),
     }
 }
 
-// The answer with what a command prints of plays.
-fn answer_with_lines(alloc: Global, command: Command, plays: &[Play]) -> Result<Answer, Memory>
-    requires sound { All IsSound plays.now }
-    requires few { length plays.now ≤ MOST_HANDS }
-    ensures answer { IfOk result (λ answer.
-        answer_told answer ≡ definition.done (definition.text_of command plays.now)) }
-    ensures own { IfOk result (λ answer. IsOfInput answer.status) }
-{
-    let text = print_plays(alloc, command, plays)?;
-    Ok(done(alloc, text.into_bytes()))
-}
-
-// The answer with the game file of the first hand of bytes.
-fn answer_with_game<N: Notation>(alloc: Global, from: &N, bytes: &[u8]) -> Result<Answer, Memory>
+// The answer with the lines of each hand of bytes.
+fn answer_with_lines<N: Notation>(
+    alloc: Global,
+    lines: Lines,
+    from: &N,
+    bytes: &[u8],
+) -> Result<Answer, Memory>
     ensures answer { IfOk result (λ answer. IsAnswerTo (N.Say from.now bytes.now)
-        (N.HaveFault from.now bytes.now) (IsMadeOf Task.GameFile) (answer_told answer)) }
+        (N.HaveFault from.now bytes.now) (IsReply (questions.Show (command_of lines)))
+        (answer_told answer)) }
     ensures own { IfOk result (λ answer. IsOfInput answer.status) }
 {
-    match plays(alloc, from, bytes) {
-        Ok(plays) => answer_with_first_game(alloc, &plays),
+    match read_records(alloc, from, bytes) {
+        Ok(records) => match print_each(alloc, lines, records) {
+            Ok(text) => Ok(done_with(alloc, text)),
+            Err(PlaysFault::Refused { hand, why }) => answer_to_refused(alloc, hand, &why),
+            Err(PlaysFault::Memory) => Err(Memory),
+        },
         Err(fault) => answer_to_fault(alloc, &fault),
     }
 }
 
-// The answer with the game file of the first of plays.
-fn answer_with_first_game(alloc: Global, plays: &[Play]) -> Result<Answer, Memory>
-    requires sound { All IsSound plays.now }
-    ensures answer { IfOk result (λ answer.
-        answer_told answer ≡ definition.to_first_game plays.now) }
+// The answer to what is asked of the plays of bytes.
+fn answer_with_plays<N: Notation>(
+    alloc: Global,
+    asked: PlayQuestion,
+    from: &N,
+    bytes: &[u8],
+) -> Result<Answer, Memory>
+    ensures answer { IfOk result (λ answer. IsAnswerTo (N.Say from.now bytes.now)
+        (N.HaveFault from.now bytes.now) (IsAsked asked) (answer_told answer)) }
     ensures own { IfOk result (λ answer. IsOfInput answer.status) }
 {
-    let [play, ..] = plays else {
-        return Ok(done(alloc, Vec::new(alloc)));
-    };
-    match game_of(play) {
-        Ok(game) => Ok(done(alloc, write_game(alloc, &game)?)),
-        Err(fact) => answer_to_unspelled(alloc, 1, fact),
+    match plays(alloc, from, bytes) {
+        Ok(plays) => answer_to_plays(alloc, asked, &plays),
+        Err(fault) => answer_to_fault(alloc, &fault),
     }
 }
 
@@ -134,8 +181,7 @@ fn answer_with_hands<N: Notation>(
     bytes: &[u8],
 ) -> Result<Answer, Memory>
     ensures answer { IfOk result (λ answer. IsAnswerTo (N.Say from.now bytes.now)
-        (N.HaveFault from.now bytes.now) (IsMadeOf (Task.Convert to.now keep))
-        (answer_told answer)) }
+        (N.HaveFault from.now bytes.now) (IsConversion to.now keep) (answer_told answer)) }
     ensures own { IfOk result (λ answer. IsOfInput answer.status) }
 {
     match to {
@@ -207,8 +253,8 @@ fn answer_to_refused(alloc: Global, hand: u32, why: &Refusal) -> Result<Answer, 
     Ok(refusal(alloc, Status::Refused, line))
 }
 
-// The answer where a fact of the hand with this number has no spelling.
-fn answer_to_unspelled(alloc: Global, hand: u32, fact: Unspelled) -> Result<Answer, Memory>
+/// The answer where a fact of the hand with this number has no spelling.
+pub fn answer_to_unspelled(alloc: Global, hand: u32, fact: Unspelled) -> Result<Answer, Memory>
     ensures answer { IfOk result (λ answer.
         answer_told answer ≡ definition.to_unspelled hand fact) }
     ensures own { IfOk result (λ answer. answer.status ≡ Status.Unspelled) }
@@ -226,8 +272,16 @@ pub fn answer_to_excess(alloc: Global) -> Result<Answer, Memory>
     Ok(refusal(alloc, Status::Limit, line))
 }
 
-// An answer with its output.
-fn done(alloc: Global, output: Vec<u8>) -> Answer
+/// An answer with a text for its output.
+pub fn done_with(alloc: Global, text: String) -> Answer
+    ensures answer { answer_told result ≡ definition.done (string_bytes text) }
+    ensures status { result.status ≡ Status.Done }
+{
+    done(alloc, text.into_bytes())
+}
+
+/// An answer with its output.
+pub fn done(alloc: Global, output: Vec<u8>) -> Answer
     ensures answer { answer_told result ≡ definition.done output.items }
     ensures status { result.status ≡ Status.Done }
 {

@@ -1,29 +1,28 @@
 //! The top call: from the words and the input to the status, the output and the line.
-ghost use Rattle.std.specs.Prelude.{◌≡◌, ◌↔◌, is_some, map, true, None, Some, IfErr, IfOk, IfSome, IsErrOf, string_bytes};
+ghost use Rattle.std.specs.Prelude.{◌≡◌, ◌↔◌, map, None, Some, IfErr, IfOk, IfSome, IsErrOf, string_bytes};
 ghost use Rattle.command_words.specs.Requests.{request_in};
-ghost use Rattle.command_words.specs.Words.{request_said};
+ghost use Rattle.command_words.specs.Words.{Under, request_said};
 ghost use Rattle.hand_records.specs.declared.writing.Keep.{Keep};
 ghost use Rattle.host_io.specs.Faults.{Rose};
-ghost use Rattle.poker_cli.specs.Answer.{IsAnswer, IsAnswerIn};
+ghost use Rattle.poker_cli.specs.Answer.{IsAnswerBy, IsAnswerIn, IsAnswerUnder};
 ghost use Rattle.poker_cli.specs.Headline.{AsksToConvert, Headline};
 ghost use Rattle.poker_cli.specs.Lacking.{ComesFirst};
-ghost use Rattle.poker_cli.specs.Run.{AskForNoGame, AsksForGame, Ends, IsGameMissing, IsOfInput, IsOwn, LacksGame, Leaves, MakesHands, MakesNone, MayEnd, ReadsNothing, Tells, TellsLine, WhereTold, Writes, WritesNothing, change_of, files_told, line_of};
+ghost use Rattle.poker_cli.specs.Run.{AskForNoGame, AsksForGame, Ends, GivesNone, IsGameMissing, IsOfInput, IsOwn, LacksGame, Leaves, MakesHands, MayEnd, ReadsHands, ReadsNothing, Tells, TellsLine, WhereTold, Writes, WritesNothing, change_of, line_of};
 ghost use Rattle.poker_cli.specs.Told.{answer_told};
-ghost use Rattle.poker_cli.specs.Ways.{game_name as game_asked, made_by as made_by_said, way_of as way_of_said};
 ghost use Rattle.poker_cli.specs.declared.task.Format.{Format};
 
 use crate::answer::{self, Answer, MOST_INPUT};
 use crate::games::{NoGame, answer_to_lack, fetch_game};
 use crate::status::Status;
 use crate::summing::answer_to_load;
-use crate::ways::{game_name, made_by, way_of};
-use acpc_game::Game;
+use crate::task::Way;
+use crate::ways::{plain_way, way_under};
 use card_set::Memory;
-use command_words::{Request, read_words};
+use command_words::{Logs, Request, read_words};
 use host_io::{Failed, InFault, Shelf, Sink, Source, read_all, write_all};
 use std::alloc::Global;
 
-const USAGE: &[u8] = b"usage: handref check|replay|report|convert|game|load [options]\n";
+const USAGE: &[u8] = b"usage: handref check|replay|report|convert|game|load|views|options|session|equity|judge [options]\n";
 
 /// Runs the program on its words, without its own name. It reads the file of a game from the shelf where the words
 /// name one, then the input to its end, writes the output where all is done, and tells one line beside it where it is
@@ -68,9 +67,9 @@ pub fn run<S: Source, H: Shelf, K: Sink, D: Sink>(
     ensures shelf { AskForNoGame (request_said (map string_bytes words.now))
         → shelf.new ≡ shelf.old }
     ensures without_game { IfSome (request_said (map string_bytes words.now)) (λ request.
-        LacksGame (game_asked request) (H.files shelf.old) → input.new ≡ input.old) }
+        LacksGame request (H.files shelf.old) → input.new ≡ input.old) }
     ensures without_input { IfSome (request_said (map string_bytes words.now)) (λ request.
-        MakesHands (made_by_said request) → input.new ≡ input.old) }
+        MakesHands request → input.new ≡ input.old) }
 {
     match read_words(alloc, words) {
         Ok(Some(request)) => run_request(alloc, request, input, shelf, out, diag),
@@ -107,10 +106,9 @@ fn run_request<S: Source, H: Shelf, K: Sink, D: Sink>(
     ensures leaves { Leaves result
         input.old input.new out.old out.new diag.old diag.new }
     ensures shelf { AskForNoGame (Some (request_in request.entry)) → shelf.new ≡ shelf.old }
-    ensures without_game { LacksGame (game_asked (request_in request.entry)) (H.files shelf.old)
+    ensures without_game { LacksGame (request_in request.entry) (H.files shelf.old)
         → input.new ≡ input.old }
-    ensures without_input { MakesHands (made_by_said (request_in request.entry))
-        → input.new ≡ input.old }
+    ensures without_input { MakesHands (request_in request.entry) → input.new ≡ input.old }
 {
     match reply(alloc, request, input, shelf) {
         Ok(answer) => deliver(&answer, out, diag),
@@ -146,47 +144,41 @@ fn reply<S: Source, H: Shelf>(
     ensures own { IfOk result (λ answer. IsOwn answer.status) }
     ensures read_fault { IsErrOf result NoAnswer.ReadFault
         → Rose (S.faults input.old) (S.faults input.new) }
-    ensures reads { IsErrOf result NoAnswer.ReadFault
-        → MakesNone (made_by_said (request_in request.entry)) }
+    ensures reads { IsErrOf result NoAnswer.ReadFault → ReadsHands (request_in request.entry) }
     ensures shelf_fault { IsErrOf result NoAnswer.ShelfFault
         → Rose (H.faults shelf.old) (H.faults shelf.new) }
-    ensures asked { IsErrOf result NoAnswer.ShelfFault
-        → AsksForGame (game_asked (request_in request.entry)) }
+    ensures asked { IsErrOf result NoAnswer.ShelfFault → AsksForGame (request_in request.entry) }
     ensures shelf { AskForNoGame (Some (request_in request.entry)) → shelf.new ≡ shelf.old }
     ensures unread { IfOk result (λ answer. ReadsNothing answer.status → input.new ≡ input.old) }
     ensures missing { IsErrOf result NoAnswer.GameMissing →
-        IfSome (files_told (game_asked (request_in request.entry)) (H.files shelf.old)) (λ files.
-        IsGameMissing (game_asked (request_in request.entry)) files) }
+        WhereTold (request_in request.entry) (S.left input.old) (H.files shelf.old) (λ files bytes.
+        IsGameMissing (request_in request.entry) files) }
     ensures unasked { IfErr result (λ why. ComesFirst why → input.new ≡ input.old) }
-    ensures without_game { LacksGame (game_asked (request_in request.entry)) (H.files shelf.old)
+    ensures without_game { LacksGame (request_in request.entry) (H.files shelf.old)
         → input.new ≡ input.old }
-    ensures without_input { MakesHands (made_by_said (request_in request.entry))
-        → input.new ≡ input.old }
+    ensures without_input { MakesHands (request_in request.entry) → input.new ≡ input.old }
 {
-    match made_by(request) {
-        Some((seed, hands)) => match answer_to_load(alloc, seed, hands) {
+    match request {
+        Request::Load { seed, hands } => match answer_to_load(alloc, seed, hands) {
             Ok(answer) => Ok(answer),
             Err(Memory) => Err(NoAnswer::Memory),
         },
-        None => match game_name(request) {
-            Some(name) => reply_under(alloc, name, request, input, shelf),
-            None => reply_with(alloc, None, request, input),
-        },
+        Request::Plain { from, task } => reply_with(alloc, plain_way(from, task), input),
+        Request::Under { game, logs } => reply_under(alloc, game, logs, input, shelf),
     }
 }
 
-// The answer to a request under the game that a file says, and to all that the source has left.
+// The answer where logs are under the game that a file says, and to all that the source has left.
 fn reply_under<S: Source, H: Shelf>(
     alloc: Global,
     name: &str,
-    request: Request<'_>,
+    logs: Logs,
     input: &mut S,
     shelf: &mut H,
 ) -> Result<Answer, NoAnswer>
-    requires { game_asked (request_in request) ≡ Some name.now }
     ensures answer { IfOk result (λ answer. IfSome (S.left input.old) (λ bytes.
         IfSome (H.files shelf.old) (λ files.
-        IsAnswerIn (request_in request.entry) files bytes (answer_told answer)))) }
+        IsAnswerUnder (files name.now) logs bytes (answer_told answer)))) }
     ensures own { IfOk result (λ answer. IsOwn answer.status) }
     ensures read_fault { IsErrOf result NoAnswer.ReadFault
         → Rose (S.faults input.old) (S.faults input.new) }
@@ -196,10 +188,11 @@ fn reply_under<S: Source, H: Shelf>(
     ensures missing { IsErrOf result NoAnswer.GameMissing →
         IfSome (H.files shelf.old) (λ files. files name.now ≡ None) }
     ensures unasked { IfErr result (λ why. ComesFirst why → input.new ≡ input.old) }
-    ensures without_game { LacksGame (Some name.now) (H.files shelf.old) → input.new ≡ input.old }
+    ensures without_game { IfSome (H.files shelf.old) (λ files.
+        GivesNone (files name.now) → input.new ≡ input.old) }
 {
     match fetch_game(alloc, shelf, name) {
-        Ok(game) => reply_with(alloc, Some(game), request, input),
+        Ok(game) => reply_with(alloc, way_under(game, logs), input),
         Err(NoGame::Lacking(lack)) => match answer_to_lack(alloc, lack) {
             Ok(answer) => Ok(answer),
             Err(Memory) => Err(NoAnswer::Memory),
@@ -210,25 +203,15 @@ fn reply_under<S: Source, H: Shelf>(
     }
 }
 
-// The answer to a request under a game, where it needs one, and to all that the source has left.
-fn reply_with<S: Source>(
-    alloc: Global,
-    game: Option<Game>,
-    request: Request<'_>,
-    input: &mut S,
-) -> Result<Answer, NoAnswer>
-    requires { is_some (way_of_said game (request_in request)) ≡ true }
+// The answer in a way to all that the source has left.
+fn reply_with<S: Source>(alloc: Global, way: Way, input: &mut S) -> Result<Answer, NoAnswer>
     ensures answer { IfOk result (λ answer. IfSome (S.left input.old) (λ bytes.
-        IfSome (way_of_said game (request_in request.entry)) (λ way.
-        IsAnswer way.task way.reader bytes (answer_told answer)))) }
+        IsAnswerBy way bytes (answer_told answer))) }
     ensures of_input { IfOk result (λ answer. IsOfInput answer.status) }
     ensures read_fault { IsErrOf result NoAnswer.ReadFault
         → Rose (S.faults input.old) (S.faults input.new) }
     ensures read_alone { IfErr result (λ why. ComesFirst why → ⊥) }
 {
-    let Some(way) = way_of(game, request) else {
-        unreachable!()
-    };
     match read_all(alloc, input, MOST_INPUT) {
         Ok(bytes) => match answer::answer_to(alloc, way.task, &way.reader, &bytes) {
             Ok(answer) => Ok(answer),

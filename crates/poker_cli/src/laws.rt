@@ -1,22 +1,26 @@
 //! An input has one answer, none is refused whose hands are all legal, and equal hands come to equal
 //! outputs, by whatever way.
 ghost use Rattle.std.specs.Prelude.{◌≡◌, ◌⊎◌, ◌↔◌, ◌≤◌, ℕ, List, None, Ok, length};
-ghost use Rattle.command_words.specs.Words.{Convert, Game, Load, NotationName, Show};
+ghost use Rattle.acpc_game.specs.declared.game.Game.{Game};
+ghost use Rattle.chip_ledger.specs.declared.numbers.Seat.{Seat};
+ghost use Rattle.command_words.specs.Words.{Load, Request};
 ghost use Rattle.command_words.specs.declared.command.Command.{Command};
-ghost use Rattle.command_words.specs.declared.request.Keep.{Keep};
+ghost use Rattle.command_words.specs.declared.task.Question.{Question};
+ghost use Rattle.command_words.specs.declared.task.Question.TheVariants as questions;
 ghost use Rattle.hand_records.specs.SameHands.{AreSameHands, kept_notes};
 ghost use Rattle.hand_records.specs.declared.record.Record.{Record};
 ghost use Rattle.hand_records.specs.declared.trace.Play.{Play};
-ghost use Rattle.hand_records.specs.declared.writing.Keep.{Keep as KeptNotes};
+ghost use Rattle.hand_records.specs.declared.writing.Keep.{Keep};
 ghost use Rattle.hand_records.specs.declared.writing.Keep.TheVariants as keeps;
-ghost use Rattle.poker_cli.specs.Answer.{Answer, Files, IsAnswer, IsWay, most_input, to_first_game};
+ghost use Rattle.poker_cli.specs.Answer.{Answer, Files, IsAnswer, IsReply, IsWay, most_input};
 ghost use Rattle.poker_cli.specs.Headline.{ConversionEnds, ConvertsInto};
 ghost use Rattle.poker_cli.specs.Inputs.{SayRecords};
 ghost use Rattle.poker_cli.specs.OneAnswer.{AreOneAnswer};
 ghost use Rattle.poker_cli.specs.Outputs.{AreSameIn, first_refusal_in, kept_in};
+ghost use Rattle.poker_cli.specs.Replies.{AreViews};
 ghost use Rattle.poker_cli.specs.Run.{Ends, NeedsNoInput, RefusesNothing, Sinks};
 ghost use Rattle.poker_cli.specs.RunTells.{told_by};
-ghost use Rattle.poker_cli.specs.Ways.{kept, way};
+ghost use Rattle.poker_cli.specs.Ways.{way};
 ghost use Rattle.poker_cli.specs.declared.status.Status.{Status};
 ghost use Rattle.poker_cli.specs.declared.task.Format.{Format};
 ghost use Rattle.poker_cli.specs.declared.task.Task.{Task};
@@ -35,33 +39,48 @@ pub fn law_of_one_answer()
 
 /// A run on an input that is not too long, and whose hands are all legal and agree with what is stated of them, ends with
 /// Done, or a device failed, or the status is Memory: on hands in a notation without games, and on a log whose game's file
-/// gives its game. Where the game file of the first hand is asked for, it may also end with Unspelled, if that hand fits no game.
-/// Where hands are converted, each fact that is to be kept has a spelling in the other notation. A run that makes hands ends
-/// with Done, or the output failed, or the status is Memory, whatever input and files there are. The function does nothing:
-/// its contract is a law.
+/// gives its game. Where something is asked of the hands, or what a seat saw of them, it may also end with the status of the
+/// reply to that, as Unspelled where the first hand fits no game, and NoSuch where there is no such hand.
+/// Where hands are converted, each fact that is to be kept has a spelling in the other notation. Where hands are judged, they
+/// need not be legal. A run that makes hands ends with Done, or the output failed, or the status is Memory, whatever input and
+/// files there are. The function does nothing: its contract is a law.
 pub fn law_of_legal_inputs()
-    ensures show { (command : Command) (notation : NotationName) (reader : Format)
+    ensures show { (request : Request) (command : Command) (reader : Format)
         → (files : Files) (bytes : List ℕ) (records : List Record) (plays : List Play)
         → (out diag : Sinks) (status : Status)
-        → IsWay files (Show command notation) (way (tasks.Show command) reader)
+        → IsWay files request (way (tasks.Ask (questions.Show command)) reader)
         → length bytes ≤ most_input → SayRecords reader bytes records
         → ArePlaysOf records plays
-        → Ends (Show command notation) files bytes out diag status → RefusesNothing status }
-    ensures game { (notation : NotationName) (reader : Format) (files : Files) (bytes : List ℕ)
-        → (records : List Record) (plays : List Play) (out diag : Sinks) (status : Status)
-        → IsWay files (Game notation) (way tasks.GameFile reader)
+        → Ends request files bytes out diag status → RefusesNothing status }
+    ensures ask { (request : Request) (question : Question) (reader : Format)
+        → (files : Files) (bytes : List ℕ) (records : List Record) (plays : List Play)
+        → (reply : Answer) (out diag : Sinks) (status : Status)
+        → IsWay files request (way (tasks.Ask question) reader)
         → length bytes ≤ most_input → SayRecords reader bytes records
-        → ArePlaysOf records plays
-        → Ends (Game notation) files bytes out diag status
-        → RefusesNothing status ⊎ ((to_first_game plays).status ≡ status) }
-    ensures convert { (from to : NotationName) (keep : Keep) (reader target : Format)
+        → ArePlaysOf records plays → IsReply question plays reply
+        → Ends request files bytes out diag status
+        → RefusesNothing status ⊎ (reply.status ≡ status) }
+    ensures views { (request : Request) (game : Game) (seat : Seat) (reader : Format)
+        → (files : Files) (bytes : List ℕ) (records : List Record) (plays : List Play)
+        → (reply : Answer) (out diag : Sinks) (status : Status)
+        → IsWay files request (way (tasks.Views game seat) reader)
+        → length bytes ≤ most_input → SayRecords reader bytes records
+        → ArePlaysOf records plays → AreViews game seat plays reply
+        → Ends request files bytes out diag status
+        → RefusesNothing status ⊎ (reply.status ≡ status) }
+    ensures judge { (request : Request) (reader : Format) (files : Files) (bytes : List ℕ)
+        → (records : List Record) (out diag : Sinks) (status : Status)
+        → IsWay files request (way tasks.Judge reader)
+        → length bytes ≤ most_input → SayRecords reader bytes records
+        → Ends request files bytes out diag status → RefusesNothing status }
+    ensures convert { (request : Request) (reader target : Format) (keep : Keep)
         → (files : Files) (bytes : List ℕ) (records : List Record) (plays : List Play)
         → (out diag : Sinks) (status : Status)
-        → IsWay files (Convert from to keep) (way (tasks.Convert target (kept keep)) reader)
+        → IsWay files request (way (tasks.Convert target keep) reader)
         → length bytes ≤ most_input → SayRecords reader bytes records
         → ArePlaysOf records plays
-        → first_refusal_in target (kept keep) plays ≡ None
-        → Ends (Convert from to keep) files bytes out diag status → RefusesNothing status }
+        → first_refusal_in target keep plays ≡ None
+        → Ends request files bytes out diag status → RefusesNothing status }
     ensures load { (seed hands : ℕ) (files : Files) (bytes : List ℕ)
         → (out diag : Sinks) (status : Status)
         → Ends (Load seed hands) files bytes out diag status → NeedsNoInput status }
@@ -71,7 +90,7 @@ pub fn law_of_legal_inputs()
 /// outputs are the same exactly where their hands have the same traces and the same kept notes, hand
 /// by hand. The function does nothing: its contract is a law.
 pub fn law_of_equal_runs()
-    ensures { (from other to : Format) (keep : KeptNotes) (bytes too output written : List ℕ)
+    ensures { (from other to : Format) (keep : Keep) (bytes too output written : List ℕ)
         → (plays others : List Play)
         → ReadAsPlays (SayRecords from bytes) plays → ReadAsPlays (SayRecords other too) others
         → ConvertsInto from to keep bytes output → ConvertsInto other to keep too written
@@ -83,7 +102,7 @@ pub fn law_of_equal_runs()
 /// then, unless a device fails, memory is wanting, or the output is too long for an input. The
 /// function does nothing: its contract is a law.
 pub fn law_of_runs_again()
-    ensures { (from to : Format) (keep again : KeptNotes) (bytes output : List ℕ)
+    ensures { (from to : Format) (keep again : Keep) (bytes output : List ℕ)
         → ConvertsInto from to keep bytes output
         → (out diag : Sinks) (status : Status)
         → (ends : ConversionEnds to to again output out diag status)
@@ -97,7 +116,7 @@ pub fn law_of_runs_again()
 /// memory is wanting, or the output is too long for an input. The function does nothing: its contract
 /// is a law.
 pub fn law_of_runs_by_way()
-    ensures { (from by to : Format) (keep : KeptNotes) (bytes output : List ℕ)
+    ensures { (from by to : Format) (keep : Keep) (bytes output : List ℕ)
         → ConvertsInto from by keeps.All bytes output
         → (out diag by_out by_diag : Sinks) (status by_status : Status)
         → (straight : ConversionEnds from to keep bytes out diag status)

@@ -1,25 +1,114 @@
-//! A command prints the plays of its input.
-ghost use Rattle.std.specs.Prelude.{◌≡◌, ◌≤◌, All, length, IfOk, string_bytes};
-ghost use Rattle.hand_canon.specs.Sound.{IsSound};
+//! Lines are printed of each hand, and a last line behind them.
+ghost use Rattle.std.specs.Prelude.{◌≡◌, ◌≤◌, ◌++◌, false, All, length, IfErr, IfOk, OnOk, string_bytes};
+ghost use Rattle.convert_core.specs.Judged.{IsPlaysFaultOf};
+ghost use Rattle.convert_core.specs.Verdicts.{legal_plays};
 ghost use Rattle.first_fault.specs.declared.limits.TheConstants.{MOST_HANDS};
-ghost use Rattle.poker_cli.specs.Answer.{text_of};
+ghost use Rattle.hand_canon.specs.Sound.{IsSound};
+ghost use Rattle.hand_records.specs.SoundRecord.{IsSoundRecord};
+ghost use Rattle.poker_cli.specs.Printed.{IsPrintOf, end_of, lines_of};
+ghost use Rattle.printed_hands.specs.Check.{each_hand};
 
 use card_set::Memory;
-use command_words::Command;
-use hand_records::Play;
-use printed_hands::{check_text, replay_text};
-use printed_report::report_text;
-use std::alloc::Global;
+use convert_core::{PlaysFault, Refusal, Taker, take_each};
+use hand_records::{Play, Records};
+use printed_hands::{push_check_end, push_check_line, push_replay_lines};
+use std::alloc::{AllocError, Global};
 
-/// What a command prints of plays.
-pub fn print_plays(alloc: Global, command: Command, plays: &[Play]) -> Result<String, Memory>
-    requires sound { All IsSound plays.now }
-    requires few { length plays.now ≤ MOST_HANDS }
-    ensures { IfOk result (λ text. string_bytes text ≡ text_of command plays.now) }
+/// What is printed of each hand.
+#[derive(Clone, Copy, Debug, PartialEq, Eq)]
+pub enum Lines {
+    /// What each seat ends with.
+    Check,
+    /// The hand step by step.
+    Replay,
+}
+
+// The lines of the hands so far.
+#[derive(Drop)]
+struct PrintedLines {
+    lines: Lines,
+    text: String,
+}
+
+impl Taker for PrintedLines {
+    ghost GOES_ON = { false };
+
+    ghost KEEPS = { false };
+
+    ghost Took = { λ start it verdicts. (it.lines ≡ start.lines)
+        × (string_bytes it.text ≡ each_hand (lines_of it.lines) 1 (legal_plays verdicts)) };
+
+    fn goes_on(&self) -> bool {
+        false
+    }
+
+    fn keeps(&self) -> bool {
+        false
+    }
+
+    fn take(&mut self, alloc: Global, place: usize, play: &Play) -> Result<(), AllocError> {
+        let number = place as u64 + 1;
+        match push_lines(alloc, &mut self.text, self.lines, number, play) {
+            Ok(()) => Ok(()),
+            Err(Memory) => Err(AllocError),
+        }
+    }
+
+    fn pass(&mut self, _: Global, _: usize, _: &Refusal) -> Result<(), AllocError> {
+        Ok(())
+    }
+}
+
+/// The lines of each of these hands, and the last line.
+///
+/// # Errors
+///
+/// The first refused hand, with what is wrong with it first; or want of memory.
+pub fn print_each(alloc: Global, lines: Lines, records: Records) -> Result<String, PlaysFault>
+    requires sound { All IsSoundRecord records }
+    requires few { length records ≤ MOST_HANDS }
+    ensures printed { IfOk result (λ text. IsPrintOf lines records (string_bytes text)) }
+    ensures refused { IfErr result (IsPlaysFaultOf records) }
 {
-    match command {
-        Command::Check => check_text(alloc, plays),
-        Command::Replay => replay_text(alloc, plays),
-        Command::Report => report_text(alloc, plays),
+    let hands = records.len();
+    let mut printed = PrintedLines {
+        lines,
+        text: String::new(alloc),
+    };
+    match take_each(alloc, &mut printed, records) {
+        Ok(_) => {}
+        Err(fault) => return Err(fault),
+    }
+    match push_end(&mut printed.text, lines, hands) {
+        Ok(()) => Ok(printed.text),
+        Err(Memory) => Err(PlaysFault::Memory),
+    }
+}
+
+// Puts the lines of the hand with this number at the end of a text.
+fn push_lines(
+    alloc: Global,
+    text: &mut String,
+    lines: Lines,
+    number: u64,
+    play: &Play,
+) -> Result<(), Memory>
+    requires { IsSound play.now }
+    ensures { OnOk result (string_bytes text.new
+        ≡ string_bytes text.old ++ lines_of lines number play.now) }
+{
+    match lines {
+        Lines::Check => push_check_line(text, number, play),
+        Lines::Replay => push_replay_lines(alloc, text, number, play),
+    }
+}
+
+// Puts the last line at the end of a text, if there is one.
+fn push_end(text: &mut String, lines: Lines, hands: usize) -> Result<(), Memory>
+    ensures { OnOk result (string_bytes text.new ≡ string_bytes text.old ++ end_of lines hands) }
+{
+    match lines {
+        Lines::Check => push_check_end(text, hands as u64),
+        Lines::Replay => Ok(()),
     }
 }

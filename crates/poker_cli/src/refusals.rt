@@ -18,8 +18,8 @@ pub fn refused_line(alloc: Global, hand: u32, why: &Refusal) -> Result<String, M
     Ok(format!(in alloc; "refused: hand {hand}: {why}\n")?)
 }
 
-// Why a hand is refused.
-fn refusal_text(alloc: Global, why: &Refusal) -> Result<String, Memory>
+/// Why a hand is refused.
+pub fn refusal_text(alloc: Global, why: &Refusal) -> Result<String, Memory>
     ensures { IfOk result (λ text. string_bytes text ≡ definition.refusal_text why.now) }
 {
     match why {

@@ -29,6 +29,8 @@ pub enum Status {
     BadGame,
     /// The file of the game could not be read.
     ShelfFault,
+    /// There is no such hand, event, street, known card or seat.
+    NoSuch,
 }
 
 impl Status {
@@ -49,6 +51,7 @@ impl Status {
             Status::GameMissing => 9,
             Status::BadGame => 10,
             Status::ShelfFault => 11,
+            Status::NoSuch => 13,
         }
     }
 }

@@ -1,18 +1,21 @@
 //! What is made of the hands of an input, and under what the input is read.
 use acpc_game::Game;
-use command_words::Command;
+use chip_ledger::Seat;
+use command_words::Question;
 use hand_records::Keep;
 use ohh_members::Dialect;
 
 /// What is made of hands.
 #[derive(Clone, Copy, Debug, PartialEq, Eq)]
 pub enum Task {
-    /// What a command prints of them.
-    Show(Command),
-    /// The game file of the first hand.
-    GameFile,
+    /// The answer to a question.
+    Ask(Question),
+    /// The verdict on each of them.
+    Judge,
     /// The same hands in a notation, with so many of their notes.
     Convert { to: Format, keep: Keep },
+    /// The messages that a seat received of them, in the logs of a game.
+    Views { game: Game, seat: Seat },
 }
 
 /// How the bytes of an input are read, and as what hands are written.

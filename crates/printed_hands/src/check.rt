@@ -1,26 +1,13 @@
 //! One line a hand says what each seat ends with, and one line behind them how many hands there are.
-ghost use Rattle.std.specs.Prelude.{◌≡◌, ◌++◌, IfOk, OnOk, string_bytes};
-ghost use Rattle.printed_hands.specs.Check.{check_end, check_line, check_said};
+ghost use Rattle.std.specs.Prelude.{◌≡◌, ◌++◌, OnOk, string_bytes};
+ghost use Rattle.printed_hands.specs.Check.{check_end, check_line};
 
 use crate::amounts::push_row;
 use card_set::Memory;
 use hand_records::Play;
-use std::alloc::Global;
 
-/// The finishing stacks of each hand, a line a hand, and the number of hands.
-pub fn check_text(alloc: Global, plays: &[Play]) -> Result<String, Memory>
-    ensures { IfOk result (λ text. string_bytes text ≡ check_said plays.now) }
-{
-    let mut text = String::new(alloc);
-    for (index, play) in plays.iter().enumerate() {
-        push_check_line(&mut text, index as u64 + 1, play)?;
-    }
-    push_check_end(&mut text, plays.len() as u64)?;
-    Ok(text)
-}
-
-// Puts the line of the hand with this number at the end of a text: what each seat ends with.
-fn push_check_line(text: &mut String, number: u64, play: &Play) -> Result<(), Memory>
+/// Puts the line of the hand with this number at the end of a text: what each seat ends with.
+pub fn push_check_line(text: &mut String, number: u64, play: &Play) -> Result<(), Memory>
     ensures { OnOk result (string_bytes text.new
         ≡ string_bytes text.old ++ check_line number play.now) }
 {
@@ -30,8 +17,8 @@ fn push_check_line(text: &mut String, number: u64, play: &Play) -> Result<(), Me
     Ok(())
 }
 
-// Puts the last line at the end of a text: how many hands there are.
-fn push_check_end(text: &mut String, hands: u64) -> Result<(), Memory>
+/// Puts the last line at the end of a text: how many hands there are.
+pub fn push_check_end(text: &mut String, hands: u64) -> Result<(), Memory>
     ensures { OnOk result (string_bytes text.new ≡ string_bytes text.old ++ check_end hands) }
 {
     write!(text, "legal hands: {hands}\n")?;

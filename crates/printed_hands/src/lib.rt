@@ -5,8 +5,7 @@ mod amounts;
 mod check;
 mod chips;
 mod ending;
-mod replay;
 mod steps;
 
-pub use check::check_text;
-pub use replay::replay_text;
+pub use check::{push_check_end, push_check_line};
+pub use steps::push_replay_lines;

@@ -1,28 +1,27 @@
 -- What is written in each notation is what the conversion into it writes.
 use Rattle.std.proofs.Common.{IfOk, subst, sym}
-use Rattle.poker_cli.specs.Answer.{IsAnswerTo, IsMadeOf}
+use Rattle.poker_cli.specs.Answer.{IsAnswerTo, IsConversion}
 use Rattle.poker_cli.specs.Told.{answer_told}
 use Rattle.poker_cli.specs.declared.task.Format.{Format}
-use Rattle.poker_cli.specs.declared.task.Task.TheVariants as tasks
 use Rattle.poker_cli.proofs.answer.answer_with_hands.Goals as goal
 
 pub returns-in-Phh-clause-answer : goal.returns-in-Phh-clause-answer
 returns-in-Phh-clause-answer g c =
     subst
     (λ (to : Format). IfOk c.answer_with_conversion.result (λ answer. IsAnswerTo (g.N.Notation.Say c.args.from.now c.args.bytes.now)
-    (g.N.Notation.HaveFault c.args.from.now c.args.bytes.now) (IsMadeOf (tasks.Convert to c.args.keep)) (answer_told answer)))
+    (g.N.Notation.HaveFault c.args.from.now c.args.bytes.now) (IsConversion to c.args.keep) (answer_told answer)))
     (sym c.in-Phh.is) c.answer_with_conversion.ensures.answer
 
 pub returns-in-Ohh-clause-answer : goal.returns-in-Ohh-clause-answer
 returns-in-Ohh-clause-answer g c =
     subst
     (λ (to : Format). IfOk c.answer_with_conversion-in-Ohh.result (λ answer. IsAnswerTo (g.N.Notation.Say c.args.from.now c.args.bytes.now)
-    (g.N.Notation.HaveFault c.args.from.now c.args.bytes.now) (IsMadeOf (tasks.Convert to c.args.keep)) (answer_told answer)))
+    (g.N.Notation.HaveFault c.args.from.now c.args.bytes.now) (IsConversion to c.args.keep) (answer_told answer)))
     (sym c.in-Ohh.is) c.answer_with_conversion-in-Ohh.ensures.answer
 
 pub returns-in-Acpc-clause-answer : goal.returns-in-Acpc-clause-answer
 returns-in-Acpc-clause-answer g c =
     subst
     (λ (to : Format). IfOk c.answer_with_conversion-in-Acpc.result (λ answer. IsAnswerTo (g.N.Notation.Say c.args.from.now c.args.bytes.now)
-    (g.N.Notation.HaveFault c.args.from.now c.args.bytes.now) (IsMadeOf (tasks.Convert to c.args.keep)) (answer_told answer)))
+    (g.N.Notation.HaveFault c.args.from.now c.args.bytes.now) (IsConversion to c.args.keep) (answer_told answer)))
     (sym c.in-Acpc.is) c.answer_with_conversion-in-Acpc.ensures.answer

@@ -4,7 +4,6 @@ use Rattle.std.specs.Option.{option_map}
 use Rattle.command_words.specs.Requests.{request_in}
 use Rattle.command_words.specs.Words.{request_said}
 use Rattle.poker_cli.specs.Run.{LacksGame, MakesHands}
-use Rattle.poker_cli.specs.Ways.{game_name, made_by}
 use Rattle.poker_cli.specs.declared.status.Status.TheVariants as statuses
 use Rattle.poker_cli.proofs.Answering.{ends_unread, kept_unread}
 use Rattle.poker_cli.proofs.Headline.{headline_read, headline_told}
@@ -16,11 +15,11 @@ returns-in-Err-clause-ends g c =
 
 pub returns-in-Err-clause-without_game : goal.returns-in-Err-clause-without_game
 returns-in-Err-clause-without_game g c =
-    kept_unread (request_said (map string_bytes c.args.words.now)) (λ request. LacksGame (game_name request) (g.H.Shelf.files c.args.shelf.now)) _
+    kept_unread (request_said (map string_bytes c.args.words.now)) (λ request. LacksGame request (g.H.Shelf.files c.args.shelf.now)) _
 
 pub returns-in-Err-clause-without_input : goal.returns-in-Err-clause-without_input
 returns-in-Err-clause-without_input g c =
-    kept_unread (request_said (map string_bytes c.args.words.now)) (λ request. MakesHands (made_by request)) _
+    kept_unread (request_said (map string_bytes c.args.words.now)) (λ request. MakesHands request) _
 
 pub returns-in-Err-clause-headline : goal.returns-in-Err-clause-headline
 returns-in-Err-clause-headline g c =

@@ -1,18 +1,19 @@
--- The lines of the plays are printed, or what is told is why there are no plays.
-use Rattle.std.proofs.Common.{ap, ◌∙◌}
+-- The plays are answered, or what is told is why there are none.
+use Rattle.std.proofs.Common.{List, subst}
 use Rattle.std.proofs.lemmas.Result.{IfOk-weaker}
-use Rattle.poker_cli.specs.Answer.{done, text_of}
+use Rattle.hand_records.specs.declared.trace.Play.{Play}
 use Rattle.poker_cli.specs.Answer as answers
+use Rattle.poker_cli.specs.Asked.{IsAsked}
 use Rattle.poker_cli.specs.Told.{answer_told}
 use Rattle.poker_cli.proofs.Answering.{answer_unplayed}
-use Rattle.poker_cli.proofs.answer.answer_with_text.Goals as goal
+use Rattle.poker_cli.proofs.answer.answer_with_plays.Goals as goal
 
 pub returns-in-Ok-clause-answer : goal.returns-in-Ok-clause-answer
 returns-in-Ok-clause-answer g c =
-    IfOk-weaker c.answer_with_lines.result _ _
-    (λ answer same. answers.Played c.in-Ok.plays.items c.in-Ok.ensures.plays (answer_told answer)
-    (same ∙ ap (λ plays. done (text_of c.args.command plays)) c.deref.ensures.value))
-    c.answer_with_lines.ensures.answer
+    IfOk-weaker c.answer_to_plays.result _ _
+    (λ answer is. answers.Played c.in-Ok.plays.items c.in-Ok.ensures.plays (answer_told answer)
+    (subst (λ (plays : List Play). IsAsked c.args.asked plays (answer_told answer)) c.deref.ensures.value is))
+    c.answer_to_plays.ensures.answer
 
 pub returns-in-Err-clause-answer : goal.returns-in-Err-clause-answer
 returns-in-Err-clause-answer g c =

@@ -1,0 +1,14 @@
+-- The play of the hand with a number is where it is looked for.
+use Rattle.std.proofs.Common.{◌≡◌, ℕ, ◌-◌, ◌<◌, ◌≤◌, Bool, false, ltb, List, length, get_or, Some, None, refl, sym, subst, arith}
+use Rattle.std.specs.List.{slice_get}
+use Rattle.std.proofs.lemmas.Option.{slice_get_past, slice_get_read}
+use Rattle.hand_records.specs.declared.trace.Play.{Play}
+use Rattle.poker_cli.specs.Replies.{hand_numbered}
+
+pub found : (plays : List Play) (number place : ℕ) (play : Play) → place ≡ number - 1 → place < length plays
+    → play ≡ get_or plays place play → hand_numbered plays number ≡ Some play
+found plays number place play is within here =
+    subst (λ (n : ℕ). slice_get plays n ≡ Some play) is (slice_get_read plays (length plays) place play refl within here)
+
+pub not_found : (plays : List Play) (number place : ℕ) → place ≡ number - 1 → length plays ≤ place → hand_numbered plays number ≡ None
+not_found plays number place is beyond = subst (λ (n : ℕ). slice_get plays n ≡ None) is (slice_get_past plays place beyond)

@@ -1,0 +1,33 @@
+-- The lines of the hands are told, or which hand is refused, or why the bytes do not read.
+use Rattle.std.proofs.Common.{ap, subst, ◌∙◌}
+use Rattle.std.proofs.lemmas.Result.{IfOk-weaker}
+use Rattle.convert_core.specs.Judged.{IsPlaysFaultOf}
+use Rattle.convert_core.specs.declared.refusal.PlaysFault.{PlaysFault}
+use Rattle.poker_cli.specs.Answer.{done}
+use Rattle.poker_cli.specs.Answer as answers
+use Rattle.poker_cli.specs.Told.{answer_told}
+use Rattle.poker_cli.proofs.Answering.{answer_refused, answer_wrong}
+use Rattle.poker_cli.proofs.PrintedLines.{text_printed}
+use Rattle.poker_cli.proofs.answer.answer_with_lines.Goals as goal
+
+pub returns-in-Ok-print_each-clause-answer : goal.returns-in-Ok-print_each-clause-answer
+returns-in-Ok-print_each-clause-answer g c =
+    let printed = c.in-Ok-print_each.ensures.printed in
+    answers.Played printed.plays (record { records = c.in-Ok.records; say = c.in-Ok.ensures.said; are = printed.are }) (answer_told c.done_with.result)
+    (c.done_with.ensures.answer ∙ ap done (printed.said ∙ text_printed c.args.lines printed.plays))
+
+pub returns-in-Err-Refused-clause-answer : goal.returns-in-Err-Refused-clause-answer
+returns-in-Err-Refused-clause-answer g c =
+    IfOk-weaker c.answer_to_refused.result _ _
+    (λ answer told. answer_refused _ _ _ (answer_told answer) c.in-Err-Refused.hand c.in-Err-Refused.why
+    (record {
+      records = c.in-Ok.records;
+      say = c.in-Ok.ensures.said;
+      first = subst (λ (fault : PlaysFault). IsPlaysFaultOf c.in-Ok.records fault) c.in-Err-Refused.field-0-is c.in-Err-Refused.ensures.refused;
+    })
+    told) c.answer_to_refused.ensures.answer
+
+pub returns-in-Err-clause-answer : goal.returns-in-Err-clause-answer
+returns-in-Err-clause-answer g c =
+    IfOk-weaker c.answer_to_fault.result _ _
+    (λ answer told. answer_wrong _ _ _ (answer_told answer) c.in-Err.fault c.in-Err.ensures.refused told) c.answer_to_fault.ensures.answer

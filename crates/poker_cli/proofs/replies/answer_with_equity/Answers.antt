@@ -1,0 +1,51 @@
+-- The equity of the hand is told, or that there is no such hand, street or known card.
+use Rattle.std.proofs.Common.{◌≡◌, ◌≤◌, Some, length, ap, subst, sym, ◌∙◌, rules}
+use Rattle.std.proofs.lemmas.Result.{IfOk-weaker}
+use Rattle.hand_equity.specs.Street.{HasNoEquity}
+use Rattle.hand_equity.specs.declared.refusal.NoEquity.{NoEquity}
+use Rattle.poker_cli.specs.AnswerParts.{Answer, done}
+use Rattle.poker_cli.specs.Replies.{IsEquityAt, hand_numbered}
+use Rattle.poker_cli.specs.Replies as replies
+use Rattle.poker_cli.specs.Told.{answer_told}
+use Rattle.poker_cli.proofs.Numbered.{found, not_found}
+use Rattle.poker_cli.proofs.replies.answer_with_equity.Goals as goal
+
+pub returns-in_default-clause-answer : goal.returns-in_default-clause-answer
+returns-in_default-clause-answer c =
+    let plays = c.args.plays.now in
+    let beyond : length plays ≤ c.saturating_sub.result = search rules in
+    IfOk-weaker c.no_hand.result _ _
+    (λ answer told. subst (IsEquityAt c.args.hand c.args.street plays) (sym told)
+    (replies.NoneNumbered (not_found plays c.args.hand c.saturating_sub.result c.saturating_sub.ensures beyond)))
+    c.no_hand.ensures.answer
+
+pub returns-in_ok-text-in-Ok-clause-answer : goal.returns-in_ok-text-in-Ok-clause-answer
+returns-in_ok-text-in-Ok-clause-answer c =
+    let plays = c.args.plays.now in
+    let play = c.in-Some.play.now in
+    let lookup = c.in-Some.ensures.lookup in
+    let here = found plays c.args.hand c.saturating_sub.result play c.saturating_sub.ensures lookup.3.0 lookup.1 in
+    subst (IsEquityAt c.args.hand c.args.street plays) (sym (c.done.ensures.answer ∙ ap done c.in_ok-text-in-Ok.ensures))
+    (replies.Counted play here c.in-Ok.row c.in-Ok.ensures.equity)
+
+pub returns-in-Err-NoStreet-clause-answer : goal.returns-in-Err-NoStreet-clause-answer
+returns-in-Err-NoStreet-clause-answer c =
+    let plays = c.args.plays.now in
+    let play = c.in-Some.play.now in
+    let lookup = c.in-Some.ensures.lookup in
+    let here = found plays c.args.hand c.saturating_sub.result play c.saturating_sub.ensures lookup.3.0 lookup.1 in
+    let lacks = subst (λ (why : NoEquity). HasNoEquity play.trace c.args.street why) c.in-Err-NoStreet.field-0-is c.in-Err-NoStreet.ensures.refused in
+    IfOk-weaker c.no_street.result _ _
+    (λ answer told. subst (IsEquityAt c.args.hand c.args.street plays) (sym told) (replies.NoBoard play here lacks))
+    c.no_street.ensures.answer
+
+pub returns-in-Err-UnknownCards-clause-answer : goal.returns-in-Err-UnknownCards-clause-answer
+returns-in-Err-UnknownCards-clause-answer c =
+    let plays = c.args.plays.now in
+    let play = c.in-Some.play.now in
+    let lookup = c.in-Some.ensures.lookup in
+    let here = found plays c.args.hand c.saturating_sub.result play c.saturating_sub.ensures lookup.3.0 lookup.1 in
+    let lacks = subst (λ (why : NoEquity). HasNoEquity play.trace c.args.street why) c.in-Err-UnknownCards.field-0-is c.in-Err-UnknownCards.ensures.refused in
+    IfOk-weaker c.no_cards.result _ _
+    (λ answer told. subst (IsEquityAt c.args.hand c.args.street plays) (sym told) (replies.NoCards play here c.in-Err-UnknownCards.seat lacks))
+    c.no_cards.ensures.answer

@@ -1,0 +1,105 @@
+//! The verdict on each hand is a line, and one line behind them says how many hands are legal.
+ghost use Rattle.std.specs.Prelude.{◌≡◌, ◌≤◌, ◌++◌, true, false, All, codes, length, IfOk, OnOk, string_bytes};
+ghost use Rattle.std.specs.Fmt.{decimal};
+ghost use Rattle.first_fault.specs.declared.limits.TheConstants.{MOST_HANDS};
+ghost use Rattle.hand_records.specs.SoundRecord.{IsSoundRecord};
+ghost use Rattle.poker_cli.specs.Verdicts.{ArePrinted, IsJudged, judged_end};
+
+use crate::refusals::refusal_text;
+use card_set::Memory;
+use convert_core::{Refusal, Taker, take_each};
+use hand_records::{Play, Records};
+use std::alloc::{AllocError, Global};
+
+// The lines of the hands so far, and how many of these are legal.
+#[derive(Drop)]
+struct VerdictLines {
+    text: String,
+    legal: usize,
+}
+
+impl Taker for VerdictLines {
+    ghost GOES_ON = { true };
+
+    ghost KEEPS = { false };
+
+    ghost Took = { λ _ it verdicts. ArePrinted (string_bytes it.text) it.legal verdicts };
+
+    fn goes_on(&self) -> bool {
+        true
+    }
+
+    fn keeps(&self) -> bool {
+        false
+    }
+
+    fn take(&mut self, _: Global, place: usize, _: &Play) -> Result<(), AllocError> {
+        let number = place + 1;
+        push_legal(&mut self.text, number)?;
+        self.legal += 1;
+        Ok(())
+    }
+
+    fn pass(&mut self, alloc: Global, place: usize, why: &Refusal) -> Result<(), AllocError> {
+        let number = place + 1;
+        let why = match refusal_text(alloc, why) {
+            Ok(why) => why,
+            Err(Memory) => return Err(AllocError),
+        };
+        push_refused(&mut self.text, number, &why)?;
+        Ok(())
+    }
+}
+
+/// The verdict on each of these hands, a line a hand, and how many of them are legal.
+///
+/// # Errors
+///
+/// Want of memory.
+pub fn judge_text(alloc: Global, records: Records) -> Result<String, Memory>
+    requires sound { All IsSoundRecord records }
+    requires few { length records ≤ MOST_HANDS }
+    ensures { IfOk result (λ text. IsJudged records (string_bytes text)) }
+{
+    let hands = records.len();
+    let mut lines = VerdictLines {
+        text: String::new(alloc),
+        legal: 0,
+    };
+    match take_each(alloc, &mut lines, records) {
+        Ok(_) => {}
+        Err(_) => return Err(Memory),
+    }
+    let legal = lines.legal;
+    push_end(&mut lines.text, legal, hands)?;
+    Ok(lines.text)
+}
+
+// Puts the line of a legal hand at the end of a text.
+fn push_legal(text: &mut String, number: usize) -> Result<(), AllocError>
+    ensures { OnOk result (string_bytes text.new ≡ string_bytes text.old
+        ++ (codes "hand " ++ (decimal number ++ codes ": legal\n"))) }
+{
+    write!(text, "hand {number}: legal\n")?;
+    Ok(())
+}
+
+// Puts the line of a refused hand at the end of a text.
+fn push_refused(text: &mut String, number: usize, why: &String) -> Result<(), AllocError>
+    ensures { OnOk result (string_bytes text.new ≡ string_bytes text.old
+        ++ (codes "hand " ++ (decimal number ++ (codes ": " ++ (string_bytes why.now
+        ++ codes "\n"))))) }
+{
+    let why = why.as_str();
+    write!(text, "hand {number}: {why}\n")?;
+    Ok(())
+}
+
+// Puts the last line at the end of a text.
+fn push_end(text: &mut String, legal: usize, hands: usize) -> Result<(), AllocError>
+    ensures { OnOk result (string_bytes text.new
+        ≡ string_bytes text.old ++ judged_end legal hands) }
+{
+    write!(text, "legal hands: {legal} of {hands}\n")?;
+    Ok(())
+}
