@@ -8,7 +8,6 @@ ghost use Rattle.host_io.specs.MemSink.{bytes_held, sink_plan};
 ghost use Rattle.host_io.specs.MemSource.{bytes_left, source_plan};
 ghost use Rattle.poker_cli.specs.Headline.{AsksToConvert, Headline};
 ghost use Rattle.poker_cli.specs.Run.{AskForNoGame, LacksGame, MakesHands, ReadsNothing, TellsLine, WhereTold, WritesNothing, change_of, fixed_line};
-ghost use Rattle.poker_cli.specs.Ways.{game_name, made_by};
 ghost use Rattle.poker_cli.specs.declared.task.Format.{Format};
 
 use host_io::{MemShelf, MemSink, MemSource};
@@ -52,9 +51,9 @@ pub fn run_on(
     ensures shelf { AskForNoGame (request_said (map string_bytes words.now))
         → shelf.new ≡ shelf.old }
     ensures without_game { IfSome (request_said (map string_bytes words.now)) (λ request.
-        LacksGame (game_name request) (Some (shelf_files shelf.old)) → input.new ≡ input.old) }
+        LacksGame request (Some (shelf_files shelf.old)) → input.new ≡ input.old) }
     ensures without_input { IfSome (request_said (map string_bytes words.now)) (λ request.
-        MakesHands (made_by request) → input.new ≡ input.old) }
+        MakesHands request → input.new ≡ input.old) }
 {
     run(alloc, words, input, shelf, out, diag)
 }
