@@ -8,7 +8,7 @@
 # shellcheck shell=sh disable=SC2034 # slip is told by those who read this file
 slip=
 
-commands='check replay report convert game load'
+commands='check replay report convert game load judge'
 
 # What a command takes: the options that it needs, those that may lack, and flags, which have no value.
 options_of() {
@@ -18,6 +18,7 @@ options_of() {
     convert) needs='from to' may=game flags=drop-notes ;;
     game) needs=from ;;
     load) needs='seed hands' ;;
+    judge) needs=from may=game ;;
     *) return 1 ;;
     esac
 }
@@ -33,6 +34,7 @@ handref: a converter and referee of recorded poker hands
                                                          the same hands in another notation
   handref game    --from phh|ohh|ohh-to < HANDS          the game file that the first hand fits
   handref load    --seed N --hands N                     makes hands from a number and sums them up
+  handref judge   --from FORMAT [--game FILE] < HANDS    a line a hand: legal, or what is wrong with it
 
 FORMAT  phh     Poker Hand History (.phh, .phhs)
         ohh     Open Hand History, the amount of a raise is the chips that it adds
