@@ -48,6 +48,7 @@ and one line on standard error says what is wrong.
 Status  0 done             1 a hand is refused    2 no command         3 the input does not read
         4 not spelled      5 reading failed       6 writing failed     7 a limit is passed
         8 out of memory    9 no game file        10 a bad game file   11 the game file is not readable
+       13 no such hand, event, seat, street or cards
 
 An example: handref check --from phh < examples/folds.phh
 Each message and what to do about it: docs/MESSAGES.md, or share/doc/handref/MESSAGES.md where it is installed.
@@ -142,6 +143,7 @@ take() {
     game:) slip="--$1 needs the name of a file" && return 1 ;;
     game:*) game=$2 ;;
     seed:*) is_number "$1" "$2" 9 0 999999999 ;;
+    hand:*) is_number "$1" "$2" 5 1 65536 ;;
     hands:*) is_number "$1" "$2" 5 0 65536 ;;
     esac
 }
