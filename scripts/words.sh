@@ -8,7 +8,7 @@
 # shellcheck shell=sh disable=SC2034 # slip is told by those who read this file
 slip=
 
-commands='check replay report convert game load judge'
+commands='check replay report convert game load options judge'
 
 # What a command takes: the options that it needs, those that may lack, and flags, which have no value.
 options_of() {
@@ -19,6 +19,7 @@ options_of() {
     game) needs=from ;;
     load) needs='seed hands' ;;
     judge) needs=from may=game ;;
+    options) needs='from hand after' may=game ;;
     *) return 1 ;;
     esac
 }
@@ -35,6 +36,8 @@ handref: a converter and referee of recorded poker hands
   handref game    --from phh|ohh|ohh-to < HANDS          the game file that the first hand fits
   handref load    --seed N --hands N                     makes hands from a number and sums them up
   handref judge   --from FORMAT [--game FILE] < HANDS    a line a hand: legal, or what is wrong with it
+  handref options --from FORMAT --hand H --after E [--game FILE] < HANDS
+                                                         the legal moves behind so many events of a hand
 
 FORMAT  phh     Poker Hand History (.phh, .phhs)
         ohh     Open Hand History, the amount of a raise is the chips that it adds
@@ -143,6 +146,7 @@ take() {
     game:) slip="--$1 needs the name of a file" && return 1 ;;
     game:*) game=$2 ;;
     seed:*) is_number "$1" "$2" 9 0 999999999 ;;
+    after:*) is_number "$1" "$2" 4 0 9999 ;;
     hand:*) is_number "$1" "$2" 5 1 65536 ;;
     hands:*) is_number "$1" "$2" 5 0 65536 ;;
     esac
