@@ -8,7 +8,7 @@
 # shellcheck shell=sh disable=SC2034 # slip is told by those who read this file
 slip=
 
-commands='check replay report convert game load options judge'
+commands='check replay report convert game load views options judge'
 
 # What a command takes: the options that it needs, those that may lack, and flags, which have no value.
 options_of() {
@@ -20,6 +20,7 @@ options_of() {
     load) needs='seed hands' ;;
     judge) needs=from may=game ;;
     options) needs='from hand after' may=game ;;
+    views) needs='from seat' may=game ;;
     *) return 1 ;;
     esac
 }
@@ -38,6 +39,8 @@ handref: a converter and referee of recorded poker hands
   handref judge   --from FORMAT [--game FILE] < HANDS    a line a hand: legal, or what is wrong with it
   handref options --from FORMAT --hand H --after E [--game FILE] < HANDS
                                                          the legal moves behind so many events of a hand
+  handref views   --from acpc --game FILE --seat N < HANDS
+                                                         what one seat of a match saw, message by message
 
 FORMAT  phh     Poker Hand History (.phh, .phhs)
         ohh     Open Hand History, the amount of a raise is the chips that it adds
@@ -148,6 +151,7 @@ take() {
     seed:*) is_number "$1" "$2" 9 0 999999999 ;;
     after:*) is_number "$1" "$2" 4 0 9999 ;;
     hand:*) is_number "$1" "$2" 5 1 65536 ;;
+    seat:*) is_number "$1" "$2" 2 1 10 ;;
     hands:*) is_number "$1" "$2" 5 0 65536 ;;
     esac
 }
@@ -164,6 +168,8 @@ is_number() {
 # Whether the notations are those of the command, and a game file stands exactly where one of them is acpc.
 fits_notations() {
     case $command:$from in
+    views:acpc) ;;
+    views:*) slip='views takes a log: --from acpc' && return 1 ;;
     game:acpc) slip='game takes no log: its game file is there already' && return 1 ;;
     esac
     case $from:$to in
