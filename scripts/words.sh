@@ -8,7 +8,7 @@
 # shellcheck shell=sh disable=SC2034 # slip is told by those who read this file
 slip=
 
-commands='check replay report convert game load views options judge'
+commands='check replay report convert game load views options session judge'
 
 # What a command takes: the options that it needs, those that may lack, and flags, which have no value.
 options_of() {
@@ -21,6 +21,7 @@ options_of() {
     judge) needs=from may=game ;;
     options) needs='from hand after' may=game ;;
     views) needs='from seat' may=game ;;
+    session) needs=from may=game ;;
     *) return 1 ;;
     esac
 }
@@ -41,6 +42,7 @@ handref: a converter and referee of recorded poker hands
                                                          the legal moves behind so many events of a hand
   handref views   --from acpc --game FILE --seat N < HANDS
                                                          what one seat of a match saw, message by message
+  handref session --from FORMAT [--game FILE] < HANDS    stacks, gaps and counts of each name over all hands
 
 FORMAT  phh     Poker Hand History (.phh, .phhs)
         ohh     Open Hand History, the amount of a raise is the chips that it adds
