@@ -8,7 +8,7 @@
 # shellcheck shell=sh disable=SC2034 # slip is told by those who read this file
 slip=
 
-commands='check replay report convert game load views options session judge'
+commands='check replay report convert game load views options session equity judge'
 
 # What a command takes: the options that it needs, those that may lack, and flags, which have no value.
 options_of() {
@@ -22,6 +22,7 @@ options_of() {
     options) needs='from hand after' may=game ;;
     views) needs='from seat' may=game ;;
     session) needs=from may=game ;;
+    equity) needs='from hand street' may=game ;;
     *) return 1 ;;
     esac
 }
@@ -43,6 +44,8 @@ handref: a converter and referee of recorded poker hands
   handref views   --from acpc --game FILE --seat N < HANDS
                                                          what one seat of a match saw, message by message
   handref session --from FORMAT [--game FILE] < HANDS    stacks, gaps and counts of each name over all hands
+  handref equity  --from FORMAT --hand H --street S [--game FILE] < HANDS
+                                                         how often each live hand wins, over all boards
 
 FORMAT  phh     Poker Hand History (.phh, .phhs)
         ohh     Open Hand History, the amount of a raise is the chips that it adds
@@ -154,6 +157,7 @@ take() {
     after:*) is_number "$1" "$2" 4 0 9999 ;;
     hand:*) is_number "$1" "$2" 5 1 65536 ;;
     seat:*) is_number "$1" "$2" 2 1 10 ;;
+    street:*) is_number "$1" "$2" 1 2 4 ;;
     hands:*) is_number "$1" "$2" 5 0 65536 ;;
     esac
 }
