@@ -1,0 +1,37 @@
+-- Each question is answered as what is asked of the plays is.
+use Rattle.std.proofs.Common.{IfOk, subst, sym, ap, ◌∙◌}
+use Rattle.command_words.specs.declared.task.Question.{Question}
+use Rattle.command_words.specs.declared.task.Question.TheVariants as questions
+use Rattle.poker_cli.specs.Answer.{IsAnswerTo, IsReply}
+use Rattle.poker_cli.specs.Told.{answer_told}
+use Rattle.poker_cli.proofs.answer.answer_to_question.Goals as goal
+
+pub returns-in-Show-Report-clause-answer : goal.returns-in-Show-Report-clause-answer
+returns-in-Show-Report-clause-answer g c =
+    subst (λ (question : Question). IfOk c.answer_with_plays.result (λ answer. IsAnswerTo (g.N.Notation.Say c.args.from.now c.args.bytes.now)
+    (g.N.Notation.HaveFault c.args.from.now c.args.bytes.now) (IsReply question) (answer_told answer)))
+    (sym (c.in-Show-Report.is ∙ ap questions.Show c.in-Show-Report.field-0-is)) c.answer_with_plays.ensures.answer
+
+pub returns-in-Show-Session-clause-answer : goal.returns-in-Show-Session-clause-answer
+returns-in-Show-Session-clause-answer g c =
+    subst (λ (question : Question). IfOk c.answer_with_plays-in-Show-Session.result (λ answer. IsAnswerTo (g.N.Notation.Say c.args.from.now c.args.bytes.now)
+    (g.N.Notation.HaveFault c.args.from.now c.args.bytes.now) (IsReply question) (answer_told answer)))
+    (sym (c.in-Show-Session.is ∙ ap questions.Show c.in-Show-Session.field-0-is)) c.answer_with_plays-in-Show-Session.ensures.answer
+
+pub returns-in-GameFile-clause-answer : goal.returns-in-GameFile-clause-answer
+returns-in-GameFile-clause-answer g c =
+    subst (λ (question : Question). IfOk c.answer_with_plays-in-GameFile.result (λ answer. IsAnswerTo (g.N.Notation.Say c.args.from.now c.args.bytes.now)
+    (g.N.Notation.HaveFault c.args.from.now c.args.bytes.now) (IsReply question) (answer_told answer)))
+    (sym c.in-GameFile.is) c.answer_with_plays-in-GameFile.ensures.answer
+
+pub returns-in-Options-clause-answer : goal.returns-in-Options-clause-answer
+returns-in-Options-clause-answer g c =
+    subst (λ (question : Question). IfOk c.answer_with_plays-in-Options.result (λ answer. IsAnswerTo (g.N.Notation.Say c.args.from.now c.args.bytes.now)
+    (g.N.Notation.HaveFault c.args.from.now c.args.bytes.now) (IsReply question) (answer_told answer)))
+    (sym c.in-Options.is) c.answer_with_plays-in-Options.ensures.answer
+
+pub returns-in-Equity-clause-answer : goal.returns-in-Equity-clause-answer
+returns-in-Equity-clause-answer g c =
+    subst (λ (question : Question). IfOk c.answer_with_plays-in-Equity.result (λ answer. IsAnswerTo (g.N.Notation.Say c.args.from.now c.args.bytes.now)
+    (g.N.Notation.HaveFault c.args.from.now c.args.bytes.now) (IsReply question) (answer_told answer)))
+    (sym c.in-Equity.is) c.answer_with_plays-in-Equity.ensures.answer
