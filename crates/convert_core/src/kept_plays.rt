@@ -5,9 +5,9 @@ ghost use Rattle.first_fault.specs.declared.limits.TheConstants.{MOST_HANDS};
 ghost use Rattle.hand_canon.specs.Sound.{IsSound};
 ghost use Rattle.hand_records.specs.SoundRecord.{IsSoundRecord};
 
+use crate::refusal::{PlaysFault, Refusal};
 use crate::taker::Taker;
 use crate::taking::take_each;
-use crate::refusal::{PlaysFault, Refusal};
 use hand_records::{Play, Records};
 use std::alloc::{AllocError, Global};
 

@@ -6,11 +6,11 @@ ghost use Rattle.hand_canon.specs.Sound.{IsSound};
 ghost use Rattle.hand_records.specs.SoundRecord.{IsSoundRecord};
 ghost use Rattle.convert_core.specs.Lines.{IsWritten};
 
-use crate::taker::Taker;
-use crate::taking::take_each;
 use crate::convert_fault::ConvertFault;
 use crate::notation::Notation;
 use crate::refusal::{PlaysFault, Refusal};
+use crate::taker::Taker;
+use crate::taking::take_each;
 use hand_records::{Keep, Play, Records, WriteRefusal};
 use std::alloc::{AllocError, Global};
 

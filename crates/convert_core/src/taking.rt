@@ -9,8 +9,8 @@ ghost use Rattle.hand_records.specs.declared.trace.Play.{Play as AnyPlay};
 ghost use Rattle.convert_core.specs.Taking.{AreTaken, HasTaken};
 
 use crate::judging::push_play;
-use crate::taker::Taker;
 use crate::refusal::{PlaysFault, Refusal};
+use crate::taker::Taker;
 use hand_records::{Play, Record, Records};
 use std::alloc::Global;
 
@@ -49,8 +49,7 @@ pub fn take_each<T: Taker>(
 }
 
 // For how many plays there is to be room.
-fn room<T: Taker>(taker: &T, hands: usize) -> usize
-{
+fn room<T: Taker>(taker: &T, hands: usize) -> usize {
     if taker.keeps() { hands } else { 1 }
 }
 

@@ -241,7 +241,6 @@ module _ (request : Request) (files : Files) (from to : Format) (keep : Keep) (b
   conversion_ends statuses.GameMissing found ends left = no_missing files request (way (tasks.Convert to keep) from) found ends
   conversion_ends statuses.BadGame found ends left =
       never_game from to keep bytes ends.answer (in_way request files bytes (way (tasks.Convert to keep) from) ends.answer found ends.to_input) ends.ends
-
   conversion_ends statuses.NoSuch found ends left =
       never_none from to keep bytes ends.answer (in_way request files bytes (way (tasks.Convert to keep) from) ends.answer found ends.to_input) ends.ends
 

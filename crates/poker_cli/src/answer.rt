@@ -45,12 +45,7 @@ pub struct Answer {
 pub const MOST_INPUT: usize = 16_777_216;
 
 /// The answer to bytes that are not too many, as they are read.
-pub fn answer_to(
-    alloc: Global,
-    task: Task,
-    reader: &Format,
-    bytes: &[u8],
-) -> Result<Answer, Memory>
+pub fn answer_to(alloc: Global, task: Task, reader: &Format, bytes: &[u8]) -> Result<Answer, Memory>
     requires { length bytes.now ≤ most_input }
     ensures answer { IfOk result (λ answer.
         IsAnswer task reader.now bytes.now (answer_told answer)) }

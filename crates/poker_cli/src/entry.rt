@@ -22,7 +22,8 @@ use command_words::{Logs, Request, read_words};
 use host_io::{Failed, InFault, Shelf, Sink, Source, read_all, write_all};
 use std::alloc::Global;
 
-const USAGE: &[u8] = b"usage: handref check|replay|report|convert|game|load|views|options|session|equity|judge [options]\n";
+const USAGE: &[u8] =
+    b"usage: handref check|replay|report|convert|game|load|views|options|session|equity|judge [options]\n";
 
 /// Runs the program on its words, without its own name. It reads the file of a game from the shelf where the words
 /// name one, then the input to its end, writes the output where all is done, and tells one line beside it where it is

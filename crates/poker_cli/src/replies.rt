@@ -42,11 +42,7 @@ pub enum PlayQuestion {
 }
 
 /// The answer to what is asked of plays.
-pub fn answer_to_plays(
-    alloc: Global,
-    asked: PlayQuestion,
-    plays: &[Play],
-) -> Result<Answer, Memory>
+pub fn answer_to_plays(alloc: Global, asked: PlayQuestion, plays: &[Play]) -> Result<Answer, Memory>
     requires sound { All IsSound plays.now }
     requires few { length plays.now ≤ MOST_HANDS }
     ensures answer { IfOk result (λ answer. IsAsked asked plays.now (answer_told answer)) }

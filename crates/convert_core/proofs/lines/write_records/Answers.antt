@@ -9,9 +9,12 @@ use Rattle.convert_core.specs.Lines.{IsWritten}
 use Rattle.convert_core.proofs.lines.write_records.Goals as goal
 
 pub take_each-requires-clause-begun : goal.take_each-requires-clause-begun
-take_each-requires-clause-begun g c =
-    (refl, refl, none_written (g.N.Notation.is_lined c.args.to.now) (g.N.Notation.unspelled c.args.to.now c.args.keep) (g.N.Notation.Spell c.args.to.now) _
-    c.requires.lined (g.met.N.Notation.no_lines c.args.to.now c.requires.lined) (search rules))
+take_each-requires-clause-begun g c = (
+  refl,
+  refl,
+  none_written (g.N.Notation.is_lined c.args.to.now) (g.N.Notation.unspelled c.args.to.now c.args.keep) (g.N.Notation.Spell c.args.to.now) _
+      c.requires.lined (g.met.N.Notation.no_lines c.args.to.now c.requires.lined) (search rules),
+)
 
 pub returns-in-Err-Refused : goal.returns-in-Err-Refused
 returns-in-Err-Refused g c =
@@ -28,7 +31,7 @@ returns-in-None g c =
     let took = taken.took in
     let now = c.take_each.new.taker in
     let written = subst (λ x. IsWritten (g.N.Notation.is_lined x) (g.N.Notation.unspelled x c.args.keep) (g.N.Notation.Spell x) now.refusal now.out.items taken.verdicts) took.0
-        (subst (λ k. IsWritten (g.N.Notation.is_lined now.to.now) (g.N.Notation.unspelled now.to.now k) (g.N.Notation.Spell now.to.now) now.refusal now.out.items taken.verdicts) took.1 took.2) in
+    (subst (λ k. IsWritten (g.N.Notation.is_lined now.to.now) (g.N.Notation.unspelled now.to.now k) (g.N.Notation.Spell now.to.now) now.refusal now.out.items taken.verdicts) took.1 took.2) in
     let are = plays_are false _ c.args.records _ _ taken in
     record {
       plays = legal_plays taken.verdicts;
@@ -44,7 +47,7 @@ returns-in-Some-Unspelled g c =
     let took = taken.took in
     let now = c.take_each.new.taker in
     let written = subst (λ x. IsWritten (g.N.Notation.is_lined x) (g.N.Notation.unspelled x c.args.keep) (g.N.Notation.Spell x) now.refusal now.out.items taken.verdicts) took.0
-        (subst (λ k. IsWritten (g.N.Notation.is_lined now.to.now) (g.N.Notation.unspelled now.to.now k) (g.N.Notation.Spell now.to.now) now.refusal now.out.items taken.verdicts) took.1 took.2) in
+    (subst (λ k. IsWritten (g.N.Notation.is_lined now.to.now) (g.N.Notation.unspelled now.to.now k) (g.N.Notation.Spell now.to.now) now.refusal now.out.items taken.verdicts) took.1 took.2) in
     let first = written.first in
     record {
       plays = legal_plays taken.verdicts;
