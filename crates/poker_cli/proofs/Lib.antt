@@ -6,6 +6,7 @@ mod JudgedLines
 mod PrintedLines
 mod OneJudgement
 mod Numbered
+mod ViewsLeft
 mod OneReply
 mod OneAnswer
 mod Headline

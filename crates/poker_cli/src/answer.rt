@@ -91,14 +91,7 @@ fn answer_to_question<N: Notation>(
     ensures own { IfOk result (λ answer. IsOfInput answer.status) }
 {
     match question {
-        Question::Show(Command::Check) => answer_with_lines(alloc, Lines::Check, from, bytes),
-        Question::Show(Command::Replay) => answer_with_lines(alloc, Lines::Replay, from, bytes),
-        Question::Show(Command::Report) => {
-            answer_with_plays(alloc, PlayQuestion::Report, from, bytes)
-        }
-        Question::Show(Command::Session) => {
-            answer_with_plays(alloc, PlayQuestion::Session, from, bytes)
-        }
+        Question::Show(command) => answer_with_text(alloc, command, from, bytes),
         Question::GameFile => answer_with_plays(alloc, PlayQuestion::GameFile, from, bytes),
         Question::Options { hand, events } => {
             answer_with_plays(alloc, PlayQuestion::Options { hand, events }, from, bytes)
@@ -106,6 +99,26 @@ fn answer_to_question<N: Notation>(
         Question::Equity { hand, street } => {
             answer_with_plays(alloc, PlayQuestion::Equity { hand, street }, from, bytes)
         }
+    }
+}
+
+// The answer with what a command prints of the hands of bytes.
+fn answer_with_text<N: Notation>(
+    alloc: Global,
+    command: Command,
+    from: &N,
+    bytes: &[u8],
+) -> Result<Answer, Memory>
+    ensures answer { IfOk result (λ answer. IsAnswerTo (N.Say from.now bytes.now)
+        (N.HaveFault from.now bytes.now) (IsReply (questions.Show command))
+        (answer_told answer)) }
+    ensures own { IfOk result (λ answer. IsOfInput answer.status) }
+{
+    match command {
+        Command::Check => answer_with_lines(alloc, Lines::Check, from, bytes),
+        Command::Replay => answer_with_lines(alloc, Lines::Replay, from, bytes),
+        Command::Report => answer_with_plays(alloc, PlayQuestion::Report, from, bytes),
+        Command::Session => answer_with_plays(alloc, PlayQuestion::Session, from, bytes),
     }
 }
 

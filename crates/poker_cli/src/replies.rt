@@ -143,7 +143,7 @@ fn answer_with_equity(
             Ok(done(alloc, text))
         }
         Err(NoEquity::NoStreet) => no_street(alloc, hand, street),
-        Err(NoEquity::UnknownCards(seat)) => no_cards(alloc, hand, seat),
+        Err(NoEquity::UnknownCards(seat)) => no_cards(alloc, hand, seat.number),
     }
 }
 
@@ -176,12 +176,10 @@ fn no_street(alloc: Global, hand: u32, street: u8) -> Result<Answer, Memory>
 }
 
 // A seat of the hand with this number has a card that stayed unknown.
-fn no_cards(alloc: Global, hand: u32, seat: Seat) -> Result<Answer, Memory>
-    ensures answer { IfOk result (λ answer.
-        answer_told answer ≡ replies.no_cards hand seat.number) }
+fn no_cards(alloc: Global, hand: u32, seat: u8) -> Result<Answer, Memory>
+    ensures answer { IfOk result (λ answer. answer_told answer ≡ replies.no_cards hand seat) }
     ensures own { IfOk result (λ answer. answer.status ≡ Status.NoSuch) }
 {
-    let seat = seat.number;
     let line = format!(in alloc; "no such cards: hand {hand}: p{seat}\n")?;
     Ok(refusal(alloc, Status::NoSuch, line))
 }

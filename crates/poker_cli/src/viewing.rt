@@ -44,42 +44,32 @@ pub fn answer_with_views(
 }
 
 // Whether the lines are not too many bytes. It counts them before any is made.
-#[tactic(auto, unfolding(crate::specs::Replies::each_view))]
 fn are_few(game: &Game, seat: Seat, plays: &[Play]) -> bool
     requires sound { All IsSound plays.now }
     requires few { length plays.now ≤ MOST_HANDS }
     ensures { result ≡ nat_le (length (each_view game.now seat 0 plays.now)) most_view_bytes }
 {
-    let mut rest = plays;
-    let mut place: u32 = 0;
     let mut left = MOST_VIEW_BYTES;
-    while let [play, behind @ ..] = rest {
-        let len = views_len(game, play, place, seat);
+    for (index, play) in plays.iter().enumerate() {
+        let len = views_len(game, play, index as u32, seat);
         if left < len {
             return false;
         }
         left -= len;
-        place += 1;
-        rest = behind;
     }
     true
 }
 
 // The lines, hand by hand.
-#[tactic(auto, unfolding(crate::specs::Replies::each_view))]
 fn lines_of(alloc: Global, game: &Game, seat: Seat, plays: &[Play]) -> Result<Vec<u8>, Memory>
     requires sound { All IsSound plays.now }
     requires few { length plays.now ≤ MOST_HANDS }
     ensures { IfOk result (λ lines. lines.items ≡ each_view game.now seat 0 plays.now) }
 {
     let mut lines = Vec::new(alloc);
-    let mut rest = plays;
-    let mut place: u32 = 0;
-    while let [play, behind @ ..] = rest {
-        let seen = views(alloc, game, play, place, seat)?;
+    for (index, play) in plays.iter().enumerate() {
+        let seen = views(alloc, game, play, index as u32, seat)?;
         lines.extend_from_slice(&seen)?;
-        place += 1;
-        rest = behind;
     }
     Ok(lines)
 }

@@ -6,23 +6,11 @@ use Rattle.poker_cli.specs.Answer.{IsAnswerTo, IsReply}
 use Rattle.poker_cli.specs.Told.{answer_told}
 use Rattle.poker_cli.proofs.answer.answer_to_question.Goals as goal
 
-pub returns-in-Show-Report-clause-answer : goal.returns-in-Show-Report-clause-answer
-returns-in-Show-Report-clause-answer g c =
-    subst (λ (question : Question). IfOk c.answer_with_plays.result (λ answer. IsAnswerTo (g.N.Notation.Say c.args.from.now c.args.bytes.now)
-    (g.N.Notation.HaveFault c.args.from.now c.args.bytes.now) (IsReply question) (answer_told answer)))
-    (sym (c.in-Show-Report.is ∙ ap questions.Show c.in-Show-Report.field-0-is)) c.answer_with_plays.ensures.answer
-
-pub returns-in-Show-Session-clause-answer : goal.returns-in-Show-Session-clause-answer
-returns-in-Show-Session-clause-answer g c =
-    subst (λ (question : Question). IfOk c.answer_with_plays-in-Show-Session.result (λ answer. IsAnswerTo (g.N.Notation.Say c.args.from.now c.args.bytes.now)
-    (g.N.Notation.HaveFault c.args.from.now c.args.bytes.now) (IsReply question) (answer_told answer)))
-    (sym (c.in-Show-Session.is ∙ ap questions.Show c.in-Show-Session.field-0-is)) c.answer_with_plays-in-Show-Session.ensures.answer
-
 pub returns-in-GameFile-clause-answer : goal.returns-in-GameFile-clause-answer
 returns-in-GameFile-clause-answer g c =
-    subst (λ (question : Question). IfOk c.answer_with_plays-in-GameFile.result (λ answer. IsAnswerTo (g.N.Notation.Say c.args.from.now c.args.bytes.now)
+    subst (λ (question : Question). IfOk c.answer_with_plays.result (λ answer. IsAnswerTo (g.N.Notation.Say c.args.from.now c.args.bytes.now)
     (g.N.Notation.HaveFault c.args.from.now c.args.bytes.now) (IsReply question) (answer_told answer)))
-    (sym c.in-GameFile.is) c.answer_with_plays-in-GameFile.ensures.answer
+    (sym c.in-GameFile.is) c.answer_with_plays.ensures.answer
 
 pub returns-in-Options-clause-answer : goal.returns-in-Options-clause-answer
 returns-in-Options-clause-answer g c =

@@ -1,10 +1,11 @@
 -- The equity of the hand is told, or that there is no such hand, street or known card.
 use Rattle.std.proofs.Common.{◌≡◌, ◌≤◌, Some, length, ap, subst, sym, ◌∙◌, rules}
 use Rattle.std.proofs.lemmas.Result.{IfOk-weaker}
+use Rattle.chip_ledger.specs.declared.numbers.Seat.{Seat}
 use Rattle.hand_equity.specs.Street.{HasNoEquity}
 use Rattle.hand_equity.specs.declared.refusal.NoEquity.{NoEquity}
 use Rattle.poker_cli.specs.AnswerParts.{Answer, done}
-use Rattle.poker_cli.specs.Replies.{IsEquityAt, hand_numbered}
+use Rattle.poker_cli.specs.Replies.{IsEquityAt, hand_numbered, no_cards}
 use Rattle.poker_cli.specs.Replies as replies
 use Rattle.poker_cli.specs.Told.{answer_told}
 use Rattle.poker_cli.proofs.Numbered.{found, not_found}
@@ -47,5 +48,5 @@ returns-in-Err-UnknownCards-clause-answer c =
     let here = found plays c.args.hand c.saturating_sub.result play c.saturating_sub.ensures lookup.3.0 lookup.1 in
     let lacks = subst (λ (why : NoEquity). HasNoEquity play.trace c.args.street why) c.in-Err-UnknownCards.field-0-is c.in-Err-UnknownCards.ensures.refused in
     IfOk-weaker c.no_cards.result _ _
-    (λ answer told. subst (IsEquityAt c.args.hand c.args.street plays) (sym told) (replies.NoCards play here c.in-Err-UnknownCards.seat lacks))
+    (λ answer told. subst (IsEquityAt c.args.hand c.args.street plays) (sym (told ∙ ap (no_cards c.args.hand) (ap (λ (seat : Seat). seat.number) c.in-Err-UnknownCards.seat-is))) (replies.NoCards play here c.in-Err-UnknownCards.seat lacks))
     c.no_cards.ensures.answer
