@@ -53,10 +53,9 @@ pub trait Taker {
     ///
     /// Want of memory.
     fn pass(&mut self, alloc: Global, place: usize, why: &Refusal) -> Result<(), AllocError>
-        requires goes_on { GOES_ON ≡ true }
         requires taken { (start : Self) × HasTaken (Took start self.old) place }
         requires few { place < MOST_HANDS }
-        ensures { (start : Self) (before : List Verdict) (hand : AnyRecord)
+        ensures { (start : Self) (before : List Verdict) (hand : AnyRecord) → GOES_ON ≡ true
             → length before ≡ place → IsRefusedFor hand why.now → Took start self.old before
             → OnOk result (Took start self.new (before ++ Refused hand why.now ∷ [])) };
 }

@@ -1,5 +1,5 @@
 -- The answer to what a source has left, where it tells that, and how a run ends with it.
-use Rattle.std.proofs.Common.{◌≡◌, ◌⊎◌, ℕ, ◌<◌, true, List, length, Option, Some, None, is_some, IfOk, IfSome, Result, Ok, Err, refl, subst, sym, inl, inr}
+use Rattle.std.proofs.Common.{◌≡◌, ◌⊎◌, ℕ, ◌<◌, true, List, length, Option, Some, None, IfOk, IfSome, Result, Ok, Err, refl, subst, sym, inl, inr}
 use Rattle.acpc_game.specs.declared.game.Game.{Game}
 use Rattle.acpc_text.specs.declared.fault.AcpcFault.{AcpcFault}
 use Rattle.acpc_text.specs.declared.fault.AcpcFault.TheVariants as in_acpc
@@ -15,7 +15,6 @@ use Rattle.convert_core.specs.declared.format_fault.FormatFault.{FormatFault}
 use Rattle.convert_core.specs.declared.format_fault.FormatFault.TheVariants as formats
 use Rattle.hand_records.specs.declared.record.Record.{Record}
 use Rattle.hand_records.specs.declared.trace.Play.{Play}
-use Rattle.hand_records.specs.declared.writing.Keep.{Keep}
 use Rattle.hand_records.specs.declared.writing.Unspelled.{Unspelled}
 use Rattle.ohh_reading.specs.declared.fault.OhhFault.{OhhFault}
 use Rattle.ohh_reading.specs.declared.fault.OhhFault.TheVariants as in_ohh
@@ -33,7 +32,6 @@ use Rattle.poker_cli.specs.Run.{Ends, IsOfInput, IsOwn, MayEnd, ReadsNothing, Si
 use Rattle.poker_cli.specs.declared.status.Status.{Status}
 use Rattle.poker_cli.specs.declared.status.Status.TheVariants as statuses
 use Rattle.poker_cli.specs.declared.task.Format.{Format}
-use Rattle.poker_cli.specs.declared.task.Way.{Way}
 use Rattle.poker_cli.specs.Ways.{way_under}
 
 -- the bytes that were read are those that the source had left

@@ -11,7 +11,6 @@ use Rattle.acpc_game.specs.GameView.{game_in}
 use Rattle.command_words.specs.Words.{Load, Plain, Request, Under}
 use Rattle.command_words.specs.declared.command.Command.{Command}
 use Rattle.command_words.specs.declared.command.Command.TheVariants as commands
-use Rattle.command_words.specs.declared.request.Logs.{Logs}
 use Rattle.command_words.specs.declared.task.Question.{Question}
 use Rattle.command_words.specs.declared.task.Question.TheVariants as questions
 use Rattle.poker_cli.specs.declared.task.Task.{Task}

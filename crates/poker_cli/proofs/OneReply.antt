@@ -1,5 +1,5 @@
 -- What is asked of one hand, of all hands by name, or for one seat has one answer, by hands that say the same.
-use Rattle.std.proofs.Common.{◌≡◌, ℕ, zero, suc, ◌+◌, ◌-◌, ◌<◌, ◌≤◌, Bool, true, false, All, List, [], ◌∷◌, ◌++◌, length, map, flat_map, Option, Some, None, refl, sym, subst, ap, ap₂, ◌∙◌, arith}
+use Rattle.std.proofs.Common.{◌≡◌, ℕ, zero, suc, ◌+◌, ◌-◌, ◌<◌, ◌≤◌, Bool, List, [], ◌∷◌, ◌++◌, length, map, flat_map, Option, Some, None, refl, sym, subst, ap, ap₂, ◌∙◌, arith}
 use Rattle.std.specs.List.{range_with_len, slice_get}
 use Rattle.std.specs.Option.{unwrap_or}
 use Rattle.std.proofs.lemmas.Bool.{false≢true}
@@ -10,7 +10,6 @@ use Rattle.chip_ledger.specs.SeatsSaid.{default_name}
 use Rattle.chip_ledger.specs.declared.numbers.Seat.{Seat}
 use Rattle.convert_core.specs.SameRecords.{AllAlike, AreAlike, SayTheSame}
 use Rattle.convert_core.proofs.OneOutcome.{AllTraced}
-use Rattle.hand_canon.specs.Judged.{IsJudged}
 use Rattle.hand_equity.proofs.OneEquity.{one_equity as one_count}
 use Rattle.hand_equity.specs.Street.{HasNoEquity, IsEquityOn, standing_on}
 use Rattle.hand_equity.specs.Text.{equity_said}
@@ -21,7 +20,6 @@ use Rattle.hand_options.specs.Legal.{AreOptions}
 use Rattle.hand_options.specs.declared.choices.Options.{Options}
 use Rattle.hand_records.specs.Plays.{hands_of}
 use Rattle.hand_records.specs.SoundRecord.{script_said}
-use Rattle.hand_records.specs.declared.record.Record.{Record}
 use Rattle.hand_records.specs.declared.trace.Play.{Play}
 use Rattle.hand_records.specs.declared.trace.Trace.{Trace}
 use Rattle.hand_session.specs.Hands.{Hand, Seated, hand_of, seated_in}

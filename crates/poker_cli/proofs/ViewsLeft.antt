@@ -1,5 +1,5 @@
 -- The lines of the hands that are left, one hand after the other.
-use Rattle.std.proofs.Common.{◌≡◌, ℕ, ◌+◌, ◌-◌, ◌<◌, ◌≤◌, Bool, true, false, nat_le, List, [], ◌∷◌, ◌++◌, length, drop, get_or, append_assoc, append-nil, length-append, refl, sym, ap, subst, ◌∙◌, arith}
+use Rattle.std.proofs.Common.{◌≡◌, ℕ, ◌+◌, ◌-◌, ◌<◌, ◌≤◌, Bool, true, false, nat_le, List, [], ◌++◌, length, drop, get_or, append_assoc, append-nil, length-append, refl, sym, ap, ◌∙◌, arith}
 use Rattle.std.proofs.lemmas.Bool.{le-leb, leb-true, lt-leb, leb-false}
 use Rattle.std.proofs.lemmas.List.{drop_all, drop_more}
 use Rattle.acpc_game.specs.declared.game.Game.{Game}

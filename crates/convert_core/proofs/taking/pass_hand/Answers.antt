@@ -7,4 +7,4 @@ pub returns-clause-passed : goal.returns-clause-passed
 returns-clause-passed g c = λ start kept hands hand refused before.
     let on : g.T.Taker.GOES_ON ≡ true = search rules in
     now_passed g.T.Taker.GOES_ON g.T.Taker.KEEPS (g.T.Taker.Took start c.args.taker.now) (g.T.Taker.Took start c.pass.new.self) hands c.args.place kept hand c.args.why before on refused
-    (c.in_ok-pass.ensures start before.verdicts hand (sym before.counted) refused before.took)
+    (c.in_ok-pass.ensures start before.verdicts hand on (sym before.counted) refused before.took)

@@ -1,7 +1,6 @@
 -- Each question is answered as what is asked of the plays is.
-use Rattle.std.proofs.Common.{IfOk, subst, sym, ap, ◌∙◌}
+use Rattle.std.proofs.Common.{IfOk, subst, sym}
 use Rattle.command_words.specs.declared.task.Question.{Question}
-use Rattle.command_words.specs.declared.task.Question.TheVariants as questions
 use Rattle.poker_cli.specs.Answer.{IsAnswerTo, IsReply}
 use Rattle.poker_cli.specs.Told.{answer_told}
 use Rattle.poker_cli.proofs.answer.answer_to_question.Goals as goal

@@ -1,13 +1,12 @@
 -- The equity of the hand is told, or that there is no such hand, street or known card.
-use Rattle.std.proofs.Common.{◌≡◌, ◌≤◌, Some, length, ap, subst, sym, ◌∙◌, rules}
+use Rattle.std.proofs.Common.{◌≤◌, length, ap, subst, sym, ◌∙◌, rules}
 use Rattle.std.proofs.lemmas.Result.{IfOk-weaker}
 use Rattle.chip_ledger.specs.declared.numbers.Seat.{Seat}
 use Rattle.hand_equity.specs.Street.{HasNoEquity}
 use Rattle.hand_equity.specs.declared.refusal.NoEquity.{NoEquity}
-use Rattle.poker_cli.specs.AnswerParts.{Answer, done}
+use Rattle.poker_cli.specs.AnswerParts.{done}
 use Rattle.poker_cli.specs.Replies.{IsEquityAt, hand_numbered, no_cards}
 use Rattle.poker_cli.specs.Replies as replies
-use Rattle.poker_cli.specs.Told.{answer_told}
 use Rattle.poker_cli.proofs.Numbered.{found, not_found}
 use Rattle.poker_cli.proofs.replies.answer_with_equity.Goals as goal
 

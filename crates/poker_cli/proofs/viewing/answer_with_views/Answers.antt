@@ -5,7 +5,6 @@ use Rattle.std.proofs.lemmas.Result.{IfOk-weaker}
 use Rattle.poker_cli.specs.AnswerParts.{done, refusal}
 use Rattle.poker_cli.specs.Replies.{AreViews, each_view, most_view_bytes}
 use Rattle.poker_cli.specs.Replies as replies
-use Rattle.poker_cli.specs.Told.{answer_told}
 use Rattle.poker_cli.specs.declared.status.Status.TheVariants as statuses
 use Rattle.poker_cli.proofs.viewing.answer_with_views.Goals as goal
 

@@ -5,7 +5,7 @@ use Rattle.poker_cli.proofs.JudgedLines.{now_refused}
 use Rattle.poker_cli.proofs.judging.VerdictLinesTaker.pass.Goals as goal
 
 pub returns : goal.returns
-returns c = λ start before hand counted refused printed.
+returns c = λ start before hand on counted refused printed.
     let old = string_bytes c.args.self.now.text in
     now_refused old (string_bytes c.push_refused.new.text) c.args.self.now.legal c.args.self.now.legal c.args.place before hand c.args.why.now
     printed counted
