@@ -15,7 +15,7 @@ more_room most (number ∷ numbers) few all =
     let parts = and_parts (nat_le number most) (list_all (λ n. nat_le n most) numbers) all in
     rw (le-leb number MOST_CHIPS (omega (arith, few, leb-true number most parts.0)), more_room most numbers few parts.1) refl
 
-most_few : (key : GameKey) → most_of key ≤ MOST_CHIPS
+pub most_few : (key : GameKey) → most_of key ≤ MOST_CHIPS
 most_few keys.Begin = omega arith
 most_few keys.End = omega arith
 most_few keys.Limit = omega arith

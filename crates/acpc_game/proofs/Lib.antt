@@ -4,3 +4,7 @@ pub mod Bounds
 pub mod Played
 pub mod Forms
 pub mod Built
+pub mod NumbersAgain
+pub mod WrittenLines
+pub mod GameLines
+pub mod GameAgain

@@ -7,3 +7,4 @@ pub mod Games
 pub mod GameView
 pub mod Playable
 pub mod GameText
+pub mod SaidGames

@@ -6,12 +6,14 @@ mod form;
 mod found;
 mod game;
 mod key;
+mod laws;
 mod lines;
 mod reading;
 mod supported;
 mod writing;
 
 pub use game::Game;
+pub use laws::{law_of_reading_again, law_of_spellings};
 pub use reading::read_game;
 pub use supported::{greatest, has_short_stack};
 pub use writing::write_game;

@@ -6,3 +6,4 @@ pub mod Posting
 pub mod Letters
 pub mod Pieces
 pub mod Lines
+pub mod GameFiles
