@@ -4,6 +4,7 @@ ghost use Rattle.std.specs.List.{list_any, position_from};
 ghost use Rattle.chip_ledger.specs.Seat.{seats_of};
 ghost use Rattle.first_fault.specs.declared.limits.TheConstants.{MOST_HANDS};
 ghost use Rattle.hand_records.specs.AllowedNotes.{name_written};
+ghost use Rattle.name_index.specs.Indexed.{AreIndexed};
 ghost use Rattle.hand_session.specs.Hands.{hand_of, seated_in};
 ghost use Rattle.hand_session.specs.Sessions.{is_named, names_among};
 ghost use Rattle.hand_session.specs.Visits.{IsOfHand, IsOfHands, row_at, row_names, rows_after_seat, rows_with, steps_of_names, steps_of_seat, visit_steps, with_names, with_row};
@@ -20,15 +21,15 @@ use std::alloc::Global;
 /// The rows of names in the order in which they are first seen, an index of these names, and the
 /// steps.
 #[derive(Drop)]
-pub struct Ledger<'a> {
-    pub names: NameIndex<'a>,
+pub struct Ledger {
+    pub names: NameIndex,
     pub rows: Vec<SessionRow>,
     pub steps: Vec<Step>,
 }
 
 /// No names.
-pub fn new_ledger<'a>(alloc: Global) -> Ledger<'a>
-    ensures names { result.names ≡ [] }
+pub fn new_ledger(alloc: Global) -> Ledger
+    ensures names { AreIndexed result.names [] }
     ensures rows { result.rows.items ≡ [] }
     ensures steps { result.steps.items ≡ [] }
 {
@@ -40,18 +41,14 @@ pub fn new_ledger<'a>(alloc: Global) -> Ledger<'a>
 }
 
 /// Adds what each name did in a hand with this number, by the first seat of each name.
-pub fn add_hand<'a>(
-    alloc: Global,
-    ledger: &mut Ledger<'a>,
-    number: u32,
-    play: &'a Play,
-) -> Result<(), Memory>
-    requires names { ledger.old.names ≡ row_names ledger.old.rows.items }
+pub fn add_hand(alloc: Global, ledger: &mut Ledger, number: u32, play: &Play) -> Result<(), Memory>
+    requires names { AreIndexed ledger.old.names (row_names ledger.old.rows.items) }
     requires first { 1 ≤ number }
     requires few { number ≤ MOST_HANDS }
     requires within { (name : List ℕ)
         → IsOfHands (number - 1) (row_at ledger.old.rows.items name) }
-    ensures names { OnOk result (ledger.new.names ≡ row_names ledger.new.rows.items) }
+    ensures names { OnOk result (AreIndexed ledger.new.names
+        (row_names ledger.new.rows.items)) }
     ensures rows { OnOk result (ledger.new.rows.items
         ≡ with_names (hand_of play.now) ledger.old.rows.items
         (names_among (hand_of play.now).seats)) }
@@ -66,21 +63,22 @@ pub fn add_hand<'a>(
 }
 
 // Adds what the name of a seat did in its hand, unless a seat before it has the same name.
-fn add_seat<'a>(
+fn add_seat(
     alloc: Global,
-    ledger: &mut Ledger<'a>,
+    ledger: &mut Ledger,
     number: u32,
-    play: &'a Play,
+    play: &Play,
     seat: Seat,
 ) -> Result<(), Memory>
-    requires names { ledger.old.names ≡ row_names ledger.old.rows.items }
+    requires names { AreIndexed ledger.old.names (row_names ledger.old.rows.items) }
     requires first { 1 ≤ number }
     requires few { number ≤ MOST_HANDS }
     requires within { list_any (is_named (seated_in play.now seat.number).name)
         (map (seated_in play.now) (seats_of (seat.number - 1))) ≡ false
         → IsOfHands (number - 1)
         (row_at ledger.old.rows.items (seated_in play.now seat.number).name) }
-    ensures names { OnOk result (ledger.new.names ≡ row_names ledger.new.rows.items) }
+    ensures names { OnOk result (AreIndexed ledger.new.names
+        (row_names ledger.new.rows.items)) }
     ensures rows { OnOk result (ledger.new.rows.items
         ≡ rows_after_seat (hand_of play.now)
         (map (seated_in play.now) (seats_of (seat.number - 1)))
@@ -111,19 +109,20 @@ fn is_name_before(play: &Play, name: &str, seat: Seat) -> bool
 }
 
 // Adds a visit of a name in the hand with this number.
-fn add_visit_of<'a>(
+fn add_visit_of(
     alloc: Global,
-    ledger: &mut Ledger<'a>,
+    ledger: &mut Ledger,
     number: u32,
-    name: &'a str,
+    name: &str,
     visit: Visit,
 ) -> Result<(), Memory>
-    requires names { ledger.old.names ≡ row_names ledger.old.rows.items }
+    requires names { AreIndexed ledger.old.names (row_names ledger.old.rows.items) }
     requires first { 1 ≤ number }
     requires few { number ≤ MOST_HANDS }
     requires within { IsOfHands (number - 1) (row_at ledger.old.rows.items name.now) }
     requires visit { IsOfHand visit }
-    ensures names { OnOk result (ledger.new.names ≡ row_names ledger.new.rows.items) }
+    ensures names { OnOk result (AreIndexed ledger.new.names
+        (row_names ledger.new.rows.items)) }
     ensures rows { OnOk result (ledger.new.rows.items
         ≡ with_row ledger.old.rows.items name.now visit) }
     ensures steps { OnOk result (ledger.new.steps.items ≡ ledger.old.steps.items
@@ -136,17 +135,19 @@ fn add_visit_of<'a>(
 }
 
 // The place of the row of a name, which is made where the name is new.
-fn row_place<'a>(alloc: Global, ledger: &mut Ledger<'a>, name: &'a str) -> Result<usize, Memory>
-    requires names { ledger.old.names ≡ row_names ledger.old.rows.items }
-    ensures names { OnOk result (ledger.new.names ≡ row_names ledger.new.rows.items) }
+fn row_place(alloc: Global, ledger: &mut Ledger, name: &str) -> Result<usize, Memory>
+    requires names { AreIndexed ledger.old.names (row_names ledger.old.rows.items) }
+    ensures names { OnOk result (AreIndexed ledger.new.names
+        (row_names ledger.new.rows.items)) }
     ensures rows { OnOk result (ledger.new.rows.items
         ≡ rows_with ledger.old.rows.items name.now) }
     ensures steps { OnOk result (ledger.new.steps ≡ ledger.old.steps) }
     ensures place { IfOk result (λ place.
         position_from (bytes_eq name.now) 0 (row_names ledger.new.rows.items) ≡ Some place) }
 {
-    let place = ledger.names.place_of(name)?;
-    if place == ledger.rows.len() {
+    let rows = ledger.rows.len();
+    let place = ledger.names.place_of(alloc, name, rows)?;
+    if place == rows {
         ledger.rows.push(new_row(alloc, name)?)?;
     }
     Ok(place)

@@ -57,7 +57,7 @@ rows_within hands within =
     subst (AllByRecursion IsRowWithin) (sym (rows_found rows (distinct_rows hands))) (each_within rows (row_names rows) within)
 
 -- the row at an index
-row_here : (entries : List (ℕ × NamedTally)) (index : ℕ) → slice_get (rows_of entries) index ≡ option_map (λ entry. (entry.1.name.now, entry.1.tally)) (slice_get entries index)
+row_here : (entries : List (ℕ × NamedTally)) (index : ℕ) → slice_get (rows_of entries) index ≡ option_map (λ entry. (entry.1.name, entry.1.tally)) (slice_get entries index)
 row_here [] zero = refl
 row_here [] (suc index) = refl
 row_here (entry ∷ entries) zero = refl
@@ -65,16 +65,16 @@ row_here (entry ∷ entries) (suc index) = row_here entries index
 
 -- its line
 pub line_here : (entries : List (ℕ × NamedTally)) (index place : ℕ) (named : NamedTally) → slice_get entries index ≡ Some (place, named)
-    → flat_map row_line (option_to_list (slice_get (rows_of entries) index)) ≡ row_line (named.name.now, named.tally)
+    → flat_map row_line (option_to_list (slice_get (rows_of entries) index)) ≡ row_line (named.name, named.tally)
 line_here entries index place named at =
-    ap (λ row. flat_map row_line (option_to_list row)) (row_here entries index ∙ ap (option_map (λ entry. (entry.1.name.now, entry.1.tally))) at)
-    ∙ append-nil (row_line (named.name.now, named.tally))
+    ap (λ row. flat_map row_line (option_to_list row)) (row_here entries index ∙ ap (option_map (λ entry. (entry.1.name, entry.1.tally))) at)
+    ∙ append-nil (row_line (named.name, named.tally))
 
 -- and that it is of no more seats
 pub within_here : (entries : List (ℕ × NamedTally)) (index place : ℕ) (named : NamedTally) → slice_get entries index ≡ Some (place, named)
-    → AllByRecursion IsRowWithin (rows_of entries) → IsRowWithin (named.name.now, named.tally)
+    → AllByRecursion IsRowWithin (rows_of entries) → IsRowWithin (named.name, named.tally)
 within_here [] zero place named at within = absurd (cc (at))
 within_here [] (suc index) place named at within = absurd (cc (at))
 within_here (entry ∷ entries) zero place named at within =
-    subst (λ (one : ℕ × NamedTally). IsRowWithin (one.1.name.now, one.1.tally)) (same_Some entry (place, named) at) within.0
+    subst (λ (one : ℕ × NamedTally). IsRowWithin (one.1.name, one.1.tally)) (same_Some entry (place, named) at) within.0
 within_here (entry ∷ entries) (suc index) place named at within = within_here entries index place named at within.1

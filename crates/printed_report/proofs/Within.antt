@@ -1,9 +1,9 @@
 -- Tallies grow by no more than a seat may hold.
-use Rattle.std.proofs.Common.{◌≡◌, ℕ, suc, ◌+◌, ◌-◌, ◌≤◌, ◌<◌, ◌==◌, Bool, true, false, cond, List, [], map, bytes_eq, sym, ap, subst, arith}
+use Rattle.std.proofs.Common.{◌≡◌, ℕ, suc, ◌+◌, ◌-◌, ◌≤◌, ◌<◌, ◌==◌, Bool, true, false, cond, List, [], ◌∷◌, ◌++◌, length, ◌∙◌, map, bytes_eq, sym, ap, subst, arith}
 use Rattle.std.specs.List.{range_with_len}
 use Rattle.chip_ledger.specs.declared.rows.TheConstants.{MOST_AMOUNT}
-use Rattle.printed_report.specs.Report.{Seated}
-use Rattle.printed_report.specs.Tallies.{AreWithin, IsWithin, tally_at, with_row, with_seat, with_seats}
+use Rattle.printed_report.specs.Report.{Hand, Seated}
+use Rattle.printed_report.specs.Tallies.{AreWithin, IsWithin, tally_at, with_hands, with_row, with_seat, with_seats}
 use Rattle.printed_report.specs.declared.tally.Tally.{Tally}
 use Rattle.printed_report.proofs.Rows.{at_row}
 
@@ -46,3 +46,11 @@ pub next_seat : (number : ℕ) (rows : List (List ℕ × Tally)) (seated : ℕ �
 next_seat number rows seated index seats within =
     let left : seats - index ≡ suc (seats - (index + 1)) = omega (arith, within) in
     ap (λ count. with_seats number rows (map seated (range_with_len (index + 1) count))) (sym left)
+
+-- rows with one hand more
+pub hands_more : (number : ℕ) (rows : List (List ℕ × Tally)) (hands : List Hand) (hand : Hand)
+    → with_hands number rows (hands ++ hand ∷ []) ≡ with_seats (number + length hands) (with_hands number rows hands) hand.seats
+hands_more number rows [] hand = ap (λ (n : ℕ). with_seats n rows hand.seats) (omega arith)
+hands_more number rows (first ∷ rest) hand =
+    hands_more (number + 1) (with_seats number rows first.seats) rest hand
+    ∙ ap (λ (n : ℕ). with_seats n (with_hands (number + 1) (with_seats number rows first.seats) rest) hand.seats) (omega arith)

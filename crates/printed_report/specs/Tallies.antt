@@ -4,6 +4,8 @@ use Rattle.std.specs.Map.{lookup}
 use Rattle.std.specs.Option.{option_map_or}
 use Rattle.indexmap.specs.IndexMap.{insert_entry}
 use Rattle.chip_ledger.specs.declared.rows.TheConstants.{MOST_AMOUNT}
+use Rattle.name_index.specs.Indexed.{AreIndexed}
+use Rattle.name_index.specs.declared.index.NameIndex.{NameIndex}
 use Rattle.printed_report.specs.declared.tally.NamedTally.{NamedTally}
 use Rattle.printed_report.specs.declared.tally.Tally.{Tally}
 use Rattle.printed_report.specs.Report.{Hand, Seated, name_line}
@@ -24,7 +26,7 @@ with_seat number tally seat =
 
 -- the names of a map's entries, each with its tally
 abbrev pub rows_of : List (ℕ × NamedTally) → List (List ℕ × Tally)
-rows_of entries = map (λ entry. (entry.1.name.now, entry.1.tally)) entries
+rows_of entries = map (λ entry. (entry.1.name, entry.1.tally)) entries
 
 -- entries have the numbers from this one on as keys
 abbrev pub AreNumbered : ℕ → List (ℕ × NamedTally) → Type 0
@@ -35,10 +37,10 @@ AreNumbered first (entry ∷ rest) = (entry.0 ≡ first) × AreNumbered (first +
 abbrev pub row_names : List (List ℕ × Tally) → List (List ℕ)
 row_names rows = map (λ row. row.0) rows
 
--- the names of an index are those of the rows of some entries, and each entry has the place of its
--- name as its key
-pub record AreTallied (indexed : List (List ℕ)) (entries : List (ℕ × NamedTally)) : Type 0 where
-  pub names : indexed ≡ row_names (rows_of entries)
+-- an index finds the names of the rows of some entries, and each entry has the place of its name as
+-- its key
+pub record AreTallied (index : NameIndex) (entries : List (ℕ × NamedTally)) : Type 0 where
+  pub names : AreIndexed index (row_names (rows_of entries))
   pub places : AreNumbered 0 entries
 
 -- the tally under a place, or an empty one where there is none

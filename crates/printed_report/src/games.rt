@@ -1,10 +1,10 @@
 //! Hands and their pots are added up by game.
-ghost use Rattle.std.specs.Prelude.{◌≡◌, ◌≤◌, ◌+◌, ◌*◌, ◌++◌, [], codes, filter, flat_map, length, map, sum_by, if◌then◌else◌, OnOk, string_bytes};
+ghost use Rattle.std.specs.Prelude.{◌≡◌, ◌≤◌, ◌-◌, ◌++◌, [], flat_map, map, Some, IfOk, OnOk, string_bytes};
+ghost use Rattle.std.specs.List.{AllByRecursion};
 ghost use Rattle.hand_canon.specs.Agreement.{pot_total_of};
 ghost use Rattle.first_fault.specs.declared.limits.TheConstants.{MOST_HANDS};
-ghost use Rattle.play_event.specs.Code.{code_text};
-ghost use Rattle.printed_report.specs.Games.{MOST_POTS, is_counted};
-ghost use Rattle.printed_report.specs.Report.{game_codes, game_line, hand_of, hands_line};
+ghost use Rattle.printed_report.specs.Games.{AreFewSums, MOST_POTS, all_wanted, is_counted, line_for, sums_line, sums_of, with_hand as with_hand_said};
+ghost use Rattle.printed_report.specs.Report.{hand_of};
 
 use crate::lines::push_hands_line;
 use card_set::Memory;
@@ -12,106 +12,75 @@ use hand_records::{Play, Trace};
 use play_event::Code;
 use std::alloc::Global;
 
-// How many hands there are, and the chips of their pots together. A pot's chips are any u64.
+/// The hands of a game, or all hands: how many they are, and the chips of their pots together.
 #[derive(Clone, Copy, Debug)]
-struct Sums {
-    hands: u64,
-    pots: u128,
+pub struct Sums {
+    pub wanted: Option<Code>,
+    pub hands: u64,
+    // A pot's chips are any u64.
+    pub pots: u128,
 }
 
-/// Puts the line of each game that was played at the end of a text, and the line of all hands.
-pub fn push_games(alloc: Global, text: &mut String, plays: &[Play]) -> Result<(), Memory>
-    requires few { length plays.now ≤ MOST_HANDS }
-    ensures { OnOk result (string_bytes text.new ≡ string_bytes text.old
-        ++ (flat_map (game_line (map hand_of plays.now)) game_codes
-        ++ hands_line (codes "total") (map hand_of plays.now))) }
+/// The sums of no hands: those of each game in the order of the table of games, and those of all.
+pub fn no_sums(alloc: Global) -> Result<Vec<Sums>, Memory>
+    ensures { IfOk result (λ sums. sums.items ≡ map (sums_of []) all_wanted) }
 {
-    let codes = [
-        Code::FT,
-        Code::NT,
-        Code::NS,
-        Code::PO,
-        Code::FO8,
-        Code::F7S,
-        Code::F7S8,
-        Code::FR,
-        Code::N2L1D,
-        Code::F2L3D,
-        Code::FB,
+    let wanted = [
+        Some(Code::FT),
+        Some(Code::NT),
+        Some(Code::NS),
+        Some(Code::PO),
+        Some(Code::FO8),
+        Some(Code::F7S),
+        Some(Code::F7S8),
+        Some(Code::FR),
+        Some(Code::N2L1D),
+        Some(Code::F2L3D),
+        Some(Code::FB),
+        None,
     ];
-    push_each(alloc, text, plays, &codes)?;
-    push_total(alloc, text, plays)
+    let mut sums = Vec::with_capacity(alloc, wanted.len())?;
+    for one in &wanted {
+        sums.push(none_of(*one))?;
+    }
+    Ok(sums)
 }
 
-// Puts the line of each of these games that was played.
-fn push_each(alloc: Global, text: &mut String, plays: &[Play], codes: &[Code]) -> Result<(), Memory>
-    requires few { length plays.now ≤ MOST_HANDS }
-    ensures { OnOk result (string_bytes text.new ≡ string_bytes text.old
-        ++ flat_map (game_line (map hand_of plays.now)) (map code_text codes.now)) }
+// The sums of no hands.
+fn none_of(wanted: Option<Code>) -> Sums
+    ensures { result ≡ sums_of [] wanted }
 {
-    match codes {
-        [] => Ok(()),
-        [first, rest @ ..] => {
-            push_game(alloc, text, plays, *first)?;
-            push_each(alloc, text, plays, rest)
-        }
+    Sums {
+        wanted,
+        hands: 0,
+        pots: 0,
     }
 }
 
-// Puts the line of a game, if it was played.
-#[tactic(auto, using(crate::proofs::Counted::no_line, crate::proofs::Counted::a_line))]
-fn push_game(alloc: Global, text: &mut String, plays: &[Play], code: Code) -> Result<(), Memory>
-    requires few { length plays.now ≤ MOST_HANDS }
-    ensures { OnOk result (string_bytes text.new ≡ string_bytes text.old
-        ++ game_line (map hand_of plays.now) (code_text code)) }
+/// Adds a hand to each of these sums, where it counts.
+pub fn add_to_sums(sums: &mut Vec<Sums>, play: &Play)
+    requires few { AllByRecursion (AreFewSums (MOST_HANDS - 1)) sums.old.items }
+    ensures added { sums.new.items ≡ map (with_hand_said (hand_of play.now)) sums.old.items }
+    ensures bounded { (hand_of play.now).pots ≤ MOST_POTS }
 {
-    let sums = sums_of(plays, Some(code));
-    if sums.hands == 0 {
-        return Ok(());
+    let pots = pot_total(&play.trace);
+    for index in 0..sums.len() {
+        sums[index] = with_hand(sums[index], play, pots);
     }
-    push_hands_line(alloc, text, code.text(), sums.hands, sums.pots)
 }
 
-// Puts the line of all hands.
-#[tactic(auto, using(crate::proofs::Counted::all_counted))]
-fn push_total(alloc: Global, text: &mut String, plays: &[Play]) -> Result<(), Memory>
-    requires few { length plays.now ≤ MOST_HANDS }
-    ensures { OnOk result (string_bytes text.new ≡ string_bytes text.old
-        ++ hands_line (codes "total") (map hand_of plays.now)) }
+// The sums with one more hand, which has these pots, where it counts.
+fn with_hand(sums: Sums, play: &Play, pots: u128) -> Sums
+    requires few { AreFewSums (MOST_HANDS - 1) sums }
+    requires pots { pots ≡ (hand_of play.now).pots }
+    requires bounded { pots ≤ MOST_POTS }
+    ensures { result ≡ with_hand_said (hand_of play.now) sums }
 {
-    let sums = sums_of(plays, None);
-    push_hands_line(alloc, text, "total", sums.hands, sums.pots)
-}
-
-// The hands of a game, or all hands.
-fn sums_of(plays: &[Play], wanted: Option<Code>) -> Sums
-    requires few { length plays.now ≤ MOST_HANDS }
-    ensures hands { result.hands ≡ length (filter (is_counted wanted) (map hand_of plays.now)) }
-    ensures pots { result.pots
-        ≡ sum_by (λ hand. hand.pots) (filter (is_counted wanted) (map hand_of plays.now)) }
-{
-    let mut sums = Sums { hands: 0, pots: 0 };
-    for play in plays {
-        sums = with_hand(sums, play, wanted);
-    }
-    sums
-}
-
-// The sums with one more hand, where it counts.
-fn with_hand(sums: Sums, play: &Play, wanted: Option<Code>) -> Sums
-    requires hands { sums.hands ≤ MOST_HANDS }
-    requires pots { sums.pots ≤ MOST_HANDS * MOST_POTS }
-    ensures hands { result.hands
-        ≡ (if is_counted wanted (hand_of play.now) then sums.hands + 1 else sums.hands) }
-    ensures pots { result.pots ≡ (if is_counted wanted (hand_of play.now)
-        then sums.pots + (hand_of play.now).pots else sums.pots) }
-    ensures few { result.hands ≤ sums.hands + 1 }
-    ensures bounded { result.pots ≤ sums.pots + MOST_POTS }
-{
-    if counts(play, wanted) {
+    if counts(play, sums.wanted) {
         Sums {
+            wanted: sums.wanted,
             hands: sums.hands + 1,
-            pots: sums.pots + pot_total(&play.trace),
+            pots: sums.pots + pots,
         }
     } else {
         sums
@@ -138,4 +107,50 @@ fn pot_total(trace: &Trace) -> u128
         all += u128::from(pot.chips);
     }
     all
+}
+
+/// Puts the lines of sums at the end of a text: that of each game that was played, and that of all
+/// hands.
+pub fn push_sums(alloc: Global, text: &mut String, sums: &[Sums]) -> Result<(), Memory>
+    ensures { OnOk result (string_bytes text.new ≡ string_bytes text.old
+        ++ flat_map sums_line sums.now) }
+{
+    for one in sums {
+        push_line(alloc, text, one.wanted, one.hands, one.pots)?;
+    }
+    Ok(())
+}
+
+// Puts the line of a game, if it was played, or that of all hands.
+fn push_line(
+    alloc: Global,
+    text: &mut String,
+    wanted: Option<Code>,
+    hands: u64,
+    pots: u128,
+) -> Result<(), Memory>
+    ensures { OnOk result (string_bytes text.new ≡ string_bytes text.old
+        ++ line_for wanted hands pots) }
+{
+    match wanted {
+        Some(code) => push_game(alloc, text, code, hands, pots),
+        None => push_hands_line(alloc, text, "total", hands, pots),
+    }
+}
+
+// Puts the line of a game, if it was played.
+fn push_game(
+    alloc: Global,
+    text: &mut String,
+    code: Code,
+    hands: u64,
+    pots: u128,
+) -> Result<(), Memory>
+    ensures { OnOk result (string_bytes text.new ≡ string_bytes text.old
+        ++ line_for (Some code) hands pots) }
+{
+    if hands == 0 {
+        return Ok(());
+    }
+    push_hands_line(alloc, text, code.text(), hands, pots)
 }

@@ -7,4 +7,4 @@ mod names;
 mod report;
 mod tally;
 
-pub use report::report_text;
+pub use report::{OpenReport, report_text};

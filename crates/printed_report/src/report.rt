@@ -1,19 +1,85 @@
 //! The report on hands: a line for each game that was played, one for all hands, and one for each name.
-ghost use Rattle.std.specs.Prelude.{◌≡◌, ◌≤◌, ◌<◌, ◌++◌, flat_map, length, option_to_list, slice_get, IfOk, OnOk, string_bytes};
+ghost use Rattle.std.specs.Prelude.{◌≡◌, ◌≤◌, ◌<◌, ◌++◌, ◌∷◌, [], List, flat_map, length, option_to_list, slice_get, IfOk, OnOk, string_bytes};
 ghost use Rattle.std.specs.List.{AllByRecursion};
 ghost use Rattle.first_fault.specs.declared.limits.TheConstants.{MOST_HANDS};
+ghost use Rattle.hand_records.specs.declared.trace.Play.{Play as AnyPlay};
 ghost use Rattle.indexmap.specs.IndexMap.{index_map_len};
 ghost use Rattle.printed_report.specs.Report.{report_said};
+ghost use Rattle.printed_report.specs.SoFar.{IsReportSoFar};
 ghost use Rattle.printed_report.specs.Tallies.{IsRowWithin, row_line, rows_of};
 
-use crate::games::push_games;
+use crate::games::{Sums, add_to_sums, no_sums, push_sums};
 use crate::lines::push_name_line;
-use crate::names::tally_hands;
+use crate::names::tally_hand;
 use crate::tally::NamedTally;
 use card_set::Memory;
 use hand_records::Play;
 use indexmap::IndexMap;
+use name_index::NameIndex;
 use std::alloc::Global;
+
+/// A report that takes more hands: nothing of a hand is kept but what it adds to the report.
+#[derive(Drop)]
+pub struct OpenReport {
+    places: NameIndex,
+    tallies: IndexMap<usize, NamedTally>,
+    sums: Vec<Sums>,
+    hands: u64,
+}
+
+impl OpenReport {
+    /// A report on no hands.
+    ///
+    /// # Errors
+    ///
+    /// There is no memory for the games.
+    pub fn new(alloc: Global) -> Result<Self, Memory>
+        ensures { IfOk result (λ report. IsReportSoFar report []) }
+    {
+        let sums = no_sums(alloc)?;
+        Ok(OpenReport {
+            places: NameIndex::new(alloc),
+            tallies: IndexMap::new(alloc),
+            sums,
+            hands: 0,
+        })
+    }
+
+    /// Adds the play of one more hand behind the others.
+    ///
+    /// # Errors
+    ///
+    /// There is no memory for the names.
+    pub fn add_play(&mut self, alloc: Global, play: &Play) -> Result<(), Memory>
+        requires { (before : List AnyPlay) × (IsReportSoFar self.old before)
+            × (length before < MOST_HANDS) }
+        ensures { (before : List AnyPlay) → IsReportSoFar self.old before
+            → OnOk result (IsReportSoFar self.new (before ++ play.now ∷ [])) }
+    {
+        let number = self.hands + 1;
+        tally_hand(alloc, &mut self.places, &mut self.tallies, number, play)?;
+        add_to_sums(&mut self.sums, play);
+        self.hands = number;
+        Ok(())
+    }
+
+    /// The text of the report on the hands so far.
+    ///
+    /// # Errors
+    ///
+    /// There is no memory for the text.
+    pub fn text(&self, alloc: Global) -> Result<String, Memory>
+        requires { (plays : List AnyPlay) × (IsReportSoFar self.now plays)
+            × (length plays ≤ MOST_HANDS) }
+        ensures { (plays : List AnyPlay) → IsReportSoFar self.now plays
+            → IfOk result (λ text. string_bytes text ≡ report_said plays) }
+    {
+        let mut text = String::new(alloc);
+        push_sums(alloc, &mut text, &self.sums)?;
+        push_names(alloc, &mut text, &self.tallies)?;
+        Ok(text)
+    }
+}
 
 /// The text of the report on these hands: a line for each game that was played, in the order of the table of games, one for all
 /// hands, and one for each name, in the order in which names are first seen. Pots are counted before rakes are taken. A seat
@@ -26,18 +92,18 @@ pub fn report_text(alloc: Global, plays: &[Play]) -> Result<String, Memory>
     requires few { length plays.now ≤ MOST_HANDS }
     ensures { IfOk result (λ text. string_bytes text ≡ report_said plays.now) }
 {
-    let tallies = tally_hands(alloc, plays)?;
-    let mut text = String::new(alloc);
-    push_games(alloc, &mut text, plays)?;
-    push_names(alloc, &mut text, &tallies)?;
-    Ok(text)
+    let mut report = OpenReport::new(alloc)?;
+    for play in plays {
+        report.add_play(alloc, play)?;
+    }
+    report.text(alloc)
 }
 
 // Puts the line of each name, in the order of the map.
 fn push_names(
     alloc: Global,
     text: &mut String,
-    tallies: &IndexMap<usize, NamedTally<'_>>,
+    tallies: &IndexMap<usize, NamedTally>,
 ) -> Result<(), Memory>
     requires { AllByRecursion IsRowWithin (rows_of tallies.now.entries) }
     ensures { OnOk result (string_bytes text.new ≡ string_bytes text.old
@@ -54,7 +120,7 @@ fn push_names(
 fn push_name(
     alloc: Global,
     text: &mut String,
-    tallies: &IndexMap<usize, NamedTally<'_>>,
+    tallies: &IndexMap<usize, NamedTally>,
     index: usize,
 ) -> Result<(), Memory>
     requires within { AllByRecursion IsRowWithin (rows_of tallies.now.entries) }
@@ -63,5 +129,5 @@ fn push_name(
         ++ flat_map row_line (option_to_list (slice_get (rows_of tallies.now.entries) index))) }
 {
     let (_, named) = tallies.get_index(index).unwrap();
-    push_name_line(alloc, text, named.name, named.tally)
+    push_name_line(alloc, text, named.name.as_str(), named.tally)
 }

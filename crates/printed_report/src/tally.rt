@@ -4,6 +4,7 @@ ghost use Rattle.printed_report.specs.Report.{seated_in};
 ghost use Rattle.printed_report.specs.Tallies.{IsWithin, MOST_SEATS, no_tally as empty, with_seat as with_seat_said};
 
 use chip_ledger::Seat;
+use first_fault::Text;
 use hand_records::Play;
 
 /// What is added up of a name. Amounts are chips.
@@ -20,9 +21,9 @@ pub struct Tally {
 }
 
 /// A name with its tally.
-#[derive(Clone, Copy, Debug)]
-pub struct NamedTally<'a> {
-    pub name: &'a str,
+#[derive(Debug, Drop)]
+pub struct NamedTally {
+    pub name: Text,
     pub tally: Tally,
 }
 

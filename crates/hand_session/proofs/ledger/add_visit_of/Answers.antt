@@ -1,5 +1,6 @@
 -- The row of the name gets the visit.
 use Rattle.std.proofs.Common.{◌≡◌, ℕ, ◌≤◌, ◌-◌, ◌++◌, List, slice_set, sym, ap, subst, ◌∙◌, arith}
+use Rattle.name_index.specs.Indexed.{AreIndexed}
 use Rattle.hand_session.specs.declared.lists.SessionRow.{SessionRow}
 use Rattle.hand_session.specs.declared.lists.Step.{Step}
 use Rattle.hand_session.specs.Visits.{IsOfHands, MOST_OF_HAND, row_at, row_names, visit_steps, with_row, with_visit}
@@ -44,11 +45,12 @@ module _ (c : goal.After-ledger-1) where
 
 pub returns-clause-names : goal.returns-clause-names
 returns-clause-names c =
-    c.in_ok-place.ensures.names
-    ∙ ap row_names c.in_ok-place.ensures.rows
+    subst (AreIndexed c.row_place.new.ledger.names)
+    (ap row_names c.in_ok-place.ensures.rows
     ∙ names_with (old c) (name c)
     ∙ sym (names_after (old c) (name c) c.args.visit)
-    ∙ ap row_names (sym (put c))
+    ∙ ap row_names (sym (put c)))
+    c.in_ok-place.ensures.names
 
 pub returns-clause-rows : goal.returns-clause-rows
 returns-clause-rows c = put c
