@@ -1,0 +1,5 @@
+-- The number grows less.
+use Rattle.hand_differences.proofs.notes.+is_decimal.Given as goal
+
+abbrev pub decreases-is_decimal : goal.decreases-is_decimal
+decreases-is_decimal l = l.number

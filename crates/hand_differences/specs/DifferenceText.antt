@@ -1,0 +1,46 @@
+-- What is told of the first difference of two plays.
+use Rattle.std.specs.Prelude.{ℕ, List, ◌++◌, codes, Option, Some, None}
+use Rattle.std.specs.Fmt.{decimal}
+use Rattle.hand_records.specs.declared.notes.NoteName.{NoteName}
+use Rattle.hand_records.specs.declared.notes.NoteName.TheVariants as names
+use Rattle.hand_differences.specs.FirstDifference as found
+use Rattle.hand_differences.specs.FirstDifference.{PlainDifference}
+
+-- what a note is called
+abbrev pub note_text : NoteName → List ℕ
+note_text names.Players = codes "players"
+note_text names.Seats = codes "seats"
+note_text names.SeatCount = codes "seat_count"
+note_text names.Hand = codes "hand"
+note_text names.Table = codes "table"
+note_text names.Venue = codes "venue"
+note_text names.Currency = codes "currency"
+note_text names.TimeZone = codes "time_zone"
+note_text names.Year = codes "year"
+note_text names.Month = codes "month"
+note_text names.Day = codes "day"
+note_text names.Time = codes "time"
+
+-- whose card it is
+abbrev pub owner_text : Option ℕ → List ℕ
+owner_text None = codes "board"
+owner_text (Some seat) = codes "p" ++ decimal seat
+
+-- what is told of a difference, as `move 3, street 1, p2` or `card 9, street 2, board`
+abbrev pub difference_text : PlainDifference → List ℕ
+difference_text found.Variant = codes "Variant"
+difference_text found.SeatCount = codes "SeatCount"
+difference_text found.Stacks = codes "Stacks"
+difference_text found.BetSizes = codes "BetSizes"
+difference_text found.Antes = codes "Antes"
+difference_text found.Blinds = codes "Blinds"
+difference_text found.Rake = codes "Rake"
+difference_text (found.Move number street seat) =
+    codes "move "
+    ++ (decimal number ++ (codes ", street " ++ (decimal street ++ (codes ", p" ++ decimal seat))))
+difference_text (found.Card number street owner) =
+    codes "card "
+    ++ (decimal number
+    ++ (codes ", street " ++ (decimal street ++ (codes ", " ++ owner_text owner))))
+difference_text (found.Shown seat) = codes "shown p" ++ decimal seat
+difference_text (found.Note name) = codes "Note " ++ note_text name

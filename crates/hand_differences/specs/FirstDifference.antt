@@ -1,0 +1,147 @@
+-- The first difference of two plays: of their setups, then of their moves, their cards, who was
+-- shown, and their notes.
+use Rattle.std.specs.Prelude.{ℕ, Bool, not, ◌&&◌, ◌==◌, if◌then◌else◌, List, [], ◌∷◌, bytes_eq, find, Option, Some, None, option_and_then, option_map}
+use Rattle.std.specs.Option.{option_or}
+use Rattle.chip_ledger.specs.LiveRow.{flag_of}
+use Rattle.chip_ledger.specs.Seat.{seats_of}
+use Rattle.chip_ledger.specs.SeatRow.{amounts_in}
+use Rattle.chip_ledger.specs.declared.rows.LiveRow.{LiveRow}
+use Rattle.hand_records.specs.SaidNotes.{SaidNotes, notes_of}
+use Rattle.hand_records.specs.declared.notes.NoteName.{NoteName}
+use Rattle.hand_records.specs.declared.notes.NoteName.TheVariants as names
+use Rattle.hand_records.specs.declared.trace.Play.{Play}
+use Rattle.play_event.specs.Code.{code_text}
+use Rattle.play_event.specs.declared.played.Move as moves
+use Rattle.play_event.specs.declared.played.Place as places
+use Rattle.play_event.specs.declared.setup.Setup.{Setup}
+use Rattle.hand_differences.specs.FirstNumbers.{first_other_number, entry_at}
+use Rattle.hand_differences.specs.SameParts.{is_same_test, is_same_option, are_same_entries, is_same_number, is_same_text, is_same_clock, is_same_move, is_same_place, owner_of}
+use Rattle.hand_differences.specs.declared.difference.Difference as rows
+use Rattle.hand_differences.specs.declared.difference.Difference.TheVariants as differences
+
+-- What differs first, with plain numbers for seats. Moves, cards, streets and seats are counted from
+-- 1; a card of the board has no owner.
+pub data PlainDifference : Type 0 where
+  Variant : PlainDifference
+  SeatCount : PlainDifference
+  Stacks : PlainDifference
+  BetSizes : PlainDifference
+  Antes : PlainDifference
+  Blinds : PlainDifference
+  Rake : PlainDifference
+  Move : (number street seat : ℕ) → PlainDifference
+  Card : (number street : ℕ) → (owner : Option ℕ) → PlainDifference
+  Shown : (seat : ℕ) → PlainDifference
+  Note : NoteName → PlainDifference
+
+-- what a difference says
+abbrev pub difference_said : rows.Difference → PlainDifference
+difference_said differences.Variant = Variant
+difference_said differences.SeatCount = SeatCount
+difference_said differences.Stacks = Stacks
+difference_said differences.BetSizes = BetSizes
+difference_said differences.Antes = Antes
+difference_said differences.Blinds = Blinds
+difference_said differences.Rake = Rake
+difference_said (differences.Move number street seat) = Move number street seat.number
+difference_said (differences.Card number street owner) = Card number street (option_map (λ seat. seat.number) owner)
+difference_said (differences.Shown seat) = Shown seat.number
+difference_said (differences.Note name) = Note name
+
+-- some bet size differs: the bring-in, the small, the big or the least bet
+abbrev pub has_other_sizes : Setup → Setup → Bool
+has_other_sizes a b =
+    not ((a.bring_in == b.bring_in) && (a.small_bet == b.small_bet)
+    && (a.big_bet == b.big_bet) && (a.min_bet == b.min_bet))
+
+-- the antes differ: some amount as it is held, or whether they are dead
+abbrev pub has_other_antes : Setup → Setup → Bool
+has_other_antes a b =
+    not (bytes_eq (amounts_in a.antes) (amounts_in b.antes)
+    && is_same_test a.dead_antes b.dead_antes)
+
+-- what of two setups differs, in the order in which it is told
+abbrev pub setup_rows : Setup → Setup → List (Bool × PlainDifference)
+setup_rows a b =
+    (not (bytes_eq (code_text a.code) (code_text b.code)), Variant)
+    ∷ (not (a.stacks.seats == b.stacks.seats), SeatCount)
+    ∷ (not (bytes_eq (amounts_in a.stacks) (amounts_in b.stacks)), Stacks)
+    ∷ (has_other_sizes a b, BetSizes)
+    ∷ (has_other_antes a b, Antes)
+    ∷ (not (bytes_eq (amounts_in a.blinds) (amounts_in b.blinds)), Blinds)
+    ∷ (not (bytes_eq a.rakes.rakes b.rakes.rakes), Rake)
+    ∷ []
+
+-- the first row that holds, if one does
+abbrev pub first_row : List (Bool × PlainDifference) → Option PlainDifference
+first_row [] = None
+first_row (row ∷ rest) = if row.0 then Some row.1 else first_row rest
+
+-- what is told of a move with this number, from 1
+abbrev pub move_told : ℕ → moves.Move → PlainDifference
+move_told number move = Move number move.street move.seat.number
+
+-- the first move that differs
+abbrev pub move_difference : List moves.Move → List moves.Move → Option PlainDifference
+move_difference played others =
+    option_and_then
+    (λ number. option_map (move_told number) (entry_at played others number))
+    (first_other_number is_same_move played others)
+
+-- what is told of the place of a card with this number, from 1
+abbrev pub card_told : ℕ → places.Place → PlainDifference
+card_told number place = Card number place.street (owner_of place)
+
+-- the first place of a card that differs
+abbrev pub card_difference : List places.Place → List places.Place → Option PlainDifference
+card_difference dealt others =
+    option_and_then
+    (λ number. option_map (card_told number) (entry_at dealt others number))
+    (first_other_number is_same_place dealt others)
+
+-- the least seat that was shown in one of two hands alone
+abbrev pub shown_difference : LiveRow → LiveRow → Option PlainDifference
+shown_difference shown others =
+    option_map Shown
+    (find (λ seat. not (is_same_test (flag_of shown seat) (flag_of others seat)))
+    (seats_of shown.seats))
+
+-- the notes, in the order in which they are named
+abbrev pub note_names : List NoteName
+note_names =
+    names.Players ∷ names.Seats ∷ names.SeatCount ∷ names.Hand ∷ names.Table ∷ names.Venue
+    ∷ names.Currency ∷ names.TimeZone ∷ names.Year ∷ names.Month ∷ names.Day ∷ names.Time ∷ []
+
+-- a note is the same in both; one that equals its default is not said
+abbrev pub is_same_note : SaidNotes → SaidNotes → NoteName → Bool
+is_same_note a b names.Players = are_same_entries is_same_text a.names b.names
+is_same_note a b names.Seats = is_same_text a.seats b.seats
+is_same_note a b names.SeatCount = is_same_number a.seat_count b.seat_count
+is_same_note a b names.Hand = is_same_text a.hand b.hand
+is_same_note a b names.Table = is_same_text a.table b.table
+is_same_note a b names.Venue = is_same_text a.venue b.venue
+is_same_note a b names.Currency = is_same_text a.currency b.currency
+is_same_note a b names.TimeZone = is_same_text a.zone b.zone
+is_same_note a b names.Year = is_same_number a.year b.year
+is_same_note a b names.Month = is_same_number a.month b.month
+is_same_note a b names.Day = is_same_number a.day b.day
+is_same_note a b names.Time = is_same_option is_same_clock a.time b.time
+
+-- the first note that differs
+abbrev pub note_difference : SaidNotes → SaidNotes → Option PlainDifference
+note_difference a b = option_map Note (find (λ name. not (is_same_note a b name)) note_names)
+
+-- what differs of two hands but for their notes
+abbrev pub play_difference : Play → Play → Option PlainDifference
+play_difference play other =
+    option_or (first_row (setup_rows play.trace.setup other.trace.setup))
+    (option_or (move_difference play.trace.moves other.trace.moves)
+    (option_or (card_difference play.trace.places other.trace.places)
+    (shown_difference play.trace.shown other.trace.shown)))
+
+-- The first difference of two plays, each at this place of its file, from 0. Notes are looked at
+-- where they are asked for.
+unfoldable pub first_difference : (notes : Bool) → ℕ → Play → Play → Option PlainDifference
+first_difference notes place play other =
+    option_or (play_difference play other)
+    (if notes then note_difference (notes_of place play) (notes_of place other) else None)

@@ -1,0 +1,58 @@
+//! Two plays are compared, and their first difference is named.
+ghost use Rattle.std.specs.Prelude.{◌≡◌, IfNone, option_map};
+ghost use Rattle.hand_canon.specs.Sound.{IsSound};
+ghost use Rattle.hand_differences.specs.FirstDifference.{difference_said, first_difference as first_difference_said, play_difference as play_difference_said};
+
+use crate::difference::Difference;
+use crate::lists::{card_difference, move_difference, shown_difference};
+use crate::notes::note_difference;
+use crate::setups::setup_difference;
+use hand_records::Play;
+
+/// The first difference of two plays, each at this place of its file, from 0; `None` where they are
+/// the same hand. Notes are looked at where they are asked for; one that equals its default is
+/// none, and so is a name of the hand that is its place.
+///
+/// Ask for sound plays. No memory is taken. `law_of_same_hands` says that `None` is given exactly
+/// where the traces are the same and, where notes are asked for, the notes.
+pub fn first_difference(notes: bool, place: usize, play: &Play, other: &Play) -> Option<Difference>
+    requires play { IsSound play.now }
+    requires other { IsSound other.now }
+    ensures { option_map difference_said result
+        ≡ first_difference_said notes place play.now other.now }
+{
+    let found = play_difference(play, other);
+    if found.is_some() {
+        return found;
+    }
+    if !notes {
+        return None;
+    }
+    note_difference(
+        place,
+        play.trace.setup.stacks.seats,
+        &play.hand.notes,
+        &other.hand.notes,
+    )
+}
+
+// The first difference of two plays but for their notes.
+fn play_difference(play: &Play, other: &Play) -> Option<Difference>
+    ensures told { option_map difference_said result ≡ play_difference_said play.now other.now }
+    ensures seats { IfNone result
+        (play.now.trace.setup.stacks.seats ≡ other.now.trace.setup.stacks.seats) }
+{
+    let found = setup_difference(&play.trace.setup, &other.trace.setup);
+    if found.is_some() {
+        return found;
+    }
+    let found = move_difference(play.trace.moves.as_slice(), other.trace.moves.as_slice());
+    if found.is_some() {
+        return found;
+    }
+    let found = card_difference(play.trace.places.as_slice(), other.trace.places.as_slice());
+    if found.is_some() {
+        return found;
+    }
+    shown_difference(&play.trace.shown, &other.trace.shown)
+}

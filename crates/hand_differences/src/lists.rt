@@ -1,0 +1,146 @@
+//! The first number at which two lists of a trace are not the same is found, and the first seat
+//! that one hand alone shows.
+ghost use Rattle.std.specs.Prelude.{◌≡◌, max, length, not, option_map, slice_get, find};
+ghost use Rattle.chip_ledger.specs.LiveRow.{flag_of};
+ghost use Rattle.chip_ledger.specs.Seat.{seats_of};
+ghost use Rattle.hand_differences.specs.FirstDifference.{card_difference as card_difference_said, difference_said, move_difference as move_difference_said, shown_difference as shown_difference_said};
+ghost use Rattle.hand_differences.specs.FirstNumbers.{entry_at, first_other_number, is_same_at};
+ghost use Rattle.hand_differences.specs.SameParts.{is_same_move as is_same_move_said, is_same_place as is_same_place_said, is_same_test as is_same_test_said};
+
+use crate::difference::Difference;
+use crate::rows::{is_same_move, is_same_place, is_same_test};
+use chip_ledger::{LiveRow, Seat};
+use play_event::{Move, Place};
+
+// The first move that differs.
+pub(crate) fn move_difference(played: &[Move], others: &[Move]) -> Option<Difference>
+    ensures { option_map difference_said result ≡ move_difference_said played.now others.now }
+{
+    let Some(number) = first_other_move(played, others) else {
+        return None;
+    };
+    let Some(found) = move_at(played, others, number) else {
+        return None;
+    };
+    Some(Difference::Move {
+        number,
+        street: found.street,
+        seat: found.seat,
+    })
+}
+
+// The number of the first move that differs.
+fn first_other_move(played: &[Move], others: &[Move]) -> Option<usize>
+    ensures { result ≡ first_other_number is_same_move_said played.now others.now }
+{
+    for index in 0..greater(played.len(), others.len()) {
+        if !is_same_move_at(played, others, index + 1) {
+            return Some(index + 1);
+        }
+    }
+    None
+}
+
+// Both lists have one move at a number, or neither has one.
+fn is_same_move_at(played: &[Move], others: &[Move], number: usize) -> bool
+    ensures { result ≡ is_same_at is_same_move_said played.now others.now number }
+{
+    let index = number.saturating_sub(1);
+    match (played.get(index), others.get(index)) {
+        (Some(a), Some(b)) => is_same_move(a, b),
+        (None, None) => true,
+        (Some(_), None) | (None, Some(_)) => false,
+    }
+}
+
+// The move at a number.
+fn move_at(played: &[Move], others: &[Move], number: usize) -> Option<Move>
+    ensures { result ≡ entry_at played.now others.now number }
+{
+    let index = number.saturating_sub(1);
+    match played.get(index) {
+        Some(found) => Some(*found),
+        None => others.get(index).copied(),
+    }
+}
+
+// The first place of a card that differs.
+pub(crate) fn card_difference(dealt: &[Place], others: &[Place]) -> Option<Difference>
+    ensures { option_map difference_said result ≡ card_difference_said dealt.now others.now }
+{
+    let Some(number) = first_other_place(dealt, others) else {
+        return None;
+    };
+    let Some(found) = place_at(dealt, others, number) else {
+        return None;
+    };
+    Some(Difference::Card {
+        number,
+        street: found.street,
+        owner: found.owner,
+    })
+}
+
+// The number of the first place that differs.
+fn first_other_place(dealt: &[Place], others: &[Place]) -> Option<usize>
+    ensures { result ≡ first_other_number is_same_place_said dealt.now others.now }
+{
+    for index in 0..greater(dealt.len(), others.len()) {
+        if !is_same_place_at(dealt, others, index + 1) {
+            return Some(index + 1);
+        }
+    }
+    None
+}
+
+// Both lists have one place at a number, or neither has one.
+fn is_same_place_at(dealt: &[Place], others: &[Place], number: usize) -> bool
+    ensures { result ≡ is_same_at is_same_place_said dealt.now others.now number }
+{
+    let index = number.saturating_sub(1);
+    match (dealt.get(index), others.get(index)) {
+        (Some(a), Some(b)) => is_same_place(a, b),
+        (None, None) => true,
+        (Some(_), None) | (None, Some(_)) => false,
+    }
+}
+
+// The place at a number.
+fn place_at(dealt: &[Place], others: &[Place], number: usize) -> Option<Place>
+    ensures { result ≡ entry_at dealt.now others.now number }
+{
+    let index = number.saturating_sub(1);
+    match dealt.get(index) {
+        Some(found) => Some(*found),
+        None => others.get(index).copied(),
+    }
+}
+
+// The greater of two lengths.
+fn greater(a: usize, b: usize) -> usize
+    ensures { result ≡ max a b }
+{
+    if a < b { b } else { a }
+}
+
+// The least seat that was shown in one of two hands alone.
+pub(crate) fn shown_difference(shown: &LiveRow, others: &LiveRow) -> Option<Difference>
+    ensures { option_map difference_said result ≡ shown_difference_said shown.now others.now }
+{
+    for index in 0..shown.seats {
+        let seat = Seat { number: index + 1 };
+        if is_shown_in_one(shown, others, seat) {
+            return Some(Difference::Shown(seat));
+        }
+    }
+    None
+}
+
+// A seat was shown in one of two hands alone.
+fn is_shown_in_one(shown: &LiveRow, others: &LiveRow, seat: Seat) -> bool
+    ensures { result ≡ not (is_same_test_said (flag_of shown.now seat.number)
+        (flag_of others.now seat.number)) }
+{
+    let index = seat.number as usize - 1;
+    !is_same_test(shown.flags[index], others.flags[index])
+}

@@ -1,0 +1,215 @@
+//! The notes of two hands are compared, in the order in which notes are named.
+ghost use Rattle.std.specs.Prelude.{◌≡◌, ◌≤◌, IfSome, bytes_eq, decimal, find, map, not, option_map};
+ghost use Rattle.chip_ledger.specs.Seat.{seats_of};
+ghost use Rattle.hand_records.specs.AllowedNotes.{AreAllowed, AreSeatNumbers};
+ghost use Rattle.hand_records.specs.SaidNotes.{kept_label, name_said, numbers_said, said_notes};
+ghost use Rattle.hand_differences.specs.FirstDifference.{difference_said, is_same_note as is_same_note_said, note_difference as note_difference_said};
+ghost use Rattle.hand_differences.specs.SameParts.{are_same_entries, is_same_clock as is_same_clock_said, is_same_number, is_same_option, is_same_text as is_same_text_said};
+
+use crate::difference::Difference;
+use first_fault::Text;
+use hand_records::{Clock, NoteName, Notes};
+
+// The first note that differs, of hands with so many seats, each at this place of its file.
+pub(crate) fn note_difference(
+    place: usize,
+    count: u8,
+    notes: &Notes,
+    others: &Notes,
+) -> Option<Difference>
+    requires few { count ≤ 10 }
+    requires notes { AreAllowed count notes.now }
+    requires others { AreAllowed count others.now }
+    ensures { option_map difference_said result ≡ note_difference_said
+        (said_notes place count notes.now) (said_notes place count others.now) }
+{
+    let names = [
+        NoteName::Players,
+        NoteName::Seats,
+        NoteName::SeatCount,
+        NoteName::Hand,
+        NoteName::Table,
+        NoteName::Venue,
+        NoteName::Currency,
+        NoteName::TimeZone,
+        NoteName::Year,
+        NoteName::Month,
+        NoteName::Day,
+        NoteName::Time,
+    ];
+    match first_other(place, count, notes, others, names.as_slice()) {
+        Some(name) => Some(Difference::Note(name)),
+        None => None,
+    }
+}
+
+// The first of some notes that differs.
+fn first_other(
+    place: usize,
+    count: u8,
+    notes: &Notes,
+    others: &Notes,
+    names: &[NoteName],
+) -> Option<NoteName>
+    requires few { count ≤ 10 }
+    requires notes { AreAllowed count notes.now }
+    requires others { AreAllowed count others.now }
+    ensures { result ≡ find (λ name. not (is_same_note_said
+        (said_notes place count notes.now) (said_notes place count others.now) name)) names.now }
+{
+    match names {
+        [] => None,
+        [name, rest @ ..] => {
+            if is_same_note(place, count, notes, others, *name) {
+                first_other(place, count, notes, others, rest)
+            } else {
+                Some(*name)
+            }
+        }
+    }
+}
+
+// A note is the same.
+fn is_same_note(place: usize, count: u8, notes: &Notes, others: &Notes, name: NoteName) -> bool
+    requires few { count ≤ 10 }
+    requires notes { AreAllowed count notes.now }
+    requires others { AreAllowed count others.now }
+    ensures { result ≡ is_same_note_said
+        (said_notes place count notes.now) (said_notes place count others.now) name }
+{
+    match name {
+        NoteName::Players => are_same_names(count, &notes.names, &others.names),
+        NoteName::Seats => are_same_seats(count, &notes.seats, &others.seats),
+        NoteName::SeatCount => is_same_byte(notes.seat_count, others.seat_count),
+        NoteName::Hand => is_same_label(place, &notes.hand, &others.hand),
+        NoteName::Table => is_same_text(&notes.table, &others.table),
+        NoteName::Venue => is_same_text(&notes.venue, &others.venue),
+        NoteName::Currency => is_same_text(&notes.currency, &others.currency),
+        NoteName::TimeZone => is_same_text(&notes.zone, &others.zone),
+        NoteName::Year => is_same_year(notes.year, others.year),
+        NoteName::Month => is_same_byte(notes.month, others.month),
+        NoteName::Day => is_same_byte(notes.day, others.day),
+        NoteName::Time => is_same_time(notes.time, others.time),
+    }
+}
+
+// The names of the players are the same, seat by seat.
+fn are_same_names(count: u8, names: &[Option<Text>; 10], others: &[Option<Text>; 10]) -> bool
+    requires { count ≤ 10 }
+    ensures { result ≡ are_same_entries is_same_text_said
+        (map (name_said names.now) (seats_of count)) (map (name_said others.now) (seats_of count)) }
+{
+    for index in 0..count as usize {
+        if !is_same_text(&names[index], &others[index]) {
+            return false;
+        }
+    }
+    true
+}
+
+// The numbers of so many seats are the same. What is noted is not what is usual.
+fn are_same_seats(count: u8, seats: &Option<[u8; 10]>, others: &Option<[u8; 10]>) -> bool
+    requires few { count ≤ 10 }
+    requires seats { IfSome seats.now (AreSeatNumbers count) }
+    requires others { IfSome others.now (AreSeatNumbers count) }
+    ensures { result ≡ is_same_text_said (numbers_said count seats.now)
+        (numbers_said count others.now) }
+{
+    match (seats, others) {
+        (Some(a), Some(b)) => a[..count as usize] == b[..count as usize],
+        (None, None) => true,
+        (Some(_), None) | (None, Some(_)) => false,
+    }
+}
+
+// The labels of two hands are the same. A label that is the place of the hand is none.
+fn is_same_label(place: usize, label: &Option<Text>, other: &Option<Text>) -> bool
+    ensures { result ≡ is_same_text_said (kept_label place label.now)
+        (kept_label place other.now) }
+{
+    match (label_behind(place, label), label_behind(place, other)) {
+        (Some(a), Some(b)) => a == b,
+        (None, None) => true,
+        (Some(_), None) | (None, Some(_)) => false,
+    }
+}
+
+// The label of a hand, unless it is the place of the hand.
+fn label_behind<'a>(place: usize, label: &'a Option<Text>) -> Option<&'a [u8]>
+    ensures { option_map (λ text. text.now) result ≡ kept_label place label.now }
+{
+    let Some(text) = label else {
+        return None;
+    };
+    let text = text.as_str().as_bytes();
+    if is_decimal(text, place as u64) {
+        None
+    } else {
+        Some(text)
+    }
+}
+
+// A text is the decimal digits of a number.
+fn is_decimal(text: &[u8], number: u64) -> bool
+    ensures { result ≡ bytes_eq text.now (decimal number) }
+{
+    match text {
+        [] => false,
+        [front @ .., last] => {
+            if u64::from(*last) != 48 + number % 10 {
+                return false;
+            }
+            if number < 10 {
+                front.is_empty()
+            } else {
+                is_decimal(front, number / 10)
+            }
+        }
+    }
+}
+
+// A text that is said or not is the same.
+fn is_same_text(a: &Option<Text>, b: &Option<Text>) -> bool
+    ensures { result ≡ is_same_text_said a.now b.now }
+{
+    match (a, b) {
+        (Some(a), Some(b)) => a.as_str() == b.as_str(),
+        (None, None) => true,
+        (Some(_), None) | (None, Some(_)) => false,
+    }
+}
+
+// A small number that is said or not is the same.
+fn is_same_byte(a: Option<u8>, b: Option<u8>) -> bool
+    ensures { result ≡ is_same_number a b }
+{
+    match (a, b) {
+        (Some(a), Some(b)) => a == b,
+        (None, None) => true,
+        (Some(_), None) | (None, Some(_)) => false,
+    }
+}
+
+// A year that is said or not is the same.
+fn is_same_year(a: Option<u16>, b: Option<u16>) -> bool
+    ensures { result ≡ is_same_number a b }
+{
+    match (a, b) {
+        (Some(a), Some(b)) => a == b,
+        (None, None) => true,
+        (Some(_), None) | (None, Some(_)) => false,
+    }
+}
+
+// A time of a day that is said or not is the same.
+fn is_same_time(a: Option<Clock>, b: Option<Clock>) -> bool
+    ensures { result ≡ is_same_option is_same_clock_said a b }
+{
+    match (a, b) {
+        (Some(a), Some(b)) => {
+            a.hour == b.hour && a.minute == b.minute && a.second == b.second && a.nano == b.nano
+        }
+        (None, None) => true,
+        (Some(_), None) | (None, Some(_)) => false,
+    }
+}

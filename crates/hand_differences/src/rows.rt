@@ -1,0 +1,75 @@
+//! Rows of two traces are compared: moves, and places of cards.
+ghost use Rattle.std.specs.Prelude.{◌≡◌};
+ghost use Rattle.play_event.specs.Said.{seat_named};
+ghost use Rattle.play_event.specs.Places.{is_same_owner as is_same_owner_said};
+ghost use Rattle.hand_differences.specs.SameParts.{is_same_act as is_same_act_said, is_same_move as is_same_move_said, is_same_place as is_same_place_said, is_same_slot as is_same_slot_said, is_same_test as is_same_test_said};
+
+use card_set::{Slot, place_in_deck};
+use chip_ledger::Seat;
+use play_event::{Act, Move, Place};
+
+// Both hold, or neither does.
+pub(crate) fn is_same_test(a: bool, b: bool) -> bool
+    ensures { result ≡ is_same_test_said a b }
+{
+    if a { b } else { !b }
+}
+
+// One move.
+pub(crate) fn is_same_move(a: &Move, b: &Move) -> bool
+    ensures { result ≡ is_same_move_said a.now b.now }
+{
+    a.street == b.street
+        && a.seat.number == b.seat.number
+        && is_same_act(a.act, b.act)
+        && a.from == b.from
+        && a.to == b.to
+        && a.price == b.price
+        && is_same_test(a.closed, b.closed)
+        && a.unit_to == b.unit_to
+}
+
+// One act.
+fn is_same_act(a: Act, b: Act) -> bool
+    ensures { result ≡ is_same_act_said a b }
+{
+    match (a, b) {
+        (Act::Fold, Act::Fold) => true,
+        (Act::Call, Act::Call) => true,
+        (Act::Raise, Act::Raise) => true,
+        (Act::BringIn, Act::BringIn) => true,
+        _ => false,
+    }
+}
+
+// One place of a card.
+pub(crate) fn is_same_place(a: &Place, b: &Place) -> bool
+    ensures { result ≡ is_same_place_said a.now b.now }
+{
+    is_same_owner(a.owner, b.owner)
+        && a.street == b.street
+        && is_same_slot(a.slot, b.slot)
+        && a.gone == b.gone
+}
+
+// One owner.
+fn is_same_owner(a: Option<Seat>, b: Option<Seat>) -> bool
+    ensures { result ≡ is_same_owner_said (seat_named a) (seat_named b) }
+{
+    match (a, b) {
+        (Some(seat), Some(other)) => seat.number == other.number,
+        (None, None) => true,
+        (Some(_), None) | (None, Some(_)) => false,
+    }
+}
+
+// One known card, or both unknown.
+fn is_same_slot(a: Slot, b: Slot) -> bool
+    ensures { result ≡ is_same_slot_said a b }
+{
+    match (a, b) {
+        (Slot::Known(card), Slot::Known(other)) => place_in_deck(card) == place_in_deck(other),
+        (Slot::Unknown, Slot::Unknown) => true,
+        (Slot::Known(_), Slot::Unknown) | (Slot::Unknown, Slot::Known(_)) => false,
+    }
+}

@@ -1,0 +1,77 @@
+//! Two setups are compared, part by part.
+ghost use Rattle.std.specs.Prelude.{◌≡◌, IfNone, bytes_eq, not, option_map};
+ghost use Rattle.chip_ledger.specs.SeatRow.{amounts_in};
+ghost use Rattle.play_event.specs.Code.{code_text};
+ghost use Rattle.hand_differences.specs.FirstDifference.{difference_said, first_row, has_other_antes as has_other_antes_said, has_other_sizes as has_other_sizes_said, setup_rows};
+
+use crate::difference::Difference;
+use crate::rows::is_same_test;
+use chip_ledger::{RakeRow, SeatRow};
+use play_event::{Code, Setup};
+
+// The first part in which two setups differ.
+pub(crate) fn setup_difference(a: &Setup, b: &Setup) -> Option<Difference>
+    ensures told { option_map difference_said result ≡ first_row (setup_rows a.now b.now) }
+    ensures seats { IfNone result (a.now.stacks.seats ≡ b.now.stacks.seats) }
+{
+    if is_other_code(a.code, b.code) {
+        return Some(Difference::Variant);
+    }
+    if a.stacks.seats != b.stacks.seats {
+        return Some(Difference::SeatCount);
+    }
+    if are_other_amounts(&a.stacks, &b.stacks) {
+        return Some(Difference::Stacks);
+    }
+    if has_other_sizes(a, b) {
+        return Some(Difference::BetSizes);
+    }
+    if has_other_antes(a, b) {
+        return Some(Difference::Antes);
+    }
+    if are_other_amounts(&a.blinds, &b.blinds) {
+        return Some(Difference::Blinds);
+    }
+    if are_other_rakes(&a.rakes, &b.rakes) {
+        return Some(Difference::Rake);
+    }
+    None
+}
+
+// The games differ.
+fn is_other_code(a: Code, b: Code) -> bool
+    ensures { result ≡ not (bytes_eq (code_text a) (code_text b)) }
+{
+    a.text() != b.text()
+}
+
+// The amounts of two rows differ.
+fn are_other_amounts(a: &SeatRow, b: &SeatRow) -> bool
+    ensures { result ≡ not (bytes_eq (amounts_in a.now) (amounts_in b.now)) }
+{
+    a.amounts[..a.seats as usize] != b.amounts[..b.seats as usize]
+}
+
+// Some bet size differs.
+fn has_other_sizes(a: &Setup, b: &Setup) -> bool
+    ensures { result ≡ has_other_sizes_said a.now b.now }
+{
+    !(a.bring_in == b.bring_in
+        && a.small_bet == b.small_bet
+        && a.big_bet == b.big_bet
+        && a.min_bet == b.min_bet)
+}
+
+// The antes differ, or whether they are dead.
+fn has_other_antes(a: &Setup, b: &Setup) -> bool
+    ensures { result ≡ has_other_antes_said a.now b.now }
+{
+    are_other_amounts(&a.antes, &b.antes) || !is_same_test(a.dead_antes, b.dead_antes)
+}
+
+// The rake of some pot differs.
+fn are_other_rakes(a: &RakeRow, b: &RakeRow) -> bool
+    ensures { result ≡ not (bytes_eq a.now.rakes b.now.rakes) }
+{
+    a.rakes.as_slice() != b.rakes.as_slice()
+}

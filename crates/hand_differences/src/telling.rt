@@ -1,0 +1,98 @@
+//! What is told of the first difference of two plays.
+ghost use Rattle.std.specs.Prelude.{◌≡◌, IfOk, option_map, string_bytes};
+ghost use Rattle.hand_differences.specs.DifferenceText.{difference_text as difference_text_said, note_text as note_text_said, owner_text as owner_text_said};
+ghost use Rattle.hand_differences.specs.FirstDifference.{Card, difference_said};
+ghost use Rattle.play_event.specs.Said.{seat_named};
+
+use crate::difference::Difference;
+use card_set::Memory;
+use chip_ledger::Seat;
+use hand_records::NoteName;
+use std::alloc::Global;
+
+/// What is told of a difference, as `move 3, street 1, p2`, `card 9, street 2, board` or
+/// `Note players`.
+pub fn difference_text(alloc: Global, difference: Difference) -> Result<String, Memory>
+    ensures { IfOk result
+        (λ text. string_bytes text ≡ difference_text_said (difference_said difference)) }
+{
+    let word = match difference {
+        Difference::Variant => "Variant",
+        Difference::SeatCount => "SeatCount",
+        Difference::Stacks => "Stacks",
+        Difference::BetSizes => "BetSizes",
+        Difference::Antes => "Antes",
+        Difference::Blinds => "Blinds",
+        Difference::Rake => "Rake",
+        Difference::Move {
+            number,
+            street,
+            seat,
+        } => {
+            let seat = seat.number;
+            return Ok(format!(in alloc; "move {number}, street {street}, p{seat}")?);
+        }
+        Difference::Card {
+            number,
+            street,
+            owner,
+        } => return card_text(alloc, number, street, owner),
+        Difference::Shown(seat) => {
+            let seat = seat.number;
+            return Ok(format!(in alloc; "shown p{seat}")?);
+        }
+        Difference::Note(name) => {
+            let name = note_text(name);
+            return Ok(format!(in alloc; "Note {name}")?);
+        }
+    };
+    Ok(String::from_str(alloc, word)?)
+}
+
+// What is told of a card.
+fn card_text(
+    alloc: Global,
+    number: usize,
+    street: u8,
+    owner: Option<Seat>,
+) -> Result<String, Memory>
+    ensures { IfOk result (λ text. string_bytes text
+        ≡ difference_text_said (Card number street (seat_named owner))) }
+{
+    let owner = owner_text(alloc, owner)?;
+    let owner = owner.as_str();
+    Ok(format!(in alloc; "card {number}, street {street}, {owner}")?)
+}
+
+// Whose card it is.
+fn owner_text(alloc: Global, owner: Option<Seat>) -> Result<String, Memory>
+    ensures { IfOk result (λ text. string_bytes text ≡ owner_text_said (seat_named owner)) }
+{
+    match owner {
+        Some(seat) => {
+            let seat = seat.number;
+            Ok(format!(in alloc; "p{seat}")?)
+        }
+        None => Ok(String::from_str(alloc, "board")?),
+    }
+}
+
+/// What a note is called, as `players` or `time_zone`.
+pub fn note_text(note: NoteName) -> &'static str
+    ensures { result.now ≡ note_text_said note }
+{
+    match note {
+        NoteName::Players => "players",
+        NoteName::Seats => "seats",
+        NoteName::SeatCount => "seat_count",
+        NoteName::Hand => "hand",
+        NoteName::Table => "table",
+        NoteName::Venue => "venue",
+        NoteName::Currency => "currency",
+        NoteName::TimeZone => "time_zone",
+        NoteName::Year => "year",
+        NoteName::Month => "month",
+        NoteName::Day => "day",
+        NoteName::Time => "time",
+    }
+}
