@@ -27,7 +27,8 @@ begins_by word options =
     by (codes "check") _ _ refl (by (codes "replay") _ _ refl (by (codes "report") _ _ refl
     (by (codes "convert") _ _ refl (by (codes "game") _ _ refl (by (codes "load") _ _ refl
     (by (codes "views") _ _ refl (by (codes "options") _ _ refl (by (codes "session") _ _ refl
-    (by (codes "equity") _ _ refl (by (codes "judge") _ _ refl (λ some. cc)))))))))))
+    (by (codes "equity") _ _ refl (by (codes "judge") _ _ refl
+    (by (codes "compare") _ _ refl (λ some. cc))))))))))))
   where
     by : (name : Text) (asked others : Option Request) → BeginsPlain name → (is_some others ≡ true → BeginsPlain word)
         → is_some (if bytes_eq word name then asked else others) ≡ true → BeginsPlain word

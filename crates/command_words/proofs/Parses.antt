@@ -13,18 +13,18 @@ use Rattle.clap.specs.declared.parser.matches.ValueSource.TheVariants.{CommandLi
 use Rattle.clap.specs.Simple.{App, built, filled, help_rule, is_simple, matches_of, new_app, new_rule, with_index, with_rule}
 use Rattle.clap.proofs.OnLiterals.{clap_on_literals}
 use Rattle.command_words.specs.Requests.{flag_text}
-use Rattle.command_words.specs.Options.{Options, is_complete, is_flag, no_options, options_said, with_flag, with_option, with_word}
+use Rattle.command_words.specs.Options.{Options, is_complete, is_flag, is_of_other, no_options, options_said, with_flag, with_new, with_option, with_other, with_word}
 use Rattle.command_words.proofs.Finds.{Hold, Named, at_row-end, given, hold_given, row_named}
 use Rattle.command_words.proofs.Walking.{IsBetween, IsFlag, IsOption, alone, apart, first, joined}
 use Rattle.list_laws.proofs.Options.{followed, none_from_not}
 use Rattle.std.proofs.lemmas.Option.{same_Some}
 
--- the parser: a word for the command, the options, and the flag
+-- the parser: a word for the command, the options, and the flags
 abbrev pub option_rule : Text → Rule
 option_rule name = record (new_rule name) { long = Some name }
 
-abbrev pub flag_rule : Rule
-flag_rule = record (option_rule (codes "drop-notes")) { action = Some SetTrue }
+abbrev pub flag_rule : Text → Rule
+flag_rule name = record (option_rule name) { action = Some SetTrue }
 
 abbrev pub without_own_name : App
 without_own_name = let named = new_app (codes "handref") in record named { top = record named.top { no_binary_name = true } }
@@ -33,7 +33,7 @@ abbrev pub handref : App
 handref = fold with_rule without_own_name
     (new_rule (codes "command") ∷ option_rule (codes "from") ∷ option_rule (codes "to") ∷ option_rule (codes "game") ∷ option_rule (codes "seed")
     ∷ option_rule (codes "hands") ∷ option_rule (codes "seat") ∷ option_rule (codes "hand") ∷ option_rule (codes "after") ∷ option_rule (codes "street")
-    ∷ flag_rule ∷ [])
+    ∷ option_rule (codes "with") ∷ option_rule (codes "as") ∷ flag_rule (codes "drop-notes") ∷ flag_rule (codes "no-notes") ∷ [])
 
 -- the rows that it finds in words
 unfoldable pub rows_found : List Text → List Row
@@ -53,8 +53,8 @@ command = with_index 1 (filled (new_rule (codes "command")))
 abbrev option : Text → Rule
 option name = filled (option_rule name)
 
-abbrev flag : Rule
-flag = filled flag_rule
+abbrev flag : Text → Rule
+flag name = filled (flag_rule name)
 
 -- a row with one value
 abbrev row_of : Rule → ValueSource → Text → Row
@@ -67,19 +67,22 @@ given_row argument value = row_of argument CommandLine value
 abbrev option_row : Text → Option Text → Text × Option Row
 option_row name value = (name, option_map (given_row (option name)) value)
 
-abbrev flag_row : Bool → Option Row
-flag_row true = Some (given_row flag (codes "true"))
-flag_row false = None
+abbrev flag_row : Text → Bool → Option Row
+flag_row name true = Some (given_row (flag name) (codes "true"))
+flag_row name false = None
 
 abbrev values : Text → Options → Named
 values first options =
     (codes "command", Some (given_row command first)) ∷ option_row (codes "from") options.from ∷ option_row (codes "to") options.to
     ∷ option_row (codes "game") options.game ∷ option_row (codes "seed") options.seed ∷ option_row (codes "hands") options.hands
     ∷ option_row (codes "seat") options.seat ∷ option_row (codes "hand") options.hand ∷ option_row (codes "after") options.after
-    ∷ option_row (codes "street") options.street ∷ []
+    ∷ option_row (codes "street") options.street ∷ option_row (codes "with") options.other_file
+    ∷ option_row (codes "as") options.other_notation ∷ []
 
 abbrev named : Text → Options → Named
-named first options = (codes "drop-notes", flag_row options.drops_notes) ∷ values first options
+named first options =
+    (codes "drop-notes", flag_row (codes "drop-notes") options.drops_notes)
+    ∷ (codes "no-notes", flag_row (codes "no-notes") options.ignores_notes) ∷ values first options
 
 -- A walk that stands between options, with the rows of a command's word and of some options.
 record IsAt (walk : Walk) (first : Text) (options : Options) : Type 0 where
@@ -108,7 +111,7 @@ from_given options value none = record {
   argument = option (codes "from");
   stands = record { by_name = refl; by_id = refl; takes = refl; most = refl; own = refl };
   sets = refl;
-  empty = λ first rows held. held.1.1.0 ∙ ap (option_map (given_row (option (codes "from")))) none;
+  empty = λ first rows held. held.1.1.1.0 ∙ ap (option_map (given_row (option (codes "from")))) none;
   same = λ first. refl;
 }
 
@@ -118,7 +121,7 @@ to_given options value none = record {
   argument = option (codes "to");
   stands = record { by_name = refl; by_id = refl; takes = refl; most = refl; own = refl };
   sets = refl;
-  empty = λ first rows held. held.1.1.1.0 ∙ ap (option_map (given_row (option (codes "to")))) none;
+  empty = λ first rows held. held.1.1.1.1.0 ∙ ap (option_map (given_row (option (codes "to")))) none;
   same = λ first. refl;
 }
 
@@ -128,7 +131,7 @@ game_given options value none = record {
   argument = option (codes "game");
   stands = record { by_name = refl; by_id = refl; takes = refl; most = refl; own = refl };
   sets = refl;
-  empty = λ first rows held. held.1.1.1.1.0 ∙ ap (option_map (given_row (option (codes "game")))) none;
+  empty = λ first rows held. held.1.1.1.1.1.0 ∙ ap (option_map (given_row (option (codes "game")))) none;
   same = λ first. refl;
 }
 
@@ -138,7 +141,7 @@ seed_given options value none = record {
   argument = option (codes "seed");
   stands = record { by_name = refl; by_id = refl; takes = refl; most = refl; own = refl };
   sets = refl;
-  empty = λ first rows held. held.1.1.1.1.1.0 ∙ ap (option_map (given_row (option (codes "seed")))) none;
+  empty = λ first rows held. held.1.1.1.1.1.1.0 ∙ ap (option_map (given_row (option (codes "seed")))) none;
   same = λ first. refl;
 }
 
@@ -148,7 +151,7 @@ hands_given options value none = record {
   argument = option (codes "hands");
   stands = record { by_name = refl; by_id = refl; takes = refl; most = refl; own = refl };
   sets = refl;
-  empty = λ first rows held. held.1.1.1.1.1.1.0 ∙ ap (option_map (given_row (option (codes "hands")))) none;
+  empty = λ first rows held. held.1.1.1.1.1.1.1.0 ∙ ap (option_map (given_row (option (codes "hands")))) none;
   same = λ first. refl;
 }
 
@@ -158,7 +161,7 @@ seat_given options value none = record {
   argument = option (codes "seat");
   stands = record { by_name = refl; by_id = refl; takes = refl; most = refl; own = refl };
   sets = refl;
-  empty = λ first rows held. held.1.1.1.1.1.1.1.0 ∙ ap (option_map (given_row (option (codes "seat")))) none;
+  empty = λ first rows held. held.1.1.1.1.1.1.1.1.0 ∙ ap (option_map (given_row (option (codes "seat")))) none;
   same = λ first. refl;
 }
 
@@ -168,7 +171,7 @@ hand_given options value none = record {
   argument = option (codes "hand");
   stands = record { by_name = refl; by_id = refl; takes = refl; most = refl; own = refl };
   sets = refl;
-  empty = λ first rows held. held.1.1.1.1.1.1.1.1.0 ∙ ap (option_map (given_row (option (codes "hand")))) none;
+  empty = λ first rows held. held.1.1.1.1.1.1.1.1.1.0 ∙ ap (option_map (given_row (option (codes "hand")))) none;
   same = λ first. refl;
 }
 
@@ -178,7 +181,7 @@ after_given options value none = record {
   argument = option (codes "after");
   stands = record { by_name = refl; by_id = refl; takes = refl; most = refl; own = refl };
   sets = refl;
-  empty = λ first rows held. held.1.1.1.1.1.1.1.1.1.0 ∙ ap (option_map (given_row (option (codes "after")))) none;
+  empty = λ first rows held. held.1.1.1.1.1.1.1.1.1.1.0 ∙ ap (option_map (given_row (option (codes "after")))) none;
   same = λ first. refl;
 }
 
@@ -188,7 +191,29 @@ street_given options value none = record {
   argument = option (codes "street");
   stands = record { by_name = refl; by_id = refl; takes = refl; most = refl; own = refl };
   sets = refl;
-  empty = λ first rows held. held.1.1.1.1.1.1.1.1.1.1.0 ∙ ap (option_map (given_row (option (codes "street")))) none;
+  empty = λ first rows held. held.1.1.1.1.1.1.1.1.1.1.1.0 ∙ ap (option_map (given_row (option (codes "street")))) none;
+  same = λ first. refl;
+}
+
+with_given : (options : Options) (value : Text) → options.other_file ≡ None
+    → IsGiven options (codes "with") value (record options { other_file = Some value })
+unfolding clap_on_literals
+with_given options value none = record {
+  argument = option (codes "with");
+  stands = record { by_name = refl; by_id = refl; takes = refl; most = refl; own = refl };
+  sets = refl;
+  empty = λ first rows held. held.1.1.1.1.1.1.1.1.1.1.1.1.0 ∙ ap (option_map (given_row (option (codes "with")))) none;
+  same = λ first. refl;
+}
+
+as_given : (options : Options) (value : Text) → options.other_notation ≡ None
+    → IsGiven options (codes "as") value (record options { other_notation = Some value })
+unfolding clap_on_literals
+as_given options value none = record {
+  argument = option (codes "as");
+  stands = record { by_name = refl; by_id = refl; takes = refl; most = refl; own = refl };
+  sets = refl;
+  empty = λ first rows held. held.1.1.1.1.1.1.1.1.1.1.1.1.1.0 ∙ ap (option_map (given_row (option (codes "as")))) none;
   same = λ first. refl;
 }
 
@@ -212,25 +237,30 @@ past_hyphen (Some x) others more e = cc
 is_given : (options more : Options) (name value : Text) → with_option options name value ≡ Some more
     → (strip_byte 45 value ≡ None) × IsGiven options name value more
 is_given options more name value e =
-    let past = past_hyphen (strip_byte 45 value) _ more e in (
-      past.0,
-      by (codes "from") options.from _ _ (from_given options value)
-          (by (codes "to") options.to _ _ (to_given options value)
-          (by (codes "game") options.game _ _ (game_given options value)
-          (by (codes "seed") options.seed _ _ (seed_given options value)
-          (by (codes "hands") options.hands _ _ (hands_given options value)
-          (by (codes "seat") options.seat _ _ (seat_given options value)
-          (by (codes "hand") options.hand _ _ (hand_given options value)
-          (by (codes "after") options.after _ _ (after_given options value)
-          (by (codes "street") options.street _ _ (street_given options value) (λ none. cc)))))))))
-          past.1,
-    )
+    let past = past_hyphen (strip_byte 45 value) _ more e in
+    (past.0, either_kind (is_of_other name) past.1)
   where
     by : (own : Text) (kept : Option Text) (taken : Options) (others : Option Options) → (kept ≡ None → IsGiven options own value taken)
         → (others ≡ Some more → IsGiven options name value more)
         → (if bytes_eq name own && not (is_some kept) then Some taken else others) ≡ Some more → IsGiven options name value more
     by own kept taken others here there =
         either options more taken name own value kept others (bytes_eq name own) (not (is_some kept)) (bytes_eq-Decides name own) (none_from_not kept) here there
+
+    either_kind : (other : Bool) → (if other then with_other options name value else with_new options name value) ≡ Some more
+        → IsGiven options name value more
+    either_kind true e =
+        by (codes "with") options.other_file _ _ (with_given options value)
+        (by (codes "as") options.other_notation _ _ (as_given options value) (λ none. cc)) e
+    either_kind false e =
+        by (codes "from") options.from _ _ (from_given options value)
+        (by (codes "to") options.to _ _ (to_given options value)
+        (by (codes "game") options.game _ _ (game_given options value)
+        (by (codes "seed") options.seed _ _ (seed_given options value)
+        (by (codes "hands") options.hands _ _ (hands_given options value)
+        (by (codes "seat") options.seat _ _ (seat_given options value)
+        (by (codes "hand") options.hand _ _ (hand_given options value)
+        (by (codes "after") options.after _ _ (after_given options value)
+        (by (codes "street") options.street _ _ (street_given options value) (λ none. cc))))))))) e
 
 -- a walk over words
 abbrev over : Walk → List Text → Walk
@@ -262,54 +292,87 @@ one_apart walk first word name value options more at is plain new = record {
   held = held_more first name value options more at.rows new at.held;
 }
 
-flag_stands : IsFlag arguments (codes "drop-notes") flag
-unfolding clap_on_literals
-flag_stands = record { by_name = refl; takes = refl }
+-- A flag that stands besides others: it did not stand yet.
+record IsSet (options : Options) (name : Text) (more : Options) : Type 0 where
+  argument : Rule
+  stands : IsFlag arguments name argument
+  held : (first : Text) (rows : List Row) → Hold (named first options) rows → Hold (named first more) (used argument [] rows)
 
--- the flag, where it did not stand, is held besides
-flag_given : (first : Text) (options : Options) (rows : List Row) → options.drops_notes ≡ false → Hold (named first options) rows
-    → Hold (named first (record options { drops_notes = true })) (used flag [] rows)
+-- the row of a flag that had none comes last
+flag_last : (name : Text) (rows : List Row) → row_named name rows ≡ None → used (flag name) [] rows ≡ rows ++ given_row (flag name) (codes "true") ∷ []
 unfolding clap_on_literals
-flag_given first options rows off held =
-    let none : row_named (codes "drop-notes") rows ≡ None = held.0 ∙ ap flag_row off in
-    let row = given_row flag (codes "true") in
-    let without = at_row-end (codes "drop-notes") (λ _. []) [] rows none ∙ append-nil rows in
-    rw (without, at_row-end (codes "drop-notes") (more_values CommandLine (codes "true" ∷ [])) (row ∷ []) rows none)
-    (hold_given (named first options) rows row none held)
+flag_last name rows none =
+    let without = at_row-end name (λ _. []) [] rows none ∙ append-nil rows in
+    rw without (at_row-end name (more_values CommandLine (codes "true" ∷ [])) (given_row (flag name) (codes "true") ∷ []) rows none)
 
-one_flag : (walk : Walk) (first word : Text) (options more : Options) → IsAt walk first options
-    → long_of word ≡ Some (codes "drop-notes", None) → with_flag options ≡ Some more → IsAt (over walk (word ∷ [])) first more
-one_flag walk first word options more at is e = go options.drops_notes refl e
+drop_notes_set : (options : Options) → options.drops_notes ≡ false → IsSet options (codes "drop-notes") (record options { drops_notes = true })
+unfolding clap_on_literals
+drop_notes_set options off = record {
+  argument = flag (codes "drop-notes");
+  stands = record { by_name = refl; takes = refl };
+  held = λ first rows held.
+      let none : row_named (codes "drop-notes") rows ≡ None = held.0 ∙ ap (flag_row (codes "drop-notes")) off in
+      rw (flag_last (codes "drop-notes") rows none)
+      (hold_given (named first options) rows (given_row (flag (codes "drop-notes")) (codes "true")) none held);
+}
+
+no_notes_set : (options : Options) → options.ignores_notes ≡ false → IsSet options (codes "no-notes") (record options { ignores_notes = true })
+unfolding clap_on_literals
+no_notes_set options off = record {
+  argument = flag (codes "no-notes");
+  stands = record { by_name = refl; takes = refl };
+  held = λ first rows held.
+      let none : row_named (codes "no-notes") rows ≡ None = held.1.0 ∙ ap (flag_row (codes "no-notes")) off in
+      rw (flag_last (codes "no-notes") rows none)
+      (hold_given (named first options) rows (given_row (flag (codes "no-notes")) (codes "true")) none held);
+}
+
+-- a flag is this one, or one of the others
+either_flag : (options more taken : Options) (name own : Text) (stood : Bool) (others : Option Options) (is : Bool)
+    → Decides is (name ≡ own) → (stood ≡ false → IsSet options own taken) → (others ≡ Some more → IsSet options name more)
+    → (if is && not stood then Some taken else others) ≡ Some more → IsSet options name more
+either_flag options more taken name own false others true decides here there e =
+    subst (λ (o : Options). IsSet options name o) (same_Some _ _ e)
+    (subst (λ (n : Text). IsSet options n taken) (sym (decides.0 refl)) (here refl))
+either_flag options more taken name own true others true decides here there e = there e
+either_flag options more taken name own stood others false decides here there e = there e
+
+is_set : (options more : Options) (name : Text) → with_flag options name ≡ Some more → IsSet options name more
+is_set options more name e =
+    by (codes "drop-notes") options.drops_notes _ _ (drop_notes_set options)
+    (by (codes "no-notes") options.ignores_notes _ _ (no_notes_set options) (λ none. cc)) e
   where
-    go : (b : Bool) → options.drops_notes ≡ b → (if b then None else Some (record options { drops_notes = true })) ≡ Some more
-        → IsAt (over walk (word ∷ [])) first more
-    go true on e = cc
-    go false off e = subst (λ (o : Options). IsAt (over walk (word ∷ [])) first o) (same_Some _ _ e) (record {
-      rows = used flag [] at.rows;
-      between = alone arguments walk at.rows word (codes "drop-notes") flag at.between flag_stands is;
-      held = flag_given first options at.rows off at.held;
-    })
+    by : (own : Text) (stood : Bool) (taken : Options) (others : Option Options) → (stood ≡ false → IsSet options own taken)
+        → (others ≡ Some more → IsSet options name more) → (if bytes_eq name own && not stood then Some taken else others) ≡ Some more
+        → IsSet options name more
+    by own stood taken others here there =
+        either_flag options more taken name own stood others (bytes_eq name own) (bytes_eq-Decides name own) here there
+
+one_flag : (walk : Walk) (first word name : Text) (options more : Options) → IsAt walk first options
+    → long_of word ≡ Some (name, None) → with_flag options name ≡ Some more → IsAt (over walk (word ∷ [])) first more
+one_flag walk first word name options more at is e =
+    let new = is_set options more name e in
+    record {
+      rows = used new.argument [] at.rows;
+      between = alone arguments walk at.rows word name new.argument at.between new.stands is;
+      held = new.held first at.rows at.held;
+    }
 
 -- what holds at the end of a walk over some words, from wherever it starts with these options
 abbrev Reaches : List Text → Text → Options → Type 0
 Reaches words first more = (walk : Walk) (options : Options) → IsAt walk first options → options_said options words ≡ Some more
     → IsAt (over walk words) first more
 
--- the name of the flag, in the word
-at_flag : (word name : Text) → long_of word ≡ Some (name, None) → name ≡ codes "drop-notes" → long_of word ≡ Some (codes "drop-notes", None)
-at_flag word name is same = is ∙ ap (λ (text : Text). Some (text, None)) same
-
 last : (walk : Walk) (first word : Text) (options more : Options) (found : Option (Text × Option Text)) → IsAt walk first options
     → long_of word ≡ found → with_word options found None ≡ Some more → IsAt (over walk (word ∷ [])) first more
 last walk first word options more None at is e = cc
 last walk first word options more (Some (name, Some value)) at is e =
     one_joined walk first word name value options more at is (is_given options more name value e).1
-last walk first word options more (Some (name, None)) at is e = go (is_flag name) (bytes_eq-Decides name (codes "drop-notes")) e
+last walk first word options more (Some (name, None)) at is e = go (is_flag name) e
   where
-    go : (b : Bool) → Decides b (name ≡ codes "drop-notes") → (if b then with_flag options else None) ≡ Some more
-        → IsAt (over walk (word ∷ [])) first more
-    go true decides e = one_flag walk first word options more at (at_flag word name is (decides.0 refl)) e
-    go false decides e = cc
+    go : (b : Bool) → (if b then with_flag options name else None) ≡ Some more → IsAt (over walk (word ∷ [])) first more
+    go true e = one_flag walk first word name options more at is e
+    go false e = cc
 
 next : (walk : Walk) (first word value : Text) (words : List Text) (options more : Options) (found : Option (Text × Option Text))
     → Reaches (value ∷ words) first more → Reaches words first more → IsAt walk first options → long_of word ≡ found
@@ -322,17 +385,15 @@ next walk first word value words options more (Some (name, Some own)) behind_one
     let new = is_given options step.0 name own step.1.0 in
     behind_one (over walk (word ∷ [])) step.0 (one_joined walk first word name own options step.0 at is new.1) step.1.1
 next walk first word value words options more (Some (name, None)) behind_one behind_two at is e =
-    go (is_flag name) (bytes_eq-Decides name (codes "drop-notes")) e
+    go (is_flag name) e
   where
-    go : (b : Bool) → Decides b (name ≡ codes "drop-notes")
-        → option_and_then (λ some. if b then options_said some (value ∷ words) else options_said some words)
-        (if b then with_flag options else with_option options name value) ≡ Some more
+    go : (b : Bool) → option_and_then (λ some. if b then options_said some (value ∷ words) else options_said some words)
+        (if b then with_flag options name else with_option options name value) ≡ Some more
         → IsAt (over walk (word ∷ value ∷ words)) first more
-    go true decides e =
-        let step = followed (with_flag options) (λ some. options_said some (value ∷ words)) more e in
-        behind_one (over walk (word ∷ [])) step.0
-        (one_flag walk first word options step.0 at (at_flag word name is (decides.0 refl)) step.1.0) step.1.1
-    go false decides e =
+    go true e =
+        let step = followed (with_flag options name) (λ some. options_said some (value ∷ words)) more e in
+        behind_one (over walk (word ∷ [])) step.0 (one_flag walk first word name options step.0 at is step.1.0) step.1.1
+    go false e =
         let step = followed (with_option options name value) (λ some. options_said some words) more e in
         let new = is_given options step.0 name value step.1.0 in
         behind_two (over walk (word ∷ value ∷ [])) step.0 (one_apart walk first word name value options step.0 at is new.0 new.1) step.1.1
@@ -351,7 +412,7 @@ begins word plain = record {
   rows = used command (word ∷ []) [];
   between = first arguments (walk_from nothing_held) [] word command (record { idle = refl; reading = refl; here = refl; rows = refl })
       refl plain refl refl refl refl refl;
-  held = (refl, (refl, (refl, (refl, (refl, (refl, (refl, (refl, (refl, (refl, (refl, _)))))))))));
+  held = (refl, (refl, (refl, (refl, (refl, (refl, (refl, (refl, (refl, (refl, (refl, (refl, (refl, (refl, _))))))))))))));
 }
 
 -- an argument without defaults adds no row
@@ -371,13 +432,14 @@ no_defaults [] rows none = refl
 no_defaults (argument ∷ rules) rows none =
     ap (λ (some : List Row). fold with_default some rules) (no_default argument rows none.0) ∙ no_defaults rules rows none.1
 
--- among others without defaults, one argument's default alone is added
-one_default : (before after : List Rule) (argument : Rule) (rows : List Row) → HaveNoDefaults before → HaveNoDefaults after
-    → fold with_default rows (before ++ argument ∷ after) ≡ with_default rows argument
-one_default [] after argument rows none_before none_after = no_defaults after (with_default rows argument) none_after
-one_default (other ∷ before) after argument rows none_before none_after =
-    ap (λ (some : List Row). fold with_default some (before ++ argument ∷ after)) (no_default other rows none_before.0)
-    ∙ one_default before after argument rows none_before.1 none_after
+-- among others without defaults, two arguments' defaults alone are added
+two_defaults : (before : List Rule) (argument other : Rule) (after : List Rule) (rows : List Row) → HaveNoDefaults before → HaveNoDefaults after
+    → fold with_default rows (before ++ argument ∷ other ∷ after) ≡ with_default (with_default rows argument) other
+two_defaults [] argument other after rows none_before none_after =
+    no_defaults after (with_default (with_default rows argument) other) none_after
+two_defaults (rule ∷ before) argument other after rows none_before none_after =
+    ap (λ (some : List Row). fold with_default some (before ++ argument ∷ other ∷ after)) (no_default rule rows none_before.0)
+    ∙ two_defaults before argument other after rows none_before.1 none_after
 
 -- a name has a row where its first row is found, and only there
 has_row-named : (name : Text) (rows : List Row) → has_row name rows ≡ is_some (row_named name rows)
@@ -389,26 +451,60 @@ has_row-named name (row ∷ rows) = go (bytes_eq row.id name) (has_row-named nam
     go true e = refl
     go false e = e
 
--- the flag's row at the end: its default where it did not stand
-abbrev last_flag_row : Bool → Row
-last_flag_row true = given_row flag (codes "true")
-last_flag_row false = row_of flag DefaultValue (codes "false")
+-- a flag's row at the end: its default where it did not stand
+abbrev last_flag_row : Text → Bool → Row
+last_flag_row name true = given_row (flag name) (codes "true")
+last_flag_row name false = row_of (flag name) DefaultValue (codes "false")
 
-flag_settled : (first : Text) (options : Options) (rows : List Row) → Hold (named first options) rows
-    → Hold ((codes "drop-notes", Some (last_flag_row options.drops_notes)) ∷ values first options) (with_default rows flag)
+-- what is found where the first flag is settled, and where both are
+abbrev first_settled : Text → Options → Named
+first_settled first options =
+    (codes "drop-notes", Some (last_flag_row (codes "drop-notes") options.drops_notes))
+    ∷ (codes "no-notes", flag_row (codes "no-notes") options.ignores_notes) ∷ values first options
+
+abbrev both_settled : Text → Options → Named
+both_settled first options =
+    (codes "drop-notes", Some (last_flag_row (codes "drop-notes") options.drops_notes))
+    ∷ (codes "no-notes", Some (last_flag_row (codes "no-notes") options.ignores_notes)) ∷ values first options
+
+drop_notes_settled : (first : Text) (options : Options) (rows : List Row) → Hold (named first options) rows
+    → Hold (first_settled first options) (with_default rows (flag (codes "drop-notes")))
 unfolding clap_on_literals
-flag_settled first options rows held = go options.drops_notes held
+drop_notes_settled first options rows held = go options.drops_notes held
   where
-    go : (b : Bool) → Hold ((codes "drop-notes", flag_row b) ∷ values first options) rows
-        → Hold ((codes "drop-notes", Some (last_flag_row b)) ∷ values first options) (with_default rows flag)
+    others : Named
+    others = (codes "no-notes", flag_row (codes "no-notes") options.ignores_notes) ∷ values first options
+
+    go : (b : Bool) → Hold ((codes "drop-notes", flag_row (codes "drop-notes") b) ∷ others) rows
+        → Hold ((codes "drop-notes", Some (last_flag_row (codes "drop-notes") b)) ∷ others) (with_default rows (flag (codes "drop-notes")))
     go true held =
         let some : has_row (codes "drop-notes") rows ≡ true = has_row-named (codes "drop-notes") rows ∙ ap is_some held.0 in
         rw some held
     go false held =
         let none : has_row (codes "drop-notes") rows ≡ false = has_row-named (codes "drop-notes") rows ∙ ap is_some held.0 in
-        let row = last_flag_row false in
+        let row = last_flag_row (codes "drop-notes") false in
         rw (none, at_row-end (codes "drop-notes") (more_values DefaultValue (codes "false" ∷ [])) (row ∷ []) rows held.0)
-        (hold_given ((codes "drop-notes", None) ∷ values first options) rows row held.0 held)
+        (hold_given ((codes "drop-notes", None) ∷ others) rows row held.0 held)
+
+no_notes_settled : (first : Text) (options : Options) (rows : List Row) → Hold (first_settled first options) rows
+    → Hold (both_settled first options) (with_default rows (flag (codes "no-notes")))
+unfolding clap_on_literals
+no_notes_settled first options rows held = go options.ignores_notes held
+  where
+    before : Text × Option Row
+    before = (codes "drop-notes", Some (last_flag_row (codes "drop-notes") options.drops_notes))
+
+    go : (b : Bool) → Hold (before ∷ (codes "no-notes", flag_row (codes "no-notes") b) ∷ values first options) rows
+        → Hold (before ∷ (codes "no-notes", Some (last_flag_row (codes "no-notes") b)) ∷ values first options)
+        (with_default rows (flag (codes "no-notes")))
+    go true held =
+        let some : has_row (codes "no-notes") rows ≡ true = has_row-named (codes "no-notes") rows ∙ ap is_some held.1.0 in
+        rw some held
+    go false held =
+        let none : has_row (codes "no-notes") rows ≡ false = has_row-named (codes "no-notes") rows ∙ ap is_some held.1.0 in
+        let row = last_flag_row (codes "no-notes") false in
+        rw (none, at_row-end (codes "no-notes") (more_values DefaultValue (codes "false" ∷ [])) (row ∷ []) rows held.1.0)
+        (hold_given (before ∷ (codes "no-notes", None) ∷ values first options) rows row held.1.0 held)
 
 -- what the parser finds in a first word that begins with no hyphen, and in options behind it
 pub record IsFound (first : Text) (options : Options) (rows : List Row) : Type 0 where
@@ -422,7 +518,10 @@ pub record IsFound (first : Text) (options : Options) (rows : List Row) : Type 0
   pub hand : first_of (codes "hand") rows ≡ options.hand
   pub after : first_of (codes "after") rows ≡ options.after
   pub street : first_of (codes "street") rows ≡ options.street
-  pub flag : one_of (codes "drop-notes") rows ≡ Some (flag_text options.drops_notes)
+  pub other_file : first_of (codes "with") rows ≡ options.other_file
+  pub other_notation : first_of (codes "as") rows ≡ options.other_notation
+  pub drops_notes : one_of (codes "drop-notes") rows ≡ Some (flag_text options.drops_notes)
+  pub ignores_notes : one_of (codes "no-notes") rows ≡ Some (flag_text options.ignores_notes)
 
 value_of_row : (argument : Rule) (value : Option Text) → option_and_then (λ (row : Row). slice_get row.values 0) (option_map (given_row argument) value) ≡ value
 value_of_row argument None = refl
@@ -432,39 +531,49 @@ value_of_option : (name : Text) (rows : List Row) (value : Option Text) → row_
     → first_of name rows ≡ value
 value_of_option name rows value held = ap (option_and_then (λ (row : Row). slice_get row.values 0)) held ∙ value_of_row (option name) value
 
-text_of_flag : (b : Bool) → option_and_then row_text (Some (last_flag_row b)) ≡ Some (flag_text b)
+text_of_flag : (name : Text) (b : Bool) → option_and_then row_text (Some (last_flag_row name b)) ≡ Some (flag_text b)
 unfolding clap_on_literals
-text_of_flag true = refl
-text_of_flag false = refl
+text_of_flag name true = refl
+text_of_flag name false = refl
 
-found_in : (first : Text) (options : Options) (rows : List Row)
-    → Hold ((codes "drop-notes", Some (last_flag_row options.drops_notes)) ∷ values first options) rows → IsFound first options rows
+found_in : (first : Text) (options : Options) (rows : List Row) → Hold (both_settled first options) rows → IsFound first options rows
 found_in first options rows held = record {
-  command = ap (option_and_then (λ (row : Row). slice_get row.values 0)) held.1.0;
-  from = value_of_option (codes "from") rows options.from held.1.1.0;
-  to = value_of_option (codes "to") rows options.to held.1.1.1.0;
-  game = value_of_option (codes "game") rows options.game held.1.1.1.1.0;
-  seed = value_of_option (codes "seed") rows options.seed held.1.1.1.1.1.0;
-  hands = value_of_option (codes "hands") rows options.hands held.1.1.1.1.1.1.0;
-  seat = value_of_option (codes "seat") rows options.seat held.1.1.1.1.1.1.1.0;
-  hand = value_of_option (codes "hand") rows options.hand held.1.1.1.1.1.1.1.1.0;
-  after = value_of_option (codes "after") rows options.after held.1.1.1.1.1.1.1.1.1.0;
-  street = value_of_option (codes "street") rows options.street held.1.1.1.1.1.1.1.1.1.1.0;
-  flag = ap (option_and_then row_text) held.0 ∙ text_of_flag options.drops_notes;
+  command = ap (option_and_then (λ (row : Row). slice_get row.values 0)) held.1.1.0;
+  from = value_of_option (codes "from") rows options.from held.1.1.1.0;
+  to = value_of_option (codes "to") rows options.to held.1.1.1.1.0;
+  game = value_of_option (codes "game") rows options.game held.1.1.1.1.1.0;
+  seed = value_of_option (codes "seed") rows options.seed held.1.1.1.1.1.1.0;
+  hands = value_of_option (codes "hands") rows options.hands held.1.1.1.1.1.1.1.0;
+  seat = value_of_option (codes "seat") rows options.seat held.1.1.1.1.1.1.1.1.0;
+  hand = value_of_option (codes "hand") rows options.hand held.1.1.1.1.1.1.1.1.1.0;
+  after = value_of_option (codes "after") rows options.after held.1.1.1.1.1.1.1.1.1.1.0;
+  street = value_of_option (codes "street") rows options.street held.1.1.1.1.1.1.1.1.1.1.1.0;
+  other_file = value_of_option (codes "with") rows options.other_file held.1.1.1.1.1.1.1.1.1.1.1.1.0;
+  other_notation = value_of_option (codes "as") rows options.other_notation held.1.1.1.1.1.1.1.1.1.1.1.1.1.0;
+  drops_notes = ap (option_and_then row_text) held.0 ∙ text_of_flag (codes "drop-notes") options.drops_notes;
+  ignores_notes = ap (option_and_then row_text) held.1.0 ∙ text_of_flag (codes "no-notes") options.ignores_notes;
 }
 
-one_has_a_default : (rows : List Row) → fold with_default rows arguments ≡ with_default rows flag
+-- the rows where all defaults are added
+abbrev with_defaults : List Row → List Row
+with_defaults rows = with_default (with_default rows (flag (codes "drop-notes"))) (flag (codes "no-notes"))
+
+two_have_defaults : (rows : List Row) → fold with_default rows arguments ≡ with_defaults rows
 unfolding clap_on_literals
-one_has_a_default rows = one_default
+two_have_defaults rows = two_defaults
     (command ∷ option (codes "from") ∷ option (codes "to") ∷ option (codes "game") ∷ option (codes "seed") ∷ option (codes "hands")
-    ∷ option (codes "seat") ∷ option (codes "hand") ∷ option (codes "after") ∷ option (codes "street") ∷ [])
-    (filled help_rule ∷ []) flag rows (refl, (refl, (refl, (refl, (refl, (refl, (refl, (refl, (refl, (refl, _)))))))))) (refl, _)
+    ∷ option (codes "seat") ∷ option (codes "hand") ∷ option (codes "after") ∷ option (codes "street") ∷ option (codes "with")
+    ∷ option (codes "as") ∷ [])
+    (flag (codes "drop-notes")) (flag (codes "no-notes")) (filled help_rule ∷ []) rows
+    (refl, (refl, (refl, (refl, (refl, (refl, (refl, (refl, (refl, (refl, (refl, (refl, _)))))))))))) (refl, _)
 
 pub finds : (word : Text) (words : List Text) (options : Options) → strip_byte 45 word ≡ None → options_said no_options words ≡ Some options
     → IsFound word options (rows_found (word ∷ words))
 unfolding rows_found
 finds word words options plain said =
     let at = reaches words word options (over (walk_from nothing_held) (word ∷ [])) no_options (begins word plain) said in
-    let rows : rows_found (word ∷ words) ≡ with_default at.rows flag =
-    ap (λ (some : List Row). fold with_default some arguments) at.between.rows ∙ one_has_a_default at.rows in
-    rw rows (found_in word options (with_default at.rows flag) (flag_settled word options at.rows at.held))
+    let rows : rows_found (word ∷ words) ≡ with_defaults at.rows =
+    ap (λ (some : List Row). fold with_default some arguments) at.between.rows ∙ two_have_defaults at.rows in
+    let held = drop_notes_settled word options at.rows at.held in
+    rw rows (found_in word options (with_defaults at.rows)
+    (no_notes_settled word options (with_default at.rows (flag (codes "drop-notes"))) held))

@@ -24,8 +24,14 @@ pub record Options : Type 0 where
   pub after : Option (List ℕ)
   -- the number of a street of that hand
   pub street : Option (List ℕ)
+  -- the name of the other file, where two are compared
+  pub other_file : Option (List ℕ)
+  -- the notation of the other file
+  pub other_notation : Option (List ℕ)
   -- the flag by which notes without a spelling are dropped
   pub drops_notes : Bool
+  -- the flag by which notes are not looked at
+  pub ignores_notes : Bool
 
 -- no options
 abbrev pub no_options : Options
@@ -39,7 +45,10 @@ no_options = record {
   hand = None;
   after = None;
   street = None;
+  other_file = None;
+  other_notation = None;
   drops_notes = false;
+  ignores_notes = false;
 }
 
 -- neither a notation nor a game is given
@@ -55,14 +64,36 @@ abbrev pub lack_places : Options → Bool
 lack_places options =
     is_none options.seat && is_none options.hand && is_none options.after && is_none options.street
 
+-- nothing is given of another file
+abbrev pub lack_other : Options → Bool
+lack_other options = is_none options.other_file && is_none options.other_notation
+
+-- no flag stands
+abbrev pub lack_flags : Options → Bool
+lack_flags options = not options.drops_notes && not options.ignores_notes
+
 -- none of them is given
 abbrev pub are_none : Options → Bool
 are_none options =
-    lack_names options && lack_counts options && lack_places options && not options.drops_notes
+    lack_names options && lack_counts options && lack_places options && lack_other options
+    && lack_flags options
 
 -- an option has this name, and does not stand yet
 abbrev pub is_new : (name own : List ℕ) → Option (List ℕ) → Bool
 is_new name own given = bytes_eq name own && not (is_some given)
+
+-- a name is that of an option of the other file
+abbrev pub is_of_other : List ℕ → Bool
+is_of_other name = bytes_eq name (codes "with") || bytes_eq name (codes "as")
+
+-- the options with one more of the other file, which stands once
+abbrev pub with_other : Options → List ℕ → List ℕ → Option Options
+with_other options name value =
+    if is_new name (codes "with") options.other_file
+    then Some (record options { other_file = Some value })
+    else if is_new name (codes "as") options.other_notation
+    then Some (record options { other_notation = Some value })
+    else None
 
 -- the options with one more of this name and value; each stands once
 abbrev pub with_new : Options → List ℕ → List ℕ → Option Options
@@ -84,16 +115,22 @@ with_new options name value =
 -- the same, where the value is one: none begins with a hyphen
 abbrev pub with_option : Options → List ℕ → List ℕ → Option Options
 with_option options name value =
-    if is_some (strip_byte 45 value) then None else with_new options name value
+    if is_some (strip_byte 45 value) then None
+    else if is_of_other name then with_other options name value
+    else with_new options name value
 
--- the options with the flag, which stands once
-abbrev pub with_flag : Options → Option Options
-with_flag options =
-    if options.drops_notes then None else Some (record options { drops_notes = true })
+-- the options with the flag of this name; each stands once
+abbrev pub with_flag : Options → List ℕ → Option Options
+with_flag options name =
+    if bytes_eq name (codes "drop-notes") && not options.drops_notes
+    then Some (record options { drops_notes = true })
+    else if bytes_eq name (codes "no-notes") && not options.ignores_notes
+    then Some (record options { ignores_notes = true })
+    else None
 
--- the flag has no value
+-- a name is that of a flag, which has no value
 abbrev pub is_flag : List ℕ → Bool
-is_flag name = bytes_eq name (codes "drop-notes")
+is_flag name = bytes_eq name (codes "drop-notes") || bytes_eq name (codes "no-notes")
 
 -- what a name gives whose value may stand behind it
 abbrev pub with_value : Options → List ℕ → Option (List ℕ) → Option Options
@@ -106,7 +143,7 @@ abbrev pub with_word : Options → Option (List ℕ × Option (List ℕ)) → Op
 with_word options None behind = None
 with_word options (Some (name, Some value)) behind = with_option options name value
 with_word options (Some (name, None)) behind =
-    if is_flag name then with_flag options else with_value options name behind
+    if is_flag name then with_flag options name else with_value options name behind
 
 -- a word is an option without the word behind it
 abbrev pub is_complete : Option (List ℕ × Option (List ℕ)) → Bool
@@ -114,7 +151,7 @@ is_complete None = false
 is_complete (Some (name, value)) = is_some value || is_flag name
 
 -- The options with those of these words. An option is the word --name=value, or the word --name and
--- its value behind it, or the flag.
+-- its value behind it, or a flag.
 unfoldable pub options_said : Options → List (List ℕ) → Option Options
 options_said options [] = Some options
 options_said options (word ∷ []) = with_word options (long_of word) None

@@ -9,6 +9,8 @@ use Rattle.command_words.specs.Words as said
 use Rattle.command_words.specs.declared.options.Options.{Options}
 use Rattle.command_words.specs.declared.request.Request.{Request}
 use Rattle.command_words.specs.declared.request.Request.TheVariants as requests
+use Rattle.command_words.specs.declared.request.Sides.{Sides}
+use Rattle.command_words.specs.declared.request.Sides.TheVariants as sides_are
 
 -- the values of options, as texts
 abbrev pub options_in : Options → words.Options
@@ -22,14 +24,23 @@ options_in options = record {
   hand = option_map (λ text. text.now) options.hand;
   after = option_map (λ text. text.now) options.after;
   street = option_map (λ text. text.now) options.street;
+  other_file = option_map (λ text. text.now) options.other_file;
+  other_notation = option_map (λ text. text.now) options.other_notation;
   drops_notes = options.drops_notes;
+  ignores_notes = options.ignores_notes;
 }
 
--- a request, with the name of its game's file and its number of hands
+-- the notations of two files, with the name of the game's file
+abbrev pub sides_in : Sides → said.Sides
+sides_in (sides_are.Plain from other) = said.PlainSides from other
+sides_in (sides_are.Under game from other) = said.SidesUnder game.now from other
+
+-- a request, with the names of its files and its number of hands
 abbrev pub request_in : Request → said.Request
 request_in (requests.Load seed hands) = said.Load seed hands.number
 request_in (requests.Plain from task) = said.Plain from task
 request_in (requests.Under game logs) = said.Under game.now logs
+request_in (requests.Compare sides file notes) = said.Compare (sides_in sides) file.now notes
 
 -- the text of a flag
 abbrev pub flag_text : Bool → List ℕ
@@ -47,7 +58,10 @@ pub record AreFound (found : Found) (options : words.Options) : Type 0 where
   pub hand : first_value found (codes "hand") ≡ options.hand
   pub after : first_value found (codes "after") ≡ options.after
   pub street : first_value found (codes "street") ≡ options.street
-  pub flag : one_text found (codes "drop-notes") ≡ Some (flag_text options.drops_notes)
+  pub other_file : first_value found (codes "with") ≡ options.other_file
+  pub other_notation : first_value found (codes "as") ≡ options.other_notation
+  pub drops_notes : one_text found (codes "drop-notes") ≡ Some (flag_text options.drops_notes)
+  pub ignores_notes : one_text found (codes "no-notes") ≡ Some (flag_text options.ignores_notes)
 
 -- What a parser of command lines found is what words say: the word of the command, and the options.
 pub record IsSaidBy (said : List (List ℕ)) (found : Found) : Type 0 where

@@ -1,5 +1,5 @@
 -- Which words say what is asked for: the word of a command, and behind it its options and no other.
-use Rattle.std.specs.Prelude.{ℕ, ◌&&◌, Bool, false, if◌then◌else◌, List, [], ◌∷◌, codes}
+use Rattle.std.specs.Prelude.{ℕ, ◌&&◌, Bool, false, not, if◌then◌else◌, List, [], ◌∷◌, codes}
 use Rattle.std.specs.Prelude.{Option, Some, None, is_some, option_and_then}
 use Rattle.std.specs.Str.{bytes_eq}
 use Rattle.command_words.specs.Numbers.{events_said, hand_said, hands_said, seat_said}
@@ -20,13 +20,21 @@ use Rattle.chip_ledger.specs.declared.numbers.Seat.{Seat}
 use Rattle.hand_records.specs.declared.writing.Keep.{Keep}
 use Rattle.hand_records.specs.declared.writing.Keep.TheVariants as keeps
 
+-- The notations of two files that are compared, of which logs are under the game of the file with
+-- this name; where neither is of logs there is none.
+pub data Sides : Type 0 where
+  PlainSides : (from other : PlainNotation) → Sides
+  SidesUnder : (game : List ℕ) → (from other : NotationName) → Sides
+
 -- What is asked for: the summary of so many hands that are made from a seed, or what is made of the
--- hands that are read. Hands of which logs are read or written are under the game of the file with
--- this name; others have none.
+-- hands that are read, or whether they are the same as those of the file with this name, where notes
+-- may be looked at. Hands of which logs are read or written are under the game of the file with this
+-- name; others have none.
 pub data Request : Type 0 where
   Load : (seed hands : ℕ) → Request
   Plain : PlainNotation → Task PlainNotation → Request
   Under : (game : List ℕ) → Logs → Request
+  Compare : Sides → (file : List ℕ) → (notes : Bool) → Request
 
 -- the notation of a name
 abbrev pub notation_of_name : List ℕ → Option NotationName
@@ -74,9 +82,23 @@ conversion_of (names.Plain from) names.Acpc (Some (first ∷ others)) keep =
 conversion_of names.Acpc to (Some (first ∷ others)) keep =
     Some (Under (first ∷ others) (logs_are.Read (tasks.Convert to keep)))
 
+-- The notations of two files that are compared: without a game where neither is of logs, and else
+-- under the game that is given, whose name is not empty.
+abbrev pub sides_of : (from other : NotationName) → (game : Option (List ℕ)) → Option Sides
+sides_of (names.Plain from) (names.Plain other) None = Some (PlainSides from other)
+sides_of (names.Plain from) (names.Plain other) (Some game) = None
+sides_of from other None = None
+sides_of from other (Some []) = None
+sides_of from other (Some (first ∷ others)) = Some (SidesUnder (first ∷ others) from other)
+
+-- the name of a file, if one is given and is not empty
+abbrev pub file_named : Option (List ℕ) → Option (List ℕ)
+file_named None = None
+file_named (Some []) = None
+file_named (Some (first ∷ others)) = Some (first ∷ others)
+
 -- what two values give, where both are there
-abbrev pub with_both : {X Y : Type 0} → (X → Y → Option Request) → Option X → Option Y
-    → Option Request
+abbrev pub with_both : {X Y Z : Type 0} → (X → Y → Option Z) → Option X → Option Y → Option Z
 with_both give None second = None
 with_both give (Some x) None = None
 with_both give (Some x) (Some y) = give x y
@@ -149,6 +171,18 @@ equity_asked options =
     (option_and_then hand_said options.hand) (option_and_then street_said options.street)
     else None
 
+-- `compare` takes --from, --with, --as, --game where one of them is of logs, and the flag by which
+-- notes are not looked at
+abbrev pub comparison_asked : Options → Option Request
+comparison_asked options =
+    if are_none (record options
+    { from = None; game = None; other_file = None; other_notation = None; ignores_notes = false })
+    then with_both (λ sides file. Some (Compare sides file (not options.ignores_notes)))
+    (with_both (λ from other. sides_of from other options.game)
+    (notation_named options.from) (notation_named options.other_notation))
+    (file_named options.other_file)
+    else None
+
 -- what the word of a command asks for with these options
 abbrev pub request_by : List ℕ → Options → Option Request
 request_by word options =
@@ -166,6 +200,7 @@ request_by word options =
     then question_asked (questions.Show commands.Session) options
     else if bytes_eq word (codes "equity") then equity_asked options
     else if bytes_eq word (codes "judge") then judge_asked options
+    else if bytes_eq word (codes "compare") then comparison_asked options
     else None
 
 -- what words ask for, if they ask for something

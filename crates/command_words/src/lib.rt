@@ -13,5 +13,5 @@ pub use command::Command;
 pub use notation::{NotationName, PlainNotation};
 pub use numbers::HandCount;
 pub use reading::read_words;
-pub use request::{Logs, Request};
+pub use request::{Logs, Request, Sides};
 pub use task::{Question, Task};

@@ -2,7 +2,7 @@
 ghost use Rattle.std.specs.Prelude.{◌≡◌, option_map, map, string_bytes};
 ghost use Rattle.clap.specs.Lexer.{long_of, name_and_value, strip_byte};
 ghost use Rattle.command_words.specs.Requests.{options_in};
-ghost use Rattle.command_words.specs.Options.{no_options, options_said, with_flag as with_flag_said, with_new as with_new_said, with_option as with_option_said};
+ghost use Rattle.command_words.specs.Options.{is_flag as is_flag_said, is_of_other as is_of_other_said, no_options, options_said, with_flag as with_flag_said, with_new as with_new_said, with_option as with_option_said, with_other as with_other_said};
 
 /// The values of the options that are given.
 #[derive(Clone, Copy, Debug, PartialEq, Eq)]
@@ -25,8 +25,14 @@ pub struct Options<'a> {
     pub after: Option<&'a str>,
     /// The number of a street of that hand.
     pub street: Option<&'a str>,
+    /// The name of the other file, where two are compared.
+    pub other_file: Option<&'a str>,
+    /// The notation of the other file.
+    pub other_notation: Option<&'a str>,
     /// Whether notes without a spelling are dropped.
     pub drops_notes: bool,
+    /// Whether notes are not looked at.
+    pub ignores_notes: bool,
 }
 
 /// The options that the words say, or `None` where one of them is none, or stands twice.
@@ -44,7 +50,10 @@ pub fn read_options(words: &[String]) -> Option<Options<'_>>
         hand: None,
         after: None,
         street: None,
+        other_file: None,
+        other_notation: None,
         drops_notes: false,
+        ignores_notes: false,
     };
     let mut rest = words;
     while let Some((word, behind)) = rest.split_first() {
@@ -53,8 +62,8 @@ pub fn read_options(words: &[String]) -> Option<Options<'_>>
                 options = with_option(options, name, value)?;
                 rest = behind;
             }
-            ("drop-notes", None) => {
-                options = with_flag(options)?;
+            (name, None) if is_flag(name) => {
+                options = with_flag(options, name)?;
                 rest = behind;
             }
             (name, None) => {
@@ -103,7 +112,17 @@ fn with_option<'a>(options: Options<'a>, name: &str, value: &'a str) -> Option<O
     if value.starts_with('-') {
         return None;
     }
+    if is_of_other(name) {
+        return with_other(options, name, value);
+    }
     with_new(options, name, value)
+}
+
+// Whether a name is that of an option of the other file.
+fn is_of_other(name: &str) -> bool
+    ensures { result ≡ is_of_other_said name.now }
+{
+    name == "with" || name == "as"
 }
 
 // The options with one more that does not stand yet.
@@ -153,15 +172,45 @@ fn with_new<'a>(options: Options<'a>, name: &str, value: &'a str) -> Option<Opti
     }
 }
 
-// The options with the flag.
-fn with_flag<'a>(options: Options<'a>) -> Option<Options<'a>>
-    ensures { option_map options_in result ≡ with_flag_said (options_in options.entry) }
+// The options with one more of the other file that does not stand yet.
+fn with_other<'a>(options: Options<'a>, name: &str, value: &'a str) -> Option<Options<'a>>
+    ensures { option_map options_in result
+        ≡ with_other_said (options_in options.entry) name.now value.now }
 {
-    if options.drops_notes {
-        return None;
+    let value = Some(value);
+    match name {
+        "with" if options.other_file.is_none() => Some(Options {
+            other_file: value,
+            ..options
+        }),
+        "as" if options.other_notation.is_none() => Some(Options {
+            other_notation: value,
+            ..options
+        }),
+        _ => None,
     }
-    Some(Options {
-        drops_notes: true,
-        ..options
-    })
+}
+
+// Whether a name is that of a flag, which has no value.
+fn is_flag(name: &str) -> bool
+    ensures { result ≡ is_flag_said name.now }
+{
+    name == "drop-notes" || name == "no-notes"
+}
+
+// The options with the flag of this name, which does not stand yet.
+fn with_flag<'a>(options: Options<'a>, name: &str) -> Option<Options<'a>>
+    ensures { option_map options_in result ≡ with_flag_said (options_in options.entry) name.now }
+{
+    match name {
+        "drop-notes" if !options.drops_notes => Some(Options {
+            drops_notes: true,
+            ..options
+        }),
+        "no-notes" if !options.ignores_notes => Some(Options {
+            ignores_notes: true,
+            ..options
+        }),
+        _ => None,
+    }
 }

@@ -2,6 +2,7 @@
 ghost use Rattle.std.specs.Prelude.{◌≡◌, map, option_map, string_bytes, IfOk, Ok, None, Some, is_some, true, false};
 ghost use Rattle.clap.specs.Simple.{new_rule};
 ghost use Rattle.clap.specs.Words.{found_of, rule_of};
+ghost use Rattle.clap.specs.declared.builder.action.ArgAction.TheVariants.{SetTrue};
 ghost use Rattle.command_words.specs.Requests.{AreFound, IsSaidBy, options_in, request_in};
 ghost use Rattle.command_words.specs.Options.{Options as OptionsSaid};
 ghost use Rattle.command_words.specs.Words.{request_said};
@@ -46,7 +47,6 @@ fn parsed<'a>(alloc: Global, words: &'a [String]) -> Result<ArgMatches<'a>, Memo
     ensures { IfOk result (λ matches. IsSaidBy (map string_bytes words.now) (found_of matches)) }
 {
     let command = Arg::new(alloc, "command");
-    let flag = option(alloc, "drop-notes").action(ArgAction::SetTrue);
     let handref = clap::Command::new(alloc, "handref")
         .no_binary_name(true)
         .arg(command)?
@@ -59,7 +59,10 @@ fn parsed<'a>(alloc: Global, words: &'a [String]) -> Result<ArgMatches<'a>, Memo
         .arg(option(alloc, "hand"))?
         .arg(option(alloc, "after"))?
         .arg(option(alloc, "street"))?
-        .arg(flag)?;
+        .arg(option(alloc, "with"))?
+        .arg(option(alloc, "as"))?
+        .arg(flag(alloc, "drop-notes"))?
+        .arg(flag(alloc, "no-notes"))?;
     match handref.try_get_matches_from(words) {
         Ok(matches) => Ok(matches),
         Err(_) => Err(Memory),
@@ -72,6 +75,15 @@ fn option<'a>(alloc: Global, name: &'a str) -> Arg<'a>
     ensures local { result.global ≡ false }
 {
     Arg::new(alloc, name).long(name)
+}
+
+// A flag of this name.
+fn flag<'a>(alloc: Global, name: &'a str) -> Arg<'a>
+    ensures rule { rule_of result
+        ≡ record (new_rule name.now) { long = Some name.now; action = Some SetTrue } }
+    ensures local { result.global ≡ false }
+{
+    option(alloc, name).action(ArgAction::SetTrue)
 }
 
 // The options that the parser found.
@@ -89,6 +101,9 @@ fn options_found<'a>(matches: &ArgMatches<'a>) -> Options<'a>
         hand: matches.get_str("hand"),
         after: matches.get_str("after"),
         street: matches.get_str("street"),
+        other_file: matches.get_str("with"),
+        other_notation: matches.get_str("as"),
         drops_notes: matches.get_flag("drop-notes"),
+        ignores_notes: matches.get_flag("no-notes"),
     }
 }

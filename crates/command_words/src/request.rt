@@ -1,8 +1,8 @@
 //! A command's word and its options ask for something, or for nothing.
 ghost use Rattle.std.specs.Prelude.{◌≡◌, option_map};
-ghost use Rattle.command_words.specs.Options.{are_none as are_none_said, lack_counts as lack_counts_said, lack_names as lack_names_said, lack_places as lack_places_said};
-ghost use Rattle.command_words.specs.Requests.{options_in, request_in};
-ghost use Rattle.command_words.specs.Words.{asked as asked_said, conversion_asked, conversion_of as conversion_of_said, equity_asked, game_asked, judge_asked, keep_said, load_asked, options_asked, question_asked, reading_of as reading_of_said, request_by, views_asked, views_of as views_of_said};
+ghost use Rattle.command_words.specs.Options.{are_none as are_none_said, lack_counts as lack_counts_said, lack_flags as lack_flags_said, lack_names as lack_names_said, lack_other as lack_other_said, lack_places as lack_places_said};
+ghost use Rattle.command_words.specs.Requests.{options_in, request_in, sides_in};
+ghost use Rattle.command_words.specs.Words.{asked as asked_said, comparison_asked, conversion_asked, conversion_of as conversion_of_said, equity_asked, file_named as file_named_said, game_asked, judge_asked, keep_said, load_asked, options_asked, question_asked, reading_of as reading_of_said, request_by, sides_of as sides_of_said, views_asked, views_of as views_of_said};
 
 use crate::command::Command;
 use crate::notation::{NotationName, PlainNotation, notation_named};
@@ -31,6 +31,29 @@ pub enum Request<'a> {
     Under {
         game: &'a str,
         logs: Logs,
+    },
+    /// Whether hands are the same as those of the file with this name, and whether their notes are
+    /// looked at.
+    Compare {
+        sides: Sides<'a>,
+        file: &'a str,
+        notes: bool,
+    },
+}
+
+/// The notations of two files that are compared: of the input, and of the other file.
+#[derive(Clone, Copy, Debug, PartialEq, Eq)]
+pub enum Sides<'a> {
+    /// Neither is that of logs.
+    Plain {
+        from: PlainNotation,
+        other: PlainNotation,
+    },
+    /// Logs are under the game of the file with this name.
+    Under {
+        game: &'a str,
+        from: NotationName,
+        other: NotationName,
     },
 }
 
@@ -61,6 +84,7 @@ pub fn request_of<'a>(word: &str, options: Options<'a>) -> Option<Request<'a>>
         "session" => question_alone(Question::Show(Command::Session), options),
         "equity" => equity(options),
         "judge" => judgement(options),
+        "compare" => comparison(options),
         _ => None,
     }
 }
@@ -267,6 +291,54 @@ fn keep_of(drops_notes: bool) -> Keep
     }
 }
 
+// Whether hands are the same as those of another file.
+fn comparison<'a>(options: Options<'a>) -> Option<Request<'a>>
+    ensures { option_map request_in result ≡ comparison_asked (options_in options.entry) }
+{
+    let others = Options {
+        from: None,
+        game: None,
+        other_file: None,
+        other_notation: None,
+        ignores_notes: false,
+        ..options
+    };
+    if !are_none(others) {
+        return None;
+    }
+    let from = notation_named(options.from)?;
+    let other = notation_named(options.other_notation)?;
+    let sides = sides_of(from, other, options.game)?;
+    let file = file_named(options.other_file)?;
+    let notes = !options.ignores_notes;
+    Some(Request::Compare { sides, file, notes })
+}
+
+// The notations of two files, of which logs are under the game that is given.
+fn sides_of<'a>(from: NotationName, other: NotationName, game: Option<&'a str>) -> Option<Sides<'a>>
+    ensures { option_map sides_in result
+        ≡ sides_of_said from other (option_map (λ s. s.now) game.entry) }
+{
+    match (from, other, game) {
+        (NotationName::Plain(from), NotationName::Plain(other), None) => {
+            Some(Sides::Plain { from, other })
+        }
+        (NotationName::Plain(_), NotationName::Plain(_), Some(_)) => None,
+        (from, other, Some(game)) if !game.is_empty() => Some(Sides::Under { game, from, other }),
+        _ => None,
+    }
+}
+
+// The name of a file, if one is given and is not empty.
+fn file_named(name: Option<&str>) -> Option<&str>
+    ensures { option_map (λ s. s.now) result ≡ file_named_said (option_map (λ s. s.now) name.entry) }
+{
+    match name {
+        Some(name) if !name.is_empty() => Some(name),
+        _ => None,
+    }
+}
+
 // Hands are made from a seed.
 fn load<'a>(options: Options<'a>) -> Option<Request<'a>>
     ensures { option_map request_in result ≡ load_asked (options_in options.entry) }
@@ -288,7 +360,11 @@ fn load<'a>(options: Options<'a>) -> Option<Request<'a>>
 fn are_none(options: Options<'_>) -> bool
     ensures { result ≡ are_none_said (options_in options.entry) }
 {
-    lack_names(options) && lack_counts(options) && lack_places(options) && !options.drops_notes
+    lack_names(options)
+        && lack_counts(options)
+        && lack_places(options)
+        && lack_other(options)
+        && lack_flags(options)
 }
 
 // Whether neither a notation nor a game is given.
@@ -303,6 +379,20 @@ fn lack_counts(options: Options<'_>) -> bool
     ensures { result ≡ lack_counts_said (options_in options.entry) }
 {
     options.seed.is_none() && options.hands.is_none()
+}
+
+// Whether nothing is given of another file.
+fn lack_other(options: Options<'_>) -> bool
+    ensures { result ≡ lack_other_said (options_in options.entry) }
+{
+    options.other_file.is_none() && options.other_notation.is_none()
+}
+
+// Whether no flag stands.
+fn lack_flags(options: Options<'_>) -> bool
+    ensures { result ≡ lack_flags_said (options_in options.entry) }
+{
+    !options.drops_notes && !options.ignores_notes
 }
 
 // Whether neither a seat nor a hand is given, nor a place in a hand.

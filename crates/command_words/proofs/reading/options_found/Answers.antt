@@ -17,9 +17,16 @@ returns c options found =
       c.get_str-7.ensures ∙ found.hand,
       c.get_str-8.ensures ∙ found.after,
       c.get_str-9.ensures ∙ found.street,
-      flag options.drops_notes found.flag,
+      c.get_str-10.ensures ∙ found.other_file,
+      c.get_str-11.ensures ∙ found.other_notation,
+      drops options.drops_notes found.drops_notes,
+      ignores options.ignores_notes found.ignores_notes,
     ) refl
   where
-    flag : (b : Bool) → one_text (found_of c.args.matches.now) (codes "drop-notes") ≡ Some (flag_text b) → c.get_flag.result ≡ b
-    flag true e = c.get_flag.ensures.value e
-    flag false e = c.get_flag.ensures.other e
+    drops : (b : Bool) → one_text (found_of c.args.matches.now) (codes "drop-notes") ≡ Some (flag_text b) → c.get_flag.result ≡ b
+    drops true e = c.get_flag.ensures.value e
+    drops false e = c.get_flag.ensures.other e
+
+    ignores : (b : Bool) → one_text (found_of c.args.matches.now) (codes "no-notes") ≡ Some (flag_text b) → c.get_flag-2.result ≡ b
+    ignores true e = c.get_flag-2.ensures.value e
+    ignores false e = c.get_flag-2.ensures.other e

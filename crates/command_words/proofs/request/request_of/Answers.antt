@@ -18,4 +18,5 @@ returns-in_default c =
       different_bytes word (codes "session") c.in_default.not-session,
       different_bytes word (codes "equity") c.in_default.not-equity,
       different_bytes word (codes "judge") c.in_default.not-judge,
+      different_bytes word (codes "compare") c.in_default.not-compare,
     ) refl
