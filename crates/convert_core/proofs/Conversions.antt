@@ -39,10 +39,10 @@ same_both kept place a b c same more = record { trace = same.trace ∙ more.trac
 same_less : (kept : SaidNotes → SaidNotes) (place : ℕ) (play other : Play) → AreSameHand (λ notes. notes) place play other → AreSameHand kept place play other
 same_less kept place play other same = record { trace = same.trace; notes = ap kept same.notes }
 
-all_turned : (kept : SaidNotes → SaidNotes) (plays others : List Play) → AllPaired (AreSameHand kept) 0 plays others → AllPaired (AreSameHand kept) 0 others plays
+pub all_turned : (kept : SaidNotes → SaidNotes) (plays others : List Play) → AllPaired (AreSameHand kept) 0 plays others → AllPaired (AreSameHand kept) 0 others plays
 all_turned kept plays others all = paired_turned (AreSameHand kept) (AreSameHand kept) (same_turned kept) 0 plays others all
 
-all_both : (kept : SaidNotes → SaidNotes) (plays others more : List Play) → AllPaired (AreSameHand kept) 0 plays others → AllPaired (AreSameHand kept) 0 others more → AllPaired (AreSameHand kept) 0 plays more
+pub all_both : (kept : SaidNotes → SaidNotes) (plays others more : List Play) → AllPaired (AreSameHand kept) 0 plays others → AllPaired (AreSameHand kept) 0 others more → AllPaired (AreSameHand kept) 0 plays more
 all_both kept plays others more all rest = paired_both (AreSameHand kept) (AreSameHand kept) (AreSameHand kept) (same_both kept) 0 plays others more all rest
 
 pub all_less : (kept : SaidNotes → SaidNotes) (plays others : List Play) → AllPaired (AreSameHand (λ notes. notes)) 0 plays others → AllPaired (AreSameHand kept) 0 plays others
