@@ -3,7 +3,7 @@ use Rattle.std.proofs.Common.{◌≡◌, ◌⊎◌, ℕ, ◌<◌, true, List, le
 use Rattle.acpc_game.specs.declared.game.Game.{Game}
 use Rattle.acpc_text.specs.declared.fault.AcpcFault.{AcpcFault}
 use Rattle.acpc_text.specs.declared.fault.AcpcFault.TheVariants as in_acpc
-use Rattle.command_words.specs.Words.{Load, Plain, Request, Under}
+use Rattle.command_words.specs.Words.{Load, Plain, Request, Under, Compare}
 use Rattle.command_words.specs.declared.request.Logs.{Logs}
 use Rattle.poker_cli.specs.declared.task.Task.{Task}
 use Rattle.convert_core.specs.Conversion.{IsConversion as IsConverting, IsConverted, IsPlaysRefusal, IsReadFault, ReadAsRefused}
@@ -25,7 +25,7 @@ use Rattle.poker_cli.specs.Answer as answers
 use Rattle.poker_cli.specs.Lacking.{IsLackTold, Lacks}
 use Rattle.poker_cli.specs.Told.{answer_told}
 use Rattle.poker_cli.specs.declared.answer.Answer as made
-use Rattle.poker_cli.specs.declared.entry.NoAnswer.{NoAnswer}
+use Rattle.poker_cli.specs.declared.no_answer.NoAnswer.{NoAnswer}
 use Rattle.poker_cli.specs.declared.games.Lack.{Lack}
 use Rattle.poker_cli.specs.declared.games.Lack.TheVariants as lacks
 use Rattle.poker_cli.specs.Run.{Ends, IsOfInput, IsOwn, MayEnd, ReadsNothing, Sinks, TellsLine, Writes, WhereTold, line_of}
@@ -169,7 +169,10 @@ ends_with request files bytes out diag answer statuses.Limit is own ends written
     record { answer = answer; to_input = is; ends = ends; written = written; line = line }
 ends_with request files bytes out diag answer statuses.NoSuch is own ends written line =
     record { answer = answer; to_input = is; ends = ends; written = written; line = line }
+ends_with request files bytes out diag answer statuses.Differs is own ends written line =
+    record { answer = answer; to_input = is; ends = ends; written = written; line = line }
 ends_with request files bytes out diag answer statuses.GameMissing is own ends written line = absurd (subst IsOwn ends own)
+ends_with request files bytes out diag answer statuses.FileMissing is own ends written line = absurd (subst IsOwn ends own)
 ends_with request files bytes out diag answer statuses.BadGame is own ends written line =
     record { answer = answer; to_input = is; ends = ends; written = written; line = line }
 
@@ -182,6 +185,9 @@ where_told (Plain from task) None told P Q more is = tt
 where_told (Under name logs) (Some bytes) (Some files) P Q more is = more files bytes is
 where_told (Under name logs) (Some bytes) None P Q more is = tt
 where_told (Under name logs) None told P Q more is = tt
+where_told (Compare sides file notes) (Some bytes) (Some files) P Q more is = more files bytes is
+where_told (Compare sides file notes) (Some bytes) None P Q more is = tt
+where_told (Compare sides file notes) None told P Q more is = tt
 
 -- of all files and bytes
 always_told : (request : Request) (left : Option (List ℕ)) (told : Option Files) (P : Files → List ℕ → Type 0)
@@ -192,6 +198,9 @@ always_told (Plain from task) None told P each = tt
 always_told (Under name logs) (Some bytes) (Some files) P each = each files bytes
 always_told (Under name logs) (Some bytes) None P each = tt
 always_told (Under name logs) None told P each = tt
+always_told (Compare sides file notes) (Some bytes) (Some files) P each = each files bytes
+always_told (Compare sides file notes) (Some bytes) None P each = tt
+always_told (Compare sides file notes) None told P each = tt
 
 -- where the source tells what it has left, and the shelf its files
 pub ends_where_told : (request : Request) (left : Option (List ℕ)) (told : Option Files) (out diag : Sinks) (answer : Answer) (status : Status)
@@ -226,6 +235,8 @@ told_alone answer statuses.BadGame held same own undone =
     record { no_read = λ e. cc; no_write = λ e. cc; undone = undone; ends = same; written = tt; line = refl }
 told_alone answer statuses.NoSuch held same own undone =
     record { no_read = λ e. cc; no_write = λ e. cc; undone = undone; ends = same; written = tt; line = refl }
+told_alone answer statuses.Differs held same own undone =
+    record { no_read = λ e. cc; no_write = λ e. cc; undone = undone; ends = same; written = tt; line = refl }
 told_alone answer statuses.Done held same own undone = absurd (undone refl)
 told_alone answer statuses.Usage held same own undone = absurd own
 told_alone answer statuses.ReadFault held same own undone = absurd own
@@ -233,6 +244,7 @@ told_alone answer statuses.WriteFault held same own undone = absurd own
 told_alone answer statuses.Memory held same own undone = absurd own
 told_alone answer statuses.ShelfFault held same own undone = absurd own
 told_alone answer statuses.GameMissing held same own undone = absurd own
+told_alone answer statuses.FileMissing held same own undone = absurd own
 
 -- the status of an answer to what was read is its own, and comes behind the reading
 pub own_of_input : (status : Status) → IsOfInput status → IsOwn status
@@ -242,12 +254,14 @@ own_of_input statuses.BadInput of = tt
 own_of_input statuses.Limit of = tt
 own_of_input statuses.Unspelled of = tt
 own_of_input statuses.NoSuch of = tt
+own_of_input statuses.Differs of = tt
 own_of_input statuses.Usage of = absurd of
 own_of_input statuses.ReadFault of = absurd of
 own_of_input statuses.WriteFault of = absurd of
 own_of_input statuses.Memory of = absurd of
 own_of_input statuses.ShelfFault of = absurd of
 own_of_input statuses.GameMissing of = absurd of
+own_of_input statuses.FileMissing of = absurd of
 own_of_input statuses.BadGame of = absurd of
 
 pub read_of_input : (status : Status) → IsOfInput status → ReadsNothing status → ⊥
@@ -257,12 +271,14 @@ read_of_input statuses.BadInput of nothing = nothing
 read_of_input statuses.Limit of nothing = nothing
 read_of_input statuses.Unspelled of nothing = nothing
 read_of_input statuses.NoSuch of nothing = nothing
+read_of_input statuses.Differs of nothing = nothing
 read_of_input statuses.Usage of nothing = of
 read_of_input statuses.ReadFault of nothing = of
 read_of_input statuses.WriteFault of nothing = of
 read_of_input statuses.Memory of nothing = of
 read_of_input statuses.ShelfFault of nothing = of
 read_of_input statuses.GameMissing of nothing = of
+read_of_input statuses.FileMissing of nothing = of
 read_of_input statuses.BadGame of nothing = of
 
 -- where logs are under a game, the answer is by the game that its file gives
@@ -276,7 +292,7 @@ game_reply told None name logs game (Ok answer) gives is = tt
 game_reply told left name logs game (Err why) gives is = tt
 
 -- or tells what the file lacks
-no_game : (file : Option (List ℕ)) (lack : Lack) (answer : Answer) → Lacks file lack → IsLackTold lack answer → GivesNoGame file answer
+pub no_game : (file : Option (List ℕ)) (lack : Lack) (answer : Answer) → Lacks file lack → IsLackTold lack answer → GivesNoGame file answer
 no_game file lacks.TooLong answer is told = subst (λ (a : Answer). GivesNoGame file a) (sym told) (answers.FileTooLong is.0 is.1.0 is.1.1)
 no_game file (lacks.Bad fault) answer is told =
     subst (λ (a : Answer). GivesNoGame file a) (sym told) (answers.BadGame is.0 is.1.0 is.1.1.0 fault is.1.1.1)

@@ -3,7 +3,7 @@ use Rattle.std.proofs.Common.{◌≡◌, ◌⊎◌, ℕ, ◌≤◌, List, length
 use Rattle.std.specs.Option.{option_map}
 use Rattle.acpc_text.specs.declared.fault.AcpcFault.{AcpcFault}
 use Rattle.acpc_text.specs.declared.fault.AcpcFault.TheVariants as in_acpc
-use Rattle.command_words.specs.Words.{Load, Plain, Request, Under}
+use Rattle.command_words.specs.Words.{Load, Plain, Request, Under, Compare}
 use Rattle.command_words.specs.declared.request.Logs.TheVariants as logs_are
 use Rattle.poker_cli.specs.declared.task.Task.TheVariants as tasks
 use Rattle.convert_core.specs.declared.format_fault.FormatFault.{FormatFault}
@@ -23,7 +23,7 @@ use Rattle.poker_cli.specs.Answer as answers
 use Rattle.poker_cli.specs.PhhFaults.{phh_status}
 use Rattle.poker_cli.specs.Headline.{AsksToConvert, CanConvert, ConversionEnds, ConvertsInto, Headline, IsOfHands, IsOfLogs, NamesFault, IsTooLong, NamesRefused, NamesUnspelled, TellsAlone}
 use Rattle.poker_cli.specs.Inputs.{SayRecords}
-use Rattle.poker_cli.specs.Run.{AsksForGame, Ends, RefusesNothing, Sinks, TellsLine, WhereTold, WritesNothing, fixed_line}
+use Rattle.poker_cli.specs.Run.{AsksForFile, Ends, RefusesNothing, Sinks, TellsLine, WhereTold, WritesNothing, fixed_line}
 use Rattle.poker_cli.specs.OhhFaults.{ohh_status}
 use Rattle.poker_cli.specs.Ways.{way}
 use Rattle.poker_cli.specs.declared.status.Status.{Status}
@@ -33,7 +33,7 @@ use Rattle.poker_cli.specs.declared.task.Format.TheVariants as readers
 use Rattle.poker_cli.specs.declared.task.Way.{Way}
 use Rattle.poker_cli.proofs.Answering.{where_told}
 use Rattle.poker_cli.proofs.LawfulFormats.{no_fault}
-use Rattle.poker_cli.proofs.OneAnswer.{in_way, legal_in_way, no_missing}
+use Rattle.poker_cli.proofs.OneAnswer.{in_way, legal_in_way, no_file_missing, no_missing}
 use Rattle.list_laws.proofs.Options.{some_more}
 
 -- the status of a fault of bytes is that of bad input or of a limit
@@ -165,6 +165,15 @@ module _ (from to : Format) (keep : Keep) (bytes : List ℕ) where
   never_none _ (answers.Read few _ (answers.Played plays read _ (answers.NotSpelled number fact is))) same = cc (same)
   never_none _ (answers.Read few _ (answers.Played plays read _ (answers.Spelled none output spell back))) same = cc (same)
 
+  -- nothing is compared
+  never_differs : (answer : Answer) → IsAnswer (tasks.Convert to keep) from bytes answer → answer.status ≡ statuses.Differs → ⊥
+  unfolding IsUnread
+  never_differs _ (answers.TooLong many) same = cc (same)
+  never_differs answer (answers.Read few _ (answers.Unread fault have _ is)) same = not_unread fault answer statuses.Differs (λ un. un) is same
+  never_differs _ (answers.Read few _ (answers.Refused number why first)) same = cc (same)
+  never_differs _ (answers.Read few _ (answers.Played plays read _ (answers.NotSpelled number fact is))) same = cc (same)
+  never_differs _ (answers.Read few _ (answers.Played plays read _ (answers.Spelled none output spell back))) same = cc (same)
+
   -- the file of a game has no part in it
   never_game : (answer : Answer) → IsAnswer (tasks.Convert to keep) from bytes answer → answer.status ≡ statuses.BadGame → ⊥
   unfolding IsUnread
@@ -176,7 +185,7 @@ module _ (from to : Format) (keep : Keep) (bytes : List ℕ) where
 
 -- where a shelf is asked for a game, a notation is that of logs
 asks_for_logs : (files : Files) (request : Request) (from to : Format) (keep : Keep) → AsksToConvert files request from to keep
-    → AsksForGame request → IsOfLogs from ⊎ IsOfLogs to
+    → AsksForFile request → IsOfLogs from ⊎ IsOfLogs to
 asks_for_logs files (Load seed hands) from to keep found asks = absurd found
 asks_for_logs files (Plain notation task) from to keep found asks = absurd asks
 asks_for_logs files (Under name (logs_are.Read task)) from to keep found asks =
@@ -189,6 +198,7 @@ asks_for_logs files (Under name (logs_are.Written notation keeps)) from to keep 
     let task : tasks.Convert to keep ≡ tasks.Convert (readers.Acpc found.game) keeps = ap (λ (w : Way). w.task) found.same in
     let written : to ≡ readers.Acpc found.game = cc (task) in
     inr (subst IsOfLogs (sym written) tt)
+asks_for_logs files (Compare sides file notes) from to keep found asks = absurd found
 
 -- What is known besides the answer of how a run left its sinks.
 pub record IsLeft (out diag : Sinks) (status : Status) : Type 0 where
@@ -240,6 +250,9 @@ module _ (request : Request) (files : Files) (from to : Format) (keep : Keep) (b
       never_game from to keep bytes ends.answer (in_way request files bytes (way (tasks.Convert to keep) from) ends.answer found ends.to_input) ends.ends
   conversion_ends statuses.NoSuch found ends left =
       never_none from to keep bytes ends.answer (in_way request files bytes (way (tasks.Convert to keep) from) ends.answer found ends.to_input) ends.ends
+  conversion_ends statuses.Differs found ends left =
+      never_differs from to keep bytes ends.answer (in_way request files bytes (way (tasks.Convert to keep) from) ends.answer found ends.to_input) ends.ends
+  conversion_ends statuses.FileMissing found ends left = no_file_missing files request (way (tasks.Convert to keep) from) found ends
 
   -- an input that reads as hands is not told as bad input or as a limit
   conversion_reads : (status : Status) → ConversionEnds from to keep bytes out diag status → length bytes ≤ most_input
@@ -255,6 +268,8 @@ module _ (request : Request) (files : Files) (from to : Format) (keep : Keep) (b
   conversion_reads statuses.GameMissing ends few records say = ends
   conversion_reads statuses.BadGame ends few records say = ends
   conversion_reads statuses.NoSuch ends few records say = ends
+  conversion_reads statuses.Differs ends few records say = ends
+  conversion_reads statuses.FileMissing ends few records say = ends
   conversion_reads statuses.BadInput ends few records say = no_fault from bytes records ends.fault say ends.have
   conversion_reads statuses.Limit (inl ends) few records say = let beyond = ends.beyond in absurd (omega (arith, beyond, few))
   conversion_reads statuses.Limit (inr ends) few records say = no_fault from bytes records ends.fault say ends.have

@@ -76,7 +76,7 @@ read_by format =
 
 -- ---- how each notation writes
 
-kept_again : (format : Format) (notes : SaidNotes) → kept_in format (kept_in format notes) ≡ kept_in format notes
+pub kept_again : (format : Format) (notes : SaidNotes) → kept_in format (kept_in format notes) ≡ kept_in format notes
 kept_again formats.Phh notes = in_phh.kept_again notes
 kept_again (formats.Ohh dialect) notes = in_ohh.kept_again notes
 kept_again (formats.Acpc game) notes = in_acpc.kept_again notes
@@ -87,12 +87,12 @@ same_fact formats.Phh keep place play other few sound too same = in_phh.trace_fa
 same_fact (formats.Ohh dialect) keep place play other few sound too same = facts_in_ohh.one_fact keep place play other sound too same
 same_fact (formats.Acpc game) keep place play other few sound too same = facts_in_acpc.one_fact game keep place play other few sound too same
 
-trace_fact : (format : Format) (play other : Play) → play.trace ≡ other.trace → unspelled_in format keeps.Spelled play ≡ unspelled_in format keeps.Spelled other
+pub trace_fact : (format : Format) (play other : Play) → play.trace ≡ other.trace → unspelled_in format keeps.Spelled play ≡ unspelled_in format keeps.Spelled other
 trace_fact formats.Phh play other same = in_phh.trace_fact play other same
 trace_fact (formats.Ohh dialect) play other same = facts_in_ohh.trace_fact play other same
 trace_fact (formats.Acpc game) play other same = facts_in_acpc.trace_fact game play other same
 
-all_spelled : (format : Format) (place : ℕ) (play : Play) → place < MOST_HANDS → IsSound play
+pub all_spelled : (format : Format) (place : ℕ) (play : Play) → place < MOST_HANDS → IsSound play
     → (unspelled_in format keeps.All play ≡ None) ↔ ((unspelled_in format keeps.Spelled play ≡ None) × (kept_in format (notes_of place play) ≡ notes_of place play))
 all_spelled formats.Phh place play few sound = in_phh.all_spelled place play
 all_spelled (formats.Ohh dialect) place play few sound = facts_in_ohh.all_spelled place play sound
@@ -104,7 +104,7 @@ one_spelling formats.Phh plays others bytes too sound other_sound spell spell_to
 one_spelling (formats.Ohh dialect) plays others bytes too sound other_sound spell spell_too same = in_ohh.one_spelling dialect plays others bytes too sound other_sound spell spell_too same
 one_spelling (formats.Acpc game) plays others bytes too sound other_sound spell spell_too same = laws_in_acpc.one_spelling game plays others bytes too spell spell_too same
 
-same_hands : (format : Format) (keep : Keep) (plays others : List Play) (bytes too : List ℕ) → AreFew plays → AreFew others → AllByRecursion IsSound plays → AllByRecursion IsSound others
+pub same_hands : (format : Format) (keep : Keep) (plays others : List Play) (bytes too : List ℕ) → AreFew plays → AreFew others → AllByRecursion IsSound plays → AllByRecursion IsSound others
     → first_refusal (unspelled_in format keep) plays ≡ None → first_refusal (unspelled_in format keep) others ≡ None → SpellPlays format plays bytes → SpellPlays format others too
     → AreSameIn format bytes too → AreSameHands (kept_in format) plays others
 same_hands formats.Phh keep plays others bytes too few few_too sound other_sound none none_too spell spell_too same =
@@ -114,7 +114,7 @@ same_hands (formats.Ohh dialect) keep plays others bytes too few few_too sound o
 same_hands (formats.Acpc game) keep plays others bytes too few few_too sound other_sound none none_too spell spell_too same =
     laws_in_acpc.same_hands game keep plays others bytes too few few_too sound other_sound none none_too spell spell_too same
 
-abbrev written_by : Format → WrittenNotation
+abbrev pub written_by : Format → WrittenNotation
 written_by format =
     record {
       source = read_by format;

@@ -6,7 +6,11 @@ mod JudgedLines
 mod PrintedLines
 mod OneJudgement
 mod Numbered
-mod ViewsLeft
+mod FirstDifferent
+mod SeenViews
+mod PrintedTexts
 mod OneReply
 mod OneAnswer
 mod Headline
+mod Comparisons
+mod Replying

@@ -8,7 +8,7 @@ use Rattle.std.proofs.lemmas.Option.{same_Some}
 use Rattle.acpc_game.specs.declared.game.Game.{Game as AnyGame}
 use Rattle.acpc_game.specs.GameFile.{game_said}
 use Rattle.acpc_game.specs.GameView.{game_in}
-use Rattle.command_words.specs.Words.{Load, Plain, Request, Under}
+use Rattle.command_words.specs.Words.{Load, Plain, Request, Under, Compare}
 use Rattle.command_words.specs.declared.command.Command.{Command}
 use Rattle.command_words.specs.declared.command.Command.TheVariants as commands
 use Rattle.command_words.specs.declared.task.Question.{Question}
@@ -43,7 +43,7 @@ use Rattle.poker_cli.specs.Inputs.{HaveFault, SayRecords}
 use Rattle.poker_cli.specs.OneAnswer.{AreOneAnswer}
 use Rattle.poker_cli.specs.Outputs.{AreSameIn, first_refusal_in, kept_in, unspelled_in}
 use Rattle.poker_cli.specs.Ways.{way, way_under}
-use Rattle.poker_cli.specs.Run.{Ends, GivesNone, IsGameMissing, NeedsNoInput, RefusesNothing, Sinks}
+use Rattle.poker_cli.specs.Run.{Ends, GivesNone, IsFileMissing, IsGameMissing, NeedsNoInput, RefusesNothing, Sinks}
 use Rattle.poker_cli.specs.declared.status.Status.{Status}
 use Rattle.poker_cli.specs.declared.status.Status.TheVariants as statuses
 use Rattle.poker_cli.specs.declared.task.Format.{Format}
@@ -188,28 +188,28 @@ alike_hands : (records others : List Record) (ps qs : List Play) → AllAlike re
 alike_hands records others ps qs alike are is =
     subst (λ (hands : List Record). AllAlike hands (hands_of qs)) (sym are.same) (subst (AllAlike records) (sym is.same) alike)
 
-AllToldAlike : (FormatFault → Type 0) → Type 0
+unfoldable pub AllToldAlike : (FormatFault → Type 0) → Type 0
 AllToldAlike HaveFault =
     (fault other : FormatFault) (answer too : Answer) → HaveFault fault → HaveFault other → to_fault fault ≡ Some answer → to_fault other ≡ Some too → answer ≡ too
 
-AllReadSame : (List Record → Type 0) → Type 0
+pub AllReadSame : (List Record → Type 0) → Type 0
 AllReadSame Say = (plays others : List Play) → ReadAsPlays Say plays → ReadAsPlays Say others → AreReadSame plays others
 
-SayOrFault : (List Record → Type 0) → (FormatFault → Type 0) → Type 0
+pub SayOrFault : (List Record → Type 0) → (FormatFault → Type 0) → Type 0
 SayOrFault Say HaveFault = (records : List Record) (fault : FormatFault) → Say records → HaveFault fault → ⊥
 
-refused_or_played : (records others : List Record) (number : ℕ) (why : Refusal) (plays : List Play) → AllAlike records others
+pub refused_or_played : (records others : List Record) (number : ℕ) (why : Refusal) (plays : List Play) → AllAlike records others
     → IsFirstRefused records number why → ArePlaysOf others plays → ⊥
 refused_or_played records others number why plays alike first are =
     no_plays records others number why plays (all_same records others alike) first are
 
 -- What is made of plays is one thing, by what two answers are one.
-record IsOneMade (IsMade : List Play → Answer → Type 0) (One : Answer → Answer → Type 0) : Type 0 where
-  itself : (answer other : Answer) → answer ≡ other → One answer other
-  made : (ps qs : List Play) (answer other : Answer) → All IsJudged ps → AllTraced ps qs → AllAlike (hands_of ps) (hands_of qs) → AreReadSame ps qs
+pub record IsOneMade (IsMade : List Play → Answer → Type 0) (One : Answer → Answer → Type 0) : Type 0 where
+  pub itself : (answer other : Answer) → answer ≡ other → One answer other
+  pub made : (ps qs : List Play) (answer other : Answer) → All IsJudged ps → AllTraced ps qs → AllAlike (hands_of ps) (hands_of qs) → AreReadSame ps qs
       → IsMade ps answer → IsMade qs other → One answer other
 
-same_answer : (Say : List Record → Type 0) (HaveFault : FormatFault → Type 0) (IsMade : List Play → Answer → Type 0) (One : Answer → Answer → Type 0) (answer other : Answer)
+pub same_answer : (Say : List Record → Type 0) (HaveFault : FormatFault → Type 0) (IsMade : List Play → Answer → Type 0) (One : Answer → Answer → Type 0) (answer other : Answer)
     → IsOneMade IsMade One → IsReadAlike Say → AllReadSame Say → AllToldAlike HaveFault → SayOrFault Say HaveFault
     → IsAnswerTo Say HaveFault IsMade answer → IsAnswerTo Say HaveFault IsMade other → One answer other
 unfolding AllReadSame AllToldAlike SayOrFault
@@ -252,7 +252,7 @@ same_judgement Say HaveFault _ _ alike told apart (answers.Judged records say ve
     ap done (same_judged records others verdicts too (all_same records others (alike records others say says)) are is)
 
 -- a fault of bytes is told in one way
-one_told : (reader : Format) (bytes : List ℕ) → AllToldAlike (HaveFault reader bytes)
+pub one_told : (reader : Format) (bytes : List ℕ) → AllToldAlike (HaveFault reader bytes)
 unfolding AllToldAlike
 one_told readers.Phh bytes (formats.Phh fault) (formats.Phh other) answer too have has told tells =
     let reads = have.reads in
@@ -283,12 +283,12 @@ one_told (readers.Acpc game) bytes (formats.Acpc fault) (formats.Phh other) answ
 one_told (readers.Acpc game) bytes (formats.Acpc fault) (formats.Ohh other) answer too have has told tells = absurd has
 
 -- bytes with a fault say no records
-say_or_fault : (reader : Format) (bytes : List ℕ) → SayOrFault (SayRecords reader bytes) (HaveFault reader bytes)
+pub say_or_fault : (reader : Format) (bytes : List ℕ) → SayOrFault (SayRecords reader bytes) (HaveFault reader bytes)
 unfolding SayOrFault
 say_or_fault reader bytes records fault say have = no_fault reader bytes records fault say have
 
 -- the plays of bytes are the same
-read_the_same : (reader : Format) (bytes : List ℕ) → AllReadSame (SayRecords reader bytes)
+pub read_the_same : (reader : Format) (bytes : List ℕ) → AllReadSame (SayRecords reader bytes)
 unfolding AllReadSame
 read_the_same reader bytes plays others is it = all_read_same (read_by reader) bytes plays others is it
 
@@ -329,15 +329,15 @@ one_answer task reader bytes answer _ (answers.Read few _ is) (answers.TooLong m
 one_answer task reader bytes answer other (answers.Read few _ is) (answers.Read less _ it) = one_read task reader bytes answer other is it
 
 -- what an input whose hands are all legal and agree is made of
-record IsMadeAlike (IsMade : List Play → Answer → Type 0) (plays : List Play) (answer : Answer) : Type 0 where
-  others : List Play
-  traced : AllTraced plays others
-  same : AreReadSame plays others
-  judged : All IsJudged plays
-  hands : AllAlike (hands_of plays) (hands_of others)
-  made : IsMade others answer
+pub record IsMadeAlike (IsMade : List Play → Answer → Type 0) (plays : List Play) (answer : Answer) : Type 0 where
+  pub others : List Play
+  pub traced : AllTraced plays others
+  pub same : AreReadSame plays others
+  pub judged : All IsJudged plays
+  pub hands : AllAlike (hands_of plays) (hands_of others)
+  pub made : IsMade others answer
 
-made_of : (Say : List Record → Type 0) (HaveFault : FormatFault → Type 0) (IsMade : List Play → Answer → Type 0) (records : List Record) (plays : List Play) (answer : Answer)
+pub made_of : (Say : List Record → Type 0) (HaveFault : FormatFault → Type 0) (IsMade : List Play → Answer → Type 0) (records : List Record) (plays : List Play) (answer : Answer)
     → IsReadAlike Say → AllReadSame Say → SayOrFault Say HaveFault → Say records → ArePlaysOf records plays → IsAnswerTo Say HaveFault IsMade answer → IsMadeAlike IsMade plays answer
 unfolding AllReadSame SayOrFault
 made_of Say HaveFault IsMade records plays answer alike same apart say are (answers.Unread fault have _ is) = absurd (apart records fault say have)
@@ -405,7 +405,7 @@ converted_status to keep plays answer none is =
     spelled_status to keep is.others answer (sym (refusal_same to keep plays is.others is.same) ∙ none) is.made
 
 -- a file gives one game, or none
-no_game : (file : Option (List ℕ)) (game : AnyGame) (answer : Answer) → GivesGame file game → GivesNoGame file answer → ⊥
+pub no_game : (file : Option (List ℕ)) (game : AnyGame) (answer : Answer) → GivesGame file game → GivesNoGame file answer → ⊥
 no_game file game _ gives (answers.FileTooLong text there many) =
     let same : gives.text ≡ text = same_Some gives.text text (sym gives.there ∙ there) in
     let few : length text ≤ most_input = subst (λ (t : List ℕ). length t ≤ most_input) same gives.short in
@@ -416,7 +416,7 @@ no_game file game _ gives (answers.BadGame text there short fault is) =
     absurd (cc (says, is))
 
 -- where a file gives a game, it does not lack one
-lacks_none : (file : Option (List ℕ)) (game : AnyGame) → GivesGame file game → GivesNone file → ⊥
+pub lacks_none : (file : Option (List ℕ)) (game : AnyGame) → GivesGame file game → GivesNone file → ⊥
 lacks_none file game gives (inl none) = let there = gives.there in cc (none, there)
 lacks_none file game gives (inr lacks) = no_game file game lacks.0 gives lacks.1
 
@@ -425,7 +425,7 @@ pub not_lacking : {X : Type 0} (told : Option Files) (name : List ℕ) (game : A
 not_lacking (Some files) name game input read gives = λ lacks. absurd (lacks_none (files name) game gives lacks)
 not_lacking None name game input read gives = tt
 
-games_same : (file : Option (List ℕ)) (game other : AnyGame) → GivesGame file game → GivesGame file other → game ≡ other
+pub games_same : (file : Option (List ℕ)) (game other : AnyGame) → GivesGame file game → GivesGame file other → game ≡ other
 games_same file game other gives too =
     let same : gives.text ≡ too.text = same_Some gives.text too.text (sym gives.there ∙ too.there) in
     let says : game_said too.text ≡ Ok (game_in game) = subst (λ (t : List ℕ). game_said t ≡ Ok (game_in game)) same gives.says in
@@ -441,33 +441,43 @@ in_way (Under name logs) files bytes by answer found (answers.NoGame _ lacks) = 
 in_way (Under name logs) files bytes by answer found (answers.OfInput game gives _ to) =
     subst (λ (w : Way). IsAnswerBy w bytes answer)
     (ap (λ (g : AnyGame). way_under g logs) (games_same (files name) game found.game gives found.gives) ∙ sym found.same) to
+in_way (Compare sides file notes) files bytes by answer found is = absurd found
 
--- a request that is answered in a way lacks no game
+-- a request that is answered in a way lacks no game, and no other file
 pub no_missing : (files : Files) (request : Request) (by : Way) → IsWay files request by → IsGameMissing request files → ⊥
 no_missing files (Load seed hands) by found missing = missing
 no_missing files (Plain from task) by found missing = missing
 no_missing files (Under name logs) by found missing = let there = found.gives.there in cc (there, missing)
+no_missing files (Compare sides file notes) by found missing = found
+
+pub no_file_missing : (files : Files) (request : Request) (by : Way) → IsWay files request by → IsFileMissing request files → ⊥
+no_file_missing files (Load seed hands) by found missing = missing
+no_file_missing files (Plain from task) by found missing = missing
+no_file_missing files (Under name logs) by found missing = missing
+no_file_missing files (Compare sides file notes) by found missing = found
 
 -- a run whose answers all have one status, and that lacks no game, ends with it, or a device failed, or memory ran out
-ends_so : (request : Request) (files : Files) (bytes : List ℕ) (out diag : Sinks) (status own : Status)
+pub ends_so : (request : Request) (files : Files) (bytes : List ℕ) (out diag : Sinks) (status own : Status)
     → ((answer : Answer) → IsAnswerIn request files bytes answer → answer.status ≡ own)
-    → (IsGameMissing request files → ⊥)
+    → (IsGameMissing request files → ⊥) → (IsFileMissing request files → ⊥)
     → Ends request files bytes out diag status → RefusesNothing status ⊎ (own ≡ status)
-ends_so request files bytes out diag statuses.Done own each there ends = inl tt
-ends_so request files bytes out diag statuses.ReadFault own each there ends = inl tt
-ends_so request files bytes out diag statuses.WriteFault own each there ends = inl tt
-ends_so request files bytes out diag statuses.ShelfFault own each there ends = inl tt
-ends_so request files bytes out diag statuses.Memory own each there ends = inl tt
-ends_so request files bytes out diag statuses.Usage own each there ends = absurd ends
-ends_so request files bytes out diag statuses.GameMissing own each there ends = absurd (there ends)
-ends_so request files bytes out diag statuses.Refused own each there ends = inr (sym (each ends.answer ends.to_input) ∙ ends.ends)
-ends_so request files bytes out diag statuses.BadInput own each there ends = inr (sym (each ends.answer ends.to_input) ∙ ends.ends)
-ends_so request files bytes out diag statuses.Limit own each there ends = inr (sym (each ends.answer ends.to_input) ∙ ends.ends)
-ends_so request files bytes out diag statuses.Unspelled own each there ends = inr (sym (each ends.answer ends.to_input) ∙ ends.ends)
-ends_so request files bytes out diag statuses.BadGame own each there ends = inr (sym (each ends.answer ends.to_input) ∙ ends.ends)
-ends_so request files bytes out diag statuses.NoSuch own each there ends = inr (sym (each ends.answer ends.to_input) ∙ ends.ends)
+ends_so request files bytes out diag statuses.Done own each there named ends = inl tt
+ends_so request files bytes out diag statuses.ReadFault own each there named ends = inl tt
+ends_so request files bytes out diag statuses.WriteFault own each there named ends = inl tt
+ends_so request files bytes out diag statuses.ShelfFault own each there named ends = inl tt
+ends_so request files bytes out diag statuses.Memory own each there named ends = inl tt
+ends_so request files bytes out diag statuses.Usage own each there named ends = absurd ends
+ends_so request files bytes out diag statuses.GameMissing own each there named ends = absurd (there ends)
+ends_so request files bytes out diag statuses.FileMissing own each there named ends = absurd (named ends)
+ends_so request files bytes out diag statuses.Refused own each there named ends = inr (sym (each ends.answer ends.to_input) ∙ ends.ends)
+ends_so request files bytes out diag statuses.BadInput own each there named ends = inr (sym (each ends.answer ends.to_input) ∙ ends.ends)
+ends_so request files bytes out diag statuses.Limit own each there named ends = inr (sym (each ends.answer ends.to_input) ∙ ends.ends)
+ends_so request files bytes out diag statuses.Unspelled own each there named ends = inr (sym (each ends.answer ends.to_input) ∙ ends.ends)
+ends_so request files bytes out diag statuses.BadGame own each there named ends = inr (sym (each ends.answer ends.to_input) ∙ ends.ends)
+ends_so request files bytes out diag statuses.NoSuch own each there named ends = inr (sym (each ends.answer ends.to_input) ∙ ends.ends)
+ends_so request files bytes out diag statuses.Differs own each there named ends = inr (sym (each ends.answer ends.to_input) ∙ ends.ends)
 
-done_so : (status : Status) → RefusesNothing status ⊎ (statuses.Done ≡ status) → RefusesNothing status
+pub done_so : (status : Status) → RefusesNothing status ⊎ (statuses.Done ≡ status) → RefusesNothing status
 done_so status (inl is) = is
 done_so status (inr same) = subst RefusesNothing same tt
 
@@ -482,7 +492,7 @@ legal_shown request command reader files bytes records plays out diag status fou
     (ends_so request files bytes out diag status statuses.Done
     (λ answer to. shown_status command plays answer
     (legal_asked (questions.Show command) reader bytes records plays answer few is are (in_way request files bytes by answer found to)))
-    (no_missing files request by found) ends)
+    (no_missing files request by found) (no_file_missing files request by found) ends)
 
 -- what is asked of the hands is answered as it is of their plays
 pub legal_asks : (request : Request) (question : Question) (reader : Format) (files : Files) (bytes : List ℕ) (records : List Record) (plays : List Play) (reply : Answer)
@@ -494,7 +504,7 @@ legal_asks request question reader files bytes records plays reply out diag stat
     ends_so request files bytes out diag status reply.status
     (λ answer given. asked_status question plays answer reply to
     (legal_asked question reader bytes records plays answer few is are (in_way request files bytes by answer found given)))
-    (no_missing files request by found) ends
+    (no_missing files request by found) (no_file_missing files request by found) ends
 
 -- and so is what a seat saw of them
 pub legal_views : (request : Request) (game : AnyGame) (seat : Seat) (reader : Format) (files : Files) (bytes : List ℕ) (records : List Record) (plays : List Play) (reply : Answer)
@@ -506,7 +516,7 @@ legal_views request game seat reader files bytes records plays reply out diag st
     ends_so request files bytes out diag status reply.status
     (λ answer given. viewed_status game seat plays answer reply to
     (legal_viewed game seat reader bytes records plays answer few is are (in_way request files bytes by answer found given)))
-    (no_missing files request by found) ends
+    (no_missing files request by found) (no_file_missing files request by found) ends
 
 -- hands are judged, also refused ones
 pub all_judged : (request : Request) (reader : Format) (files : Files) (bytes : List ℕ) (records : List Record)
@@ -518,7 +528,7 @@ all_judged request reader files bytes records out diag status found few is ends 
     done_so status
     (ends_so request files bytes out diag status statuses.Done
     (λ answer to. judged_status reader bytes records answer few is (in_way request files bytes by answer found to))
-    (no_missing files request by found) ends)
+    (no_missing files request by found) (no_file_missing files request by found) ends)
 
 -- and hands whose facts are all spelled are converted
 pub legal_in_way : (request : Request) (reader target : Format) (keep : Keep) (files : Files) (bytes : List ℕ) (records : List Record) (plays : List Play)
@@ -532,7 +542,7 @@ legal_in_way request reader target keep files bytes records plays out diag statu
     (ends_so request files bytes out diag status statuses.Done
     (λ answer given. converted_status target keep plays answer none
     (legal_written target keep reader bytes records plays answer few is are (in_way request files bytes by answer found given)))
-    (no_missing files request by found) ends)
+    (no_missing files request by found) (no_file_missing files request by found) ends)
 
 -- the answer to hands that are made is done, and a run on them needs no input
 load_done : (seed hands : ℕ) (files : Files) (bytes : List ℕ) (answer : Answer) → IsAnswerIn (Load seed hands) files bytes answer → answer.status ≡ statuses.Done
@@ -551,9 +561,11 @@ legal_load seed hands files bytes out diag statuses.Usage ends = ends
 legal_load seed hands files bytes out diag statuses.ReadFault ends = ends
 legal_load seed hands files bytes out diag statuses.ShelfFault ends = ends
 legal_load seed hands files bytes out diag statuses.GameMissing ends = ends
+legal_load seed hands files bytes out diag statuses.FileMissing ends = ends
 legal_load seed hands files bytes out diag statuses.Refused ends = not_done seed hands files bytes ends.answer statuses.Refused ends.to_input ends.ends
 legal_load seed hands files bytes out diag statuses.BadInput ends = not_done seed hands files bytes ends.answer statuses.BadInput ends.to_input ends.ends
 legal_load seed hands files bytes out diag statuses.Limit ends = not_done seed hands files bytes ends.answer statuses.Limit ends.to_input ends.ends
 legal_load seed hands files bytes out diag statuses.Unspelled ends = not_done seed hands files bytes ends.answer statuses.Unspelled ends.to_input ends.ends
 legal_load seed hands files bytes out diag statuses.NoSuch ends = not_done seed hands files bytes ends.answer statuses.NoSuch ends.to_input ends.ends
+legal_load seed hands files bytes out diag statuses.Differs ends = not_done seed hands files bytes ends.answer statuses.Differs ends.to_input ends.ends
 legal_load seed hands files bytes out diag statuses.BadGame ends = not_done seed hands files bytes ends.answer statuses.BadGame ends.to_input ends.ends

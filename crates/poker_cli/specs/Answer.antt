@@ -1,6 +1,6 @@
 -- What the program answers to the bytes of its input, and of the file of a game.
 pub use Rattle.poker_cli.specs.AnswerParts.{Answer, done, refusal}
-use Rattle.std.specs.Prelude.{◌≡◌, ℕ, ◌<◌, ◌≤◌, List, [], ◌∷◌, length, codes, Option, Some, None, option_map, Result, Ok, Err}
+use Rattle.std.specs.Prelude.{◌≡◌, ℕ, ◌<◌, ◌≤◌, Bool, List, [], ◌∷◌, ◌++◌, length, codes, Option, Some, None, option_map, Result, Ok, Err}
 use Rattle.acpc_game.specs.GameFile.{GameSaid, game_said}
 use Rattle.acpc_game.specs.GameText.{game_text}
 use Rattle.acpc_game.specs.GameView.{game_in}
@@ -8,7 +8,9 @@ use Rattle.acpc_game.specs.declared.game.Game.{Game}
 use Rattle.acpc_writing.specs.GameOf.{game_of}
 use Rattle.acpc_text.specs.declared.fault.AcpcFault.{AcpcFault}
 use Rattle.acpc_text.specs.declared.fault.AcpcFault.TheVariants as acpc_faults
-use Rattle.command_words.specs.Words.{Request, Load, Plain, Under}
+use Rattle.command_words.specs.Words.{Request, Load, Plain, Under, Compare, Sides, PlainSides, SidesUnder}
+use Rattle.command_words.specs.declared.notation.NotationName.{NotationName}
+use Rattle.command_words.specs.declared.notation.PlainNotation.{PlainNotation}
 use Rattle.command_words.specs.declared.command.Command.{Command}
 use Rattle.command_words.specs.declared.command.Command.TheVariants as commands
 use Rattle.command_words.specs.declared.request.Logs.{Logs}
@@ -37,6 +39,7 @@ use Rattle.convert_core.specs.declared.convert_fault.ConvertFault.TheVariants as
 use Rattle.convert_core.specs.declared.refusal.Refusal.{Refusal}
 use Rattle.convert_core.specs.declared.format_fault.FormatFault.{FormatFault}
 use Rattle.convert_core.specs.declared.format_fault.FormatFault.TheVariants as formats
+use Rattle.poker_cli.specs.Compared.{compared}
 use Rattle.poker_cli.specs.PhhFaults.{phh_fault_line, phh_status}
 use Rattle.poker_cli.specs.Inputs.{HaveFault, SayRecords}
 use Rattle.poker_cli.specs.Refusals.{refused_line}
@@ -46,7 +49,8 @@ use Rattle.poker_cli.specs.Outputs.{ReadsBack, SpellPlays, unspelled_in}
 use Rattle.poker_cli.specs.OhhFaults.{ohh_fault_line, ohh_status}
 use Rattle.poker_cli.specs.Unspelled.{unspelled_line}
 use Rattle.poker_cli.specs.Verdicts.{judged_said}
-use Rattle.poker_cli.specs.Ways.{plain_way, way_under}
+use Rattle.poker_cli.specs.Ways.{format_under, plain_format, plain_way, way_under}
+use Rattle.poker_cli.specs.declared.comparison.Comparison.{Comparison}
 use Rattle.poker_cli.specs.declared.status.Status.TheVariants as statuses
 use Rattle.poker_cli.specs.declared.task.Format.{Format}
 use Rattle.poker_cli.specs.declared.task.Way.{Way}
@@ -204,11 +208,12 @@ pub record IsWayUnder (file : Option (List ℕ)) (logs : Logs) (way : Way) : Typ
   pub same : way ≡ way_under game logs
 
 -- how a request is answered by the files of a shelf: so its hands are read, and this is made of them; hands that are made
--- are not read
+-- are not read, and those of two files are compared
 abbrev pub IsWay : Files → Request → Way → Type 0
 IsWay files (Load seed hands) way = ⊥
 IsWay files (Plain from task) way = way ≡ plain_way from task
 IsWay files (Under name logs) way = IsWayUnder (files name) logs way
+IsWay files (Compare sides file notes) way = ⊥
 
 -- An answer is the summary of so many hands that are made from a seed.
 pub record IsSummed (seed hands : ℕ) (answer : Answer) : Type 0 where
@@ -224,8 +229,93 @@ pub data IsAnswerUnder (file : Option (List ℕ)) (logs : Logs) (bytes : List �
   OfInput : (game : Game) → GivesGame file game → (answer : Answer) → IsAnswerBy (way_under game logs) bytes answer
       → IsAnswerUnder file logs bytes answer
 
+-- an answer that tells what is wrong inside the other file of a comparison
+abbrev pub in_file : Answer → Answer
+in_file answer = record answer { line = codes "file: " ++ answer.line }
+
+-- The answer to the plays of an input that are compared with the hands of another file.
+pub data IsComparedWith (other : Format) (notes : Bool) (file : List ℕ) (plays : List Play) : Answer → Type 0 where
+  -- the other file does not read as hands
+  OtherUnread : (fault : FormatFault) → HaveFault other file fault → (answer : Answer) → to_fault fault ≡ Some answer
+      → IsComparedWith other notes file plays (in_file answer)
+  -- a hand of it is refused
+  OtherRefused : (number : ℕ) (why : Refusal) → ReadAsRefused (SayRecords other file) number why
+      → IsComparedWith other notes file plays (in_file (to_refusal number why))
+  -- all its hands are legal and agree, and are compared with those of the input
+  OtherPlayed : (others : List Play) → ReadAsPlays (SayRecords other file) others
+      → IsComparedWith other notes file plays (compared notes plays others)
+
+-- The answer to the bytes of an input whose hands are compared with those of another file.
+pub data IsComparison (by : Comparison) (file bytes : List ℕ) : Answer → Type 0 where
+  -- they are too many
+  InputTooLong : most_input < length bytes → IsComparison by file bytes to_excess
+  -- they are read, and what is wrong with them comes before what is wrong inside the other file
+  InputRead : length bytes ≤ most_input → (answer : Answer)
+      → IsAnswerTo (SayRecords by.from bytes) (HaveFault by.from bytes) (IsComparedWith by.other by.notes file) answer
+      → IsComparison by file bytes answer
+
+-- the answer where the other file of a comparison is too long
+abbrev pub to_file_excess : Answer
+to_file_excess = refusal statuses.Limit (codes "limit: file bytes 16777216\n")
+
+-- The answer to the bytes of an input whose hands are compared with those of the file of a name.
+pub data IsComparedTo (by : Comparison) (file : Option (List ℕ)) (bytes : List ℕ) : Answer → Type 0 where
+  -- the file is too long
+  OtherTooLong : (text : List ℕ) → file ≡ Some text → most_input < length text → IsComparedTo by file bytes to_file_excess
+  -- the hands of both are compared
+  ToOther : (text : List ℕ) → file ≡ Some text → length text ≤ most_input → (answer : Answer) → IsComparison by text bytes answer
+      → IsComparedTo by file bytes answer
+
+-- how two files are compared, of which logs are under a game
+abbrev pub comparison_under : Game → (from other : NotationName) → (notes : Bool) → Comparison
+comparison_under game from other notes = record { from = format_under game from; other = format_under game other; notes = notes }
+
+-- how two files are compared of which neither is of logs
+abbrev pub plain_comparison : (from other : PlainNotation) → (notes : Bool) → Comparison
+plain_comparison from other notes = record { from = plain_format from; other = plain_format other; notes = notes }
+
+-- The answer where two files are compared, of which logs are under the game of a file.
+pub data IsComparedUnder (game_file : Option (List ℕ)) (from other : NotationName) (notes : Bool) (file : Option (List ℕ))
+    (bytes : List ℕ) : Answer → Type 0 where
+  -- that file gives no game
+  NoGameToCompare : (answer : Answer) → GivesNoGame game_file answer → IsComparedUnder game_file from other notes file bytes answer
+  -- they are compared under the game that it gives
+  ComparedInGame : (game : Game) → GivesGame game_file game → (answer : Answer)
+      → IsComparedTo (comparison_under game from other notes) file bytes answer
+      → IsComparedUnder game_file from other notes file bytes answer
+
+-- the answer where the hands of an input are compared with those of the file of a name
+abbrev pub IsComparedIn : Files → Sides → (file : List ℕ) → (notes : Bool) → (bytes : List ℕ) → Answer → Type 0
+IsComparedIn files (PlainSides from other) file notes bytes answer =
+    IsComparedTo (plain_comparison from other notes) (files file) bytes answer
+IsComparedIn files (SidesUnder game from other) file notes bytes answer =
+    IsComparedUnder (files game) from other notes (files file) bytes answer
+
+-- two files are compared so, of which logs are under the game of a file
+pub record IsComparisonUnder (game_file : Option (List ℕ)) (from other : NotationName) (notes : Bool) (by : Comparison) : Type 0 where
+  pub game : Game
+  pub gives : GivesGame game_file game
+  pub same : by ≡ comparison_under game from other notes
+
+-- two files are compared so
+abbrev pub IsComparisonOf : Files → Sides → (notes : Bool) → Comparison → Type 0
+IsComparisonOf files (PlainSides from other) notes by = by ≡ plain_comparison from other notes
+IsComparisonOf files (SidesUnder game from other) notes by = IsComparisonUnder (files game) from other notes by
+
+-- The request is to compare hands so with those of a file, which has these bytes, and no more than are read.
+pub record AsksToCompareWith (files : Files) (sides : Sides) (file : List ℕ) (notes : Bool) (by : Comparison) (text : List ℕ) : Type 0 where
+  pub comparison : IsComparisonOf files sides notes by
+  pub there : files file ≡ Some text
+  pub short : length text ≤ most_input
+
+-- a request is to compare hands with those of a file: both are read so, and the file has these bytes
+abbrev pub AsksToCompare : Files → Request → Comparison → (text : List ℕ) → Type 0
+AsksToCompare files (Compare sides file notes) by text = AsksToCompareWith files sides file notes by text
+AsksToCompare files request by text = ⊥
+
 -- the answer to a request, by the files of a shelf and the bytes of an input: neither comes in where hands are made
 abbrev pub IsAnswerIn : Request → Files → List ℕ → Answer → Type 0
 IsAnswerIn (Load seed hands) files bytes answer = IsSummed seed hands answer
 IsAnswerIn (Plain from task) files bytes answer = IsAnswerBy (plain_way from task) bytes answer
 IsAnswerIn (Under name logs) files bytes answer = IsAnswerUnder (files name) logs bytes answer
+IsAnswerIn (Compare sides file notes) files bytes answer = IsComparedIn files sides file notes bytes answer

@@ -123,6 +123,8 @@ ConversionEnds from to keep bytes out diag statuses.Usage = ⊥
 ConversionEnds from to keep bytes out diag statuses.GameMissing = ⊥
 ConversionEnds from to keep bytes out diag statuses.BadGame = ⊥
 ConversionEnds from to keep bytes out diag statuses.NoSuch = ⊥
+ConversionEnds from to keep bytes out diag statuses.Differs = ⊥
+ConversionEnds from to keep bytes out diag statuses.FileMissing = ⊥
 
 -- a status where an input within the limit reads as hands: all is done, or a hand is refused or unspelled, or a device failed, or
 -- memory ran out

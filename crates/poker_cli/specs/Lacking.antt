@@ -1,13 +1,16 @@
--- What the file of a game lacks, and why there is no answer.
+-- What the file of a game lacks, why another file is not compared with, and why there is no answer.
 use Rattle.std.specs.Prelude.{◌≡◌, ℕ, ◌<◌, ◌≤◌, List, length, Option, Some, None, Err}
 use Rattle.acpc_game.specs.GameFile.{game_said}
-use Rattle.poker_cli.specs.Answer.{Answer, most_input, to_bad_game, to_game_excess}
+use Rattle.poker_cli.specs.Answer.{Answer, Files, most_input, to_bad_game, to_game_excess}
 use Rattle.poker_cli.specs.declared.games.Lack.{Lack}
 use Rattle.poker_cli.specs.declared.games.Lack.TheVariants as lacks
 use Rattle.poker_cli.specs.declared.games.NoGame.{NoGame}
 use Rattle.poker_cli.specs.declared.games.NoGame.TheVariants as reasons
-use Rattle.poker_cli.specs.declared.entry.NoAnswer.{NoAnswer}
-use Rattle.poker_cli.specs.declared.entry.NoAnswer.TheVariants as whys
+use Rattle.poker_cli.specs.declared.no_answer.NoAnswer.{NoAnswer}
+use Rattle.poker_cli.specs.declared.no_answer.NoAnswer.TheVariants as whys
+use Rattle.poker_cli.specs.declared.comparing.NoFile.{NoFile}
+use Rattle.poker_cli.specs.declared.comparing.NoFile.TheVariants as no_files
+use Rattle.command_words.specs.Words.{Sides, PlainSides, SidesUnder}
 
 -- a file lacks this
 abbrev pub Lacks : Option (List ℕ) → Lack → Type 0
@@ -21,6 +24,18 @@ HasNoGame file (reasons.Lacking lack) = Lacks file lack
 HasNoGame file reasons.ShelfFault = Unit {0}
 HasNoGame file reasons.Memory = Unit {0}
 
+-- two files cannot be compared for this reason, which is one of the file of a game: only logs have one
+abbrev pub HasNoGameFor : Files → Sides → NoGame → Type 0
+HasNoGameFor files (PlainSides from other) reason = ⊥
+HasNoGameFor files (SidesUnder game from other) reason = HasNoGame (files game) reason
+
+-- a file is not compared with for this reason; where it could not be read or memory ran out nothing is known of it
+abbrev pub HasNoFile : Option (List ℕ) → NoFile → Type 0
+HasNoFile file no_files.Missing = file ≡ None
+HasNoFile file no_files.TooLong = (text : List ℕ) × ((file ≡ Some text) × (most_input < length text))
+HasNoFile file no_files.ShelfFault = Unit {0}
+HasNoFile file no_files.Memory = Unit {0}
+
 -- an answer tells this
 abbrev pub IsLackTold : Lack → Answer → Type 0
 IsLackTold lacks.TooLong answer = answer ≡ to_game_excess
@@ -29,6 +44,7 @@ IsLackTold (lacks.Bad fault) answer = answer ≡ to_bad_game fault
 -- there is no answer for what comes before the input is read
 abbrev pub ComesFirst : NoAnswer → Type 0
 ComesFirst whys.GameMissing = Unit {0}
+ComesFirst whys.FileMissing = Unit {0}
 ComesFirst whys.ShelfFault = Unit {0}
 ComesFirst whys.ReadFault = ⊥
 ComesFirst whys.Memory = ⊥

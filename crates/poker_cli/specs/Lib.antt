@@ -1,6 +1,7 @@
 -- What the program answers, prints and leaves.
 pub mod Status
 pub mod AnswerParts
+pub mod Compared
 pub mod Replies
 pub mod Refusals
 pub mod Verdicts
@@ -14,6 +15,8 @@ pub mod Outputs
 pub mod Ways
 pub mod Answer
 pub mod Asked
+pub mod Texts
+pub mod Seen
 pub mod OneAnswer
 pub mod Lacking
 pub mod Told

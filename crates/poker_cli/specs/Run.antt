@@ -1,16 +1,17 @@
 -- What a run of the program tells and leaves.
-use Rattle.std.specs.Prelude.{◌≡◌, ◌⊎◌, ℕ, List, [], codes, Option, Some, None, IfSome, unwrap_or}
+use Rattle.std.specs.Prelude.{◌≡◌, ◌⊎◌, ℕ, ◌<◌, List, [], length, codes, Option, Some, None, IfSome, unwrap_or}
 use Rattle.std.specs.Io.KnownBytes.{Appends}
-use Rattle.command_words.specs.Words.{Load, Plain, Request, Under}
+use Rattle.acpc_game.specs.declared.game.Game.{Game}
+use Rattle.command_words.specs.Words.{Load, Plain, Request, Under, Compare, PlainSides, SidesUnder}
 use Rattle.host_io.specs.Faults.{Rose}
 use Rattle.host_io.specs.Bytes.{AppendsPart}
 use Rattle.poker_cli.specs.declared.status.Status.{Status}
 use Rattle.poker_cli.specs.declared.status.Status.TheVariants as statuses
-use Rattle.poker_cli.specs.Answer.{Answer, Files, GivesNoGame, IsAnswerIn}
+use Rattle.poker_cli.specs.Answer.{Answer, Files, GivesGame, GivesNoGame, IsAnswerIn, most_input}
 
 -- the line where the words are no command
 abbrev pub usage_line : List ℕ
-usage_line = codes "usage: handref check|replay|report|convert|game|load|views|options|session|equity|judge [options]\n"
+usage_line = codes "usage: handref check|replay|report|convert|game|load|views|options|session|equity|judge|compare [options]\n"
 
 -- A run may end with this status where this is the answer to its input: with the answer's own, or with that of a
 -- fault of writing, where there is something to write.
@@ -19,7 +20,7 @@ MayEnd answer statuses.WriteFault = answer.status ≡ statuses.Done
 MayEnd answer status = answer.status ≡ status
 
 -- The line of a status that depends on no input: none after Done, and those of faults, of words that are no command, and of a
--- game's file that is not there.
+-- file that is not there.
 abbrev pub fixed_line : Status → Option (List ℕ)
 fixed_line statuses.Usage = Some usage_line
 fixed_line statuses.ReadFault = Some (codes "read fault\n")
@@ -27,6 +28,7 @@ fixed_line statuses.Memory = Some (codes "out of memory\n")
 fixed_line statuses.WriteFault = Some (codes "write fault\n")
 fixed_line statuses.ShelfFault = Some (codes "shelf fault\n")
 fixed_line statuses.GameMissing = Some (codes "game missing\n")
+fixed_line statuses.FileMissing = Some (codes "file missing\n")
 fixed_line statuses.Done = Some []
 fixed_line _ = None
 
@@ -60,11 +62,12 @@ abbrev pub no_files : Files
 no_files name = None
 
 -- What holds of the files and the bytes of a request, where the shelf and the source tell them. Where hands are made, nothing
--- is asked of either, and where no log is read or written, nothing of the shelf.
+-- is asked of either, and where no log is read or written, and nothing compared, nothing of the shelf.
 abbrev pub WhereTold : Request → Option (List ℕ) → Option Files → (Files → List ℕ → Type 0) → Type 0
 WhereTold (Load seed hands) left told P = P no_files []
 WhereTold (Plain from task) left told P = IfSome left (λ bytes. P no_files bytes)
 WhereTold (Under name logs) left told P = IfSome left (λ bytes. IfSome told (λ files. P files bytes))
+WhereTold (Compare sides file notes) left told P = IfSome left (λ bytes. IfSome told (λ files. P files bytes))
 
 -- hands are made
 abbrev pub MakesHands : Request → Type 0
@@ -76,29 +79,47 @@ abbrev pub ReadsHands : Request → Type 0
 ReadsHands (Load seed hands) = ⊥
 ReadsHands request = Unit {0}
 
--- a file of a game is asked for
-abbrev pub AsksForGame : Request → Type 0
-AsksForGame (Under name logs) = Unit {0}
-AsksForGame request = ⊥
+-- a file of the shelf is asked for
+abbrev pub AsksForFile : Request → Type 0
+AsksForFile (Under name logs) = Unit {0}
+AsksForFile (Compare sides file notes) = Unit {0}
+AsksForFile request = ⊥
 
--- words ask for no file of a game
-abbrev pub AskForNoGame : Option Request → Type 0
-AskForNoGame (Some (Under name logs)) = ⊥
-AskForNoGame said = Unit {0}
+-- words ask for no file of the shelf
+abbrev pub AskForNoFile : Option Request → Type 0
+AskForNoFile (Some (Under name logs)) = ⊥
+AskForNoFile (Some (Compare sides file notes)) = ⊥
+AskForNoFile said = Unit {0}
 
 -- the file of the game that is asked for is not there
 abbrev pub IsGameMissing : Request → Files → Type 0
 IsGameMissing (Under name logs) files = files name ≡ None
+IsGameMissing (Compare (SidesUnder game from other) file notes) files = files game ≡ None
 IsGameMissing request files = ⊥
+
+-- the file that hands are to be compared with is not there; that of a game, where one is asked for, gives its game
+abbrev pub IsFileMissing : Request → Files → Type 0
+IsFileMissing (Compare (PlainSides from other) file notes) files = files file ≡ None
+IsFileMissing (Compare (SidesUnder game from other) file notes) files =
+    ((found : Game) × GivesGame (files game) found) × (files file ≡ None)
+IsFileMissing request files = ⊥
 
 -- a file is not there, or gives no game
 abbrev pub GivesNone : Option (List ℕ) → Type 0
 GivesNone file = (file ≡ None) ⊎ ((answer : Answer) × GivesNoGame file answer)
 
--- the shelf tells that the file of the game that is asked for is not there, or gives no game
-abbrev pub LacksGame : Request → Option Files → Type 0
-LacksGame (Under name logs) (Some files) = GivesNone (files name)
-LacksGame request told = ⊥
+-- a file is not there, or too long
+abbrev pub IsNotThere : Option (List ℕ) → Type 0
+IsNotThere file = (file ≡ None) ⊎ ((text : List ℕ) × ((file ≡ Some text) × (most_input < length text)))
+
+-- the shelf tells that the file of the game that is asked for is not there, or gives no game; or that the file that hands are to
+-- be compared with is not there, or too long
+abbrev pub LacksFile : Request → Option Files → Type 0
+LacksFile (Under name logs) (Some files) = GivesNone (files name)
+LacksFile (Compare (PlainSides from other) file notes) (Some files) = IsNotThere (files file)
+LacksFile (Compare (SidesUnder game from other) file notes) (Some files) =
+    GivesNone (files game) ⊎ IsNotThere (files file)
+LacksFile request told = ⊥
 
 -- A run that got to its answer: the answer to its files and its input, the status that follows from it, what was written of
 -- its output, and its line.
@@ -109,14 +130,15 @@ pub record Answers (request : Request) (files : Files) (bytes : List ℕ) (out d
   pub written : Writes out.held out.holds answer status
   pub line : TellsLine diag.before diag.now diag.held diag.holds (line_of answer status)
 
--- How a run of a request on these files and bytes may end: with the answer to them, or before it, where the file of a
--- game is not there, a file or the input could not be read, or memory ran out.
+-- How a run of a request on these files and bytes may end: with the answer to them, or before it, where a file is not there, a
+-- file or the input could not be read, or memory ran out.
 abbrev pub Ends : Request → Files → List ℕ → Sinks → Sinks → Status → Type 0
 Ends request files bytes out diag statuses.Usage = ⊥
 Ends request files bytes out diag statuses.ReadFault = ReadsHands request
 Ends request files bytes out diag statuses.Memory = Unit {0}
-Ends request files bytes out diag statuses.ShelfFault = AsksForGame request
+Ends request files bytes out diag statuses.ShelfFault = AsksForFile request
 Ends request files bytes out diag statuses.GameMissing = IsGameMissing request files
+Ends request files bytes out diag statuses.FileMissing = IsFileMissing request files
 Ends request files bytes out diag status = Answers request files bytes out diag status
 
 -- a status after which nothing was written
@@ -134,6 +156,7 @@ IsOwn statuses.Limit = Unit {0}
 IsOwn statuses.Unspelled = Unit {0}
 IsOwn statuses.BadGame = Unit {0}
 IsOwn statuses.NoSuch = Unit {0}
+IsOwn statuses.Differs = Unit {0}
 IsOwn _ = ⊥
 
 -- a status that an answer to what was read of the input has
@@ -144,6 +167,7 @@ IsOfInput statuses.BadInput = Unit {0}
 IsOfInput statuses.Limit = Unit {0}
 IsOfInput statuses.Unspelled = Unit {0}
 IsOfInput statuses.NoSuch = Unit {0}
+IsOfInput statuses.Differs = Unit {0}
 IsOfInput _ = ⊥
 
 -- a status that refuses nothing of the input: all is done, or a device failed, or memory ran out
@@ -167,6 +191,7 @@ abbrev pub ReadsNothing : Status → Type 0
 ReadsNothing statuses.Usage = Unit {0}
 ReadsNothing statuses.ShelfFault = Unit {0}
 ReadsNothing statuses.GameMissing = Unit {0}
+ReadsNothing statuses.FileMissing = Unit {0}
 ReadsNothing statuses.BadGame = Unit {0}
 ReadsNothing _ = ⊥
 

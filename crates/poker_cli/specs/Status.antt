@@ -18,6 +18,8 @@ status_number statuses.GameMissing = 9
 status_number statuses.BadGame = 10
 status_number statuses.ShelfFault = 11
 status_number statuses.NoSuch = 13
+status_number statuses.Differs = 14
+status_number statuses.FileMissing = 15
 
 -- the number of a status
 abbrev pub IsStatusNumber : ℕ → Type 0

@@ -1,25 +1,9 @@
 -- The line that is told where a fact of a hand has no spelling.
 use Rattle.std.specs.Prelude.{ℕ, List, ◌++◌, codes}
 use Rattle.std.specs.Fmt.{decimal}
-use Rattle.hand_records.specs.declared.notes.NoteName.{NoteName}
-use Rattle.hand_records.specs.declared.notes.NoteName.TheVariants as names
+use Rattle.hand_differences.specs.DifferenceText.{note_text}
 use Rattle.hand_records.specs.declared.writing.Unspelled.{Unspelled}
 use Rattle.hand_records.specs.declared.writing.Unspelled.TheVariants as facts
-
--- what a note is called
-abbrev pub note_text : NoteName → List ℕ
-note_text names.Players = codes "players"
-note_text names.Seats = codes "seats"
-note_text names.SeatCount = codes "seat_count"
-note_text names.Hand = codes "hand"
-note_text names.Table = codes "table"
-note_text names.Venue = codes "venue"
-note_text names.Currency = codes "currency"
-note_text names.TimeZone = codes "time_zone"
-note_text names.Year = codes "year"
-note_text names.Month = codes "month"
-note_text names.Day = codes "day"
-note_text names.Time = codes "time"
 
 -- what a fact is called
 abbrev pub fact_text : Unspelled → List ℕ

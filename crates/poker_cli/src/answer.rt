@@ -10,7 +10,6 @@ ghost use Rattle.hand_records.specs.SoundRecord.{IsSoundRecord};
 ghost use Rattle.poker_cli.specs.Answer as definition;
 ghost use Rattle.poker_cli.specs.Answer.{IsAnswer, IsAnswerOf, IsAnswerTo, IsConversion, IsJudgement, IsReply, IsToldOf, IsWritten, most_input};
 ghost use Rattle.poker_cli.specs.Asked.{IsAsked};
-ghost use Rattle.poker_cli.specs.Printed.{command_of};
 ghost use Rattle.poker_cli.specs.Run.{IsOfInput};
 ghost use Rattle.poker_cli.specs.Told.{answer_told};
 
@@ -18,12 +17,13 @@ use crate::acpc_faults::answer_to_acpc_fault;
 use crate::judging::judge_text;
 use crate::ohh_faults::answer_to_ohh_fault;
 use crate::phh_faults::answer_to_phh_fault;
-use crate::printing::{Lines, print_each};
 use crate::refusals::refused_line;
 use crate::replies::{PlayQuestion, answer_to_plays};
 use crate::status::Status;
 use crate::task::{Format, Task};
+use crate::texts::command_text;
 use crate::unspelled::unspelled_line;
+use crate::viewing::answer_with_views;
 use card_set::Memory;
 use command_words::{Command, Question};
 use convert_core::{
@@ -73,9 +73,7 @@ fn answer_from<N: Notation>(
         Task::Ask(question) => answer_to_question(alloc, question, from, bytes),
         Task::Judge => answer_with_verdicts(alloc, from, bytes),
         Task::Convert { to, keep } => answer_with_hands(alloc, from, &to, keep, bytes),
-        Task::Views { game, seat } => {
-            answer_with_plays(alloc, PlayQuestion::Views { game, seat }, from, bytes)
-        }
+        Task::Views { game, seat } => answer_with_views(alloc, &game, seat, from, bytes),
     }
 }
 
@@ -114,11 +112,13 @@ fn answer_with_text<N: Notation>(
         (answer_told answer)) }
     ensures own { IfOk result (λ answer. IsOfInput answer.status) }
 {
-    match command {
-        Command::Check => answer_with_lines(alloc, Lines::Check, from, bytes),
-        Command::Replay => answer_with_lines(alloc, Lines::Replay, from, bytes),
-        Command::Report => answer_with_plays(alloc, PlayQuestion::Report, from, bytes),
-        Command::Session => answer_with_plays(alloc, PlayQuestion::Session, from, bytes),
+    match read_records(alloc, from, bytes) {
+        Ok(records) => match command_text(alloc, command, records) {
+            Ok(text) => Ok(done_with(alloc, text)),
+            Err(PlaysFault::Refused { hand, why }) => answer_to_refused(alloc, hand, &why),
+            Err(PlaysFault::Memory) => Err(Memory),
+        },
+        Err(fault) => answer_to_fault(alloc, &fault),
     }
 }
 
@@ -137,28 +137,6 @@ fn answer_with_verdicts<N: Notation>(
             let text = judge_text(alloc, records)?;
             Ok(done_with(alloc, text))
         }
-        Err(fault) => answer_to_fault(alloc, &fault),
-    }
-}
-
-// The answer with the lines of each hand of bytes.
-fn answer_with_lines<N: Notation>(
-    alloc: Global,
-    lines: Lines,
-    from: &N,
-    bytes: &[u8],
-) -> Result<Answer, Memory>
-    ensures answer { IfOk result (λ answer. IsAnswerTo (N.Say from.now bytes.now)
-        (N.HaveFault from.now bytes.now) (IsReply (questions.Show (command_of lines)))
-        (answer_told answer)) }
-    ensures own { IfOk result (λ answer. IsOfInput answer.status) }
-{
-    match read_records(alloc, from, bytes) {
-        Ok(records) => match print_each(alloc, lines, records) {
-            Ok(text) => Ok(done_with(alloc, text)),
-            Err(PlaysFault::Refused { hand, why }) => answer_to_refused(alloc, hand, &why),
-            Err(PlaysFault::Memory) => Err(Memory),
-        },
         Err(fault) => answer_to_fault(alloc, &fault),
     }
 }
@@ -225,8 +203,8 @@ fn answer_with_conversion<N: Notation, M: Notation>(
     }
 }
 
-// The answer to bytes that are not converted, or have no plays.
-fn answer_to_fault(alloc: Global, fault: &ConvertFault) -> Result<Answer, Memory>
+/// The answer to bytes that are not converted, or have no plays.
+pub fn answer_to_fault(alloc: Global, fault: &ConvertFault) -> Result<Answer, Memory>
     ensures answer { IfOk result (λ answer. IsToldOf fault.now (answer_told answer)) }
     ensures own { IfOk result (λ answer. IsOfInput answer.status) }
 {
@@ -251,8 +229,8 @@ fn answer_to_unread(alloc: Global, fault: &FormatFault) -> Result<Answer, Memory
     }
 }
 
-// The answer where the hand with this number is refused.
-fn answer_to_refused(alloc: Global, hand: u32, why: &Refusal) -> Result<Answer, Memory>
+/// The answer where the hand with this number is refused.
+pub fn answer_to_refused(alloc: Global, hand: u32, why: &Refusal) -> Result<Answer, Memory>
     ensures answer { IfOk result (λ answer.
         answer_told answer ≡ definition.to_refusal hand why.now) }
     ensures own { IfOk result (λ answer. answer.status ≡ Status.Refused) }

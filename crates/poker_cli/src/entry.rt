@@ -7,12 +7,14 @@ ghost use Rattle.host_io.specs.Faults.{Rose};
 ghost use Rattle.poker_cli.specs.Answer.{IsAnswerBy, IsAnswerIn, IsAnswerUnder};
 ghost use Rattle.poker_cli.specs.Headline.{AsksToConvert, Headline};
 ghost use Rattle.poker_cli.specs.Lacking.{ComesFirst};
-ghost use Rattle.poker_cli.specs.Run.{AskForNoGame, AsksForGame, Ends, GivesNone, IsGameMissing, IsOfInput, IsOwn, LacksGame, Leaves, MakesHands, MayEnd, ReadsHands, ReadsNothing, Tells, TellsLine, WhereTold, Writes, WritesNothing, change_of, line_of};
+ghost use Rattle.poker_cli.specs.Run.{AskForNoFile, AsksForFile, Ends, GivesNone, IsFileMissing, IsGameMissing, IsOfInput, IsOwn, LacksFile, Leaves, MakesHands, MayEnd, ReadsHands, ReadsNothing, Tells, TellsLine, WhereTold, Writes, WritesNothing, change_of, line_of};
 ghost use Rattle.poker_cli.specs.Told.{answer_told};
 ghost use Rattle.poker_cli.specs.declared.task.Format.{Format};
 
 use crate::answer::{self, Answer, MOST_INPUT};
+use crate::comparing::reply_to_comparison;
 use crate::games::{NoGame, answer_to_lack, fetch_game};
+use crate::no_answer::NoAnswer;
 use crate::status::Status;
 use crate::summing::answer_to_load;
 use crate::task::Way;
@@ -23,10 +25,10 @@ use host_io::{Failed, InFault, Shelf, Sink, Source, read_all, write_all};
 use std::alloc::Global;
 
 const USAGE: &[u8] =
-    b"usage: handref check|replay|report|convert|game|load|views|options|session|equity|judge [options]\n";
+    b"usage: handref check|replay|report|convert|game|load|views|options|session|equity|judge|compare [options]\n";
 
 /// Runs the program on its words, without its own name. It reads the file of a game from the shelf where the words
-/// name one, then the input to its end, writes the output where all is done, and tells one line beside it where it is
+/// name one, and behind it the file that hands are compared with, then the input to its end, writes the output where all is done, and tells one line beside it where it is
 /// not.
 pub fn run<S: Source, H: Shelf, K: Sink, D: Sink>(
     alloc: Global,
@@ -64,11 +66,12 @@ pub fn run<S: Source, H: Shelf, K: Sink, D: Sink>(
     ensures leaves { Leaves result
         input.old input.new out.old out.new diag.old diag.new }
 
-    // The shelf is called for a game alone, and the input is read behind it.
-    ensures shelf { AskForNoGame (request_said (map string_bytes words.now))
+    // The shelf is called for a game or for the other file of a comparison, and the input is read
+    // behind it.
+    ensures shelf { AskForNoFile (request_said (map string_bytes words.now))
         → shelf.new ≡ shelf.old }
-    ensures without_game { IfSome (request_said (map string_bytes words.now)) (λ request.
-        LacksGame request (H.files shelf.old) → input.new ≡ input.old) }
+    ensures without_file { IfSome (request_said (map string_bytes words.now)) (λ request.
+        LacksFile request (H.files shelf.old) → input.new ≡ input.old) }
     ensures without_input { IfSome (request_said (map string_bytes words.now)) (λ request.
         MakesHands request → input.new ≡ input.old) }
 {
@@ -106,8 +109,8 @@ fn run_request<S: Source, H: Shelf, K: Sink, D: Sink>(
         (change_of D.held D.faults diag.old diag.new) }
     ensures leaves { Leaves result
         input.old input.new out.old out.new diag.old diag.new }
-    ensures shelf { AskForNoGame (Some (request_in request.entry)) → shelf.new ≡ shelf.old }
-    ensures without_game { LacksGame (request_in request.entry) (H.files shelf.old)
+    ensures shelf { AskForNoFile (Some (request_in request.entry)) → shelf.new ≡ shelf.old }
+    ensures without_file { LacksFile (request_in request.entry) (H.files shelf.old)
         → input.new ≡ input.old }
     ensures without_input { MakesHands (request_in request.entry) → input.new ≡ input.old }
 {
@@ -120,6 +123,10 @@ fn run_request<S: Source, H: Shelf, K: Sink, D: Sink>(
         Err(NoAnswer::GameMissing) => {
             tell(diag, b"game missing\n");
             Status::GameMissing
+        }
+        Err(NoAnswer::FileMissing) => {
+            tell(diag, b"file missing\n");
+            Status::FileMissing
         }
         Err(NoAnswer::ShelfFault) => {
             tell(diag, b"shelf fault\n");
@@ -148,14 +155,17 @@ fn reply<S: Source, H: Shelf>(
     ensures reads { IsErrOf result NoAnswer.ReadFault → ReadsHands (request_in request.entry) }
     ensures shelf_fault { IsErrOf result NoAnswer.ShelfFault
         → Rose (H.faults shelf.old) (H.faults shelf.new) }
-    ensures asked { IsErrOf result NoAnswer.ShelfFault → AsksForGame (request_in request.entry) }
-    ensures shelf { AskForNoGame (Some (request_in request.entry)) → shelf.new ≡ shelf.old }
+    ensures asked { IsErrOf result NoAnswer.ShelfFault → AsksForFile (request_in request.entry) }
+    ensures shelf { AskForNoFile (Some (request_in request.entry)) → shelf.new ≡ shelf.old }
     ensures unread { IfOk result (λ answer. ReadsNothing answer.status → input.new ≡ input.old) }
     ensures missing { IsErrOf result NoAnswer.GameMissing →
         WhereTold (request_in request.entry) (S.left input.old) (H.files shelf.old) (λ files bytes.
         IsGameMissing (request_in request.entry) files) }
+    ensures file_missing { IsErrOf result NoAnswer.FileMissing →
+        WhereTold (request_in request.entry) (S.left input.old) (H.files shelf.old) (λ files bytes.
+        IsFileMissing (request_in request.entry) files) }
     ensures unasked { IfErr result (λ why. ComesFirst why → input.new ≡ input.old) }
-    ensures without_game { LacksGame (request_in request.entry) (H.files shelf.old)
+    ensures without_file { LacksFile (request_in request.entry) (H.files shelf.old)
         → input.new ≡ input.old }
     ensures without_input { MakesHands (request_in request.entry) → input.new ≡ input.old }
 {
@@ -166,6 +176,9 @@ fn reply<S: Source, H: Shelf>(
         },
         Request::Plain { from, task } => reply_with(alloc, plain_way(from, task), input),
         Request::Under { game, logs } => reply_under(alloc, game, logs, input, shelf),
+        Request::Compare { sides, file, notes } => {
+            reply_to_comparison(alloc, sides, file, notes, input, shelf)
+        }
     }
 }
 
@@ -188,6 +201,7 @@ fn reply_under<S: Source, H: Shelf>(
     ensures unread { IfOk result (λ answer. ReadsNothing answer.status → input.new ≡ input.old) }
     ensures missing { IsErrOf result NoAnswer.GameMissing →
         IfSome (H.files shelf.old) (λ files. files name.now ≡ None) }
+    ensures of_game { IfErr result (λ why. why ≡ NoAnswer.FileMissing → ⊥) }
     ensures unasked { IfErr result (λ why. ComesFirst why → input.new ≡ input.old) }
     ensures without_game { IfSome (H.files shelf.old) (λ files.
         GivesNone (files name.now) → input.new ≡ input.old) }
@@ -227,15 +241,6 @@ fn reply_with<S: Source>(alloc: Global, way: Way, input: &mut S) -> Result<Answe
     }
 }
 
-// Why there is no answer.
-#[derive(Clone, Copy, Debug, PartialEq, Eq)]
-enum NoAnswer {
-    ReadFault,
-    GameMissing,
-    ShelfFault,
-    Memory,
-}
-
 // Writes the output of an answer that is done, and else tells its line.
 fn deliver<K: Sink, D: Sink>(answer: &Answer, out: &mut K, diag: &mut D) -> Status
     requires { IsOwn answer.now.status }
@@ -264,8 +269,8 @@ fn deliver<K: Sink, D: Sink>(answer: &Answer, out: &mut K, diag: &mut D) -> Stat
     }
 }
 
-// Tells a line, as far as the sink takes it.
-fn tell<D: Sink>(diag: &mut D, line: &[u8])
+/// Tells a line, as far as the sink takes it.
+pub fn tell<D: Sink>(diag: &mut D, line: &[u8])
     ensures { TellsLine
         (D.faults diag.old) (D.faults diag.new) (D.held diag.old) (D.held diag.new) line.now }
 {

@@ -1,5 +1,5 @@
 //! The game of a log is what a file on the shelf says, or the reason why there is none is told.
-ghost use Rattle.std.specs.Prelude.{◌≡◌, IfErr, IfOk, IfSome, IsErrOf, string_bytes};
+ghost use Rattle.std.specs.Prelude.{◌≡◌, ◌≤◌, IfErr, IfOk, IfSome, IsErrOf, string_bytes};
 ghost use Rattle.host_io.specs.Faults.{Rose};
 ghost use Rattle.poker_cli.specs.Answer.{GivesGame};
 ghost use Rattle.poker_cli.specs.Lacking.{HasNoGame, IsLackTold};
@@ -41,6 +41,8 @@ pub fn fetch_game<H: Shelf>(alloc: Global, shelf: &mut H, name: &str) -> Result<
         IfSome (H.files shelf.old) (λ files. HasNoGame (files name.now) reason)) }
     ensures failed { IsErrOf result NoGame.ShelfFault
         → Rose (H.faults shelf.old) (H.faults shelf.new) }
+    ensures unchanged { H.files shelf.new ≡ H.files shelf.old }
+    ensures later { H.faults shelf.old ≤ H.faults shelf.new }
 {
     match shelf.fetch(alloc, name, MOST_INPUT) {
         Ok(Fetched::Bytes(text)) => match read_game(alloc, &text) {

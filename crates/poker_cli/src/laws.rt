@@ -1,18 +1,21 @@
-//! An input has one answer, none is refused whose hands are all legal, and equal hands come to equal
-//! outputs, by whatever way.
-ghost use Rattle.std.specs.Prelude.{◌≡◌, ◌⊎◌, ◌↔◌, ◌≤◌, ℕ, List, None, Ok, length};
+//! An input has one answer, none is refused whose hands are all legal, equal hands come to equal outputs, by whatever way, and
+//! compare as the same.
+ghost use Rattle.std.specs.Prelude.{◌≡◌, ◌⊎◌, ◌↔◌, ◌≤◌, ℕ, Bool, true, false, List, None, Ok, length};
+ghost use Rattle.std.specs.List.{AllByRecursion};
 ghost use Rattle.acpc_game.specs.declared.game.Game.{Game};
 ghost use Rattle.chip_ledger.specs.declared.numbers.Seat.{Seat};
 ghost use Rattle.command_words.specs.Words.{Load, Request};
 ghost use Rattle.command_words.specs.declared.command.Command.{Command};
 ghost use Rattle.command_words.specs.declared.task.Question.{Question};
 ghost use Rattle.command_words.specs.declared.task.Question.TheVariants as questions;
-ghost use Rattle.hand_records.specs.SameHands.{AreSameHands, kept_notes};
+ghost use Rattle.hand_canon.specs.Sound.{IsSound};
+ghost use Rattle.hand_records.specs.SameHands.{AllPaired, AreSameHands, kept_notes};
 ghost use Rattle.hand_records.specs.declared.record.Record.{Record};
 ghost use Rattle.hand_records.specs.declared.trace.Play.{Play};
 ghost use Rattle.hand_records.specs.declared.writing.Keep.{Keep};
 ghost use Rattle.hand_records.specs.declared.writing.Keep.TheVariants as keeps;
-ghost use Rattle.poker_cli.specs.Answer.{Answer, Files, IsAnswer, IsReply, IsWay, most_input};
+ghost use Rattle.poker_cli.specs.Answer.{Answer, AsksToCompare, Files, IsAnswer, IsComparison, IsReply, IsWay, most_input};
+ghost use Rattle.poker_cli.specs.Compared.{compared};
 ghost use Rattle.poker_cli.specs.Headline.{ConversionEnds, ConvertsInto};
 ghost use Rattle.poker_cli.specs.Inputs.{SayRecords};
 ghost use Rattle.poker_cli.specs.OneAnswer.{AreOneAnswer};
@@ -21,7 +24,9 @@ ghost use Rattle.poker_cli.specs.Replies.{AreViews};
 ghost use Rattle.poker_cli.specs.Run.{Ends, NeedsNoInput, RefusesNothing, Sinks};
 ghost use Rattle.poker_cli.specs.RunTells.{told_by};
 ghost use Rattle.poker_cli.specs.Ways.{way};
+ghost use Rattle.poker_cli.specs.declared.comparison.Comparison.{Comparison};
 ghost use Rattle.poker_cli.specs.declared.status.Status.{Status};
+ghost use Rattle.poker_cli.specs.declared.status.Status.TheVariants as statuses;
 ghost use Rattle.poker_cli.specs.declared.task.Format.{Format};
 ghost use Rattle.poker_cli.specs.declared.task.Task.{Task};
 ghost use Rattle.poker_cli.specs.declared.task.Task.TheVariants as tasks;
@@ -30,11 +35,14 @@ ghost use Rattle.convert_core.specs.Judged.{ArePlaysOf};
 ghost use Rattle.convert_core.specs.SameAnswers.{AreSameAnswers};
 
 /// The bytes of an input have one answer to a task, as they are read; where hands are written in the Poker Hand History
-/// format, TOML reads all answers alike. The function does nothing: its contract is a law.
+/// format, TOML reads all answers alike. And they have one where they are compared with another file. The function does
+/// nothing: its contract is a law.
 pub fn law_of_one_answer()
-    ensures { (task : Task) (reader : Format) (bytes : List ℕ) (answer other : Answer)
+    ensures task { (task : Task) (reader : Format) (bytes : List ℕ) (answer other : Answer)
         → IsAnswer task reader bytes answer → IsAnswer task reader bytes other
         → AreOneAnswer task answer other }
+    ensures comparison { (by : Comparison) (file bytes : List ℕ) (answer other : Answer)
+        → IsComparison by file bytes answer → IsComparison by file bytes other → answer ≡ other }
 {}
 
 /// A run on an input that is not too long, and whose hands are all legal and agree with what is stated of them, ends with
@@ -42,7 +50,8 @@ pub fn law_of_one_answer()
 /// gives its game. Where something is asked of the hands, or what a seat saw of them, it may also end with the status of the
 /// reply to that, as Unspelled where the first hand fits no game, and NoSuch where there is no such hand.
 /// Where hands are converted, each fact that is to be kept has a spelling in the other notation. Where hands are judged, they
-/// need not be legal. A run that makes hands ends with Done, or the output failed, or the status is Memory, whatever input and
+/// need not be legal. Where they are compared, all hands of the other file are legal and agree, too, and the status may also be
+/// that of the comparison: Differs, where they are not the same. A run that makes hands ends with Done, or the output failed, or the status is Memory, whatever input and
 /// files there are. The function does nothing: its contract is a law.
 pub fn law_of_legal_inputs()
     ensures show { (request : Request) (command : Command) (reader : Format)
@@ -81,6 +90,12 @@ pub fn law_of_legal_inputs()
         → ArePlaysOf records plays
         → first_refusal_in target keep plays ≡ None
         → Ends request files bytes out diag status → RefusesNothing status }
+    ensures compare { (request : Request) (by : Comparison) (files : Files) (text bytes : List ℕ)
+        → (plays others : List Play) (out diag : Sinks) (status : Status)
+        → AsksToCompare files request by text → length bytes ≤ most_input
+        → ReadAsPlays (SayRecords by.from bytes) plays → ReadAsPlays (SayRecords by.other text) others
+        → Ends request files bytes out diag status
+        → RefusesNothing status ⊎ ((compared by.notes plays others).status ≡ status) }
     ensures load { (seed hands : ℕ) (files : Files) (bytes : List ℕ)
         → (out diag : Sinks) (status : Status)
         → Ends (Load seed hands) files bytes out diag status → NeedsNoInput status }
@@ -123,4 +138,49 @@ pub fn law_of_runs_by_way()
         → (by_way : ConversionEnds by to keep output by_out by_diag by_status)
         → AreSameAnswers (AreSameIn to) (told_by from to keep bytes out diag status straight)
         (told_by by to keep output by_out by_diag by_status by_way) }
+{}
+
+/// The comparison of plays is done exactly where there are as many on either side and hand by hand the traces are the same and,
+/// where notes are looked at, the notes. The function does nothing: its contract is a law.
+pub fn law_of_compared_hands()
+    ensures notes { (plays others : List Play)
+        → AllByRecursion IsSound plays → AllByRecursion IsSound others
+        → ((compared true plays others).status ≡ statuses.Done)
+        ↔ AreSameHands (λ notes. notes) plays others }
+    ensures traces { (plays others : List Play)
+        → AllByRecursion IsSound plays → AllByRecursion IsSound others
+        → ((compared false plays others).status ≡ statuses.Done)
+        ↔ AllPaired (λ place play other. play.trace ≡ other.trace) 0 plays others }
+{}
+
+/// What was converted is the same as its source. A run that compares an output with the input that it was converted from, or
+/// that input with it, is done, unless a device fails or memory is wanting: always where notes are not looked at, and where they
+/// are, if all of them were kept. The function does nothing: its contract is a law.
+pub fn law_of_compared_conversions()
+    ensures source { (request : Request) (files : Files) (from to : Format) (keep : Keep) (notes : Bool)
+        → (bytes output : List ℕ) (out diag : Sinks) (status : Status)
+        → (into : ConvertsInto from to keep bytes output)
+        → (notes ≡ true → first_refusal_in to keeps.All into.plays ≡ None)
+        → AsksToCompare files request (record { from = from; other = to; notes = notes }) output
+        → Ends request files bytes out diag status → RefusesNothing status }
+    ensures output { (request : Request) (files : Files) (from to : Format) (keep : Keep) (notes : Bool)
+        → (bytes output : List ℕ) (out diag : Sinks) (status : Status)
+        → (into : ConvertsInto from to keep bytes output)
+        → (notes ≡ true → first_refusal_in to keeps.All into.plays ≡ None)
+        → length output ≤ most_input
+        → AsksToCompare files request (record { from = to; other = from; notes = notes }) bytes
+        → Ends request files output out diag status → RefusesNothing status }
+{}
+
+/// Two files are the same hands, notes included, exactly where they are converted with all notes into the same output, whichever
+/// notation that is in. A run that compares them is done only where the outputs are the same; and where these are, it is done,
+/// unless a device fails or memory is wanting. The function does nothing: its contract is a law.
+pub fn law_of_compared_outputs()
+    ensures { (request : Request) (files : Files) (from other to : Format)
+        → (bytes too output written : List ℕ) (out diag : Sinks) (status : Status)
+        → ConvertsInto from to keeps.All bytes output → ConvertsInto other to keeps.All too written
+        → AsksToCompare files request (record { from = from; other = other; notes = true }) too
+        → Ends request files bytes out diag status
+        → (AreSameIn to output written → RefusesNothing status)
+        × (status ≡ statuses.Done → AreSameIn to output written) }
 {}

@@ -6,7 +6,7 @@ ghost use Rattle.std.specs.IoError.{error_kind};
 ghost use Rattle.std.specs.declared.io.ErrorKind.TheVariants.{OutOfMemory};
 ghost use Rattle.poker_cli.specs.Status.{IsStatusNumber};
 
-use crate::entry::run;
+use crate::entry::{run, tell};
 use crate::status::Status;
 use card_set::Memory;
 use host_io::{FileShelf, Shelf, StdSink, StdSource};
@@ -38,13 +38,16 @@ fn status_of_process<R: Read + Drop, H: Shelf, W: Write + Drop, D: Write + Drop>
     diag: D,
 ) -> Status {
     let alloc = rt.alloc();
+    let mut diag = StdSink::new(diag);
     let words = match words_after_name(rt) {
         Ok(words) => words,
-        Err(Memory) => return Status::Memory,
+        Err(Memory) => {
+            tell(&mut diag, b"out of memory\n");
+            return Status::Memory;
+        }
     };
     let mut input = StdSource::new(input);
     let mut out = StdSink::new(out);
-    let mut diag = StdSink::new(diag);
     run(alloc, &words, &mut input, shelf, &mut out, &mut diag)
 }
 

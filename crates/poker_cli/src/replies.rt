@@ -1,7 +1,5 @@
-//! What is asked of the plays of all hands is answered: of all of them, of one hand, or for one seat of a game.
-ghost use Rattle.std.specs.Prelude.{◌≡◌, ◌≤◌, ◌<◌, All, None, Some, length, IfOk, string_bytes};
-ghost use Rattle.command_words.specs.declared.command.Command.TheVariants as commands;
-ghost use Rattle.first_fault.specs.declared.limits.TheConstants.{MOST_HANDS};
+//! What is asked of one hand of an input is answered from the plays of all hands.
+ghost use Rattle.std.specs.Prelude.{◌≡◌, ◌<◌, All, None, Some, length, IfOk, string_bytes};
 ghost use Rattle.hand_canon.specs.Sound.{IsSound};
 ghost use Rattle.poker_cli.specs.Answer as definition;
 ghost use Rattle.poker_cli.specs.Asked.{IsAsked};
@@ -10,76 +8,38 @@ ghost use Rattle.poker_cli.specs.Replies.{AreOptionsAt, IsEquityAt};
 ghost use Rattle.poker_cli.specs.Run.{IsOfInput};
 ghost use Rattle.poker_cli.specs.Told.{answer_told};
 
-use crate::answer::{Answer, answer_to_unspelled, done, done_with, refusal};
+use crate::answer::{Answer, answer_to_unspelled, done, refusal};
 use crate::status::Status;
-use crate::viewing::answer_with_views;
-use acpc_game::{Game, write_game};
+use acpc_game::write_game;
 use acpc_writing::game_of;
 use card_set::Memory;
-use chip_ledger::Seat;
 use hand_equity::{NoEquity, equity_of, equity_text};
 use hand_options::{options, options_text};
 use hand_records::Play;
-use hand_session::{session, session_text};
-use printed_report::report_text;
 use std::alloc::Global;
 
-/// What is asked of the plays of all hands.
+/// What is asked of one hand of an input.
 #[derive(Clone, Copy, Debug, PartialEq, Eq)]
 pub enum PlayQuestion {
-    /// Hands and pots by game, and chips by name.
-    Report,
-    /// The stacks of each name over the hands.
-    Session,
     /// The game file of the first hand.
     GameFile,
     /// The legal moves after so many events of the hand with this number, from 1.
     Options { hand: u32, events: u32 },
     /// How often each live seat of the hand with this number, from 1, would win from a street on.
     Equity { hand: u32, street: u8 },
-    /// What a seat saw of the hands of a log under its game.
-    Views { game: Game, seat: Seat },
 }
 
 /// The answer to what is asked of plays.
 pub fn answer_to_plays(alloc: Global, asked: PlayQuestion, plays: &[Play]) -> Result<Answer, Memory>
     requires sound { All IsSound plays.now }
-    requires few { length plays.now ≤ MOST_HANDS }
     ensures answer { IfOk result (λ answer. IsAsked asked plays.now (answer_told answer)) }
     ensures own { IfOk result (λ answer. IsOfInput answer.status) }
 {
     match asked {
-        PlayQuestion::Report => answer_with_report(alloc, plays),
-        PlayQuestion::Session => answer_with_session(alloc, plays),
         PlayQuestion::GameFile => answer_with_first_game(alloc, plays),
         PlayQuestion::Options { hand, events } => answer_with_options(alloc, plays, hand, events),
         PlayQuestion::Equity { hand, street } => answer_with_equity(alloc, plays, hand, street),
-        PlayQuestion::Views { game, seat } => answer_with_views(alloc, &game, seat, plays),
     }
-}
-
-// The answer with the report on plays.
-fn answer_with_report(alloc: Global, plays: &[Play]) -> Result<Answer, Memory>
-    requires few { length plays.now ≤ MOST_HANDS }
-    ensures answer { IfOk result (λ answer.
-        answer_told answer ≡ definition.done (definition.text_of commands.Report plays.now)) }
-    ensures own { IfOk result (λ answer. IsOfInput answer.status) }
-{
-    let text = report_text(alloc, plays)?;
-    Ok(done_with(alloc, text))
-}
-
-// The answer with the session of plays.
-fn answer_with_session(alloc: Global, plays: &[Play]) -> Result<Answer, Memory>
-    requires sound { All IsSound plays.now }
-    requires few { length plays.now ≤ MOST_HANDS }
-    ensures answer { IfOk result (λ answer.
-        answer_told answer ≡ definition.done (definition.text_of commands.Session plays.now)) }
-    ensures own { IfOk result (λ answer. IsOfInput answer.status) }
-{
-    let session = session(alloc, plays)?;
-    let text = session_text(alloc, &session)?;
-    Ok(done_with(alloc, text))
 }
 
 // The answer with the game file of the first of plays.

@@ -19,7 +19,7 @@ pub enum Status {
     ReadFault,
     /// The output could not be written.
     WriteFault,
-    /// The input or the file of a game is too long, or the input has more of something than is read.
+    /// The input, the file of a game or that of a comparison is too long, or has more of something than is read.
     Limit,
     /// There was not enough memory.
     Memory,
@@ -27,10 +27,14 @@ pub enum Status {
     GameMissing,
     /// The file of the game says no game that is played here.
     BadGame,
-    /// The file of the game could not be read.
+    /// The file of the game, or that of a comparison, could not be read.
     ShelfFault,
     /// There is no such hand, event, street, known card or seat.
     NoSuch,
+    /// The hands of two files are not the same.
+    Differs,
+    /// The file that the hands are compared with is not there.
+    FileMissing,
 }
 
 impl Status {
@@ -52,6 +56,8 @@ impl Status {
             Status::BadGame => 10,
             Status::ShelfFault => 11,
             Status::NoSuch => 13,
+            Status::Differs => 14,
+            Status::FileMissing => 15,
         }
     }
 }

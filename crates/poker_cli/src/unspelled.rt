@@ -1,9 +1,10 @@
 //! The line that is told where a fact of a hand has no spelling.
 ghost use Rattle.std.specs.Prelude.{◌≡◌, IfOk, string_bytes};
-ghost use Rattle.poker_cli.specs.Unspelled.{fact_text as fact_text_said, note_text as note_text_said, unspelled_line as unspelled_line_said};
+ghost use Rattle.poker_cli.specs.Unspelled.{fact_text as fact_text_said, unspelled_line as unspelled_line_said};
 
 use card_set::Memory;
-use hand_records::{NoteName, Unspelled};
+use hand_differences::note_text;
+use hand_records::Unspelled;
 use std::alloc::Global;
 
 /// The line of the hand with this number, one of whose facts has no spelling.
@@ -40,24 +41,4 @@ fn fact_text(alloc: Global, fact: Unspelled) -> Result<String, Memory>
         }
     };
     Ok(String::from_str(alloc, name)?)
-}
-
-// What a note is called.
-fn note_text(note: NoteName) -> &'static str
-    ensures { result.now ≡ note_text_said note }
-{
-    match note {
-        NoteName::Players => "players",
-        NoteName::Seats => "seats",
-        NoteName::SeatCount => "seat_count",
-        NoteName::Hand => "hand",
-        NoteName::Table => "table",
-        NoteName::Venue => "venue",
-        NoteName::Currency => "currency",
-        NoteName::TimeZone => "time_zone",
-        NoteName::Year => "year",
-        NoteName::Month => "month",
-        NoteName::Day => "day",
-        NoteName::Time => "time",
-    }
 }

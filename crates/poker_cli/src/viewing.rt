@@ -1,77 +1,185 @@
-//! What a seat saw of the hands of a log is told, if the game has the seat and the lines are not too many bytes.
-ghost use Rattle.std.specs.Prelude.{◌≡◌, ◌≤◌, ◌++◌, All, length, nat_le, IfOk, OnOk};
+//! What a seat saw of the hands of a log is told, if the game has the seat and the lines are not
+//! too many bytes.
+ghost use Rattle.std.specs.Prelude.{◌≡◌, ◌<◌, ◌≤◌, ◌+◌, ◌++◌, true, false, All, List, length, IfErr, IfOk, OnOk};
+ghost use Rattle.acpc_view.specs.View.{views_text};
+ghost use Rattle.convert_core.specs.Judged.{IsPlaysFaultOf};
+ghost use Rattle.convert_core.specs.Verdicts.{legal_plays};
 ghost use Rattle.first_fault.specs.declared.limits.TheConstants.{MOST_HANDS};
 ghost use Rattle.hand_canon.specs.Sound.{IsSound};
-ghost use Rattle.poker_cli.specs.Answer as definition;
-ghost use Rattle.poker_cli.specs.Replies.{AreViews, each_view, most_view_bytes, no_seat as no_seat_said};
+ghost use Rattle.hand_records.specs.SoundRecord.{IsSoundRecord};
+ghost use Rattle.hand_records.specs.declared.trace.Play.{Play as AnyPlay};
+ghost use Rattle.poker_cli.specs.Answer.{IsAnswerTo};
+ghost use Rattle.poker_cli.specs.Replies.{AreViews, most_view_bytes, no_seat as no_seat_said};
 ghost use Rattle.poker_cli.specs.Run.{IsOfInput};
+ghost use Rattle.poker_cli.specs.Seen.{AreSeen, AreViewsOf};
 ghost use Rattle.poker_cli.specs.Told.{answer_told};
 
-use crate::answer::{Answer, done, refusal};
+use crate::answer::{Answer, answer_to_fault, answer_to_refused, done, refusal};
 use crate::status::Status;
 use acpc_game::Game;
 use acpc_view::{views, views_len};
 use card_set::Memory;
 use chip_ledger::Seat;
-use hand_records::Play;
-use std::alloc::Global;
+use convert_core::{Notation, PlaysFault, Refusal, Taker, read_records, take_each};
+use hand_records::{Play, Records};
+use std::alloc::{AllocError, Global};
 
 // The most bytes of views.
 const MOST_VIEW_BYTES: u64 = 268_435_456;
 
-/// The answer with what a seat saw of the hands of a log under its game: a line before each move, and one behind the last.
-pub fn answer_with_views(
+// What a seat of a game saw of the hands so far: a line before each move, and one behind the last.
+#[derive(Drop)]
+struct SeenLines {
+    game: Game,
+    seat: Seat,
+    lines: Vec<u8>,
+    // Whether the lines are kept: the game has the seat, and they are not too many bytes.
+    kept: bool,
+}
+
+impl Taker for SeenLines {
+    ghost GOES_ON = { false };
+
+    ghost KEEPS = { false };
+
+    ghost Took = { λ start it verdicts. (it.game ≡ start.game) × (it.seat ≡ start.seat)
+        × (AreSeen it.game it.seat it.kept it.lines.items (legal_plays verdicts)) };
+
+    fn goes_on(&self) -> bool {
+        false
+    }
+
+    fn keeps(&self) -> bool {
+        false
+    }
+
+    fn take(&mut self, alloc: Global, place: usize, play: &Play) -> Result<(), AllocError> {
+        if !self.kept {
+            return Ok(());
+        }
+        if !has_room(&self.lines, &self.game, self.seat, place, play) {
+            self.kept = false;
+            self.lines = Vec::new(alloc);
+            return Ok(());
+        }
+        push_views(alloc, &mut self.lines, &self.game, self.seat, place, play)?;
+        Ok(())
+    }
+
+    fn pass(&mut self, _: Global, _: usize, _: &Refusal) -> Result<(), AllocError> {
+        Ok(())
+    }
+}
+
+/// The answer with what a seat saw of the hands of bytes, read as the logs of a game: a line before
+/// each move, and one behind the last.
+pub fn answer_with_views<N: Notation>(
     alloc: Global,
     game: &Game,
     seat: Seat,
-    plays: &[Play],
+    from: &N,
+    bytes: &[u8],
 ) -> Result<Answer, Memory>
-    requires sound { All IsSound plays.now }
-    requires few { length plays.now ≤ MOST_HANDS }
-    ensures answer { IfOk result (λ answer.
-        AreViews game.now seat plays.now (answer_told answer)) }
+    ensures answer { IfOk result (λ answer. IsAnswerTo (N.Say from.now bytes.now)
+        (N.HaveFault from.now bytes.now) (AreViews game.now seat) (answer_told answer)) }
     ensures own { IfOk result (λ answer. IsOfInput answer.status) }
 {
-    if game.stacks.seats < seat.number {
-        return no_seat(alloc, seat, game.stacks.seats);
+    match read_records(alloc, from, bytes) {
+        Ok(records) => match views_of(alloc, game, seat, records) {
+            Ok(answer) => Ok(answer),
+            Err(PlaysFault::Refused { hand, why }) => answer_to_refused(alloc, hand, &why),
+            Err(PlaysFault::Memory) => Err(Memory),
+        },
+        Err(fault) => answer_to_fault(alloc, &fault),
     }
-    if !are_few(game, seat, plays) {
+}
+
+// The answer with what a seat saw of these hands.
+fn views_of(alloc: Global, game: &Game, seat: Seat, records: Records) -> Result<Answer, PlaysFault>
+    requires sound { All IsSoundRecord records }
+    requires few { length records ≤ MOST_HANDS }
+    ensures answer { IfOk result (λ answer.
+        AreViewsOf game.now seat records (answer_told answer)) }
+    ensures own { IfOk result (λ answer. IsOfInput answer.status) }
+    ensures refused { IfErr result (IsPlaysFaultOf records) }
+{
+    let mut seen = SeenLines {
+        game: *game,
+        seat,
+        lines: Vec::new(alloc),
+        kept: has_seat(game, seat),
+    };
+    match take_each(alloc, &mut seen, records) {
+        Ok(_) => {}
+        Err(fault) => return Err(fault),
+    }
+    match answer_with_seen(alloc, seen) {
+        Ok(answer) => Ok(answer),
+        Err(Memory) => Err(PlaysFault::Memory),
+    }
+}
+
+// Whether the game has the seat.
+fn has_seat(game: &Game, seat: Seat) -> bool
+    ensures { result ≡ false → game.now.stacks.seats < seat.number }
+{
+    seat.number <= game.stacks.seats
+}
+
+// The answer with the lines of all hands, or why they are not kept.
+fn answer_with_seen(alloc: Global, seen: SeenLines) -> Result<Answer, Memory>
+    ensures answer { (plays : List AnyPlay)
+        → AreSeen seen.game seen.seat seen.kept seen.lines.items plays
+        → IfOk result (λ answer. AreViews seen.game seen.seat plays (answer_told answer)) }
+    ensures own { IfOk result (λ answer. IsOfInput answer.status) }
+{
+    let seats = seen.game.stacks.seats;
+    if seats < seen.seat.number {
+        return no_seat(alloc, seen.seat, seats);
+    }
+    if !seen.kept {
         let line = String::from_str(alloc, "limit: view bytes 268435456\n")?;
         return Ok(refusal(alloc, Status::Limit, line));
     }
-    let lines = lines_of(alloc, game, seat, plays)?;
-    Ok(done(alloc, lines))
+    Ok(done(alloc, seen.lines))
 }
 
-// Whether the lines are not too many bytes. It counts them before any is made.
-fn are_few(game: &Game, seat: Seat, plays: &[Play]) -> bool
-    requires sound { All IsSound plays.now }
-    requires few { length plays.now ≤ MOST_HANDS }
-    ensures { result ≡ nat_le (length (each_view game.now seat 0 plays.now)) most_view_bytes }
+// Whether the lines of one more hand are not too many bytes behind these. They are counted before
+// any is made.
+fn has_room(lines: &Vec<u8>, game: &Game, seat: Seat, place: usize, play: &Play) -> bool
+    requires within { length lines.now.items ≤ most_view_bytes }
+    requires few { place < MOST_HANDS }
+    requires sound { IsSound play.now }
+    ensures fits { result ≡ true → length lines.now.items
+        + length (views_text game.now.no_limit seat.number place play.now) ≤ most_view_bytes }
+    ensures over { result ≡ false → most_view_bytes < length lines.now.items
+        + length (views_text game.now.no_limit seat.number place play.now) }
 {
-    let mut left = MOST_VIEW_BYTES;
-    for (index, play) in plays.iter().enumerate() {
-        let len = views_len(game, play, index as u32, seat);
-        if left < len {
-            return false;
+    let len = views_len(game, play, place as u32, seat);
+    len <= MOST_VIEW_BYTES - lines.len() as u64
+}
+
+// Puts the lines of one more hand behind these.
+fn push_views(
+    alloc: Global,
+    lines: &mut Vec<u8>,
+    game: &Game,
+    seat: Seat,
+    place: usize,
+    play: &Play,
+) -> Result<(), AllocError>
+    requires few { place < MOST_HANDS }
+    requires sound { IsSound play.now }
+    ensures { OnOk result (lines.new.items ≡ lines.old.items
+        ++ views_text game.now.no_limit seat.number place play.now) }
+{
+    match views(alloc, game, play, place as u32, seat) {
+        Ok(seen) => {
+            lines.extend_from_slice(&seen)?;
+            Ok(())
         }
-        left -= len;
+        Err(Memory) => Err(AllocError),
     }
-    true
-}
-
-// The lines, hand by hand.
-fn lines_of(alloc: Global, game: &Game, seat: Seat, plays: &[Play]) -> Result<Vec<u8>, Memory>
-    requires sound { All IsSound plays.now }
-    requires few { length plays.now ≤ MOST_HANDS }
-    ensures { IfOk result (λ lines. lines.items ≡ each_view game.now seat 0 plays.now) }
-{
-    let mut lines = Vec::new(alloc);
-    for (index, play) in plays.iter().enumerate() {
-        let seen = views(alloc, game, play, index as u32, seat)?;
-        lines.extend_from_slice(&seen)?;
-    }
-    Ok(lines)
 }
 
 // The game has no such seat, but so many.

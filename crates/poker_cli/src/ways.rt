@@ -61,8 +61,8 @@ fn task_under(game: Game, task: NamedTask<NotationName>) -> Task
     }
 }
 
-// How hands in a notation are read and written: logs under the game.
-fn format_under(game: Game, notation: NotationName) -> Format
+/// How hands in a notation are read and written: logs under the game.
+pub fn format_under(game: Game, notation: NotationName) -> Format
     ensures { result ≡ definition.format_under game notation }
 {
     match notation {
@@ -71,8 +71,8 @@ fn format_under(game: Game, notation: NotationName) -> Format
     }
 }
 
-// How hands in a notation without games are read and written.
-fn plain_format(notation: PlainNotation) -> Format
+/// How hands in a notation without games are read and written.
+pub fn plain_format(notation: PlainNotation) -> Format
     ensures { result ≡ definition.plain_format notation }
 {
     match notation {

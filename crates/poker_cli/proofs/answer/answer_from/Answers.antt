@@ -1,4 +1,4 @@
--- What a seat saw is answered as what is asked of the plays is.
+-- What a seat saw is told as it is viewed.
 use Rattle.std.proofs.Common.{IfOk, subst, sym}
 use Rattle.poker_cli.specs.Answer.{IsAnswerOf}
 use Rattle.poker_cli.specs.Told.{answer_told}
@@ -7,6 +7,6 @@ use Rattle.poker_cli.proofs.answer.answer_from.Goals as goal
 
 pub returns-in-Views-clause-answer : goal.returns-in-Views-clause-answer
 returns-in-Views-clause-answer g c =
-    subst (λ (task : Task). IfOk c.answer_with_plays.result (λ answer. IsAnswerOf task (g.N.Notation.Say c.args.from.now c.args.bytes.now)
+    subst (λ (task : Task). IfOk c.answer_with_views.result (λ answer. IsAnswerOf task (g.N.Notation.Say c.args.from.now c.args.bytes.now)
     (g.N.Notation.HaveFault c.args.from.now c.args.bytes.now) (answer_told answer)))
-    (sym c.in-Views.is) c.answer_with_plays.ensures.answer
+    (sym c.in-Views.is) c.answer_with_views.ensures.answer

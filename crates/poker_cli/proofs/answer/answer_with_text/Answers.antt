@@ -1,19 +1,32 @@
--- What a command prints is what is asked of the plays, or the lines of each hand.
-use Rattle.std.proofs.Common.{IfOk, subst, sym}
-use Rattle.command_words.specs.declared.command.Command.{Command}
-use Rattle.command_words.specs.declared.task.Question.TheVariants as questions
-use Rattle.poker_cli.specs.Answer.{IsAnswerTo, IsReply}
+-- What a command prints of the hands is told, or which hand is refused, or why the bytes do not read.
+use Rattle.std.proofs.Common.{ap, subst, ◌∙◌}
+use Rattle.std.proofs.lemmas.Result.{IfOk-weaker}
+use Rattle.convert_core.specs.Judged.{IsPlaysFaultOf}
+use Rattle.convert_core.specs.declared.refusal.PlaysFault.{PlaysFault}
+use Rattle.poker_cli.specs.Answer.{done}
+use Rattle.poker_cli.specs.Answer as answers
 use Rattle.poker_cli.specs.Told.{answer_told}
+use Rattle.poker_cli.proofs.Answering.{answer_refused, answer_wrong}
 use Rattle.poker_cli.proofs.answer.answer_with_text.Goals as goal
 
-pub returns-in-Report-clause-answer : goal.returns-in-Report-clause-answer
-returns-in-Report-clause-answer g c =
-    subst (λ (command : Command). IfOk c.answer_with_plays.result (λ answer. IsAnswerTo (g.N.Notation.Say c.args.from.now c.args.bytes.now)
-    (g.N.Notation.HaveFault c.args.from.now c.args.bytes.now) (IsReply (questions.Show command)) (answer_told answer)))
-    (sym c.in-Report.is) c.answer_with_plays.ensures.answer
+pub returns-in-Ok-command_text-clause-answer : goal.returns-in-Ok-command_text-clause-answer
+returns-in-Ok-command_text-clause-answer g c =
+    let printed = c.in-Ok-command_text.ensures.said in
+    answers.Played printed.plays (record { records = c.in-Ok.records; say = c.in-Ok.ensures.said; are = printed.are }) (answer_told c.done_with.result)
+    (c.done_with.ensures.answer ∙ ap done printed.said)
 
-pub returns-in-Session-clause-answer : goal.returns-in-Session-clause-answer
-returns-in-Session-clause-answer g c =
-    subst (λ (command : Command). IfOk c.answer_with_plays-in-Session.result (λ answer. IsAnswerTo (g.N.Notation.Say c.args.from.now c.args.bytes.now)
-    (g.N.Notation.HaveFault c.args.from.now c.args.bytes.now) (IsReply (questions.Show command)) (answer_told answer)))
-    (sym c.in-Session.is) c.answer_with_plays-in-Session.ensures.answer
+pub returns-in-Err-Refused-clause-answer : goal.returns-in-Err-Refused-clause-answer
+returns-in-Err-Refused-clause-answer g c =
+    IfOk-weaker c.answer_to_refused.result _ _
+    (λ answer told. answer_refused _ _ _ (answer_told answer) c.in-Err-Refused.hand c.in-Err-Refused.why
+    (record {
+      records = c.in-Ok.records;
+      say = c.in-Ok.ensures.said;
+      first = subst (λ (fault : PlaysFault). IsPlaysFaultOf c.in-Ok.records fault) c.in-Err-Refused.field-0-is c.in-Err-Refused.ensures.refused;
+    })
+    told) c.answer_to_refused.ensures.answer
+
+pub returns-in-Err-clause-answer : goal.returns-in-Err-clause-answer
+returns-in-Err-clause-answer g c =
+    IfOk-weaker c.answer_to_fault.result _ _
+    (λ answer told. answer_wrong _ _ _ (answer_told answer) c.in-Err.fault c.in-Err.ensures.refused told) c.answer_to_fault.ensures.answer

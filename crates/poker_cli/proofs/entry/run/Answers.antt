@@ -3,7 +3,7 @@ use Rattle.std.proofs.Common.{ap, map, refl, string_bytes, sym, ◌∙◌}
 use Rattle.std.specs.Option.{option_map}
 use Rattle.command_words.specs.Requests.{request_in}
 use Rattle.command_words.specs.Words.{request_said}
-use Rattle.poker_cli.specs.Run.{LacksGame, MakesHands}
+use Rattle.poker_cli.specs.Run.{LacksFile, MakesHands}
 use Rattle.poker_cli.specs.declared.status.Status.TheVariants as statuses
 use Rattle.poker_cli.proofs.Answering.{ends_unread, kept_unread}
 use Rattle.poker_cli.proofs.Headline.{headline_read, headline_told}
@@ -13,9 +13,9 @@ pub returns-in-Err-clause-ends : goal.returns-in-Err-clause-ends
 returns-in-Err-clause-ends g c =
     ends_unread (request_said (map string_bytes c.args.words.now)) (g.S.Source.left c.args.input.now) (g.H.Shelf.files c.args.shelf.now)
 
-pub returns-in-Err-clause-without_game : goal.returns-in-Err-clause-without_game
-returns-in-Err-clause-without_game g c =
-    kept_unread (request_said (map string_bytes c.args.words.now)) (λ request. LacksGame request (g.H.Shelf.files c.args.shelf.now)) _
+pub returns-in-Err-clause-without_file : goal.returns-in-Err-clause-without_file
+returns-in-Err-clause-without_file g c =
+    kept_unread (request_said (map string_bytes c.args.words.now)) (λ request. LacksFile request (g.H.Shelf.files c.args.shelf.now)) _
 
 pub returns-in-Err-clause-without_input : goal.returns-in-Err-clause-without_input
 returns-in-Err-clause-without_input g c =

@@ -21,6 +21,10 @@ pub returns-in-Err-GameMissing-clause-tells : goal.returns-in-Err-GameMissing-cl
 returns-in-Err-GameMissing-clause-tells g c =
     record { read_fault = λ is. cc; write_fault = λ is. cc; shelf_fault = λ is. cc; fixed_line = c.tell-in-Err-GameMissing.ensures }
 
+pub returns-in-Err-FileMissing-clause-tells : goal.returns-in-Err-FileMissing-clause-tells
+returns-in-Err-FileMissing-clause-tells g c =
+    record { read_fault = λ is. cc; write_fault = λ is. cc; shelf_fault = λ is. cc; fixed_line = c.tell-in-Err-FileMissing.ensures }
+
 pub returns-in-Err-ShelfFault-clause-tells : goal.returns-in-Err-ShelfFault-clause-tells
 returns-in-Err-ShelfFault-clause-tells g c =
     let rose : Rose (g.H.Shelf.faults c.args.shelf.now) (g.H.Shelf.faults c.reply.new.shelf) = search rules in

@@ -1,33 +1,30 @@
--- The lines are told, or that the game has no such seat, or that the lines are too many bytes.
-use Rattle.std.proofs.Common.{◌≡◌, ◌≤◌, ◌<◌, true, false, length, ap, subst, sym, ◌∙◌, arith, rules}
-use Rattle.std.proofs.lemmas.Bool.{leb-false, leb-true}
+-- What a seat saw of the hands is told, or which hand is refused, or why the bytes do not read.
+use Rattle.std.proofs.Common.{subst}
 use Rattle.std.proofs.lemmas.Result.{IfOk-weaker}
-use Rattle.poker_cli.specs.AnswerParts.{done, refusal}
-use Rattle.poker_cli.specs.Replies.{AreViews, each_view, most_view_bytes}
-use Rattle.poker_cli.specs.Replies as replies
-use Rattle.poker_cli.specs.declared.status.Status.TheVariants as statuses
+use Rattle.convert_core.specs.Judged.{IsPlaysFaultOf}
+use Rattle.convert_core.specs.declared.refusal.PlaysFault.{PlaysFault}
+use Rattle.poker_cli.specs.Answer as answers
+use Rattle.poker_cli.specs.Told.{answer_told}
+use Rattle.poker_cli.proofs.Answering.{answer_refused, answer_wrong}
 use Rattle.poker_cli.proofs.viewing.answer_with_views.Goals as goal
 
-pub returns-then-game-seat-clause-answer : goal.returns-then-game-seat-clause-answer
-returns-then-game-seat-clause-answer c =
-    let beyond : c.args.game.now.stacks.seats < c.args.seat.number = omega (arith, c.if-game-seat.true) in
-    IfOk-weaker c.no_seat.result _ _
-    (λ answer told. subst (AreViews c.args.game.now c.args.seat c.args.plays.now) (sym told) (replies.NoSeat beyond))
-    c.no_seat.ensures.answer
+pub returns-in-Ok-views_of-clause-answer : goal.returns-in-Ok-views_of-clause-answer
+returns-in-Ok-views_of-clause-answer g c =
+    let is = c.in-Ok-views_of.ensures.answer in
+    answers.Played is.plays (record { records = c.in-Ok.records; say = c.in-Ok.ensures.said; are = is.are }) (answer_told c.in-Ok-views_of.answer) is.said
 
-pub returns-then-not-are_few-clause-answer : goal.returns-then-not-are_few-clause-answer
-returns-then-not-are_few-clause-answer c =
-    let there : c.args.seat.number ≤ c.args.game.now.stacks.seats = omega (arith, c.if-game-seat.false) in
-    let over : c.are_few.result ≡ false = search rules in
-    let many : most_view_bytes < length (each_view c.args.game.now c.args.seat 0 c.args.plays.now) =
-    leb-false (length (each_view c.args.game.now c.args.seat 0 c.args.plays.now)) most_view_bytes (sym c.are_few.ensures ∙ over) in
-    subst (AreViews c.args.game.now c.args.seat c.args.plays.now)
-    (sym (c.refusal.ensures.answer ∙ ap (refusal statuses.Limit) c.in_ok-line.ensures.ok)) (replies.TooMany there many)
+pub returns-in-Err-Refused-clause-answer : goal.returns-in-Err-Refused-clause-answer
+returns-in-Err-Refused-clause-answer g c =
+    IfOk-weaker c.answer_to_refused.result _ _
+    (λ answer told. answer_refused _ _ _ (answer_told answer) c.in-Err-Refused.hand c.in-Err-Refused.why
+    (record {
+      records = c.in-Ok.records;
+      say = c.in-Ok.ensures.said;
+      first = subst (λ (fault : PlaysFault). IsPlaysFaultOf c.in-Ok.records fault) c.in-Err-Refused.field-0-is c.in-Err-Refused.ensures.refused;
+    })
+    told) c.answer_to_refused.ensures.answer
 
-pub returns-clause-answer : goal.returns-clause-answer
-returns-clause-answer c =
-    let there : c.args.seat.number ≤ c.args.game.now.stacks.seats = omega (arith, c.if-game-seat.false) in
-    let within : c.are_few.result ≡ true = search rules in
-    let few : length (each_view c.args.game.now c.args.seat 0 c.args.plays.now) ≤ most_view_bytes =
-    leb-true (length (each_view c.args.game.now c.args.seat 0 c.args.plays.now)) most_view_bytes (sym c.are_few.ensures ∙ within) in
-    subst (AreViews c.args.game.now c.args.seat c.args.plays.now) (sym (c.done.ensures.answer ∙ ap done c.in_ok-lines.ensures)) (replies.Seen there few)
+pub returns-in-Err-clause-answer : goal.returns-in-Err-clause-answer
+returns-in-Err-clause-answer g c =
+    IfOk-weaker c.answer_to_fault.result _ _
+    (λ answer told. answer_wrong _ _ _ (answer_told answer) c.in-Err.fault c.in-Err.ensures.refused told) c.answer_to_fault.ensures.answer

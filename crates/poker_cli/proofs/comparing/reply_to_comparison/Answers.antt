@@ -1,0 +1,40 @@
+-- The answer is by the two files, or tells what that of the game lacks.
+use Rattle.std.proofs.Common.{◌≡◌, IfOk, IfSome, Option, None, subst, sym}
+use Rattle.command_words.specs.Requests.{sides_in}
+use Rattle.poker_cli.specs.Answer.{Files, IsComparedTo}
+use Rattle.poker_cli.specs.Lacking.{HasNoGameFor, IsLackTold}
+use Rattle.poker_cli.specs.Run.{IsNotThere}
+use Rattle.poker_cli.specs.Told.{answer_told}
+use Rattle.poker_cli.specs.declared.games.Lack.{Lack}
+use Rattle.poker_cli.specs.declared.games.NoGame.{NoGame}
+use Rattle.poker_cli.proofs.Replying.{compared_lack, compared_reply, kept_input, missing_reply}
+use Rattle.poker_cli.proofs.comparing.reply_to_comparison.Goals as goal
+
+pub returns-in-Ok-clause-answer : goal.returns-in-Ok-clause-answer
+returns-in-Ok-clause-answer g c =
+    let told = g.H.Shelf.files c.args.shelf.now in
+    let left = g.S.Source.left c.args.input.now in
+    compared_reply told left (sides_in c.args.sides) c.args.name.now c.args.notes c.in-Ok.by c.reply_beside.result c.in-Ok.ensures.comparison
+    (subst (λ (shelf : Option Files). IfOk c.reply_beside.result (λ answer. IfSome left (λ bytes. IfSome shelf (λ files. IsComparedTo c.in-Ok.by (files c.args.name.now) bytes (answer_told answer)))))
+    c.in-Ok.ensures.unchanged c.reply_beside.ensures.answer)
+
+pub returns-in-Ok-clause-file_missing : goal.returns-in-Ok-clause-file_missing
+returns-in-Ok-clause-file_missing g c missing =
+    let told = g.H.Shelf.files c.args.shelf.now in
+    missing_reply told (sides_in c.args.sides) c.args.name.now c.args.notes c.in-Ok.by c.in-Ok.ensures.comparison
+    (subst (λ (shelf : Option Files). IfSome shelf (λ files. files c.args.name.now ≡ None)) c.in-Ok.ensures.unchanged (c.reply_beside.ensures.missing missing))
+
+pub returns-in-Ok-clause-without_file : goal.returns-in-Ok-clause-without_file
+returns-in-Ok-clause-without_file g c =
+    let told = g.H.Shelf.files c.args.shelf.now in
+    kept_input told (sides_in c.args.sides) c.args.name.now c.args.notes c.in-Ok.by c.args.input.now c.reply_beside.new.input c.in-Ok.ensures.comparison
+    (subst (λ (shelf : Option Files). IfSome shelf (λ files. IsNotThere (files c.args.name.now) → c.reply_beside.new.input ≡ c.args.input.now)) c.in-Ok.ensures.unchanged
+    c.reply_beside.ensures.without_file)
+
+pub returns-in-Ok-answer_to_lack-clause-answer : goal.returns-in-Ok-answer_to_lack-clause-answer
+returns-in-Ok-answer_to_lack-clause-answer g c =
+    let told = g.H.Shelf.files c.args.shelf.now in
+    compared_lack told (g.S.Source.left c.args.input.now) (sides_in c.args.sides) c.args.name.now c.args.notes c.in-Err-Lacking.lack
+    (answer_told c.in-Ok-answer_to_lack.answer)
+    (subst (λ (reason : NoGame). IfSome told (λ (files : Files). HasNoGameFor files (sides_in c.args.sides) reason)) c.in-Err-Lacking.field-0-is c.in-Err-Lacking.ensures.none)
+    (subst (λ (lack : Lack). IsLackTold lack (answer_told c.in-Ok-answer_to_lack.answer)) c.in-Err-Lacking.lack-is c.in-Ok-answer_to_lack.ensures.answer)

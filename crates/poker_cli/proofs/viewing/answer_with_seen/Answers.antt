@@ -1,0 +1,30 @@
+-- The lines are told, or that the game has no such seat, or that the lines are too many bytes.
+use Rattle.std.proofs.Common.{◌≡◌, ◌≤◌, ◌<◌, true, false, ap, subst, sym, ◌∙◌, arith, rules}
+use Rattle.std.proofs.lemmas.Result.{IfOk-weaker}
+use Rattle.poker_cli.specs.AnswerParts.{done, refusal}
+use Rattle.poker_cli.specs.Replies.{AreViews, each_view, most_view_bytes}
+use Rattle.poker_cli.specs.Replies as replies
+use Rattle.poker_cli.specs.declared.status.Status.TheVariants as statuses
+use Rattle.poker_cli.proofs.SeenViews.{are_many}
+use Rattle.poker_cli.proofs.viewing.answer_with_seen.Goals as goal
+
+pub returns-then-seats-seen-clause-answer : goal.returns-then-seats-seen-clause-answer
+returns-then-seats-seen-clause-answer c = λ plays seen.
+    let beyond : c.args.seen.game.stacks.seats < c.args.seen.seat.number = omega (arith, c.if-seats-seen.true) in
+    IfOk-weaker c.no_seat.result _ _
+    (λ answer told. subst (AreViews c.args.seen.game c.args.seen.seat plays) (sym told) (replies.NoSeat beyond))
+    c.no_seat.ensures.answer
+
+pub returns-then-not-seen-clause-answer : goal.returns-then-not-seen-clause-answer
+returns-then-not-seen-clause-answer c = λ plays seen.
+    let there : c.args.seen.seat.number ≤ c.args.seen.game.stacks.seats = omega (arith, c.if-seats-seen.false) in
+    let not : c.args.seen.kept ≡ false = search rules in
+    subst (AreViews c.args.seen.game c.args.seen.seat plays)
+    (sym (c.refusal.ensures.answer ∙ ap (refusal statuses.Limit) c.in_ok-line.ensures.ok))
+    (replies.TooMany there (are_many c.args.seen.game c.args.seen.seat c.args.seen.kept c.args.seen.lines.items plays seen there not))
+
+pub returns-clause-answer : goal.returns-clause-answer
+returns-clause-answer c = λ plays seen.
+    let there : c.args.seen.seat.number ≤ c.args.seen.game.stacks.seats = omega (arith, c.if-seats-seen.false) in
+    let kept : c.args.seen.kept ≡ true = search rules in
+    subst (AreViews c.args.seen.game c.args.seen.seat plays) (sym (c.done.ensures.answer ∙ ap done (seen.all kept))) (replies.Seen there (seen.few kept))

@@ -1,0 +1,186 @@
+//! A request to compare is answered by the bytes of the other file and, where logs are read, under the game of its file.
+ghost use Rattle.std.specs.Prelude.{◌≡◌, ◌≤◌, length, IfErr, IfOk, IfSome, IsErrOf};
+ghost use Rattle.command_words.specs.Requests.{sides_in};
+ghost use Rattle.command_words.specs.Words.{Compare};
+ghost use Rattle.host_io.specs.Faults.{Rose};
+ghost use Rattle.poker_cli.specs.Answer as definition;
+ghost use Rattle.poker_cli.specs.Answer.{IsComparedIn, IsComparedTo, IsComparison, IsComparisonOf, most_input};
+ghost use Rattle.poker_cli.specs.Lacking.{ComesFirst, HasNoFile, HasNoGameFor};
+ghost use Rattle.poker_cli.specs.Run.{IsFileMissing, IsGameMissing, IsNotThere, IsOfInput, IsOwn, LacksFile, ReadsNothing};
+ghost use Rattle.poker_cli.specs.Told.{answer_told};
+
+use crate::answer::{self, Answer, MOST_INPUT, refusal};
+use crate::comparison::{Comparison, answer_to_comparison, comparison_under, plain_comparison};
+use crate::games::{NoGame, answer_to_lack, fetch_game};
+use crate::no_answer::NoAnswer;
+use crate::status::Status;
+use card_set::Memory;
+use command_words::Sides;
+use host_io::{Fetched, InFault, Shelf, ShelfFault, Source, read_all};
+use std::alloc::Global;
+
+/// Why the other file is not compared with.
+#[derive(Clone, Copy, Debug, PartialEq, Eq)]
+pub enum NoFile {
+    /// It is not there.
+    Missing,
+    /// It is too long.
+    TooLong,
+    ShelfFault,
+    Memory,
+}
+
+/// The answer where the hands that the source has left are compared with those of the file of this name. The shelf is asked
+/// for the file of a game first, where logs are read, and then for that file, once each.
+pub fn reply_to_comparison<S: Source, H: Shelf>(
+    alloc: Global,
+    sides: Sides<'_>,
+    name: &str,
+    notes: bool,
+    input: &mut S,
+    shelf: &mut H,
+) -> Result<Answer, NoAnswer>
+    ensures answer { IfOk result (λ answer. IfSome (S.left input.old) (λ bytes.
+        IfSome (H.files shelf.old) (λ files.
+        IsComparedIn files (sides_in sides.entry) name.now notes bytes (answer_told answer)))) }
+    ensures own { IfOk result (λ answer. IsOwn answer.status) }
+    ensures read_fault { IsErrOf result NoAnswer.ReadFault
+        → Rose (S.faults input.old) (S.faults input.new) }
+    ensures shelf_fault { IsErrOf result NoAnswer.ShelfFault
+        → Rose (H.faults shelf.old) (H.faults shelf.new) }
+    ensures unread { IfOk result (λ answer. ReadsNothing answer.status → input.new ≡ input.old) }
+    ensures missing { IsErrOf result NoAnswer.GameMissing → IfSome (H.files shelf.old) (λ files.
+        IsGameMissing (Compare (sides_in sides.entry) name.now notes) files) }
+    ensures file_missing { IsErrOf result NoAnswer.FileMissing → IfSome (H.files shelf.old) (λ files.
+        IsFileMissing (Compare (sides_in sides.entry) name.now notes) files) }
+    ensures unasked { IfErr result (λ why. ComesFirst why → input.new ≡ input.old) }
+    ensures without_file { LacksFile (Compare (sides_in sides.entry) name.now notes)
+        (H.files shelf.old) → input.new ≡ input.old }
+{
+    match comparison_of(alloc, sides, notes, shelf) {
+        Ok(by) => reply_beside(alloc, &by, name, input, shelf),
+        Err(NoGame::Lacking(lack)) => match answer_to_lack(alloc, lack) {
+            Ok(answer) => Ok(answer),
+            Err(Memory) => Err(NoAnswer::Memory),
+        },
+        Err(NoGame::Missing) => Err(NoAnswer::GameMissing),
+        Err(NoGame::ShelfFault) => Err(NoAnswer::ShelfFault),
+        Err(NoGame::Memory) => Err(NoAnswer::Memory),
+    }
+}
+
+// How two files are compared, of which logs are under the game that a file says.
+fn comparison_of<H: Shelf>(
+    alloc: Global,
+    sides: Sides<'_>,
+    notes: bool,
+    shelf: &mut H,
+) -> Result<Comparison, NoGame>
+    ensures comparison { IfOk result (λ by. IfSome (H.files shelf.old) (λ files.
+        IsComparisonOf files (sides_in sides.entry) notes by)) }
+    ensures none { IfErr result (λ reason. IfSome (H.files shelf.old) (λ files.
+        HasNoGameFor files (sides_in sides.entry) reason)) }
+    ensures failed { IsErrOf result NoGame.ShelfFault
+        → Rose (H.faults shelf.old) (H.faults shelf.new) }
+    ensures unchanged { H.files shelf.new ≡ H.files shelf.old }
+    ensures later { H.faults shelf.old ≤ H.faults shelf.new }
+{
+    match sides {
+        Sides::Plain { from, other } => Ok(plain_comparison(from, other, notes)),
+        Sides::Under { game, from, other } => match fetch_game(alloc, shelf, game) {
+            Ok(game) => Ok(comparison_under(game, from, other, notes)),
+            Err(reason) => Err(reason),
+        },
+    }
+}
+
+// The answer where hands are compared with those of the file of this name.
+fn reply_beside<S: Source, H: Shelf>(
+    alloc: Global,
+    by: &Comparison,
+    name: &str,
+    input: &mut S,
+    shelf: &mut H,
+) -> Result<Answer, NoAnswer>
+    ensures answer { IfOk result (λ answer. IfSome (S.left input.old) (λ bytes.
+        IfSome (H.files shelf.old) (λ files.
+        IsComparedTo by.now (files name.now) bytes (answer_told answer)))) }
+    ensures own { IfOk result (λ answer. IsOwn answer.status) }
+    ensures read_fault { IsErrOf result NoAnswer.ReadFault
+        → Rose (S.faults input.old) (S.faults input.new) }
+    ensures shelf_fault { IsErrOf result NoAnswer.ShelfFault
+        → Rose (H.faults shelf.old) (H.faults shelf.new) }
+    ensures unread { IfOk result (λ answer. ReadsNothing answer.status → input.new ≡ input.old) }
+    ensures of_file { IfErr result (λ why. why ≡ NoAnswer.GameMissing → ⊥) }
+    ensures missing { IsErrOf result NoAnswer.FileMissing →
+        IfSome (H.files shelf.old) (λ files. files name.now ≡ None) }
+    ensures unasked { IfErr result (λ why. ComesFirst why → input.new ≡ input.old) }
+    ensures without_file { IfSome (H.files shelf.old) (λ files.
+        IsNotThere (files name.now) → input.new ≡ input.old) }
+{
+    match fetch_file(alloc, shelf, name) {
+        Ok(file) => reply_to_both(alloc, by, &file, input),
+        Err(NoFile::TooLong) => match answer_to_long_file(alloc) {
+            Ok(answer) => Ok(answer),
+            Err(Memory) => Err(NoAnswer::Memory),
+        },
+        Err(NoFile::Missing) => Err(NoAnswer::FileMissing),
+        Err(NoFile::ShelfFault) => Err(NoAnswer::ShelfFault),
+        Err(NoFile::Memory) => Err(NoAnswer::Memory),
+    }
+}
+
+// The bytes of the file of this name.
+fn fetch_file<H: Shelf>(alloc: Global, shelf: &mut H, name: &str) -> Result<Vec<u8>, NoFile>
+    ensures file { IfOk result (λ file. IfSome (H.files shelf.old) (λ files.
+        (files name.now ≡ Some file.items) × (length file.items ≤ most_input))) }
+    ensures none { IfErr result (λ reason. IfSome (H.files shelf.old) (λ files.
+        HasNoFile (files name.now) reason)) }
+    ensures failed { IsErrOf result NoFile.ShelfFault
+        → Rose (H.faults shelf.old) (H.faults shelf.new) }
+{
+    match shelf.fetch(alloc, name, MOST_INPUT) {
+        Ok(Fetched::Bytes(file)) => Ok(file),
+        Ok(Fetched::Absent) => Err(NoFile::Missing),
+        Ok(Fetched::TooLong) => Err(NoFile::TooLong),
+        Err(ShelfFault::Failed) => Err(NoFile::ShelfFault),
+        Err(ShelfFault::Memory) => Err(NoFile::Memory),
+    }
+}
+
+// The answer where the other file is too long.
+fn answer_to_long_file(alloc: Global) -> Result<Answer, Memory>
+    ensures answer { IfOk result (λ answer. answer_told answer ≡ definition.to_file_excess) }
+    ensures own { IfOk result (λ answer. answer.status ≡ Status.Limit) }
+{
+    let line = String::from_str(alloc, "limit: file bytes 16777216\n")?;
+    Ok(refusal(alloc, Status::Limit, line))
+}
+
+// The answer where all that the source has left is compared with the bytes of another file.
+fn reply_to_both<S: Source>(
+    alloc: Global,
+    by: &Comparison,
+    file: &[u8],
+    input: &mut S,
+) -> Result<Answer, NoAnswer>
+    ensures answer { IfOk result (λ answer. IfSome (S.left input.old) (λ bytes.
+        IsComparison by.now file.now bytes (answer_told answer))) }
+    ensures of_input { IfOk result (λ answer. IsOfInput answer.status) }
+    ensures read_fault { IsErrOf result NoAnswer.ReadFault
+        → Rose (S.faults input.old) (S.faults input.new) }
+    ensures read_alone { IfErr result (λ why. ComesFirst why → ⊥) }
+{
+    match read_all(alloc, input, MOST_INPUT) {
+        Ok(bytes) => match answer_to_comparison(alloc, by, file, &bytes) {
+            Ok(answer) => Ok(answer),
+            Err(Memory) => Err(NoAnswer::Memory),
+        },
+        Err(InFault::TooLong) => match answer::answer_to_excess(alloc) {
+            Ok(answer) => Ok(answer),
+            Err(Memory) => Err(NoAnswer::Memory),
+        },
+        Err(InFault::ReadFault) => Err(NoAnswer::ReadFault),
+        Err(InFault::Memory) => Err(NoAnswer::Memory),
+    }
+}

@@ -1,0 +1,15 @@
+//! Why a request has no answer.
+
+/// Why there is no answer.
+#[derive(Clone, Copy, Debug, PartialEq, Eq)]
+pub enum NoAnswer {
+    /// The input could not be read.
+    ReadFault,
+    /// The file of the game is not there.
+    GameMissing,
+    /// The file that hands are to be compared with is not there.
+    FileMissing,
+    /// A file could not be read.
+    ShelfFault,
+    Memory,
+}
