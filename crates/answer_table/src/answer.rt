@@ -4,11 +4,28 @@ use crate::pieces::Pieces;
 use crate::row::{ROOM, Row, read_row};
 use card_set::Memory;
 use host_io::{MemShelf, MemSink, MemSource};
+use poker_cli::Status;
 use std::alloc::Global;
+
+/// What a row's run came to.
+#[derive(Drop)]
+pub struct Answer {
+    pub status: Status,
+    pub out: MemSink,
+    pub diag: MemSink,
+    /// The most bytes that the output took in a call.
+    pub take: usize,
+}
 
 /// The status of a row's run, and what it left in the output and in the sink for lines, where it
 /// left anything.
 pub fn answer_to(alloc: Global, pieces: &Pieces, row: &str) -> Result<String, Memory> {
+    let answer = run_row(alloc, pieces, row)?;
+    answer.text(alloc, answer.out.held())
+}
+
+/// Runs the program as a row says.
+pub fn run_row(alloc: Global, pieces: &Pieces, row: &str) -> Result<Answer, Memory> {
     let Row {
         words,
         input,
@@ -18,16 +35,29 @@ pub fn answer_to(alloc: Global, pieces: &Pieces, row: &str) -> Result<String, Me
         room,
         fails,
     } = read_row(alloc, pieces, row)?;
+    let take = take.max(1);
     let mut source = MemSource::in_pieces(input, give.max(1), fails.read);
     let mut shelf = MemShelf::new(files, fails.fetch);
-    let mut out = MemSink::in_pieces(alloc, room, take.max(1), fails.write)?;
+    let mut out = MemSink::in_pieces(alloc, room, take, fails.write)?;
     let mut diag = MemSink::new(alloc, ROOM, fails.line)?;
     let status = run_on(alloc, &words, &mut source, &mut shelf, &mut out, &mut diag);
-    let status = status.number();
-    let mut text = format!(in alloc; "status {status}")?;
-    push_named(&mut text, "output", out.held())?;
-    push_named(&mut text, "line", diag.held())?;
-    Ok(text)
+    Ok(Answer {
+        status,
+        out,
+        diag,
+        take,
+    })
+}
+
+impl Answer {
+    /// The answer in words, with these bytes for its output.
+    pub fn text(&self, alloc: Global, output: &[u8]) -> Result<String, Memory> {
+        let status = self.status.number();
+        let mut text = format!(in alloc; "status {status}")?;
+        push_named(&mut text, "output", output)?;
+        push_named(&mut text, "line", self.diag.held())?;
+        Ok(text)
+    }
 }
 
 // Puts bytes that are there behind their name.

@@ -7,7 +7,7 @@ ghost use Rattle.host_io.specs.MemShelf.{shelf_files, shelf_plan};
 ghost use Rattle.host_io.specs.MemSink.{bytes_held, sink_plan};
 ghost use Rattle.host_io.specs.MemSource.{bytes_left, source_plan};
 ghost use Rattle.poker_cli.specs.Headline.{AsksToConvert, Headline};
-ghost use Rattle.poker_cli.specs.Run.{AskForNoGame, LacksGame, MakesHands, ReadsNothing, TellsLine, WhereTold, WritesNothing, change_of, fixed_line};
+ghost use Rattle.poker_cli.specs.Run.{AskForNoFile, LacksFile, MakesHands, ReadsNothing, TellsLine, WhereTold, WritesNothing, change_of, fixed_line};
 ghost use Rattle.poker_cli.specs.declared.task.Format.{Format};
 
 use host_io::{MemShelf, MemSink, MemSource};
@@ -48,10 +48,10 @@ pub fn run_on(
     ensures unread { ReadsNothing result → input.new ≡ input.old }
     ensures nothing_written { WritesNothing result → out.new ≡ out.old }
     ensures quiet { result ≡ Status.Done → diag.new ≡ diag.old }
-    ensures shelf { AskForNoGame (request_said (map string_bytes words.now))
+    ensures shelf { AskForNoFile (request_said (map string_bytes words.now))
         → shelf.new ≡ shelf.old }
-    ensures without_game { IfSome (request_said (map string_bytes words.now)) (λ request.
-        LacksGame request (Some (shelf_files shelf.old)) → input.new ≡ input.old) }
+    ensures without_file { IfSome (request_said (map string_bytes words.now)) (λ request.
+        LacksFile request (Some (shelf_files shelf.old)) → input.new ≡ input.old) }
     ensures without_input { IfSome (request_said (map string_bytes words.now)) (λ request.
         MakesHands request → input.new ≡ input.old) }
 {

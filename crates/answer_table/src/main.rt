@@ -3,11 +3,13 @@
 #![tactic(auto)]
 
 mod answer;
+mod known_laws;
 mod known_run;
 mod made;
 mod parts;
 mod pieces;
 mod row;
+mod series;
 mod timing;
 
 use card_set::Memory;
@@ -55,6 +57,6 @@ fn answer_to(alloc: Global, pieces: &mut Pieces, line: &str) -> Result<Option<St
     }
     match line.strip_prefix("made ") {
         Some(numbers) => Ok(Some(made::answer_to(alloc, numbers)?)),
-        None => Ok(Some(answer::answer_to(alloc, pieces, line)?)),
+        None => Ok(Some(series::answers_to(alloc, pieces, line)?)),
     }
 }

@@ -19,8 +19,8 @@ impl Pieces {
         Ok(())
     }
 
-    /// The bytes of a text. In it `$(NAME)` is a piece, `$(NAME*3)` three of them, `\n` ends a
-    /// line, and `\xff` is a byte by its hexadecimal number.
+    /// The bytes of a text. In it `$(NAME)` is a piece, `$(NAME*3)` three of them, `$(NAME#3)`
+    /// three behind their numbers, `\n` ends a line, and `\xff` is a byte by its hexadecimal number.
     pub fn bytes_of(&self, alloc: Global, text: &str) -> Result<Vec<u8>, Memory> {
         let mut bytes = Vec::new(alloc);
         let mut parts = text.split("$(");
@@ -29,7 +29,7 @@ impl Pieces {
         }
         for part in parts {
             let (reference, plain) = parted(part, ")");
-            self.push_piece(&mut bytes, reference)?;
+            self.push_piece(alloc, &mut bytes, reference)?;
             push_plain(&mut bytes, plain)?;
         }
         Ok(bytes)
@@ -43,7 +43,21 @@ impl Pieces {
     }
 
     // Puts a piece at the end, as often as its reference says.
-    fn push_piece(&self, bytes: &mut Vec<u8>, reference: &str) -> Result<(), Memory> {
+    fn push_piece(
+        &self,
+        alloc: Global,
+        bytes: &mut Vec<u8>,
+        reference: &str,
+    ) -> Result<(), Memory> {
+        let (numbered, last) = parted(reference, "#");
+        for number in 0..last.parse::<u32>().unwrap_or(0) {
+            let number = format!(in alloc; "{}", number + 1)?;
+            bytes.extend_from_slice(number.as_bytes())?;
+            bytes.extend_from_slice(self.piece(numbered))?;
+        }
+        if !last.is_empty() {
+            return Ok(());
+        }
         let (name, times) = parted(reference, "*");
         let times = times.parse::<u32>().unwrap_or(1);
         let piece = self.piece(name);

@@ -1,0 +1,94 @@
+//! A row with a series is answered for each of its numbers, and equal answers are told once.
+use crate::answer::{Answer, answer_to, run_row};
+use crate::pieces::{Pieces, parted};
+use card_set::Memory;
+use poker_cli::Status;
+use std::alloc::Global;
+
+/// A row with a series of numbers: what stands in front of them, and what behind them.
+#[derive(Clone, Copy)]
+struct Series<'a> {
+    before: &'a str,
+    first: u32,
+    last: u32,
+    behind: &'a str,
+}
+
+/// The answer to a row. Where a device has a series, as `@read=[0-3]`, the row is run with each of
+/// its numbers, and each answer stands behind the numbers that have it, on a line of its own.
+pub fn answers_to(alloc: Global, pieces: &Pieces, row: &str) -> Result<String, Memory> {
+    let (words, _) = parted(row, "<");
+    match row.split_once('[') {
+        Some((before, rest)) if before.len() < words.len() => {
+            let (numbers, behind) = parted(rest, "]");
+            let (first, last) = parted(numbers, "-");
+            let series = Series {
+                before,
+                first: first.parse().unwrap_or(0),
+                last: last.parse().unwrap_or(0),
+                behind,
+            };
+            series.answers(alloc, pieces)
+        }
+        _ => answer_to(alloc, pieces, row),
+    }
+}
+
+impl Series<'_> {
+    // The answers to all rows.
+    fn answers(&self, alloc: Global, pieces: &Pieces) -> Result<String, Memory> {
+        let whole = self.run(alloc, pieces, self.last)?;
+        let mut text = String::new(alloc);
+        let mut begun = self.first;
+        let mut told = self.answer(alloc, pieces, &whole, begun)?;
+        for number in self.first..self.last {
+            let next = self.answer(alloc, pieces, &whole, number + 1)?;
+            if next != told {
+                push_answer(&mut text, begun, number, &told)?;
+                text.push_str("\n    ")?;
+                begun = number + 1;
+                told = next;
+            }
+        }
+        push_answer(&mut text, begun, self.last, &told)?;
+        Ok(text)
+    }
+
+    // The answer to the row of a number. Where the output failed and holds so many pieces of the
+    // whole one, it is not told byte by byte.
+    fn answer(
+        &self,
+        alloc: Global,
+        pieces: &Pieces,
+        whole: &Answer,
+        number: u32,
+    ) -> Result<String, Memory> {
+        let answer = self.run(alloc, pieces, number)?;
+        let status = answer.status;
+        let take = answer.take;
+        let held = answer.out.held();
+        let is_front = whole.out.held().starts_with(held)
+            && held.len() == take.saturating_mul(number as usize);
+        match status {
+            Status::WriteFault if is_front => answer.text(alloc, b"the pieces before"),
+            _ => answer.text(alloc, held),
+        }
+    }
+
+    // Runs the row of a number.
+    fn run(&self, alloc: Global, pieces: &Pieces, number: u32) -> Result<Answer, Memory> {
+        let Series { before, behind, .. } = self;
+        let row = format!(in alloc; "{before}{number}{behind}")?;
+        run_row(alloc, pieces, &row)
+    }
+}
+
+// Puts an answer behind the numbers that have it.
+fn push_answer(text: &mut String, first: u32, last: u32, answer: &str) -> Result<(), Memory> {
+    if first < last {
+        write!(text, "{first}-{last} {answer}")?;
+    } else {
+        write!(text, "{first} {answer}")?;
+    }
+    Ok(())
+}
