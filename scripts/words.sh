@@ -8,7 +8,7 @@
 # shellcheck shell=sh disable=SC2034 # slip is told by those who read this file
 slip=
 
-commands='check replay report convert game load views options session equity judge'
+commands='check replay report convert game load views options session equity judge compare'
 
 # What a command takes: the options that it needs, those that may lack, and flags, which have no value.
 options_of() {
@@ -23,6 +23,7 @@ options_of() {
     views) needs='from seat' may=game ;;
     session) needs=from may=game ;;
     equity) needs='from hand street' may=game ;;
+    compare) needs='from with as' may=game flags=no-notes ;;
     *) return 1 ;;
     esac
 }
@@ -46,6 +47,8 @@ handref: a converter and referee of recorded poker hands
   handref session --from FORMAT [--game FILE] < HANDS    stacks, gaps and counts of each name over all hands
   handref equity  --from FORMAT --hand H --street S [--game FILE] < HANDS
                                                          how often each live hand wins, over all boards
+  handref compare --from FORMAT --with FILE --as FORMAT [--game FILE] [--no-notes] < HANDS
+                                                         whether two files are the same hands, or what differs first
 
 FORMAT  phh     Poker Hand History (.phh, .phhs)
         ohh     Open Hand History, the amount of a raise is the chips that it adds
@@ -53,13 +56,14 @@ FORMAT  phh     Poker Hand History (.phh, .phhs)
         acpc    a log of the Annual Computer Poker Competition; it needs --game FILE
 --game FILE     the game file, exactly where one of the notations is acpc
 --drop-notes    leaves out names, dates and the like that the other notation does not spell
+--with FILE     the other file of compare, and --as FORMAT how it is read; --no-notes looks at no names, dates and the like
 Options may also be written --name=VALUE. Hands are read from standard input, the answer goes to standard output,
 and one line on standard error says what is wrong.
 
 Status  0 done             1 a hand is refused    2 no command         3 the input does not read
         4 not spelled      5 reading failed       6 writing failed     7 a limit is passed
         8 out of memory    9 no game file        10 a bad game file   11 the game file is not readable
-       13 no such hand, event, seat, street or cards
+       13 no such hand, event, seat, street or cards       14 the hands differ   15 no other file
 
 An example: handref check --from phh < examples/folds.phh
 Each message and what to do about it: docs/MESSAGES.md, or share/doc/handref/MESSAGES.md where it is installed.
@@ -84,7 +88,7 @@ asks_for_help() {
 
 # Whether the words are those of a command.
 is_command() {
-    slip='' given=' ' from='' to='' game=''
+    slip='' given=' ' from='' to='' other='' game=''
     command=${1-}
     options_of "$command" || {
         case $command in
@@ -149,9 +153,10 @@ take() {
     case $1:$2 in
     from:phh | from:ohh | from:ohh-to | from:acpc) from=$2 ;;
     to:phh | to:ohh | to:ohh-to | to:acpc) to=$2 ;;
-    from:phhs | to:phhs) slip="'phhs' is no notation; .phhs files are phh, too" && return 1 ;;
-    from:* | to:*) slip="'$2' is no notation: phh, ohh, ohh-to or acpc" && return 1 ;;
-    game:) slip="--$1 needs the name of a file" && return 1 ;;
+    as:phh | as:ohh | as:ohh-to | as:acpc) other=$2 ;;
+    from:phhs | to:phhs | as:phhs) slip="'phhs' is no notation; .phhs files are phh, too" && return 1 ;;
+    from:* | to:* | as:*) slip="'$2' is no notation: phh, ohh, ohh-to or acpc" && return 1 ;;
+    game: | with:) slip="--$1 needs the name of a file" && return 1 ;;
     game:*) game=$2 ;;
     seed:*) is_number "$1" "$2" 9 0 999999999 ;;
     after:*) is_number "$1" "$2" 4 0 9999 ;;
@@ -178,7 +183,7 @@ fits_notations() {
     views:*) slip='views takes a log: --from acpc' && return 1 ;;
     game:acpc) slip='game takes no log: its game file is there already' && return 1 ;;
     esac
-    case $from:$to in
+    case $from:$to:$other in
     *acpc*) [ -n "$game" ] || { slip='a log (acpc) needs --game FILE' && return 1; } ;;
     *) [ -z "$game" ] || { slip='--game stands only where a notation is acpc' && return 1; } ;;
     esac
